@@ -131,7 +131,7 @@ words_usual = 50
 words_crowd = 50
 words_forwarder = 200
 words_device_switch = 20
-NETBSD_CHECKED = bind serialize interfaces copies destroyed kernel
+NETBSD_CHECKED = bind copies drivers model kernel
 
 check: $(CHECKED:%=check-%) check-row check-storm check-limits $(NETBSD_CHECKED:%=check-netbsd-%)
 	@echo "$(words $^) passed, 0 failed"

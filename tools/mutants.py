@@ -58,7 +58,7 @@ MAKES_BENCH = ["make", "-s", "-C", "explorer", "WARNINGS=-w", BARE]
 WAYS = {"plain": True, "small": False, "busy": True, "late": False, "sanitized": False, "raced": False}
 # The programs of the bench that see the layer, and of the layer what runs under valgrind, with their words.
 BENCH = {"counts": [], "drivers": [], "finds": [], "refusals": [], "shortest": [], "named": [], "outcomes": ["1", "40"]}
-WATCHED = {"destroyed": [], "drained": [], "model": ["1", "300"]}
+WATCHED = {"drained": [], "model": ["1", "300"]}
 VALGRIND = "valgrind -q --fair-sched=try --error-exitcode=99 --leak-check=full --show-leak-kinds=definite --errors-for-leak-kinds=definite".split()
 # The tests of waiting.c, with their words.
 OVER_WAITING = {"turns": [], "reclaims": [], "lent": [], "deferred": [], "waits": [], "interrupted": [], "together": ["20"]}

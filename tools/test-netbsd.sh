@@ -101,7 +101,7 @@ fi
 check "the layer is built into a shared object that is closed" make_layer unloaded
 check "a thread ends after its layer was closed" "$out/unloaded" "$out/plugin.so"
 if command -v valgrind >/dev/null; then
-    for test in destroyed drained "model 1 300"; do
+    for test in drained "model 1 300"; do
         # shellcheck disable=SC2086
         check "$test, under valgrind" watched "$out"/plain/$test
     done

@@ -1,7 +1,6 @@
 /*
- * in_bench.h - read by the compiler before misuse.c, misuse_kernel.c, misuse_locks.c, sleepers.c and unmade.c of netbsd/tests, in place of their
- * stops.h: each case runs in the bench, which must find its line. All threads are called as the program is, as there. The case of a fork is left out: each
- * run of the bench is in a child.
+ * in_bench.h - read by the compiler before misuses.c of netbsd/tests, in place of its stops.h: each case runs in the bench, which must find its line. All
+ * threads are called as the program is, as there.
  */
 #ifndef NETBSD_STOPS_H
 #define NETBSD_STOPS_H
@@ -11,20 +10,11 @@
 #include <stdatomic.h>
 #include <stdio.h>
 #include <stdlib.h>
-#include <string.h>
-#include <sys/wait.h>
-#include <unistd.h>
 
 #include <kupaldiz/kernel.h>
 
 #include "../bench.h"
 #include "../../c/examples/expect.h"
-#include "../../netbsd/tests/places.h"
-
-struct stop_case {
-	void (*body)(void);
-	const char *line;
-};
 
 /* ---- Threads. ---- */
 
@@ -62,7 +52,7 @@ static inline void end_thread(pthread_t thread)
 		sleep_for(10);
 }
 
-#include "../../netbsd/tests/on_threads.h"
+#include "../../netbsd/tests/cases.h"
 
 /* ---- Cases. ---- */
 
@@ -82,7 +72,7 @@ static inline void make_case(void)
 }
 
 /* Whether the bench says the case's line. */
-static inline bool is_stopped(void (*begin)(void), const struct stop_case *the_case)
+bool is_right(void (*begin)(void), const struct stop_case *the_case)
 {
 	struct bench_found found;
 	const struct bench_options options = {.quiet = true, .found = &found, .schedules = 20, .bounded = 20, .preemptions = 1, .random = 20};
@@ -94,18 +84,6 @@ static inline bool is_stopped(void (*begin)(void), const struct stop_case *the_c
 	if (!right)
 		printf("wanted: %s\n   and: %s\n", the_case->line, found.line);
 	return right;
-}
-
-static inline int run_cases(void (*begin)(void), const struct stop_case *cases, size_t count)
-{
-	size_t passed = 0, failed = 0;
-	for (size_t place = 0; place < count; place++) {
-		bool left_out = strstr(cases[place].line, "in the child of a fork") != NULL, right = left_out || is_stopped(begin, &cases[place]);
-		passed += right && !left_out;
-		failed += !right;
-	}
-	printf("%zu passed, %zu failed\n", passed, failed);
-	return failed != 0;
 }
 
 #endif

@@ -70,13 +70,6 @@ static void change_members(void)
 	}
 }
 
-static void test_bridge(void)
-{
-	bridge_init();
-	run_beside(broadcast_all, change_members);
-	bridge_fini();
-}
-
 /* ---- ifindex.c ---- */
 
 static void transmit(unsigned index)
@@ -103,13 +96,6 @@ static void change_interfaces(void)
 		await_seen(round % 8 == 0 ? 4 : 0);
 		EXPECT(if_detach(index) == 0 && if_detach(index) == ENXIO && if_attach() == index);
 	}
-}
-
-static void test_ifindex(void)
-{
-	ifindex_init();
-	run_beside(transmit_all, change_interfaces);
-	ifindex_fini();
 }
 
 /* ---- devsw.c ---- */
@@ -191,13 +177,6 @@ static void change_entries(void)
 	EXPECT(entry_ioctl(ENTRYSET, NULL) == EFAULT);
 }
 
-static void test_ioctl(void)
-{
-	entry_init();
-	run_beside(ask_all, change_entries);
-	entry_fini();
-}
-
 /* ---- rxintr.c ---- */
 
 enum { PACKETS = 150 };
@@ -247,8 +226,7 @@ static void test_rxintr(void)
 	rx_init();
 	void *listener = rx_listen(input_all, &received);
 	run_beside(interrupt_all, change_listeners);
-	while (atomic_load(&received) < THREADS * PACKETS)
-		sleep_for(50);
+	await_least(&received, THREADS * PACKETS);
 	rx_unlisten(listener);
 	rx_fini();
 	EXPECT(atomic_load(&received) == THREADS * PACKETS);
@@ -280,13 +258,6 @@ static void look_at_sums(void)
 	EXPECT(sums[COUNT_IN] == THREADS * ADDS && sums[COUNT_OUT] == 3 * THREADS * ADDS && sums[COUNT_DROPPED] == 0);
 }
 
-static void test_counters(void)
-{
-	counters_init();
-	run_beside(add_all, look_at_sums);
-	counters_fini();
-}
-
 /* ---- unload.c ---- */
 
 int kupaldiz_ticker_modcmd(modcmd_t command, void *opaque);
@@ -315,20 +286,28 @@ static void load_and_unload(void)
 	EXPECT(kupaldiz_ticker_modcmd(MODULE_CMD_STAT, NULL) == ENOTTY);
 }
 
-static void test_unload(void)
-{
-	run_beside(call_all, load_and_unload);
-}
+/* Those of which nothing more is asked. */
+static const struct simple {
+	void (*init)(void);
+	void *(*body)(void *);
+	void (*rest)(void), (*fini)(void);
+} simple[] = {
+    {bridge_init, broadcast_all, change_members, bridge_fini},
+    {ifindex_init, transmit_all, change_interfaces, ifindex_fini},
+    {entry_init, ask_all, change_entries, entry_fini},
+    {counters_init, add_all, look_at_sums, counters_fini},
+};
 
 int main(void)
 {
-	test_bridge();
-	test_ifindex();
+	for (unsigned at = 0; at < sizeof(simple) / sizeof(simple[0]); at++) {
+		simple[at].init();
+		run_beside(simple[at].body, simple[at].rest);
+		simple[at].fini();
+	}
 	test_devsw();
-	test_ioctl();
 	test_rxintr();
-	test_counters();
-	test_unload();
+	run_beside(call_all, load_and_unload);
 	puts("seven drivers ran");
 	return 0;
 }

@@ -8,9 +8,11 @@ import sys
 from pathlib import Path
 
 HERE = Path(__file__).resolve().parent
-TESTS = ("misuse", "misuse_kernel", "sleepers", "unmade", "lacks", "bytes", "full", "tells", "looks")
+TESTS = ("misuses", "misuses_of_threads", "lacks", "full", "tells", "looks")
 # Some files have the same line: each needs a test of its own call.
-BEGINS = {"rwlock.c": r'"rw_[a-z]+: ', "mutex.c": r'"(?:mutex|cv)_[a-z_]+: ', "callout.c": r'"callout_[a-z]+: '}
+CALLS = {"rwlock.c": r"rw_[a-z]+", "mutex.c": r"(?:mutex|cv)_[a-z_]+", "callout.c": r"callout_[a-z]+"}
+# What a row USES of misuses.c tests of its call, where the thing has this name there.
+UNMADE = re.compile("(the .* )was (?:never initialised|destroyed)")
 TEXT = re.compile(r'"((?:[^"\\]|\\.)*)"')
 
 
@@ -27,6 +29,14 @@ def pattern_of(text):
     return ".{0,60}".join(re.escape(part.replace('"', '\\"')) for part in parts)
 
 
+def wanted(file, text):
+    """What a test has that wants it."""
+    unmade = UNMADE.fullmatch(text)
+    if unmade:
+        return rf"USES\(.*, {CALLS.get(file, 'cv_[a-z_]+')}, [\s\S]*\"{unmade.group(1)}\""
+    return (rf'"{CALLS[file]}: ' if file in CALLS else "") + pattern_of(text)
+
+
 def main():
     files = {path.stem: path for path in HERE.rglob("*.c")}
     gone = [name for name in TESTS if name not in files]
@@ -35,7 +45,7 @@ def main():
     tests = "\n".join(files[name].read_text() for name in TESTS)
     passed = failed = 0
     for file, text in sorted(set(lines())):
-        found = re.search(BEGINS.get(file, "") + pattern_of(text), tests) is not None
+        found = re.search(wanted(file, text), tests) is not None
         passed, failed = passed + found, failed + (not found)
         if not found:
             print(f'{file}: no test wants "{text}"')

@@ -48,8 +48,7 @@ __KERNEL_RCSID(0, "$NetBSD$");
 		EXPECT(inc_nv(&word) == 0 && dec_nv(&word) == (type)-1); \
 	} while (0)
 
-static void
-test_atomics(void)
+static void test_atomics(void)
 {
 	TEST_ATOMICS(uint32_t, atomic_add_32, atomic_add_32_nv, atomic_inc_32, atomic_inc_32_nv, atomic_dec_32, atomic_dec_32_nv, atomic_and_32,
 	    atomic_and_32_nv, atomic_or_32, atomic_or_32_nv, atomic_swap_32, atomic_cas_32, atomic_cas_32_ni);
@@ -62,11 +61,9 @@ test_atomics(void)
 	    atomic_and_64_nv, atomic_or_64, atomic_or_64_nv, atomic_swap_64, atomic_cas_64, atomic_cas_64_ni);
 }
 
-static void
-test_pointers(void)
+static void test_pointers(void)
 {
 	char bytes[8], *at = bytes;
-
 	atomic_add_ptr(&at, 6);
 	EXPECT(at == bytes + 6 && atomic_add_ptr_nv(&at, -4) == bytes + 2);
 	atomic_inc_ptr(&at);
@@ -74,6 +71,10 @@ test_pointers(void)
 	atomic_dec_ptr(&at);
 	EXPECT(at == bytes + 3 && atomic_dec_ptr_nv(&at) == bytes + 2);
 	EXPECT(atomic_cas_ptr_ni(&at, bytes, NULL) == bytes + 2 && atomic_cas_ptr_ni(&at, bytes + 2, NULL) == bytes + 2 && at == NULL);
+	EXPECT(atomic_swap_ptr(&at, bytes) == NULL && atomic_cas_ptr(&at, NULL, NULL) == bytes && atomic_cas_ptr(&at, bytes, NULL) == bytes && at == NULL);
+	membar_producer();
+	membar_consumer();
+	membar_sync();
 	membar_acquire();
 	membar_enter();
 	membar_exit();
@@ -102,13 +103,11 @@ static struct element elements[5] = {{.value = 1}, {.value = 2}, {.value = 3}, {
 			(number) = (number) * 10 + (at)->value; \
 	} while (0)
 
-static void
-test_slist(void)
+static void test_slist(void)
 {
 	SLIST_HEAD(, element) head = SLIST_HEAD_INITIALIZER(head);
 	struct element *at, *after;
 	unsigned order;
-
 	SLIST_INIT(&head);
 	SLIST_INSERT_HEAD(&head, &elements[1], single);
 	SLIST_INSERT_HEAD(&head, &elements[0], single);
@@ -125,13 +124,11 @@ test_slist(void)
 	EXPECT(SLIST_EMPTY(&head));
 }
 
-static void
-test_list(void)
+static void test_list(void)
 {
 	LIST_HEAD(elements, element) head = LIST_HEAD_INITIALIZER(head), other;
 	struct element *at, *after;
 	unsigned order;
-
 	LIST_INIT(&head);
 	LIST_INSERT_HEAD(&head, &elements[1], both);
 	LIST_INSERT_BEFORE(&elements[1], &elements[0], both);
@@ -152,13 +149,11 @@ test_list(void)
 	EXPECT(LIST_EMPTY(&other));
 }
 
-static void
-test_simpleq(void)
+static void test_simpleq(void)
 {
 	SIMPLEQ_HEAD(simples, element) head = SIMPLEQ_HEAD_INITIALIZER(head), more;
 	struct element *at, *after;
 	unsigned order;
-
 	SIMPLEQ_INIT(&head);
 	SIMPLEQ_INIT(&more);
 	EXPECT(SIMPLEQ_LAST(&head, element, simple) == NULL);
@@ -181,13 +176,11 @@ test_simpleq(void)
 	EXPECT(SIMPLEQ_EMPTY(&head));
 }
 
-static void
-test_stailq(void)
+static void test_stailq(void)
 {
 	STAILQ_HEAD(taileds, element) head = STAILQ_HEAD_INITIALIZER(head), more = STAILQ_HEAD_INITIALIZER(more);
 	struct element *at, *after;
 	unsigned order;
-
 	STAILQ_INIT(&head);
 	EXPECT(STAILQ_LAST(&head, element, tailed) == NULL);
 	STAILQ_INSERT_HEAD(&head, &elements[4], tailed);
@@ -203,13 +196,11 @@ test_stailq(void)
 	EXPECT(STAILQ_EMPTY(&head) && STAILQ_EMPTY(&more));
 }
 
-static void
-test_tailq(void)
+static void test_tailq(void)
 {
 	TAILQ_HEAD(tails, element) head = TAILQ_HEAD_INITIALIZER(head), more = TAILQ_HEAD_INITIALIZER(more);
 	struct element *at, *before;
 	unsigned order;
-
 	TAILQ_INIT(&head);
 	TAILQ_INSERT_HEAD(&head, &elements[1], tail);
 	TAILQ_INSERT_BEFORE(&elements[1], &elements[0], tail);
@@ -224,19 +215,20 @@ test_tailq(void)
 	ORDER(order, at, TAILQ_FOREACH_REVERSE(at, &head, tails, tail));
 	EXPECT(order == 5341 && TAILQ_NEXT(&elements[0], tail) == &elements[3] && TAILQ_PREV(&elements[3], tails, tail) == &elements[0]);
 	TAILQ_FOREACH_REVERSE_SAFE(at, &head, tails, tail, before)
+		if (at != &elements[0])
+			TAILQ_REMOVE(&head, at, tail);
+	TAILQ_FOREACH_SAFE(at, &head, tail, before)
 		TAILQ_REMOVE(&head, at, tail);
 	EXPECT(TAILQ_EMPTY(&head));
 }
 
-static void
-test_pslist(void)
+static void test_pslist(void)
 {
 	struct {
 		struct pslist_entry link;
 		unsigned value;
 	} only = {PSLIST_ENTRY_INITIALIZER, 7};
 	struct pslist_head head;
-
 	PSLIST_INIT(&head);
 	PSLIST_WRITER_INSERT_HEAD(&head, &only, link);
 	EXPECT(!PSLIST_READER_EMPTY(&head));
@@ -247,8 +239,7 @@ test_pslist(void)
 
 /* ---- spl(9), and the levels' names. ---- */
 
-static int
-level_now(void)
+static int level_now(void)
 {
 	return splraiseipl(makeiplcookie(IPL_NONE));
 }
@@ -262,12 +253,10 @@ level_now(void)
 		EXPECT(level_now() == IPL_NONE && !kpreempt_disabled()); \
 	} while (0)
 
-static void
-test_levels(void)
+static void test_levels(void)
 {
 	const ipl_cookie_t cookie = makeiplcookie(IPL_SOFTSERIAL);
 	int s;
-
 	TEST_LEVEL(splsoftclock, IPL_SOFTCLOCK);
 	TEST_LEVEL(splsoftbio, IPL_SOFTBIO);
 	TEST_LEVEL(splsoftnet, IPL_SOFTNET);
@@ -289,11 +278,9 @@ test_levels(void)
 
 /* ---- mutex(9): which lock spins. ---- */
 
-static void
-test_mutex(kmutex_type_t type, int level, bool spins)
+static void test_mutex(kmutex_type_t type, int level, bool spins)
 {
 	kmutex_t lock;
-
 	mutex_init(&lock, type, level);
 	mutex_enter(&lock);
 	EXPECT(mutex_owned(&lock) && kpreempt_disabled() == spins);
@@ -301,8 +288,7 @@ test_mutex(kmutex_type_t type, int level, bool spins)
 	mutex_destroy(&lock);
 }
 
-static void
-test_mutexes(void)
+static void test_mutexes(void)
 {
 	test_mutex(MUTEX_DEFAULT, IPL_NONE, false);
 	test_mutex(MUTEX_DEFAULT, IPL_SOFTNET, false);
@@ -316,15 +302,13 @@ test_mutexes(void)
 
 /* ---- kmem(9), pool(9), percpu(9), xcall(9), and counters. ---- */
 
-static void
-test_memory(void)
+static void test_memory(void)
 {
 	const km_flag_t flags = KM_NOSLEEP;
 	unsigned char *zeros = kmem_intr_zalloc(40, flags);
 	struct pool pool;
 	char *text;
 	void *object;
-
 	EXPECT(zeros != NULL && zeros[0] == 0 && zeros[39] == 0);
 	kmem_intr_free(zeros, 40);
 	text = kmem_strdup("bridge0", KM_SLEEP);
@@ -339,31 +323,26 @@ test_memory(void)
 
 enum { STAT_IN, STAT_OUT, STATS };
 
-static void
-sum_up(void *own, void *arg, struct cpu_info *cpu)
+static void sum_up(void *own, void *arg, struct cpu_info *cpu)
 {
 	uint64_t *sums = arg, *counters = own;
-
 	EXPECT(cpu != NULL);
 	sums[STAT_IN] += counters[STAT_IN];
 	sums[STAT_OUT] += counters[STAT_OUT];
 }
 
-static void
-count_visit(void *count, void *bound)
+static void count_visit(void *count, void *bound)
 {
 	*(unsigned *)count += bound == NULL && (curlwp->l_pflag & LP_BOUND) != 0;
 }
 
-static void
-test_counters(void)
+static void test_counters(void)
 {
 	const percpu_callback_t look = sum_up;
 	const xcfunc_t visit = count_visit;
 	percpu_t *stats = percpu_alloc(STATS * sizeof(uint64_t));
 	uint64_t sums[STATS] = {0}, *own;
 	unsigned visits = 0;
-
 	_NET_STATINC(stats, STAT_IN);
 	_NET_STATADD(stats, STAT_OUT, 7);
 	_NET_STATDEC(stats, STAT_OUT);
@@ -381,31 +360,30 @@ test_counters(void)
 static struct evcnt events[2] = {EVCNT_INITIALIZER(EVCNT_TYPE_TRAP, NULL, "named", "first"), EVCNT_INITIALIZER(EVCNT_TYPE_MISC, &events[0], "named", "second")};
 EVCNT_ATTACH_STATIC2(events, 1);
 
-static void
-test_events(void)
+static void test_events(void)
 {
 	evcnt_attach_static(&events[1]);
 	events[1].ev_count += 2;
 	EXPECT(events[1].ev_count == 2 && strcmp(events[1].ev_name, "second") == 0 && events[1].ev_parent == &events[0]);
 	evcnt_detach(&events[1]);
+	evcnt_attach_dynamic(&events[1], EVCNT_TYPE_INTR, NULL, "group", "other");
+	EXPECT(events[1].ev_count == 0 && strcmp(events[1].ev_group, "group") == 0 && strcmp(events[1].ev_name, "other") == 0);
+	evcnt_detach(&events[1]);
 }
 
 /* ---- kthread(9) and module(9). ---- */
 
-static void
-run_once(void *arg)
+static void run_once(void *arg)
 {
 	atomic_inc_uint(arg);
 	kthread_exit(0);
 }
 
-static void
-test_threads(void)
+static void test_threads(void)
 {
 	static const int kinds[] = {KTHREAD_INTR, KTHREAD_TS, KTHREAD_IDLE};
 	unsigned runs = 0;
 	lwp_t *made;
-
 	for (unsigned at = 0; at < __arraycount(kinds); at++) {
 		EXPECT(kthread_create(PRI_NONE, kinds[at] | KTHREAD_MUSTJOIN, NULL, run_once, &runs, &made, "kind%u", at) == 0);
 		EXPECT(kthread_join(made) == 0);
@@ -415,16 +393,13 @@ test_threads(void)
 
 MODULE(MODULE_CLASS_DRIVER, named, NULL);
 
-static int
-named_modcmd(modcmd_t command, void *opaque)
+static int named_modcmd(modcmd_t command, void *opaque)
 {
 	const modclass_t class_of = MODULE_CLASS_DRIVER;
-
 	return class_of == MODULE_CLASS_DRIVER && command == MODULE_CMD_AUTOUNLOAD && opaque == NULL ? 0 : ENOTTY;
 }
 
-static void
-test_module(void)
+static void test_module(void)
 {
 	EXPECT(kupaldiz_named_modcmd(MODULE_CMD_AUTOUNLOAD, NULL) == 0 && kupaldiz_named_modcmd(MODULE_CMD_STAT, NULL) == ENOTTY);
 }
@@ -442,29 +417,25 @@ static unsigned lonely __cacheline_aligned = 1;
 static u_int never_read __unused;
 static const char kept[] __used = "kept";
 
-static __noinline int
-noinline_sum(int32_t one, int two __diagused)
+static __noinline int noinline_sum(int32_t one, int two __diagused)
 {
 	KDASSERT(two > 0);
 	KDASSERTMSG(one > 0, "%d", one);
 	return one + two;
 }
 
-static __dead void
-dies(void)
+static __dead void dies(void)
 {
 	panic("not called");
 }
 
-static void
-test_words(void)
+static void test_words(void)
 {
 	const devmajor_t major = 3;
 	const devminor_t minor = 4;
 	const dev_t device = (dev_t)(major << 8 | minor);
 	u_long flags = 5;
 	void *plain = __UNCONST(kept);
-
 	SET(flags, 10);
 	EXPECT(flags == 15 && ISSET(flags, 8) && !ISSET(flags, 16));
 	CLR(flags, 3ul);
@@ -476,16 +447,14 @@ test_words(void)
 	__USE(kept);
 }
 
-static void
-test_numbers(void)
+static void test_numbers(void)
 {
 	EXPECT(MIN(2, 3) == 2 && MAX(2, 3) == 3 && uimin(2, 3) == 2 && uimax(2, 3) == 3 && ulmin(2, 3) == 2 && lmax(-2, 3) == 3);
 	EXPECT(roundup(9, 4) == 12 && rounddown(9, 4) == 8 && roundup2(9, 8) == 16 && rounddown2(15, 8) == 8 && powerof2(64) && !powerof2(65));
 	EXPECT(mstohz(21) == 3 && hztoms(3) == 30 && nullop(NULL) == 0);
 }
 
-static void
-test_all(void)
+static void test_all(void)
 {
 	test_atomics();
 	test_pointers();
@@ -507,8 +476,7 @@ test_all(void)
 }
 
 #ifndef KUPALDIZ_BENCH
-int
-main(void)
+int main(void)
 {
 	test_all();
 	puts("each name did what its page says");

@@ -1,6 +1,5 @@
 /*
- * What the tests of misuses share: each case runs in a child, which must end by abort(3), and say on standard error nothing but its line. What is a
- * place there, FILE:NUMBER, is PLACE in the line that is wanted.
+ * stops.h - runs the cases of cases.h, each in a child, which must say on standard error nothing but its line
  */
 #ifndef NETBSD_STOPS_H
 #define NETBSD_STOPS_H
@@ -11,13 +10,7 @@
 
 #include "test.h"
 
-#include "on_threads.h"
-#include "places.h"
-
-struct stop_case {
-	void (*body)(void);
-	const char *line;
-};
+#include "cases.h"
 
 /* Runs a case in a child, and reads all that it says on standard error. Its status. */
 static inline int run_case(void (*begin)(void), void (*body)(void), char *said, size_t room)
@@ -46,36 +39,16 @@ static inline int run_case(void (*begin)(void), void (*body)(void), char *said, 
 }
 
 /* Whether a case said exactly its line, and ended by abort or well. */
-static inline bool ends_rightly(void (*begin)(void), const struct stop_case *the_case, bool aborts)
+bool is_right(void (*begin)(void), const struct stop_case *the_case)
 {
 	char said[1024], wanted[512];
 	int status = run_case(begin, the_case->body, said, sizeof(said));
 	snprintf(wanted, sizeof(wanted), "%s\n", the_case->line);
-	bool ended = aborts ? WIFSIGNALED(status) && WTERMSIG(status) == SIGABRT : WIFEXITED(status) && WEXITSTATUS(status) == 0;
+	bool ended = the_case->goes_on ? WIFEXITED(status) && WEXITSTATUS(status) == 0 : WIFSIGNALED(status) && WTERMSIG(status) == SIGABRT;
 	bool right = ended && strcmp(said, wanted) == 0;
 	if (!right)
 		printf("wanted: %sstatus %d and said: %s\n", wanted, status, said);
 	return right;
-}
-
-static inline bool is_stopped(void (*begin)(void), const struct stop_case *the_case)
-{
-	return ends_rightly(begin, the_case, true);
-}
-
-static inline bool is_told(void (*begin)(void), const struct stop_case *the_case)
-{
-	return ends_rightly(begin, the_case, false);
-}
-
-/* Runs all cases, and prints how many passed. The program's status. */
-static inline int run_cases(void (*begin)(void), const struct stop_case *cases, size_t count)
-{
-	size_t passed = 0;
-	for (size_t place = 0; place < count; place++)
-		passed += is_stopped(begin, &cases[place]);
-	printf("%zu passed, %zu failed\n", passed, count - passed);
-	return passed != count;
 }
 
 #endif

@@ -20,11 +20,32 @@ static inline void sleep_for(long microseconds)
 	nanosleep(&time, NULL);
 }
 
+static inline void await_flag(atomic_bool *flag)
+{
+	while (!atomic_load(flag))
+		sleep_for(50);
+}
+
+static inline void await_least(atomic_uint *number, unsigned least)
+{
+	while (atomic_load(number) < least)
+		sleep_for(50);
+}
+
 /* Writes over a block that is given back next. The compiler would leave out a plain memset before a free. */
 static inline void spoil(void *block, size_t size)
 {
 	memset(block, 0xdb, size);
 	__asm__ volatile("" : : "r"(block) : "memory");
+}
+
+/* Whether this thread ends where it is cancelled. */
+static inline bool is_cancellable(void)
+{
+	int before;
+	pthread_setcancelstate(PTHREAD_CANCEL_DISABLE, &before);
+	pthread_setcancelstate(before, NULL);
+	return before == PTHREAD_CANCEL_ENABLE;
 }
 
 static inline void start_thread(pthread_t *thread, void *(*body)(void *), void *arg)

@@ -1,19 +1,66 @@
 /*
- * wraps.h - the calls of mutexes and condition variables that the linker leads to a test which defines their __wrap_ (--wrap)
+ * wraps.h - the calls that the linker leads to a test which defines their __wrap_ (--wrap), as NAME is led to __wrap_NAME, which may call __real_NAME
  */
 #ifndef NETBSD_WRAPS_H
 #define NETBSD_WRAPS_H
 
 #include <pthread.h>
+#include <stdint.h>
+#include <sys/types.h>
 #include <time.h>
 
-int __real_pthread_mutex_lock(pthread_mutex_t *mutex);
-int __wrap_pthread_mutex_lock(pthread_mutex_t *mutex);
-int __real_pthread_mutex_unlock(pthread_mutex_t *mutex);
-int __wrap_pthread_mutex_unlock(pthread_mutex_t *mutex);
-int __real_pthread_cond_wait(pthread_cond_t *cond, pthread_mutex_t *mutex);
-int __wrap_pthread_cond_wait(pthread_cond_t *cond, pthread_mutex_t *mutex);
-int __real_pthread_cond_timedwait(pthread_cond_t *cond, pthread_mutex_t *mutex, const struct timespec *end);
-int __wrap_pthread_cond_timedwait(pthread_cond_t *cond, pthread_mutex_t *mutex, const struct timespec *end);
+#include "registry.h"
+
+#define WRAP(type, name, ...)	type __real_##name(__VA_ARGS__); type __wrap_##name(__VA_ARGS__)
+
+WRAP(int, pthread_mutex_lock, pthread_mutex_t *mutex);
+WRAP(int, pthread_mutex_unlock, pthread_mutex_t *mutex);
+WRAP(int, pthread_condattr_init, pthread_condattr_t *how);
+WRAP(int, pthread_condattr_destroy, pthread_condattr_t *how);
+WRAP(int, pthread_cond_init, pthread_cond_t *cond, const pthread_condattr_t *how);
+WRAP(int, pthread_cond_signal, pthread_cond_t *cond);
+WRAP(int, pthread_cond_broadcast, pthread_cond_t *cond);
+WRAP(int, pthread_cond_wait, pthread_cond_t *cond, pthread_mutex_t *mutex);
+WRAP(int, pthread_cond_timedwait, pthread_cond_t *cond, pthread_mutex_t *mutex, const struct timespec *end);
+WRAP(int, pthread_create, pthread_t *thread, const pthread_attr_t *how, void *(*body)(void *), void *arg);
+WRAP(int, pthread_detach, pthread_t thread);
+WRAP(int, pthread_key_create, pthread_key_t *key, void (*end)(void *));
+WRAP(int, pthread_setspecific, pthread_key_t key, const void *value);
+WRAP(int, pthread_atfork, void (*before)(void), void (*parent)(void), void (*child)(void));
+WRAP(int, clock_gettime, clockid_t clock, struct timespec *time);
+WRAP(int, nanosleep, const struct timespec *time, struct timespec *rest);
+WRAP(int, sched_yield, void);
+WRAP(ssize_t, write, int file, const void *bytes, size_t length);
+WRAP(int, open, const char *path, int how, ...);
+WRAP(int, close, int file);
+WRAP(void *, malloc, size_t size);
+WRAP(void *, calloc, size_t count, size_t size);
+WRAP(void *, realloc, void *block, size_t size);
+WRAP(int, posix_memalign, void **block, size_t align, size_t size);
+WRAP(void, free, void *block);
+WRAP(void *, memcpy, void *to, const void *from, size_t length);
+
+#undef registry_open
+WRAP(uint32_t, registry_open, const struct registry_settings *settings, struct registry_keeper *keeper, struct registry_cpu *cpus, size_t count);
+WRAP(uint32_t, registry_enter, struct registry_cpu *cpu);
+WRAP(uint32_t, registry_exit, struct registry_cpu *cpu);
+WRAP(uint32_t, registry_get, struct registry_cpu *cpu, uint64_t kind, const struct registry_name *name, struct registry_entry *found);
+WRAP(uint32_t, registry_enter_find, struct registry_cpu *cpu, uint64_t kind, const struct registry_name *name, struct registry_entry *found);
+WRAP(uint32_t, registry_copy, struct registry_cpu *cpu, uint64_t number);
+WRAP(uint32_t, registry_held, const struct registry_cpu *cpu, uint64_t number, bool *held);
+WRAP(uint32_t, registry_release, struct registry_cpu *cpu, uint64_t number);
+WRAP(uint32_t, registry_local_acquire, struct registry_cpu *cpu, struct registry_local *local);
+WRAP(uint32_t, registry_local_release, struct registry_cpu *cpu, struct registry_local *local);
+WRAP(uint32_t, registry_local_forget, struct registry_local *local);
+WRAP(uint32_t, registry_local_give_up, struct registry_keeper *keeper, struct registry_local *local);
+WRAP(uint32_t, registry_close_cpu, struct registry_cpu *cpu);
+WRAP(uint32_t, registry_close_keeper, struct registry_keeper *keeper);
+WRAP(uint32_t, registry_attach, struct registry_keeper *keeper, struct registry_cpu *cpu, const struct registry_name *name, uint64_t value,
+    struct registry_entry *made);
+WRAP(uint32_t, registry_detach, struct registry_keeper *keeper, struct registry_cpu *cpu, uint64_t kind, const struct registry_name *name,
+    struct registry_entry *gone);
+WRAP(uint32_t, registry_destroy, struct registry_keeper *keeper, struct registry_cpu *cpu, uint64_t number, struct registry_stage *met);
+WRAP(uint32_t, registry_perform_begin, struct registry_keeper *keeper, struct registry_cpu *cpu, struct registry_wait *wait);
+WRAP(uint32_t, registry_perform_turn, struct registry_keeper *keeper, struct registry_cpu *cpu, struct registry_wait *wait, uint64_t *waited);
 
 #endif

@@ -3,7 +3,7 @@ and table.py of explorer/tests."""
 from .trees import Case, Fault, real
 
 LINES = "netbsd/tests/lines.py"
-ASKED = [f"netbsd/tests/{name}.c" for name in ("misuse", "misuse_kernel", "sleepers", "unmade", "lacks", "tells")]
+ASKED = [f"netbsd/tests/{name}.c" for name in ("misuses", "lacks", "tells")]
 TESTS = "netbsd/tests/**/*.c"
 PSREF = "netbsd/src/psref.c"
 
@@ -13,10 +13,12 @@ def lines():
         Fault("a line that no test wants", 'psref.c: no test wants "the target is gone"', ((PSREF, '"the target is not live"', '"the target is gone"'),)),
         Fault("a line that no test wants any more", 'no test wants "the reference was written over"', ((ASKED[0], "the reference was written over", "the reference is wrong"),)),
         Fault("a wait that no test lets last", 'localcount.c: no test wants "waits for a release that is under way"',
-              ((ASKED[5], "waits for a release that is under way", "waits for a release"),)),
-        Fault("a line that another file's test wants", 'rwlock.c: no test wants "the thread has the lock already"',
-              ((ASKED[1], "rw_enter: the thread has the lock already", "rw_enter: it is taken"),)),
-        Fault("a file of tests that is gone", "unmade isn't there", ((ASKED[3], "#include", None),)),
+              ((ASKED[2], "waits for a release that is under way", "waits for a release"),)),
+        Fault("a line that another file's test wants", 'callout.c: no test wants "the thread does not have the lock"',
+              ((ASKED[0], "callout_halt: the thread does not have the lock", "callout_halt: it is free"),)),
+        Fault("a line about what no row of calls is given", 'callout.c: no test wants "the timer was destroyed"',
+              (("netbsd/src/callout.c", "the callout was destroyed", "the timer was destroyed"),)),
+        Fault("a file of tests that is gone", "lacks isn't there", ((ASKED[1], "#include", None),)),
     )
     return Case("lines", [], real(LINES, "netbsd/src/*.c", TESTS), [LINES], faults)
 

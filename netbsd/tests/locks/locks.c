@@ -62,6 +62,16 @@ static void test_levels_in_spin_locks(void)
 	splx(s);
 	mutex_spin_exit(&spin);
 	EXPECT(!kpreempt_disabled());
+	/* The level is what it was before the first of the locks that spin. */
+	s = splsoftnet();
+	mutex_enter(&spin);
+	mutex_enter(&highest);
+	mutex_exit(&spin);
+	EXPECT(splsoftclock() == IPL_HIGH);
+	mutex_exit(&highest);
+	EXPECT(splsoftclock() == IPL_SOFTNET);
+	splx(s);
+	EXPECT(s == IPL_NONE && !kpreempt_disabled());
 	mutex_destroy(&highest);
 }
 
@@ -76,7 +86,7 @@ static void test_levels_of_locks(void)
 	for (unsigned i = 0; i < sizeof(each) / sizeof(each[0]); i++) {
 		kmutex_t of_level;
 		mutex_init(&of_level, each[i].type, each[i].level);
-		EXPECT(mutex_tryenter(&of_level) && kpreempt_disabled() == (each[i].raised != IPL_NONE));
+		EXPECT(mutex_tryenter(&of_level) == 1 && kpreempt_disabled() == (each[i].raised != IPL_NONE));
 		int s = splsoftclock();
 		EXPECT(s == each[i].raised);
 		splx(s);
@@ -215,8 +225,7 @@ static void test_condvars(void)
 	plain = 0;
 	for (unsigned i = 0; i < THREADS; i++)
 		start_thread(&threads[i], wait_and_count, NULL);
-	while (atomic_load(&waiting) < THREADS)
-		sleep_for(50);
+	await_least(&waiting, THREADS);
 	mutex_enter(&lock);
 	EXPECT(cv_has_waiters(&cv) && cv_is_valid(&cv));
 	cv_signal(&cv);
@@ -234,6 +243,101 @@ static void test_condvars(void)
 	EXPECT(cv_timedwait(&cv, &spin, 1) == EWOULDBLOCK && mutex_owned(&spin) && kpreempt_disabled());
 	mutex_exit(&spin);
 	EXPECT(!kpreempt_disabled());
+}
+
+/* ---- The queue of a condition variable. ---- */
+
+enum { WAITERS = 3 };
+
+static kcondvar_t other_cv;
+static unsigned leaver, queued, order;	/* under the lock */
+static bool queued_last;
+
+/* The time of the leaver's wait is over again and again. Once all have come it waits behind them. */
+static void wait_last(void)
+{
+	for (bool all = false; !all;) {
+		all = queued == WAITERS;
+		EXPECT(cv_timedwait(&cv, &lock, 1) == EWOULDBLOCK);
+	}
+	queued_last = true;
+}
+
+static void *wait_in_order(void *of)
+{
+	unsigned number = *(unsigned *)of;
+	mutex_enter(&lock);
+	queued++;
+	if (number == leaver)
+		wait_last();
+	EXPECT(cv_timedwait(&cv, &lock, 1000) == 0);
+	order = order * 10 + number;
+	mutex_exit(&lock);
+	return of;
+}
+
+/* Each signal wakes whoever waits longest. Whose time is over leaves the queue, from its beginning, its middle or its end. */
+static void test_order(unsigned of, unsigned wanted)
+{
+	pthread_t threads[WAITERS];
+	unsigned numbers[WAITERS];
+	mutex_enter(&lock);
+	leaver = of;
+	queued = order = 0;
+	queued_last = false;
+	for (unsigned i = 0; i < WAITERS; i++) {
+		numbers[i] = i + 1;
+		start_thread(&threads[i], wait_in_order, &numbers[i]);
+		while (queued == i)
+			EXPECT(cv_timedwait(&other_cv, &lock, 1) == EWOULDBLOCK);
+	}
+	while (!queued_last)
+		EXPECT(cv_timedwait(&other_cv, &lock, 1) == EWOULDBLOCK);
+	for (unsigned woken = 1; woken <= wanted; woken *= 10) {
+		EXPECT(cv_has_waiters(&cv));
+		cv_signal(&cv);
+		while (order < woken)
+			EXPECT(cv_timedwait(&other_cv, &lock, 1) == EWOULDBLOCK);
+	}
+	EXPECT(order == wanted && !cv_has_waiters(&cv));
+	/* The time that is left may be over already. */
+	EXPECT(cv_timedwait(&cv, &lock, -1) == EWOULDBLOCK && cv_timedwait_sig(&cv, &lock, -100000) == EWOULDBLOCK && mutex_owned(&lock));
+	mutex_exit(&lock);
+	for (unsigned i = 0; i < WAITERS; i++)
+		end_thread(threads[i]);
+}
+
+/* ---- Whom a lock is passed. ---- */
+
+static void *take_twice(void *of)
+{
+	for (unsigned turn = 0; turn < 2; turn++) {
+		mutex_enter(&lock);
+		plain++;
+		mutex_exit(&lock);
+	}
+	return of;
+}
+
+/* A thread that gives a lock back and takes it again at once can't keep it from those that wait. */
+static void test_passed(void)
+{
+	enum { MOST = 100 };
+	pthread_t takers[2];
+	unsigned turns = 0;
+	mutex_enter(&lock);
+	plain = 0;
+	for (unsigned i = 0; i < 2; i++)
+		start_thread(&takers[i], take_twice, NULL);
+	for (; turns < MOST && plain < 4; turns++) {
+		sleep_for(2000);
+		mutex_exit(&lock);
+		mutex_enter(&lock);
+	}
+	EXPECT(turns < MOST);
+	mutex_exit(&lock);
+	for (unsigned i = 0; i < 2; i++)
+		end_thread(takers[i]);
 }
 
 /* ---- Many that wait. ---- */
@@ -270,8 +374,7 @@ static void call_member(struct member *member)
 	member->called = true;
 	cv_signal(&member->cv);
 	mutex_exit(&member->lock);
-	while (!atomic_load(&member->gone))
-		sleep_for(50);
+	await_flag(&member->gone);
 	while (atomic_load(&left) == before)
 		sleep_for(50);
 	EXPECT(atomic_load(&left) == before + 1);
@@ -286,8 +389,7 @@ static void test_crowd(void)
 		mutex_enter(&crowd[i].lock);
 		start_thread(&threads[i], wait_in_crowd, &crowd[i]);
 	}
-	while (atomic_load(&came) < CROWD)
-		sleep_for(100);
+	await_least(&came, CROWD);
 	sleep_for(20000);
 	for (unsigned i = 0; i < CROWD; i++)
 		mutex_exit(&crowd[i * 7 % CROWD].lock);
@@ -306,14 +408,21 @@ int main(void)
 	mutex_init(&lock, MUTEX_DEFAULT, IPL_SOFTCLOCK);
 	mutex_init(&spin, MUTEX_DEFAULT, IPL_VM);
 	cv_init(&cv, "locks");
+	cv_init(&other_cv, "others");
 	rw_init(&rw);
 	test_mutexes();
 	test_rwlocks();
 	test_waiting_writer();
 	test_downgrade();
 	test_condvars();
+	test_order(1, 231);
+	test_order(2, 132);
+	test_order(3, 123);
+	test_passed();
 	test_crowd();
 	cv_destroy(&cv);
+	EXPECT(!cv_is_valid(&cv));
+	cv_destroy(&other_cv);
 	rw_destroy(&rw);
 	mutex_destroy(&spin);
 	mutex_destroy(&lock);

@@ -46,6 +46,7 @@ static void refer(unsigned round)
 	psref_release(round % 2 == 0 ? &first : &second, &target, things);
 	EXPECT(psref_held(&target, things));
 	psref_release(round % 2 == 0 ? &second : &first, &target, things);
+	EXPECT(first.psref_target == NULL && second.psref_target == NULL && target.prt_class == things);
 }
 
 /* Bound, once all are. */
@@ -55,8 +56,7 @@ static void *work_bound(void *arg)
 	unsigned cpu = cpu_number();
 	EXPECT(before == 0 && cpu < KUPALDIZ_CPUS && cpu_index(curcpu()) == cpu);
 	atomic_fetch_add(&bound, 1);
-	while (atomic_load(&bound) < THREADS)
-		sleep_for(100);
+	await_least(&bound, THREADS);
 	for (unsigned round = 0; round < ROUNDS; round++) {
 		int again = curlwp_bind();
 		EXPECT(again == 1 && cpu_number() == cpu);
@@ -106,81 +106,6 @@ static void test_locked(void)
 	curlwp_bindx(before);
 }
 
-/* Is bound until the other thread has looked. */
-static void *stay_bound(void *arg)
-{
-	kupaldiz_bind(3);
-	atomic_store((atomic_int *)arg, 1);
-	while (atomic_load((atomic_int *)arg) == 1)
-		sleep_for(100);
-	return arg;
-}
-
-/* A thread is bound where it was last. Where fewer are bound elsewhere it is bound to the next such CPU. One that is not bound counts nowhere. */
-static void test_least_bound(void)
-{
-	pthread_t other;
-	atomic_int step = 0;
-	for (unsigned turn = 0; turn < 4; turn++) {
-		kupaldiz_bind(3);
-		kupaldiz_unbind();
-		int before = curlwp_bind();
-		EXPECT(before == 0 && cpu_number() == 3);
-		curlwp_bindx(before);
-	}
-	start_thread(&other, stay_bound, &step);
-	while (atomic_load(&step) == 0)
-		sleep_for(100);
-	int before = curlwp_bind();
-	EXPECT(before == 0 && cpu_number() == 4);
-	curlwp_bindx(before);
-	/* In a section it is bound where it is. */
-	kupaldiz_bind(3);
-	kupaldiz_unbind();
-	int s = pserialize_read_enter();
-	EXPECT(cpu_number() == 3);
-	before = curlwp_bind();
-	EXPECT(before == 0 && cpu_number() == 3);
-	pserialize_read_exit(s);
-	curlwp_bindx(before);
-	kupaldiz_bind(4);
-	kupaldiz_unbind();
-	atomic_store(&step, 2);
-	end_thread(other);
-	before = curlwp_bind();
-	EXPECT(before == 0 && cpu_number() == 4);
-	curlwp_bindx(before);
-}
-
-/* Has CPU 3 until the other thread has another one. */
-static void *keep_cpu(void *arg)
-{
-	kupaldiz_bind(3);
-	kpreempt_disable();
-	atomic_store((atomic_int *)arg, 1);
-	while (atomic_load((atomic_int *)arg) == 1)
-		sleep_for(100);
-	kpreempt_enable();
-	return arg;
-}
-
-/* A thread that isn't bound takes a CPU that is free, and doesn't wait for the one where it was last. */
-static void test_free_cpu(void)
-{
-	pthread_t other;
-	atomic_int step = 0;
-	kupaldiz_bind(3);
-	kupaldiz_unbind();
-	start_thread(&other, keep_cpu, &step);
-	while (atomic_load(&step) == 0)
-		sleep_for(100);
-	int s = pserialize_read_enter();
-	EXPECT(cpu_number() != 3 && atomic_load(&step) == 1);
-	pserialize_read_exit(s);
-	atomic_store(&step, 2);
-	end_thread(other);
-}
-
 /* Ends bound. */
 static void *end_bound(void *arg)
 {
@@ -206,8 +131,6 @@ int main(void)
 	for (CPU_INFO_FOREACH(place, cpu))
 		EXPECT(cpu_index(cpu) == count++);
 	EXPECT(count == KUPALDIZ_CPUS && (int)count == ncpu);
-	test_least_bound();
-	test_free_cpu();
 	things = psref_class_create("thing", IPL_SOFTNET);
 	psref_target_init(&target, things);
 	for (int i = 0; i < THREADS + 4; i++)
@@ -222,6 +145,7 @@ int main(void)
 	}
 	test_locked();
 	psref_target_destroy(&target, things);
+	EXPECT(target.prt_class == NULL);
 	psref_class_destroy(things);
 	EXPECT(atomic_load(&unbound_sections) == 4 * ROUNDS);
 	printf("%d bound threads shared %d CPUs\n", THREADS, KUPALDIZ_CPUS);

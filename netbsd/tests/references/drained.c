@@ -11,12 +11,7 @@
 #include <sys/pserialize.h>
 
 #include "test.h"
-
-int __real_pthread_mutex_lock(pthread_mutex_t *mutex);
-int __wrap_pthread_mutex_lock(pthread_mutex_t *mutex);
-
-int __real_pthread_mutex_unlock(pthread_mutex_t *mutex);
-int __wrap_pthread_mutex_unlock(pthread_mutex_t *mutex);
+#include "wraps.h"
 
 enum { ROUNDS = 300, HOLDERS = 3, BESIDE = 8 };
 
@@ -147,13 +142,17 @@ static void drain_beside_others(void)
 	end_object(object);
 }
 
-/* Whether the drain waits by its condition variable as it gives its lock up. */
-static bool is_waiting(struct object *object)
+/* Whether the drain waits by its condition variable as it gives its lock up, for so many looks at most. The first time it lets others in at once. */
+static bool is_waiting(struct object *object, unsigned looks)
 {
-	while (!mutex_tryenter(&object->lock))
-		sleep_for(50);
-	bool waits = cv_has_waiters(&object->cv);
-	mutex_exit(&object->lock);
+	bool waits = false;
+	for (unsigned look = 0; look < looks && !waits; look++) {
+		sleep_for(1000);
+		while (!mutex_tryenter(&object->lock))
+			sleep_for(50);
+		waits = cv_has_waiters(&object->cv);
+		mutex_exit(&object->lock);
+	}
 	return waits;
 }
 
@@ -162,7 +161,7 @@ static void *leave_section(void *of)
 {
 	int s = pserialize_read_enter();
 	atomic_store(&inside, true);
-	EXPECT(!is_waiting(of));
+	EXPECT(!is_waiting(of, 20));
 	pserialize_read_exit(s);
 	return of;
 }
@@ -174,23 +173,18 @@ static void drain_under_section(void)
 	atomic_store(&inside, false);
 	mutex_enter(&object->lock);
 	start_thread(&reader, leave_section, object);
-	while (!atomic_load(&inside))
-		sleep_for(50);
+	await_flag(&inside);
 	localcount_drain(&object->count, &object->cv, &object->lock);
 	mutex_exit(&object->lock);
 	end_thread(reader);
 	end_object(object);
 }
 
-/* Where a drain looks again only after a long time it waits to be woken. */
+/* It waits to be woken, and looks again only after a time, which may be long. */
 static void *release_awaited(void *of)
 {
 	struct object *object = of;
-	bool waits = is_waiting(object);
-#ifdef KUPALDIZ_LOOKS
-	EXPECT(waits);
-#endif
-	(void)waits;
+	EXPECT(is_waiting(object, 5000));
 	localcount_release(&object->count, &object->cv, &object->lock);
 	return of;
 }

@@ -6,24 +6,38 @@
  */
 #include <fcntl.h>
 #include <stdarg.h>
+#include <sys/cpu.h>
 #include <sys/prctl.h>
 #include <sys/psref.h>
+#include <sys/systm.h>
 
-#include "free_cpus.h"
 #include "stops.h"
 
 #include "registry.h"
-
-ssize_t __real_write(int file, const void *bytes, size_t length);
-ssize_t __wrap_write(int file, const void *bytes, size_t length);
-int __real_open(const char *path, int flags, ...);
-int __wrap_open(const char *path, int flags, ...);
-int __real_nanosleep(const struct timespec *time, struct timespec *left);
-int __wrap_nanosleep(const struct timespec *time, struct timespec *left);
-uint32_t __real_registry_get(struct registry_cpu *cpu, uint64_t kind, const struct registry_name *name, struct registry_entry *found);
-uint32_t __wrap_registry_get(struct registry_cpu *cpu, uint64_t kind, const struct registry_name *name, struct registry_entry *found);
+#include "wraps.h"
 
 enum { LAST = KUPALDIZ_CPUS - 1, NOBODY = KUPALDIZ_CPUS, A_LOOK = 1000000 };
+
+/* Whether a CPU is free: a thread that isn't bound takes a CPU that is, first that where it was last. */
+static void *take_one(void *of)
+{
+	unsigned cpu = *(unsigned *)of;
+	kupaldiz_bind(cpu);
+	kupaldiz_unbind();
+	kpreempt_disable();
+	*(unsigned *)of = cpu_number();
+	kpreempt_enable();
+	return of;
+}
+
+static bool is_free(unsigned cpu)
+{
+	pthread_t other;
+	unsigned got = cpu;
+	start_thread(&other, take_one, &got);
+	end_thread(other);
+	return got == cpu;
+}
 
 static struct psref_class *things;
 static struct psref_target target;
@@ -143,58 +157,24 @@ static void destroy_beside(struct holder *holders, unsigned count)
 
 /* ---- The cases. ---- */
 
-static void on_first(void)
-{
-	struct holder holders[] = {{"first", 0, true, true, FREES, 0}};
-	looked_at = 0;
-	destroy_beside(holders, 1);
-}
+#define BESIDE(...) \
+	struct holder holders[] = {__VA_ARGS__}; \
+	destroy_beside(holders, sizeof(holders) / sizeof(holders[0]))
+#define HOLDS_ONE(cpu, name)	"psref_target_destroy: waits for CPU " cpu ", whose thread \"" name "\" holds one reference, acquired at PLACE"
 
+WAITS(HOLDS_ONE("0", "first"), looked_at = 0; BESIDE({"first", 0, true, true, FREES, 0}))
 /* A CPU before it is another thread's all the time. */
-static void on_last(void)
-{
-	struct holder holders[] = {{"last", LAST, true, true, FREES, 0}, {"keeper", 0, false, false, KEEPS, 0}};
-	looked_at = LAST;
-	destroy_beside(holders, 2);
-}
-
-/* Whoever has the reference has its CPU, too. */
-static void on_kept(void)
-{
-	struct holder holders[] = {{"kept", 3, true, false, KEEPS, 0}, {"other", 4, true, false, FREES, 0}};
-	destroy_beside(holders, 2);
-}
-
-static void elsewhere_on_kept(void)
-{
-	struct holder holders[] = {{"kept", 3, true, true, KEEPS, 0}};
-	destroy_beside(holders, 1);
-}
-
-/* The CPU is free at the second look. */
-static void on_let_go(void)
-{
-	struct holder holders[] = {{"lets_go", 3, true, false, LETS_GO, 0}};
-	looked_at = 3;
-	destroy_beside(holders, 1);
-}
-
 static char of_last[160];
-
-static const struct stop_case cases[] = {
-    {on_first, "psref_target_destroy: waits for CPU 0, whose thread \"first\" holds one reference, acquired at PLACE"},
-    {on_last, of_last},
-    {on_kept, "psref_target_destroy: waits for CPU 3, which holds a reference"},
-    {elsewhere_on_kept, "psref_target_destroy: waits for a reference"},
-    {on_let_go, "psref_target_destroy: waits for CPU 3, whose thread \"lets_go\" holds one reference, acquired at PLACE"},
-};
+WAITS(of_last, looked_at = LAST; BESIDE({"last", LAST, true, true, FREES, 0}, {"keeper", 0, false, false, KEEPS, 0}))
+/* Whoever has the reference has its CPU, too. */
+WAITS("psref_target_destroy: waits for CPU 3, which holds a reference",
+    BESIDE({"kept", 3, true, false, KEEPS, 0}, {"other", 4, true, false, FREES, 0}))
+WAITS("psref_target_destroy: waits for a reference", BESIDE({"kept", 3, true, true, KEEPS, 0}))
+/* The CPU is free at the second look. */
+WAITS(HOLDS_ONE("3", "lets_go"), looked_at = 3; BESIDE({"lets_go", 3, true, false, LETS_GO, 0}))
 
 int main(void)
 {
-	size_t all = sizeof(cases) / sizeof(cases[0]), passed = 0;
-	snprintf(of_last, sizeof(of_last), "psref_target_destroy: waits for CPU %d, whose thread \"last\" holds one reference, acquired at PLACE", LAST);
-	for (size_t place = 0; place < all; place++)
-		passed += is_told(begin, &cases[place]);
-	printf("%zu passed, %zu failed\n", passed, all - passed);
-	return passed != all;
+	snprintf(of_last, sizeof(of_last), HOLDS_ONE("%d", "last"), LAST);
+	return run_cases(begin);
 }

@@ -9,9 +9,7 @@
 #include "test.h"
 
 #include "registry.h"
-
-uint32_t __real_registry_get(struct registry_cpu *cpu, uint64_t kind, const struct registry_name *name, struct registry_entry *found);
-uint32_t __wrap_registry_get(struct registry_cpu *cpu, uint64_t kind, const struct registry_name *name, struct registry_entry *found);
+#include "wraps.h"
 
 static struct psref_class *things;
 static struct psref_target target, other;

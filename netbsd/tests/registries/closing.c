@@ -6,17 +6,7 @@
  */
 #include "src/layer.h"
 #include "test.h"
-
-#undef registry_open
-uint32_t __real_registry_open(const struct registry_settings *settings, struct registry_keeper *keeper, struct registry_cpu *handles, size_t count);
-uint32_t __wrap_registry_open(const struct registry_settings *settings, struct registry_keeper *keeper, struct registry_cpu *handles, size_t count);
-
-uint32_t __real_registry_close_cpu(struct registry_cpu *cpu);
-uint32_t __wrap_registry_close_cpu(struct registry_cpu *cpu);
-uint32_t __real_registry_close_keeper(struct registry_keeper *keeper);
-uint32_t __wrap_registry_close_keeper(struct registry_keeper *keeper);
-uint32_t __real_registry_local_forget(struct registry_local *local);
-uint32_t __wrap_registry_local_forget(struct registry_local *local);
+#include "wraps.h"
 
 enum { LIVE = 2 * ROWS + 1, LEFT = 3 };
 
@@ -116,8 +106,7 @@ static void leave_all(void)
 			localcount_acquire(&counts[i]);
 	}
 	start_thread(&thread, stay_inside, NULL);
-	while (!atomic_load(&inside))
-		sleep_for(100);
+	await_flag(&inside);
 	for (unsigned turn = 0; turn < 2; turn++)
 		EXPECT(registry_enter(&cpus[0].bank->cpus[0].cpu) == REGISTRY_DONE);
 }

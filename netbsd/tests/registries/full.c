@@ -33,55 +33,26 @@ static void refer(unsigned references)
 		psref_acquire(&psrefs[i], &target, things);
 }
 
-static void acquire_one_more(void)
-{
-	refer(REFERENCES);
-	EXPECT(psref_held(&target, things));
-	psref_acquire(&psrefs[REFERENCES], &target, things);
-}
-
 /* A copy is counted where the first one is. */
-static void copy_one_more(void)
-{
-	refer(KUPALDIZ_REFERENCES);
-	psref_copy(&psrefs[REFERENCES], &psrefs[0], things);
-}
-
-static void copy_one_more_elsewhere(void)
-{
-	refer(REFERENCES);
-	psref_copy(&psrefs[REFERENCES], &psrefs[REFERENCES - 1], things);
-}
-
-static void count_one_more(void)
-{
-	for (unsigned i = 0; i < REFERENCES; i++)
-		localcount_acquire(&count);
-	EXPECT(localcount_debug_refcnt(&count) == REFERENCES);
-	localcount_acquire(&count);
-}
+#define PASSIVE_FULL	": this CPU has as many passive references to the entry as it may, at PLACE"
+STOPS("psref_acquire" PASSIVE_FULL, refer(REFERENCES); EXPECT(psref_held(&target, things)); psref_acquire(&psrefs[REFERENCES], &target, things))
+STOPS("psref_copy" PASSIVE_FULL, refer(KUPALDIZ_REFERENCES); psref_copy(&psrefs[REFERENCES], &psrefs[0], things))
+STOPS("psref_copy" PASSIVE_FULL, refer(REFERENCES); psref_copy(&psrefs[REFERENCES], &psrefs[REFERENCES - 1], things))
+STOPS("localcount_acquire: this CPU's net count of local references to the entry is at its limit, at PLACE",
+    for (unsigned i = 0; i < REFERENCES; i++)
+	    localcount_acquire(&count);
+    EXPECT(localcount_debug_refcnt(&count) == REFERENCES); localcount_acquire(&count))
 
 /* The target and the count are live, too. */
-static void make_one_more(void)
-{
-	static struct psref_target many[LIVE - 1];
-	for (unsigned i = 0; i < LIVE - 2; i++)
-		psref_target_init(&many[i], things);
-	psref_target_init(&many[LIVE - 2], things);
-}
-
 static char live_line[96];
-
-static const struct stop_case cases[] = {
-    {acquire_one_more, "psref_acquire: this CPU has as many passive references to the entry as it may, at PLACE"},
-    {copy_one_more, "psref_copy: this CPU has as many passive references to the entry as it may, at PLACE"},
-    {copy_one_more_elsewhere, "psref_copy: this CPU has as many passive references to the entry as it may, at PLACE"},
-    {count_one_more, "localcount_acquire: this CPU's net count of local references to the entry is at its limit, at PLACE"},
-    {make_one_more, live_line},
-};
+STOPS(live_line,
+    static struct psref_target many[LIVE - 1];
+    for (unsigned i = 0; i < LIVE - 2; i++)
+	    psref_target_init(&many[i], things);
+    kupaldiz_at("the last call"); (psref_target_init)(&many[LIVE - 2], things))
 
 int main(void)
 {
-	snprintf(live_line, sizeof(live_line), "psref_target_init: %d targets and counts are live, at PLACE", LIVE);
-	return run_cases(begin, cases, sizeof(cases) / sizeof(cases[0]));
+	snprintf(live_line, sizeof(live_line), "psref_target_init: %d targets and counts are live, at the last call", LIVE);
+	return run_cases(begin);
 }

@@ -3,6 +3,7 @@
  * thousand references. With `full` over the true limits, as far as a test comes to them: more than a million changes, and hundreds of live targets.
  */
 #include <sys/condvar.h>
+#include <sys/intr.h>
 #include <sys/localcount.h>
 #include <sys/mutex.h>
 #include <sys/pserialize.h>
@@ -71,20 +72,53 @@ static void test_changes(unsigned changes)
 	psref_target_destroy(&stays, things);
 }
 
-/* More references of one CPU to one target than it counts. They are released in another order. */
-static void test_references(unsigned references)
+/* More references of one CPU to one target than it counts: a CPU of the layer's own counts the others, and copies of those. They are released in the order
+ * in which they were acquired, so that only those are left, or in another one. */
+static void test_references(unsigned references, unsigned stride)
 {
 	static struct psref psrefs[REFERENCES];
 	psref_target_init(&targets[0], things);
-	for (unsigned i = 0; i < references; i++)
-		psref_acquire(&psrefs[i], &targets[0], things);
+	for (unsigned i = 0; i < references; i++) {
+		if (i % 2 == 1)
+			psref_copy(&psrefs[i], &psrefs[i - 1], things);
+		else
+			psref_acquire(&psrefs[i], &targets[0], things);
+		EXPECT(!kpreempt_disabled());
+	}
 	for (unsigned i = 0; i < references; i++) {
 		EXPECT(psref_held(&targets[0], things));
-		psref_release(&psrefs[i * 7 % references], &targets[0], things);
+		psref_release(&psrefs[i * stride % references], &targets[0], things);
+		EXPECT(!kpreempt_disabled());
 	}
 	EXPECT(!psref_held(&targets[0], things));
 	psref_target_destroy(&targets[0], things);
 }
+
+#ifdef KUPALDIZ_SECTIONS
+/* The CPU's sections in a registry are used up: what it acquires there is counted elsewhere from the first. */
+static void test_spent(void)
+{
+	struct psref first, second, other;
+	psref_target_init(&targets[0], things);
+	for (unsigned turn = 0; turn <= KUPALDIZ_SECTIONS; turn++)
+		pserialize_read_exit(pserialize_read_enter());
+	psref_acquire(&first, &targets[0], things);
+	EXPECT(psref_held(&targets[0], things));
+	/* This one is in a registry whose sections aren't used up. */
+	psref_target_init(&targets[1], things);
+	psref_acquire(&other, &targets[1], things);
+	EXPECT(psref_held(&targets[1], things));
+	psref_release(&other, &targets[1], things);
+	EXPECT(psref_held(&targets[0], things) && !psref_held(&targets[1], things));
+	psref_copy(&second, &first, things);
+	psref_release(&first, &targets[0], things);
+	EXPECT(psref_held(&targets[0], things));
+	psref_release(&second, &targets[0], things);
+	EXPECT(!psref_held(&targets[0], things));
+	psref_target_destroy(&targets[0], things);
+	psref_target_destroy(&targets[1], things);
+}
+#endif
 
 static void *release_all(void *of)
 {
@@ -179,8 +213,7 @@ static void test_moved(void)
 {
 	pthread_t reader, performer;
 	start_thread(&reader, read_moved, NULL);
-	while (atomic_load(&step) == 0)
-		sleep_for(100);
+	await_least(&step, 1);
 	start_thread(&performer, perform_it, NULL);
 	sleep_for(20000);
 	EXPECT(atomic_load(&performed) == 0);
@@ -200,7 +233,11 @@ int main(int argc, char **argv)
 	kupaldiz_bind(1);
 	test_live(full ? MOST_LIVE : 40);
 	test_changes(full ? MANY_CHANGES : 2000);
-	test_references(REFERENCES);
+	test_references(REFERENCES, 1);
+	test_references(REFERENCES, 7);
+#ifdef KUPALDIZ_SECTIONS
+	test_spent();
+#endif
 	if (!full)
 		test_moved();
 	if (!full)

@@ -1,5 +1,6 @@
 /*
- * reopened - a registry whose changes are used up is opened anew once it is empty, and no earlier than the last call on it has returned
+ * reopened - a target goes into a registry that has room; one whose changes are used up is opened anew once it is empty, and no earlier than the last call on
+ * it has returned
  *
  * Over a layer whose registries have four rows and forty changes. A release of the last reference loses its processor just before it returns. The linker leads
  * registry_release and registry_close_cpu here (--wrap).
@@ -12,11 +13,7 @@
 
 #include "registry.h"
 #include "test.h"
-
-uint32_t __real_registry_release(struct registry_cpu *cpu, uint64_t number);
-uint32_t __wrap_registry_release(struct registry_cpu *cpu, uint64_t number);
-uint32_t __real_registry_close_cpu(struct registry_cpu *cpu);
-uint32_t __wrap_registry_close_cpu(struct registry_cpu *cpu);
+#include "wraps.h"
 
 enum { ROUNDS = 10, FIRST_ROWS = 4, PAIRS = 30 };
 
@@ -44,14 +41,32 @@ uint32_t __wrap_registry_close_cpu(struct registry_cpu *cpu)
 	return __real_registry_close_cpu(cpu);
 }
 
+static const struct registry_keeper *first_keeper;	/* of the first registry */
+static bool first_closed;
+static unsigned registries;	/* that are open */
+
+uint32_t __wrap_registry_open(const struct registry_settings *settings, struct registry_keeper *keeper, struct registry_cpu *cpus, size_t count)
+{
+	if (first_keeper == NULL)
+		first_keeper = keeper;
+	registries++;
+	return __real_registry_open(settings, keeper, cpus, count);
+}
+
+uint32_t __wrap_registry_close_keeper(struct registry_keeper *keeper)
+{
+	first_closed |= keeper == first_keeper;
+	registries--;
+	return __real_registry_close_keeper(keeper);
+}
+
 static void *hold(void *arg)
 {
 	struct psref psref;
 	kupaldiz_bind(3);
 	psref_acquire(&psref, &last, things);
 	atomic_store(&held, true);
-	while (!atomic_load(&destroying))
-		sleep_for(50);
+	await_flag(&destroying);
 	sleep_for(2000);
 	is_slow = true;
 	psref_release(&psref, &last, things);
@@ -71,8 +86,7 @@ static void end_last(void)
 	atomic_store(&held, false);
 	atomic_store(&destroying, false);
 	start_thread(&holder, hold, NULL);
-	while (!atomic_load(&held))
-		sleep_for(50);
+	await_flag(&held);
 	atomic_store(&destroying, true);
 	psref_target_destroy(&last, things);
 	end_thread(holder);
@@ -99,9 +113,47 @@ static void end_counts(void)
 	EXPECT(atomic_load(&closed) > before);
 }
 
+/* Uses up the sections of a CPU in the registry that it takes for them. It goes on in another one. */
+static void use_up_sections(unsigned cpu)
+{
+	kupaldiz_bind(cpu);
+	for (unsigned turn = 0; turn <= KUPALDIZ_SECTIONS; turn++)
+		pserialize_read_exit(pserialize_read_enter());
+	kupaldiz_unbind();
+}
+
+/* The first registry has the sections of all CPUs. Once the last of them goes on elsewhere it is opened anew as any other one. */
+static void end_sections(void)
+{
+	for (unsigned cpu = 0; cpu < KUPALDIZ_CPUS - 1; cpu++)
+		use_up_sections(cpu);
+	end_counts();
+	EXPECT(!first_closed);
+	use_up_sections(KUPALDIZ_CPUS - 1);
+	end_counts();
+	EXPECT(first_closed);
+}
+
+/* So many targets begin, and end: after each one there are as many registries as they fill. Rooms come free in each, and are taken again. A registry whose
+ * changes are used up may have one beside it meanwhile. */
+static void fill_registries(void)
+{
+	enum { TARGETS = 2 * FIRST_ROWS + 1 };
+	static struct psref_target targets[TARGETS];
+	for (unsigned round = 0; round < 100; round++) {
+		for (unsigned i = 0; i < TARGETS; i++) {
+			psref_target_init(&targets[i], things);
+			EXPECT(round == 0 ? registries == i / FIRST_ROWS + 1 : registries <= 2 * (TARGETS / FIRST_ROWS + 1));
+		}
+		for (unsigned i = 0; i < TARGETS; i++)
+			psref_target_destroy(&targets[i], things);
+	}
+}
+
 int main(void)
 {
 	things = psref_class_create("thing", IPL_NONE);
+	fill_registries();
 	/* The first registry has the sections of all CPUs, and stays. */
 	for (unsigned i = 0; i < FIRST_ROWS; i++)
 		psref_target_init(&first[i], things);
@@ -111,6 +163,7 @@ int main(void)
 	for (unsigned i = 0; i < FIRST_ROWS; i++)
 		psref_target_destroy(&first[i], things);
 	EXPECT(atomic_load(&closed) >= ROUNDS);
+	end_sections();
 	psref_class_destroy(things);
 	printf("%u handles were closed, none while a call used it\n", atomic_load(&closed));
 	return 0;

@@ -1,8 +1,7 @@
 /*
- * callouts - callout(9) by a clock that only this test moves: when each callout runs, to the nanosecond, what its calls have their lock for, and what a
- * halt waits for and ends
+ * callouts - callout(9) by a clock that only this test moves: when each callout runs, to the nanosecond, and what a halt waits for and ends
  *
- * The linker leads the clock, the mutexes and condition variables of the layer, and its lines, here (--wrap).
+ * The linker leads the clock, the condition variables of the layer, and its lines, here (--wrap).
  */
 #include <errno.h>
 #include <limits.h>
@@ -13,43 +12,24 @@
 
 #include "stops.h"
 
-#include "held.h"
+#include "wraps.h"
 
 #define SECOND	INT64_C(1000000000)
 #define TICK	(SECOND / 100)
 #define NEVER	INT64_MAX
 
-int __wrap_clock_gettime(clockid_t clock, struct timespec *time);
-int __real_clock_gettime(clockid_t clock, struct timespec *time);
-int __wrap_pthread_condattr_init(pthread_condattr_t *how);
-int __real_pthread_condattr_init(pthread_condattr_t *how);
-int __wrap_pthread_condattr_destroy(pthread_condattr_t *how);
-int __real_pthread_condattr_destroy(pthread_condattr_t *how);
-int __wrap_pthread_cond_init(pthread_cond_t *cond, const pthread_condattr_t *how);
-int __real_pthread_cond_init(pthread_cond_t *cond, const pthread_condattr_t *how);
-int __wrap_pthread_cond_broadcast(pthread_cond_t *cond);
-int __real_pthread_cond_broadcast(pthread_cond_t *cond);
-int __wrap_pthread_cond_wait(pthread_cond_t *cond, pthread_mutex_t *mutex);
-int __real_pthread_cond_wait(pthread_cond_t *cond, pthread_mutex_t *mutex);
-int __wrap_pthread_cond_timedwait(pthread_cond_t *cond, pthread_mutex_t *mutex, const struct timespec *end);
-int __real_pthread_cond_timedwait(pthread_cond_t *cond, pthread_mutex_t *mutex, const struct timespec *end);
-ssize_t __wrap_write(int file, const void *bytes, size_t length);
-ssize_t __real_write(int file, const void *bytes, size_t length);
-
 /* ---- What the layer does, as it is seen here. ---- */
 
 static _Atomic int64_t now = 1000 * SECOND;
 
-/* The condition variable of the callouts, and their mutex. */
+/* The condition variable of the callouts. */
 static const pthread_cond_t *_Atomic changed;
-static const pthread_mutex_t *_Atomic mutex_of_all;
 
 /* The clock's thread: how often it began to wait, how often it had when a callout was last set, and until when it waits. */
 static atomic_uint looks, looks_before;
 static _Atomic int64_t waits_until;
 
-/* How often a halt began to wait, and when it will say so. */
-static atomic_uint halts;
+/* When a halt that waits will say so. */
 static _Atomic int64_t says_at;
 
 /* How often the soft interrupts of each CPU were over. */
@@ -63,14 +43,6 @@ static _Thread_local int runs_for = -1;
 static _Thread_local void (*meanwhile)(void);
 static _Thread_local int wait_returns;
 
-/* What others do when this thread has given a mutex back for so many times. */
-static _Thread_local unsigned gives;
-static _Thread_local void (*given)(void);
-
-/* A soft interrupt stops where it has given the callouts' mutex back, until it may go on. */
-static atomic_bool is_barred;
-static atomic_uint at_bar, past_bar;
-
 static bool keeps_lines;
 static unsigned lines;
 static char said[256];
@@ -83,27 +55,12 @@ int __wrap_clock_gettime(clockid_t clock, struct timespec *time)
 	return 0;
 }
 
-static _Thread_local const pthread_condattr_t *attributes;
 static _Thread_local bool begins;
-
-int __wrap_pthread_condattr_init(pthread_condattr_t *how)
-{
-	EXPECT(attributes == NULL);
-	attributes = how;
-	return __real_pthread_condattr_init(how);
-}
-
-int __wrap_pthread_condattr_destroy(pthread_condattr_t *how)
-{
-	EXPECT(attributes == how);
-	attributes = NULL;
-	return __real_pthread_condattr_destroy(how);
-}
 
 int __wrap_pthread_cond_init(pthread_cond_t *cond, const pthread_condattr_t *how)
 {
 	clockid_t clock = CLOCK_REALTIME;
-	EXPECT(how != NULL && attributes == how && pthread_condattr_getclock(how, &clock) == 0 && clock == CLOCK_MONOTONIC);
+	EXPECT(how != NULL && pthread_condattr_getclock(how, &clock) == 0 && clock == CLOCK_MONOTONIC);
 	if (begins)
 		atomic_store(&changed, cond);
 	return __real_pthread_cond_init(cond, how);
@@ -120,18 +77,17 @@ int __wrap_pthread_cond_broadcast(pthread_cond_t *cond)
 	return __real_pthread_cond_broadcast(cond);
 }
 
-/* A thread begins to wait. Only with the mutex, and until a time where it says one. */
-static void note_wait(const pthread_cond_t *cond, const pthread_mutex_t *mutex, int64_t end)
+/* A thread begins to wait, until a time where it says one. */
+static void note_wait(const pthread_cond_t *cond, int64_t end)
 {
-	EXPECT(is_held(mutex));
 	if (cond != atomic_load(&changed)) {
 		if (runs_for >= 0 && !in_body)
 			atomic_fetch_add(&idle[runs_for], 1);
 		return;
 	}
-	atomic_store(&mutex_of_all, mutex);
 	atomic_store(is_ours ? &says_at : &waits_until, end);
-	atomic_fetch_add(is_ours ? &halts : &looks, 1);
+	if (!is_ours)
+		atomic_fetch_add(&looks, 1);
 }
 
 /* Whether others had their turn while this thread waits in a halt. */
@@ -142,15 +98,15 @@ static bool had_turn(const pthread_cond_t *cond, pthread_mutex_t *mutex)
 		return false;
 	EXPECT(!is_cancellable());
 	meanwhile = NULL;
-	__wrap_pthread_mutex_unlock(mutex);
+	pthread_mutex_unlock(mutex);
 	what();
-	__wrap_pthread_mutex_lock(mutex);
+	pthread_mutex_lock(mutex);
 	return true;
 }
 
 int __wrap_pthread_cond_wait(pthread_cond_t *cond, pthread_mutex_t *mutex)
 {
-	note_wait(cond, mutex, NEVER);
+	note_wait(cond, NEVER);
 	return had_turn(cond, mutex) ? 0 : __real_pthread_cond_wait(cond, mutex);
 }
 
@@ -160,7 +116,7 @@ int __wrap_pthread_cond_timedwait(pthread_cond_t *cond, pthread_mutex_t *mutex, 
 	struct timespec soon;
 	EXPECT(end->tv_sec >= 0 && end->tv_sec < SECOND && end->tv_nsec >= 0 && end->tv_nsec < SECOND);
 	int64_t time = end->tv_sec * SECOND + end->tv_nsec;
-	note_wait(cond, mutex, time);
+	note_wait(cond, time);
 	if (had_turn(cond, mutex))
 		return wait_returns;
 	unsigned before = atomic_load(&broadcasts);
@@ -174,15 +130,12 @@ int __wrap_pthread_cond_timedwait(pthread_cond_t *cond, pthread_mutex_t *mutex, 
 	return ETIMEDOUT;
 }
 
-static void has_given(const pthread_mutex_t *mutex)
+/* Waits until a number is above another one, for a minute at most. */
+static void await_above(atomic_uint *number, unsigned other)
 {
-	if (is_ours && gives > 0 && --gives == 0)
-		given();
-	if (runs_for < 0 || in_body || mutex != atomic_load(&mutex_of_all) || !atomic_exchange(&is_barred, false))
-		return;
-	unsigned before = atomic_load(&past_bar);
-	atomic_fetch_add(&at_bar, 1);
-	await_above(&past_bar, before);
+	for (unsigned turn = 0; turn < 600000 && atomic_load(number) <= other; turn++)
+		sleep_for(100);
+	EXPECT(atomic_load(number) > other);
 }
 
 static atomic_uint ends;	/* what a body that stays waits for */
@@ -401,113 +354,10 @@ static void test_order(void)
 	}
 }
 
-/* ---- What the lock is for. ---- */
-
-static struct timer seen;
-static const callout_t *watched = &seen.callout;
-static callout_t shown;
-
-static void show(void)
-{
-	shown = *watched;
-}
-
-static void call_setfunc(void) { callout_setfunc(&seen.callout, stay, &shown); }
-static void call_reset(void) { callout_reset(&seen.callout, 100, note_run, &seen); }
-static void call_schedule(void) { callout_schedule(&seen.callout, 200); }
-static void call_stop(void) { (void)callout_stop(&seen.callout); }
-static void call_halt(void) { (void)callout_halt(&seen.callout, NULL); }
-static void call_ack(void) { callout_ack(&seen.callout); }
-static void call_destroy(void) { callout_destroy(&seen.callout); }
-
-/* A call changes the callout, and all that it writes is there when it gives the lock back. */
-static void want_written(void (*call)(void))
-{
-	const callout_t before = seen.callout;
-	given = show;
-	gives = 1;
-	call();
-	const callout_t *after = &seen.callout;
-	EXPECT(gives == 0 && shown.c_next == after->c_next && shown.c_body == after->c_body && shown.c_arg == after->c_arg);
-	EXPECT(shown.c_due == after->c_due && shown.c_made == after->c_made && shown.c_state == after->c_state && shown.c_cpu == after->c_cpu);
-	EXPECT(before.c_body != after->c_body || before.c_due != after->c_due || before.c_made != after->c_made || before.c_state != after->c_state);
-}
-
-static void test_written(void)
-{
-	static struct timer other;
-	callout_init(&seen.callout, CALLOUT_MPSAFE);
-	callout_init(&other.callout, CALLOUT_MPSAFE);
-	callout_reset(&other.callout, 1000, note_run, &other);
-	want_written(call_setfunc);
-	want_written(call_reset);
-	want_written(call_schedule);
-	want_written(call_stop);
-	want_written(call_reset);
-	want_written(call_halt);
-	set_on(3, &seen, 1, note_run);
-	(void)next_look();
-	pass(TICK);
-	await_run(&seen, 1);
-	want_written(call_ack);
-	want_written(call_stop);
-	want_written(call_destroy);
-	end_timer(&other);
-}
-
-/* A call looks before it gives the lock back: what another thread does then changes nothing of what it returns. */
-static void test_looked(void)
-{
-	static bool (*const calls[])(callout_t *) = {callout_pending, callout_active, callout_expired, callout_invoking};
-	for (unsigned at = 0; at < 4; at++) {
-		callout_init(&seen.callout, CALLOUT_MPSAFE);
-		callout_reset(&seen.callout, 100, note_run, &seen);
-		given = call_stop;
-		gives = 1;
-		EXPECT(calls[at](&seen.callout) == (at < 2) && gives == 0 && !callout_active(&seen.callout));
-		callout_destroy(&seen.callout);
-	}
-}
 
 /* ---- Halts. ---- */
 
 static struct timer timer;
-
-static void go_on(void)
-{
-	atomic_fetch_add(&past_bar, 1);
-}
-
-/* Sets itself again when it runs for the second time, and ends when that time has come. */
-static void set_second(void *of)
-{
-	struct timer *set = of;
-	note_run(of);
-	if (atomic_load(&set->runs) == 2) {
-		callout_schedule(&set->callout, 1);
-		pass(TICK);
-	}
-}
-
-/* Once the lock is free a callout whose body is about to begin counts as one that runs: a halt waits for it, and ends what it sets. */
-static void test_about_to_begin(void)
-{
-	callout_init(&timer.callout, CALLOUT_MPSAFE);
-	begin_on(3, &timer, set_second);
-	await_run(&timer, 1);
-	set_on(3, &timer, 1, set_second);
-	(void)next_look();
-	unsigned halted = atomic_load(&halts), before = atomic_load(&at_bar);
-	atomic_store(&is_barred, true);
-	pass(TICK);
-	await_above(&at_bar, before);
-	meanwhile = go_on;
-	wait_returns = 0;
-	EXPECT(callout_halt(&timer.callout, NULL) && atomic_load(&timer.runs) == 2 && atomic_load(&halts) > halted);
-	EXPECT(!callout_active(&timer.callout));
-	callout_destroy(&timer.callout);
-	atomic_store(&timer.runs, 0);
-}
 
 /* Stays, and when it has run once it sets itself again, and ends when that time has come. */
 static void stay_and_set(void *of)
@@ -546,71 +396,6 @@ static void test_halt_ends_next(unsigned cpu)
 	atomic_fetch_add(&ends, 1);
 	await_run(&timer, 2);
 	end_timer(&timer);
-	atomic_store(&timer.runs, 0);
-}
-
-static atomic_uint ends_on[KUPALDIZ_CPUS];
-
-/* Stays on each of its CPUs. On CPU 4 it sets itself again, and ends when that time has come. */
-static void stay_there(void *of)
-{
-	unsigned cpu = cpu_number();
-	in_body = true;
-	note_run(of);
-	await_above(&ends_on[cpu], 0);
-	if (cpu == 4)
-		callout_schedule(&timer.callout, 1);
-	pass(TICK);
-	in_body = false;
-}
-
-/* The second body ends, and what it has set doesn't run; then the first one ends. */
-static void end_both(void)
-{
-	unsigned before = atomic_load(&idle[4]);
-	atomic_store(&ends_on[4], 1);
-	while (atomic_load(&idle[4]) <= before && atomic_load(&timer.runs) == 2)
-		sleep_for(100);
-	EXPECT(atomic_load(&timer.runs) == 2);
-	atomic_store(&ends_on[1], 1);
-}
-
-/* Set on another CPU while it runs, it runs there as well. A halt waits for each body, and ends what any of them sets. */
-static void test_two_bodies(void)
-{
-	callout_init(&timer.callout, CALLOUT_MPSAFE);
-	begin_on(1, &timer, stay_there);
-	unsigned before = atomic_load(&timer.idle_before);
-	begin_on(4, &timer, stay_there);
-	meanwhile = end_both;
-	wait_returns = 0;
-	(void)callout_halt(&timer.callout, NULL);
-	await_above(&idle[1], before);
-	EXPECT(atomic_load(&timer.runs) == 2 && !callout_active(&timer.callout));
-	callout_destroy(&timer.callout);
-	atomic_store(&timer.runs, 0);
-}
-
-/* The body is over, and another thread sets the callout before the halt has the lock again. What the halt does then is shown. */
-static void set_since(void)
-{
-	atomic_fetch_add(&ends, 1);
-	await_run(&timer, 1);
-	callout_reset(&timer.callout, 100, note_run, &timer);
-	watched = &timer.callout;
-	given = show;
-	gives = 1;
-}
-
-static void test_set_since(void)
-{
-	callout_init(&timer.callout, CALLOUT_MPSAFE);
-	begin_on(3, &timer, stay);
-	meanwhile = set_since;
-	wait_returns = 0;
-	EXPECT(callout_halt(&timer.callout, NULL) && gives == 0 && is_cancellable());
-	EXPECT(!callout_active(&timer.callout) && shown.c_state == timer.callout.c_state);
-	callout_destroy(&timer.callout);
 	atomic_store(&timer.runs, 0);
 }
 
@@ -681,7 +466,7 @@ static void open_callouts(void)
 	begins = true;
 	callout_init(&timer.callout, CALLOUT_MPSAFE);
 	begins = false;
-	EXPECT(attributes == NULL && atomic_load(&changed) != NULL);
+	EXPECT(atomic_load(&changed) != NULL);
 }
 
 /* It may be made anywhere. */
@@ -724,18 +509,16 @@ static void run_beside(void (*what)(void))
 
 static void destroy_it(void) { callout_destroy(&timer.callout); }
 static void halt_it(void) { (void)callout_halt(&timer.callout, NULL); }
-static void destroy_beside(void) { run_beside(destroy_it); }
-static void halt_beside(void) { run_beside(halt_it); }
 static void nothing(void) { }
+STOPS("callout_destroy: the callout runs, at PLACE", run_beside(destroy_it))
+STOPS("callout_halt: in a soft interrupt, at PLACE", run_beside(halt_it))
 
 static void test_processes(void)
 {
-	static const struct stop_case stops[] = {{destroy_beside, "callout_destroy: the callout runs, at PLACE"},
-	    {halt_beside, "callout_halt: in a soft interrupt, at PLACE"}};
 	char text[256];
 	EXPECT(run_case(nothing, first_inside, text, sizeof(text)) == 0 && text[0] == '\0');
-	for (unsigned at = 0; at < 2; at++)
-		EXPECT(is_stopped(nothing, &stops[at]));
+	judge_cases(nothing);
+	EXPECT(failed == 0);
 }
 
 int main(void)
@@ -749,14 +532,9 @@ int main(void)
 	test_exact();
 	test_kept();
 	test_order();
-	test_written();
-	test_looked();
-	test_about_to_begin();
 	test_halt_ends_next(0);
 	test_halt_ends_next(3);
 	test_halt_ends_next(KUPALDIZ_CPUS - 1);
-	test_two_bodies();
-	test_set_since();
 	test_no_wait();
 	test_said(wake_early);
 	test_said(end_in_time);

@@ -213,8 +213,7 @@ static void count_and_stay(void *arg)
 {
 	(void)arg;
 	atomic_fetch_add(&counted, 1);
-	while (!atomic_load(&let_go))
-		sleep_for(100);
+	await_flag(&let_go);
 }
 
 static void *schedule_elsewhere(void *cookie)
@@ -243,11 +242,9 @@ static void *end_while_waiting(void *of)
 	int s = splsoftnet();
 	softint_schedule(cookie);
 	start_thread(&scheduler, schedule_elsewhere, cookie);
-	while (atomic_load(&counted) == 0)
-		sleep_for(100);
+	await_least(&counted, 1);
 	start_thread(&ender, disestablish, cookie);
-	while (!atomic_load(&entered))
-		sleep_for(100);
+	await_flag(&entered);
 	sleep_for(20000);
 	splx(s);
 	sleep_for(3000);
@@ -295,8 +292,7 @@ static void test_raised(void)
 	pthread_t holder;
 	rw_init(&rw);
 	start_thread(&holder, hold_both, NULL);
-	while (!atomic_load(&holds))
-		sleep_for(10);
+	await_flag(&holds);
 	int s = splnet();
 	mutex_enter(&lock);
 	EXPECT(mutex_owned(&lock) && kpreempt_disabled());
@@ -365,8 +361,7 @@ static void test_storm(void)
 		start_thread(&threads[i], storm, NULL);
 	for (unsigned i = 0; i < STORMERS; i++)
 		end_thread(threads[i]);
-	while (atomic_load(&stormed) == 0)
-		sleep_for(100);
+	await_least(&stormed, 1);
 	for (unsigned i = 0; i < 4; i++)
 		softint_disestablish(cookies[i]);
 }

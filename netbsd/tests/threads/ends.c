@@ -1,9 +1,7 @@
 /*
- * ends - the ends of threads, and time: destructors of keys that still give something back, cancellation in each call that waits, waits that last as long
- * as they say over the turn of a second, and no clock that anybody sets
+ * ends - the ends of threads: destructors of keys that still give something back, and cancellation in each call that waits
  *
- * The linker leads clock_gettime, pthread_cond_init, pthread_cond_wait, pthread_cond_timedwait and nanosleep here (--wrap), so that each clock and each
- * wait is seen.
+ * The linker leads pthread_cond_wait, pthread_cond_timedwait and nanosleep here (--wrap), so that each wait is seen.
  */
 #include <errno.h>
 #include <sys/callout.h>
@@ -21,45 +19,8 @@
 
 #include "test.h"
 
-int __real_clock_gettime(clockid_t clock, struct timespec *time);
-int __wrap_clock_gettime(clockid_t clock, struct timespec *time);
-int __real_pthread_cond_init(pthread_cond_t *cond, const pthread_condattr_t *how);
-int __wrap_pthread_cond_init(pthread_cond_t *cond, const pthread_condattr_t *how);
-int __real_pthread_cond_timedwait(pthread_cond_t *cond, pthread_mutex_t *mutex, const struct timespec *end);
-int __wrap_pthread_cond_timedwait(pthread_cond_t *cond, pthread_mutex_t *mutex, const struct timespec *end);
-int __real_pthread_cond_wait(pthread_cond_t *cond, pthread_mutex_t *mutex);
-int __wrap_pthread_cond_wait(pthread_cond_t *cond, pthread_mutex_t *mutex);
-int __real_nanosleep(const struct timespec *time, struct timespec *rest);
-int __wrap_nanosleep(const struct timespec *time, struct timespec *rest);
-
-enum { CONDS = 256, WAITS = 70 };
-
-static pthread_cond_t *_Atomic monotonic[CONDS];
-static atomic_uint conds;
-
-/* So many nanoseconds after the turn of a second it is always, if that isn't negative. */
-static _Thread_local long always = -1;
-
-int __wrap_clock_gettime(clockid_t clock, struct timespec *time)
-{
-	EXPECT(clock == CLOCK_MONOTONIC);
-	int answer = __real_clock_gettime(clock, time);
-	if (always >= 0) {
-		time->tv_sec -= time->tv_nsec < always;
-		time->tv_nsec = always;
-	}
-	return answer;
-}
-
-int __wrap_pthread_cond_init(pthread_cond_t *cond, const pthread_condattr_t *how)
-{
-	clockid_t clock = CLOCK_REALTIME;
-	EXPECT(how != NULL && pthread_condattr_getclock(how, &clock) == 0 && clock == CLOCK_MONOTONIC);
-	unsigned place = atomic_fetch_add(&conds, 1);
-	EXPECT(place < CONDS);
-	atomic_store(&monotonic[place], cond);
-	return __real_pthread_cond_init(cond, how);
-}
+#include "cases.h"
+#include "wraps.h"
 
 /* Whether this thread is in a call that waits, and whether one such has waited. */
 static _Thread_local bool in_call;
@@ -68,11 +29,9 @@ static atomic_bool has_waited;
 /* A thread can't be cancelled while it waits in a call. */
 static void judge_wait(void)
 {
-	int state;
 	if (!in_call)
 		return;
-	pthread_setcancelstate(PTHREAD_CANCEL_DISABLE, &state);
-	EXPECT(state == PTHREAD_CANCEL_DISABLE);
+	EXPECT(!is_cancellable());
 	atomic_store(&has_waited, true);
 }
 
@@ -90,11 +49,7 @@ int __wrap_pthread_cond_wait(pthread_cond_t *cond, pthread_mutex_t *mutex)
 
 int __wrap_pthread_cond_timedwait(pthread_cond_t *cond, pthread_mutex_t *mutex, const struct timespec *end)
 {
-	bool found = false;
 	judge_wait();
-	for (unsigned place = 0; place < CONDS && !found; place++)
-		found = atomic_load(&monotonic[place]) == cond;
-	EXPECT(found && end->tv_nsec >= 0 && end->tv_nsec < 1000000000);
 	return __real_pthread_cond_timedwait(cond, mutex, end);
 }
 
@@ -170,8 +125,7 @@ static void *hold_all(void *arg)
 	mutex_enter(&lock);
 	int s = pserialize_read_enter();
 	atomic_store(&ready, true);
-	while (!atomic_load(&over))
-		sleep_for(100);
+	await_flag(&over);
 	pserialize_read_exit(s);
 	cv_broadcast(&cv);
 	mutex_exit(&lock);
@@ -181,71 +135,24 @@ static void *hold_all(void *arg)
 	return arg;
 }
 
-static void in_perform(void)
-{
-	pserialize_perform(psz);
-}
+/* A call that waits. */
+#define IN(...) \
+	static void NAMED(in_, __LINE__)(void) { __VA_ARGS__; } \
+	__attribute__((constructor)) static void NAMED(add_, __LINE__)(void) { waits[wait_count++] = NAMED(in_, __LINE__); }
 
-static void in_destroy(void)
-{
-	psref_target_destroy(&target, things);
-	psref_target_init(&target, things);
-}
+enum { MOST_WAITS = 20 };
 
-static void in_drain(void)
-{
-	mutex_enter(&lock);
-	localcount_drain(&count, &drained, &lock);
-	mutex_exit(&lock);
-	localcount_fini(&count);
-	localcount_init(&count);
-}
+static void (*waits[MOST_WAITS])(void);
+static unsigned wait_count;
+static atomic_bool runs;
 
-static void in_mutex_enter(void)
-{
-	mutex_enter(&lock);
-	mutex_exit(&lock);
-}
+/* Without a sleep, which would be taken for one of the call's. */
+static void await_runs(void) { while (!atomic_load(&runs)) { } }
 
-static void in_rw_enter(void)
+static void await_over(void)
 {
-	rw_enter(&rw, RW_READER);
-	rw_exit(&rw);
-}
-
-/* The lock of its own, which nobody else has; the holder's broadcast wakes it. */
-static void in_cv_wait(void)
-{
-	mutex_enter(&own_lock);
-	cv_wait(&cv, &own_lock);
-	mutex_exit(&own_lock);
-}
-
-static void in_cv_timedwait(void)
-{
-	mutex_enter(&own_lock);
-	EXPECT(cv_timedwait(&cv, &own_lock, 1000) == 0);
-	mutex_exit(&own_lock);
-}
-
-static void in_read_enter(void)
-{
-	kupaldiz_bind(5);
-	pserialize_read_exit(pserialize_read_enter());
-}
-
-static void in_getref(void)
-{
-	percpu_t *percpu = percpu_alloc(8);
-	kupaldiz_bind(5);
-	(void)percpu_getref(percpu);
-	percpu_putref(percpu);
-	percpu_free(percpu, 8);
-}
-
-static void in_barrier(void)
-{
-	xc_barrier(0);
+	atomic_store(&runs, true);
+	await_flag(&over);
 }
 
 static void add_one(void *count_of, void *other)
@@ -254,93 +161,54 @@ static void add_one(void *count_of, void *other)
 	++*(unsigned *)count_of;
 }
 
-static void in_broadcast(void)
-{
-	unsigned runs = 0;
-	xc_wait(xc_broadcast(0, add_one, &runs, NULL));
-	xc_wait(xc_broadcast(XC_HIGHPRI, add_one, &runs, NULL));
-	EXPECT(runs == 2 * KUPALDIZ_CPUS);
-}
+HANDLER(run_until_over, await_over())
+HANDLER(exit_when_over, await_over(); kthread_exit(0))
 
+IN(pserialize_perform(psz))
+IN(psref_target_destroy(&target, things); psref_target_init(&target, things))
+IN(mutex_enter(&lock); localcount_drain(&count, &drained, &lock); mutex_exit(&lock); localcount_fini(&count); localcount_init(&count))
+IN(mutex_enter(&lock); mutex_exit(&lock))
+IN(rw_enter(&rw, RW_READER); rw_exit(&rw))
+/* The lock of its own, which nobody else has; the holder's broadcast wakes it. */
+IN(mutex_enter(&own_lock); cv_wait(&cv, &own_lock); mutex_exit(&own_lock))
+IN(mutex_enter(&own_lock); EXPECT(cv_timedwait(&cv, &own_lock, 1000) == 0); mutex_exit(&own_lock))
+IN(kupaldiz_bind(5); pserialize_read_exit(pserialize_read_enter()))
+IN(percpu_t *percpu = percpu_alloc(8); kupaldiz_bind(5); (void)percpu_getref(percpu); percpu_putref(percpu); percpu_free(percpu, 8))
+IN(xc_barrier(0))
+IN(unsigned calls = 0; xc_wait(xc_broadcast(0, add_one, &calls, NULL)); xc_wait(xc_broadcast(XC_HIGHPRI, add_one, &calls, NULL));
+    EXPECT(calls == 2 * KUPALDIZ_CPUS))
 /* It lasts: a tick is ten milliseconds. */
-static void in_pause(void)
-{
-	while (!atomic_load(&over))
-		EXPECT(kpause("wait", false, 1, NULL) == EWOULDBLOCK);
-}
-
-static void run_until_over(void *arg)
-{
-	atomic_store((atomic_bool *)arg, true);
-	while (!atomic_load(&over))
-		sleep_for(100);
-}
-
-static void exit_when_over(void *arg)
-{
-	run_until_over(arg);
-	kthread_exit(0);
-}
-
-static void in_join(void)
-{
-	static atomic_bool runs;
-	lwp_t *worker;
-	EXPECT(kthread_create(PRI_NONE, KTHREAD_MUSTJOIN, NULL, exit_when_over, &runs, &worker, "worker") == 0);
-	EXPECT(kthread_join(worker) == 0);
-}
-
-static void in_disestablish(void)
-{
-	static atomic_bool runs;
-	void *cookie = softint_establish(SOFTINT_NET, run_until_over, &runs);
-	kupaldiz_bind(4);
-	softint_schedule(cookie);
-	while (!atomic_load(&runs))
-		;
-	softint_disestablish(cookie);
-}
-
-static void in_halt(void)
-{
-	static atomic_bool runs;
-	static callout_t callout;
-	kupaldiz_bind(4);
-	callout_init(&callout, CALLOUT_MPSAFE);
-	callout_reset(&callout, 1, run_until_over, &runs);
-	while (!atomic_load(&runs))
-		;
-	callout_halt(&callout, NULL);
-	callout_destroy(&callout);
-}
-
-/* The calls that wait. */
-static void (*const waits[])(void) = {in_perform, in_destroy, in_drain, in_mutex_enter, in_rw_enter, in_cv_wait, in_cv_timedwait, in_read_enter, in_getref,
-    in_barrier, in_broadcast, in_pause, in_join, in_disestablish, in_halt};
+IN(while (!atomic_load(&over)) EXPECT(kpause("wait", false, 1, NULL) == EWOULDBLOCK))
+IN(lwp_t *worker; EXPECT(kthread_create(PRI_NONE, KTHREAD_MUSTJOIN, NULL, exit_when_over, NULL, &worker, "worker") == 0);
+    EXPECT(kthread_join(worker) == 0))
+IN(void *cookie = softint_establish(SOFTINT_NET, run_until_over, NULL); kupaldiz_bind(4); softint_schedule(cookie); await_runs();
+    softint_disestablish(cookie))
+IN(static callout_t callout; kupaldiz_bind(4); callout_init(&callout, CALLOUT_MPSAFE); callout_reset(&callout, 1, run_until_over, NULL); await_runs();
+    callout_halt(&callout, NULL); callout_destroy(&callout))
 
 /* Waits in one of the calls while it is cancelled: the call ends as without, and then the thread does. */
 static void *wait_in(void *of)
 {
 	in_call = true;
-	(*(void (*const *)(void))of)();
+	(*(void (**)(void))of)();
 	in_call = false;
 	atomic_fetch_add(&given_back, 1);
 	pthread_testcancel();
 	return NULL;
 }
 
-static void test_cancelled(void (*const *wait)(void))
+static void test_cancelled(void (**wait)(void))
 {
 	pthread_t holder, waiter;
 	void *answer;
 	unsigned before = atomic_load(&given_back);
 	atomic_store(&ready, false);
 	atomic_store(&over, false);
+	atomic_store(&runs, false);
 	atomic_store(&has_waited, false);
 	start_thread(&holder, hold_all, NULL);
-	while (!atomic_load(&ready))
-		sleep_for(100);
-	EXPECT(pthread_create(&waiter, NULL, wait_in, (void *)(uintptr_t)wait) == 0);
+	await_flag(&ready);
+	EXPECT(pthread_create(&waiter, NULL, wait_in, wait) == 0);
 	while (!atomic_load(&has_waited) && atomic_load(&given_back) == before)
 		sleep_for(100);
 	EXPECT(atomic_load(&has_waited) && pthread_cancel(waiter) == 0);
@@ -383,52 +251,14 @@ static void test_cancelled_early(void)
 {
 	pthread_t thread;
 	void *answer;
-	atomic_uint runs = 0;
+	atomic_uint ran = 0;
 	unsigned before = atomic_load(&given_back);
-	void *cookie = softint_establish(SOFTINT_NET, note_run, &runs);
+	void *cookie = softint_establish(SOFTINT_NET, note_run, &ran);
 	start_thread(&thread, schedule_cancelled, cookie);
 	EXPECT(pthread_join(thread, &answer) == 0 && answer == PTHREAD_CANCELED && atomic_load(&given_back) == before + 1);
 	softint_schedule(cookie);
-	while (atomic_load(&runs) < 2)
-		sleep_for(100);
+	await_least(&ran, 2);
 	softint_disestablish(cookie);
-}
-
-/* ---- Time. ---- */
-
-static int64_t milliseconds(void)
-{
-	struct timespec now;
-	EXPECT(__real_clock_gettime(CLOCK_MONOTONIC, &now) == 0);
-	return (int64_t)now.tv_sec * 1000 + now.tv_nsec / 1000000;
-}
-
-/* Waits that nobody ends, so many that one goes over the turn of a second. None is shorter than it says. */
-static void test_time(void)
-{
-	mutex_enter(&lock);
-	for (unsigned turn = 0; turn < WAITS; turn++) {
-		int64_t begin = milliseconds();
-		EXPECT(cv_timedwait(&cv, &lock, 2) == EWOULDBLOCK);
-		EXPECT(milliseconds() - begin >= 19);
-	}
-	for (always = 989999999; always <= 990000001; always++)
-		EXPECT(cv_timedwait(&cv, &lock, 1) == EWOULDBLOCK);
-	always = -1;
-	int64_t begin = milliseconds();
-	EXPECT(kpause("wait", false, 2, &lock) == EWOULDBLOCK && milliseconds() - begin >= 19 && mutex_owned(&lock));
-	mutex_exit(&lock);
-}
-
-/* The turn of a second lies within a delay: the clock stands before it, and then after the delay's end. */
-static void test_delay(void)
-{
-	struct timespec before, after;
-	always = 990000000;
-	EXPECT(clock_gettime(CLOCK_MONOTONIC, &before) == 0);
-	delay(20000);
-	EXPECT(clock_gettime(CLOCK_MONOTONIC, &after) == 0 && after.tv_sec > before.tv_sec);
-	always = -1;
 }
 
 int main(void)
@@ -446,10 +276,9 @@ int main(void)
 	localcount_init(&count);
 	test_destructors();
 	test_cancelled_early();
-	for (unsigned at = 0; at < sizeof(waits) / sizeof(waits[0]); at++)
+	EXPECT(wait_count == 15);
+	for (unsigned at = 0; at < wait_count; at++)
 		test_cancelled(&waits[at]);
-	test_time();
-	test_delay();
 	psref_target_destroy(&target, things);
 	puts("threads ended, cancelled or not, and gave everything back");
 	return 0;

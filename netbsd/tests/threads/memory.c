@@ -10,24 +10,18 @@
 #include <sys/percpu.h>
 #include <sys/pool.h>
 #include <sys/pserialize.h>
+#include <sys/psref.h>
 #include <sys/systm.h>
 
 #include "stops.h"
+#include "wraps.h"
 
 enum { OLD_BYTE = 0xa5, LINE = 64 };
 
 static long blocks;	/* of the heap's that are in use */
 static size_t aligned;	/* what was asked for on whole lines last */
 static bool keeps;	/* free leaves what is freed as it is */
-
-void *__real_malloc(size_t size);
-void *__wrap_malloc(size_t size);
-void *__real_calloc(size_t count, size_t size);
-void *__wrap_calloc(size_t count, size_t size);
-int __real_posix_memalign(void **block, size_t align, size_t size);
-int __wrap_posix_memalign(void **block, size_t align, size_t size);
-void __real_free(void *block);
-void __wrap_free(void *block);
+static struct pool pool;
 
 void *__wrap_malloc(size_t size)
 {
@@ -77,8 +71,11 @@ static void give_back_blocks(void)
 	kmem_strfree(kmem_strdup("bridge", KM_SLEEP));
 	kmem_strfree(NULL);
 	EXPECT(blocks == before);
-	panic("each block was given back");
+	psref_class_destroy(psref_class_create("thing", IPL_NONE));
+	pserialize_destroy(pserialize_create());
+	EXPECT(blocks == before);
 }
+STOPS("panic: each block was given back, at PLACE", give_back_blocks(); panic("each block was given back"))
 
 static int fail_to_make(void *arg, void *object, int flags)
 {
@@ -89,7 +86,6 @@ static int fail_to_make(void *arg, void *object, int flags)
 static void give_back_objects(void)
 {
 	long before = blocks;
-	struct pool pool;
 	pool_init(&pool, 24, 0, 0, 0, "thingpl", NULL, IPL_NONE);
 	pool_put(&pool, pool_get(&pool, PR_WAITOK));
 	pool_destroy(&pool);
@@ -102,8 +98,8 @@ static void give_back_objects(void)
 	EXPECT(pool_cache_get(cache, PR_NOWAIT) == NULL);
 	pool_cache_destroy(cache);
 	EXPECT(blocks == before);
-	panic("each object was given back");
 }
+STOPS("panic: each object was given back, at PLACE", give_back_objects(); panic("each object was given back"))
 
 /* ---- The parts of each CPU. ---- */
 
@@ -147,8 +143,8 @@ static void visit_each_once(void)
 		want_calls(4);
 		EXPECT(blocks == before);
 	}
-	panic("each part was visited once");
 }
+STOPS("panic: each part was visited once, at PLACE", visit_each_once(); panic("each part was visited once"))
 
 /* ---- Zeros. ---- */
 
@@ -161,123 +157,47 @@ static void want_zeros(void *own, void *size, struct cpu_info *cpu)
 
 static void ask_for_zeros(void)
 {
-	struct pool pool;
 	size_t size = 200;
 	pool_init(&pool, size, 0, 0, 0, "thingpl", NULL, IPL_NONE);
 	want_zeros(kmem_zalloc(size, KM_SLEEP), &size, NULL);
 	want_zeros(kmem_intr_zalloc(size, KM_NOSLEEP), &size, NULL);
 	want_zeros(pool_get(&pool, PR_WAITOK | PR_ZERO), &size, NULL);
 	percpu_foreach(percpu_alloc(size), want_zeros, &size);
-	panic("all of them were zeros");
 }
+STOPS("panic: all of them were zeros, at PLACE", ask_for_zeros(); panic("all of them were zeros"))
 
 /* ---- What was given back. ---- */
 
-static void free_twice(void)
-{
-	void *block = kmem_alloc(32, KM_SLEEP);
-	keeps = true;
-	kmem_free(block, 32);
-	kmem_free(block, 32);
-}
-
-static void intr_free_twice(void)
-{
-	void *block = kmem_intr_alloc(32, KM_NOSLEEP);
-	keeps = true;
-	kmem_intr_free(block, 32);
-	kmem_intr_free(block, 32);
-}
-
-static void strfree_twice(void)
-{
-	char *text = kmem_strdup("bridge", KM_SLEEP);
-	keeps = true;
-	kmem_strfree(text);
-	kmem_strfree(text);
-}
-
-static void put_twice(void)
-{
-	struct pool pool;
-	pool_init(&pool, 24, 0, 0, 0, "thingpl", NULL, IPL_NONE);
-	void *object = pool_get(&pool, PR_WAITOK);
-	keeps = true;
-	pool_put(&pool, object);
-	pool_put(&pool, object);
-}
-
-static void cache_put_twice(void)
-{
-	pool_cache_t cache = pool_cache_init(24, 0, 0, 0, "thingpl", NULL, IPL_NONE, NULL, NULL, NULL);
-	void *object = pool_cache_get(cache, PR_WAITOK);
-	keeps = true;
-	pool_cache_put(cache, object);
-	pool_cache_put(cache, object);
-}
+STOPS("kmem_free: no block of kmem's, or one that was given back, at PLACE",
+    void *block = kmem_alloc(32, KM_SLEEP); keeps = true; kmem_free(block, 32); kmem_free(block, 32))
+STOPS("kmem_intr_free: no block of kmem's, or one that was given back, at PLACE",
+    void *block = kmem_intr_alloc(32, KM_NOSLEEP); keeps = true; kmem_intr_free(block, 32); kmem_intr_free(block, 32))
+STOPS("kmem_strfree: no block of kmem's, or one that was given back",
+    char *text = kmem_strdup("bridge", KM_SLEEP); keeps = true; kmem_strfree(text); kmem_strfree(text))
+STOPS("pool_put: no object of thingpl, or one that was given back, at PLACE",
+    pool_init(&pool, 24, 0, 0, 0, "thingpl", NULL, IPL_NONE); void *object = pool_get(&pool, PR_WAITOK); keeps = true; pool_put(&pool, object);
+    pool_put(&pool, object))
+STOPS("pool_cache_put: no object of thingpl, or one that was given back, at PLACE",
+    pool_cache_t cache = pool_cache_init(24, 0, 0, 0, "thingpl", NULL, IPL_NONE, NULL, NULL, NULL); void *object = pool_cache_get(cache, PR_WAITOK);
+    keeps = true; pool_cache_put(cache, object); pool_cache_put(cache, object))
 
 /* ---- Other misuses. ---- */
 
-static void alloc_with_both_flags(void)
-{
-	kmem_alloc(8, KM_SLEEP | KM_NOSLEEP);
-}
-
-static void create_inside(void)
-{
-	pserialize_read_enter();
-	percpu_create(8, NULL, NULL, NULL);
-}
-
+STOPS("percpu_create: inside a read section, entered at PLACE", pserialize_read_enter(); percpu_create(8, NULL, NULL, NULL))
 /* More than all memory, by itself, and once it is there for each CPU. */
-static void percpu_of_most(void)
-{
-	percpu_alloc(SIZE_MAX);
-}
-
-static void percpu_of_too_much(void)
-{
-	percpu_create(SIZE_MAX / KUPALDIZ_CPUS + 1, NULL, NULL, NULL);
-}
-
-static void visit_inside(void)
-{
-	percpu_t *percpu = percpu_alloc(8);
-	pserialize_read_enter();
-	percpu_foreach_xcall(percpu, 0, note_call, calls);
-}
-
+STOPS("percpu_alloc: out of memory", percpu_alloc(SIZE_MAX))
+STOPS("percpu_create: out of memory", percpu_create(SIZE_MAX / KUPALDIZ_CPUS + 1, NULL, NULL, NULL))
+STOPS("percpu_foreach_xcall: inside a read section, entered at PLACE",
+    percpu_t *percpu = percpu_alloc(8); pserialize_read_enter(); percpu_foreach_xcall(percpu, 0, note_call, calls))
+/* The place is that of the call whose argument visits each CPU. */
 static void *visit_all(void)
 {
 	percpu_foreach_xcall(percpu_alloc(8), 0, note_call, calls);
 	return NULL;
 }
-
-/* The place is that of the call whose argument visits each CPU. */
-static void free_after_visit(void)
-{
-	kmem_free(visit_all(), 8);
-}
-
-static const struct stop_case cases[] = {
-    {give_back_blocks, "panic: each block was given back, at PLACE"},
-    {give_back_objects, "panic: each object was given back, at PLACE"},
-    {visit_each_once, "panic: each part was visited once, at PLACE"},
-    {ask_for_zeros, "panic: all of them were zeros, at PLACE"},
-    {free_twice, "kmem_free: no block of kmem's, or one that was given back, at PLACE"},
-    {intr_free_twice, "kmem_intr_free: no block of kmem's, or one that was given back, at PLACE"},
-    {strfree_twice, "kmem_strfree: no block of kmem's, or one that was given back"},
-    {put_twice, "pool_put: no object of thingpl, or one that was given back, at PLACE"},
-    {cache_put_twice, "pool_cache_put: no object of thingpl, or one that was given back, at PLACE"},
-    {alloc_with_both_flags, "kmem_alloc: neither KM_SLEEP nor KM_NOSLEEP alone, at PLACE"},
-    {create_inside, "percpu_create: inside a read section, entered at PLACE"},
-    {percpu_of_most, "percpu_alloc: out of memory"},
-    {percpu_of_too_much, "percpu_create: out of memory"},
-    {visit_inside, "percpu_foreach_xcall: inside a read section, entered at PLACE"},
-    {free_after_visit, "kmem_free: no block, at PLACE"},
-};
+STOPS("kmem_free: no block, at PLACE", kmem_free(visit_all(), 8))
 
 int main(void)
 {
-	return run_cases(begin, cases, sizeof(cases) / sizeof(cases[0]));
+	return run_cases(begin);
 }

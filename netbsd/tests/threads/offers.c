@@ -52,60 +52,23 @@ static void count_out(void) { localcount_release(&count, &cv, &lock), made--; }
 static void signal_cv(void) { cv_signal(&cv); }
 static void broadcast_cv(void) { cv_broadcast(&cv); }
 static void schedule(void) { softint_schedule(other); }
-
-static void exit_mutex(void)
-{
-	mutex_enter(&spin);
-	mutex_exit(&spin);
-}
-
-static void exit_spin_mutex(void)
-{
-	mutex_spin_enter(&spin);
-	mutex_spin_exit(&spin);
-}
-
-static void lower(void)
-{
-	int s = splsoftserial();
-	splx(s);
-}
-
-static void enable_preemption(void)
-{
-	kpreempt_disable();
-	kpreempt_enable();
-}
-
-static void put_percpu(void)
-{
-	(void)percpu_getref(percpu);
-	percpu_putref(percpu);
-}
+static void exit_mutex(void) { mutex_enter(&spin), mutex_exit(&spin); }
+static void exit_spin_mutex(void) { mutex_spin_enter(&spin), mutex_spin_exit(&spin); }
+static void lower(void) { splx(splsoftserial()); }
+static void enable_preemption(void) { kpreempt_disable(), kpreempt_enable(); }
+static void put_percpu(void) { (void)percpu_getref(percpu), percpu_putref(percpu); }
 
 /* A call, and what goes before it MOST times, or undoes it afterwards. */
 static const struct offer {
 	const char *name;
-	void (*call)(void);
-	void (*before)(void);
-	void (*undo)(void);
+	void (*call)(void), (*before)(void), (*undo)(void);
 } offers[] = {
-    {"pserialize_read_enter", enter_section, NULL, exit_section},
-    {"pserialize_read_exit", exit_section, enter_section, exit_section},
-    {"psref_acquire", acquire, NULL, release},
-    {"psref_release", release, acquire, release},
-    {"psref_copy", copy, NULL, release},
-    {"psref_held", ask, NULL, NULL},
-    {"localcount_acquire", count_in, NULL, count_out},
-    {"localcount_release", count_out, count_in, count_out},
-    {"cv_signal", signal_cv, NULL, NULL},
-    {"cv_broadcast", broadcast_cv, NULL, NULL},
-    {"softint_schedule", schedule, NULL, NULL},
-    {"mutex_exit", exit_mutex, NULL, NULL},
-    {"mutex_spin_exit", exit_spin_mutex, NULL, NULL},
-    {"splx", lower, NULL, NULL},
-    {"kpreempt_enable", enable_preemption, NULL, NULL},
-    {"percpu_putref", put_percpu, NULL, NULL},
+    {"pserialize_read_enter", enter_section, NULL, exit_section}, {"pserialize_read_exit", exit_section, enter_section, exit_section},
+    {"psref_acquire", acquire, NULL, release}, {"psref_release", release, acquire, release}, {"psref_copy", copy, NULL, release},
+    {"psref_held", ask, NULL, NULL}, {"localcount_acquire", count_in, NULL, count_out}, {"localcount_release", count_out, count_in, count_out},
+    {"cv_signal", signal_cv, NULL, NULL}, {"cv_broadcast", broadcast_cv, NULL, NULL}, {"softint_schedule", schedule, NULL, NULL},
+    {"mutex_exit", exit_mutex, NULL, NULL}, {"mutex_spin_exit", exit_spin_mutex, NULL, NULL}, {"splx", lower, NULL, NULL},
+    {"kpreempt_enable", enable_preemption, NULL, NULL}, {"percpu_putref", put_percpu, NULL, NULL},
 };
 
 /* Makes the call until the callout has run. Between two calls the clock has time to find it due. */

@@ -12,19 +12,13 @@
 #include <sys/systm.h>
 
 #include "stops.h"
+#include "wraps.h"
 
 static bool is_full;	/* nothing can be written */
 static int file = -1;	/* that the layer has open */
 static const char *instead;	/* the file that the layer gets for each; NULL where it gets its own */
 static kmutex_t lock;
 static atomic_bool ready;
-
-ssize_t __real_write(int to, const void *bytes, size_t length);
-ssize_t __wrap_write(int to, const void *bytes, size_t length);
-int __real_open(const char *path, int how, ...);
-int __wrap_open(const char *path, int how, ...);
-int __real_close(int old);
-int __wrap_close(int old);
 
 /* No file is open any more where the line is written. */
 ssize_t __wrap_write(int to, const void *bytes, size_t length)
@@ -83,57 +77,21 @@ static void say_with_place(size_t length)
 	long_place[length] = '\0';
 	kupaldiz_failed("KASSERT", long_text, long_place);
 }
-
-static void say_whole(void)
-{
-	say_with_place(write_whole());
-}
-
-static void say_one_more(void)
-{
-	say_with_place(write_whole() + 1);
-}
-
-static void say_two_more(void)
-{
-	say_with_place(write_whole() + 2);
-}
-
+STOPS(whole, say_with_place(write_whole()))
+STOPS(whole, say_with_place(write_whole() + 1))
+STOPS(whole, say_with_place(write_whole() + 2))
 /* What can't be written is told by the reason. */
-static void say_in_vain(void)
-{
-	is_full = true;
-	kupaldiz_failed("KASSERT", "1 + 1 == 3", NULL);
-}
+STOPS("KASSERT: No space left on device", is_full = true; kupaldiz_failed("KASSERT", "1 + 1 == 3", NULL))
 
 /* ---- Names. ---- */
 
-static void keep_lock(void *arg)
-{
-	(void)arg;
-	mutex_enter(&lock);
-	atomic_store(&ready, true);
-	sleep_for(20000000);
-}
+HANDLER(keep_lock, mutex_enter(&lock); atomic_store(&ready, true); sleep_for(20000000))
+THREAD(name_and_keep, EXPECT(prctl(PR_SET_NAME, arg) == 0); keep_lock(NULL))
 
 static void destroy_taken(void)
 {
-	while (!atomic_load(&ready))
-		sleep_for(100);
+	await_flag(&ready);
 	mutex_destroy(&lock);
-}
-
-static void destroy_of_worker(void)
-{
-	EXPECT(kthread_create(PRI_NONE, 0, NULL, keep_lock, NULL, NULL, "w") == 0);
-	destroy_taken();
-}
-
-static void *name_and_keep(void *name)
-{
-	EXPECT(prctl(PR_SET_NAME, name) == 0);
-	keep_lock(NULL);
-	return NULL;
 }
 
 static void destroy_of(const char *name)
@@ -145,56 +103,18 @@ static void destroy_of(const char *name)
 	destroy_taken();
 }
 
-static void destroy_of_keeper(void)
-{
-	destroy_of("keeper");
-}
-
-static void destroy_of_longest(void)
-{
-	destroy_of("fifteen_letters");
-}
-
-static void destroy_of_nameless(void)
-{
-	destroy_of("");
-}
-
+#define TAKEN_BY(name)	"mutex_destroy: the lock is held: thread \"" name "\" took it at PLACE, at PLACE"
+STOPS(TAKEN_BY("w"), EXPECT(kthread_create(PRI_NONE, 0, NULL, keep_lock, NULL, NULL, "w") == 0); destroy_taken())
+STOPS(TAKEN_BY("keeper"), destroy_of("keeper"))
+STOPS(TAKEN_BY("fifteen_letters"), destroy_of("fifteen_letters"))
+STOPS(TAKEN_BY(""), destroy_of(""))
 /* The first file that is opened then is the one of number 0. */
-static void destroy_without_input(void)
-{
-	__real_close(STDIN_FILENO);
-	destroy_of("keeper");
-}
-
-static void destroy_without_file(void)
-{
-	instead = "/dev/null/none";
-	destroy_of("keeper");
-}
-
-static void destroy_with_empty_file(void)
-{
-	instead = "/dev/null";
-	destroy_of("keeper");
-}
-
-static const struct stop_case cases[] = {
-    {say_whole, whole},
-    {say_one_more, whole},
-    {say_two_more, whole},
-    {say_in_vain, "KASSERT: No space left on device"},
-    {destroy_of_worker, "mutex_destroy: the lock is held: thread \"w\" took it at PLACE, at PLACE"},
-    {destroy_of_keeper, "mutex_destroy: the lock is held: thread \"keeper\" took it at PLACE, at PLACE"},
-    {destroy_of_longest, "mutex_destroy: the lock is held: thread \"fifteen_letters\" took it at PLACE, at PLACE"},
-    {destroy_of_nameless, "mutex_destroy: the lock is held: thread \"\" took it at PLACE, at PLACE"},
-    {destroy_without_input, "mutex_destroy: the lock is held: thread \"keeper\" took it at PLACE, at PLACE"},
-    {destroy_without_file, "mutex_destroy: the lock is held: thread \"?\" took it at PLACE, at PLACE"},
-    {destroy_with_empty_file, "mutex_destroy: the lock is held: thread \"?\" took it at PLACE, at PLACE"},
-};
+STOPS(TAKEN_BY("keeper"), __real_close(STDIN_FILENO); destroy_of("keeper"))
+STOPS(TAKEN_BY("?"), instead = "/dev/null/none"; destroy_of("keeper"))
+STOPS(TAKEN_BY("?"), instead = "/dev/null"; destroy_of("keeper"))
 
 int main(void)
 {
 	write_whole();
-	return run_cases(begin, cases, sizeof(cases) / sizeof(cases[0]));
+	return run_cases(begin);
 }

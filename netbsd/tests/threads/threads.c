@@ -2,13 +2,14 @@
  * threads - what the layer keeps of threads, and the CPU that a thread gets: memory that is used again, and never by two at once; a thread of
  * kthread_create's until its join; the CPU that is free, or has the fewest bound threads
  *
- * The linker leads locks, condition variables, memory, pthread_create, pthread_detach and nanosleep here (--wrap). Each thread notes the locks that it
- * has. It may do something once it has given one back, while its call goes on.
+ * The linker leads locks, condition variables, memory, pthread_create and pthread_detach here (--wrap). A thread may do something once it has
+ * given a lock back, while its call goes on.
  */
-#include <errno.h>
 #include <limits.h>
 #include <sys/cpu.h>
+#include <sys/intr.h>
 #include <sys/kthread.h>
+#include <sys/mutex.h>
 #include <sys/proc.h>
 #include <sys/pserialize.h>
 #include <sys/xcall.h>
@@ -16,60 +17,15 @@
 #include "test.h"
 #include "wraps.h"
 
-int __real_pthread_condattr_init(pthread_condattr_t *how);
-int __wrap_pthread_condattr_init(pthread_condattr_t *how);
-int __real_pthread_condattr_destroy(pthread_condattr_t *how);
-int __wrap_pthread_condattr_destroy(pthread_condattr_t *how);
-int __real_pthread_cond_init(pthread_cond_t *cond, const pthread_condattr_t *how);
-int __wrap_pthread_cond_init(pthread_cond_t *cond, const pthread_condattr_t *how);
-int __real_pthread_create(pthread_t *thread, const pthread_attr_t *how, void *(*body)(void *), void *arg);
-int __wrap_pthread_create(pthread_t *thread, const pthread_attr_t *how, void *(*body)(void *), void *arg);
-int __real_pthread_detach(pthread_t thread);
-int __wrap_pthread_detach(pthread_t thread);
-int __real_nanosleep(const struct timespec *time, struct timespec *rest);
-int __wrap_nanosleep(const struct timespec *time, struct timespec *rest);
-void *__real_calloc(size_t count, size_t size);
-void *__wrap_calloc(size_t count, size_t size);
-void __real_free(void *block);
-void __wrap_free(void *block);
-
 /* ---- What is watched. ---- */
 
-enum { MOST_LOCKS = 8 };
-
-/* The locks that this thread has, and what it does once it has given back the next one. */
-static _Thread_local pthread_mutex_t *locks[MOST_LOCKS];
-static _Thread_local unsigned lock_count;
+/* What this thread does once it has given back its next lock. */
 static _Thread_local void (*after)(void);
-
-static void note_lock(pthread_mutex_t *mutex)
-{
-	EXPECT(lock_count < MOST_LOCKS);
-	locks[lock_count++] = mutex;
-}
-
-/* It must have it. */
-static void forget_lock(const pthread_mutex_t *mutex)
-{
-	unsigned place = 0;
-	while (place < lock_count && locks[place] != mutex)
-		place++;
-	EXPECT(place < lock_count);
-	locks[place] = locks[--lock_count];
-}
-
-int __wrap_pthread_mutex_lock(pthread_mutex_t *mutex)
-{
-	int answer = __real_pthread_mutex_lock(mutex);
-	note_lock(mutex);
-	return answer;
-}
 
 int __wrap_pthread_mutex_unlock(pthread_mutex_t *mutex)
 {
 	void (*does)(void) = after;
 	after = NULL;
-	forget_lock(mutex);
 	int answer = __real_pthread_mutex_unlock(mutex);
 	if (does != NULL)
 		does();
@@ -82,21 +38,15 @@ static _Thread_local bool goes_on;	/* this thread has nothing to wait for */
 int __wrap_pthread_cond_wait(pthread_cond_t *cond, pthread_mutex_t *mutex)
 {
 	EXPECT(!goes_on);
-	forget_lock(mutex);
 	atomic_store(&waited, true);
-	int answer = __real_pthread_cond_wait(cond, mutex);
-	note_lock(mutex);
-	return answer;
+	return __real_pthread_cond_wait(cond, mutex);
 }
 
 int __wrap_pthread_cond_timedwait(pthread_cond_t *cond, pthread_mutex_t *mutex, const struct timespec *end)
 {
 	EXPECT(!goes_on);
-	forget_lock(mutex);
 	atomic_store(&waited, true);
-	int answer = __real_pthread_cond_timedwait(cond, mutex, end);
-	note_lock(mutex);
-	return answer;
+	return __real_pthread_cond_timedwait(cond, mutex, end);
 }
 
 /* Those that this thread has initialised, and not destroyed yet. */
@@ -138,21 +88,18 @@ void __wrap_free(void *block)
 	__real_free(block);
 }
 
-/* How a thread begins that this one starts: at once, only when somebody waits, or not at all. */
-static _Thread_local enum { AT_ONCE, AWAITED, REFUSED } begins;
+/* How a thread begins that this one starts: at once, or only when somebody waits. */
+static _Thread_local enum { AT_ONCE, AWAITED } begins;
 static void *(*awaited)(void *);
 
 static void *begin_awaited(void *arg)
 {
-	while (!atomic_load(&waited))
-		sleep_for(50);
+	await_flag(&waited);
 	return awaited(arg);
 }
 
 int __wrap_pthread_create(pthread_t *thread, const pthread_attr_t *how, void *(*body)(void *), void *arg)
 {
-	if (begins == REFUSED)
-		return EAGAIN;
 	if (begins == AT_ONCE)
 		return __real_pthread_create(thread, how, body, arg);
 	atomic_store(&waited, false);
@@ -166,27 +113,6 @@ int __wrap_pthread_detach(pthread_t thread)
 {
 	atomic_fetch_add(&detached, 1);
 	return __real_pthread_detach(thread);
-}
-
-static bool is_cancellable(void)
-{
-	int state;
-	pthread_setcancelstate(PTHREAD_CANCEL_DISABLE, &state);
-	pthread_setcancelstate(state, NULL);
-	return state == PTHREAD_CANCEL_ENABLE;
-}
-
-/* Whether this thread is in kthread_join, and whether such a one has slept. */
-static _Thread_local bool joins;
-static atomic_bool has_slept;
-
-int __wrap_nanosleep(const struct timespec *time, struct timespec *rest)
-{
-	if (joins) {
-		EXPECT(!is_cancellable());
-		atomic_store(&has_slept, true);
-	}
-	return __real_nanosleep(time, rest);
 }
 
 /* ---- Memory of threads. ---- */
@@ -205,7 +131,6 @@ static void judge_end(void *of)
 		EXPECT(pthread_setspecific(late, of) == 0);
 		return;
 	}
-	EXPECT(lock_count == 0);
 	if (at_end != NULL)
 		at_end();
 }
@@ -222,10 +147,9 @@ static void *stay(void *of)
 	struct guest *guest = of;
 	EXPECT(pthread_setspecific(late, of) == 0);
 	lwp_t *lwp = curlwp;
-	EXPECT(lwp == curlwp && lock_count == 0 && attributes == NULL);
+	EXPECT(lwp == curlwp && attributes == NULL);
 	atomic_store(&guest->lwp, lwp);
-	while (!atomic_load(&guest->leaves))
-		sleep_for(50);
+	await_flag(&guest->leaves);
 	return of;
 }
 
@@ -266,7 +190,7 @@ static void crowd(void)
 
 static void have_nothing(void *arg)
 {
-	EXPECT(arg == NULL && lock_count == 0);
+	EXPECT(arg == NULL);
 	kthread_exit(0);
 }
 
@@ -279,71 +203,18 @@ static void test_memory(void)
 	for (unsigned turn = 0; turn < 3; turn++)
 		crowd();
 	EXPECT(atomic_load(&blocks_taken) == before);
-	EXPECT(kthread_create(PRI_NONE, KTHREAD_MUSTJOIN, NULL, have_nothing, NULL, &worker, "worker") == 0 && lock_count == 0);
-	EXPECT(kthread_join(worker) == 0 && lock_count == 0);
+	EXPECT(kthread_create(PRI_NONE, KTHREAD_MUSTJOIN, NULL, have_nothing, NULL, &worker, "worker") == 0);
+	EXPECT(kthread_join(worker) == 0);
 	before = atomic_load(&blocks_taken);
 	for (unsigned turn = 0; turn < 3; turn++)
 		crowd();
 	EXPECT(atomic_load(&blocks_taken) == before);
 }
 
-static struct guest beside;
-
-static void begin_beside(void)
-{
-	call_in(&beside);
-}
-
-/* Another thread begins as soon as this one has its memory. */
-static void *begin_slowly(void *of)
-{
-	after = begin_beside;
-	*(lwp_t **)of = curlwp;
-	EXPECT(after == NULL);
-	return of;
-}
-
-/* Another thread begins as soon as this one has given its memory back. */
-static void *end_slowly(void *of)
-{
-	*(lwp_t **)of = curlwp;
-	after = begin_beside;
-	return of;
-}
-
-static void test_begin_beside(void)
-{
-	pthread_t thread;
-	lwp_t *slow = NULL;
-	start_thread(&thread, begin_slowly, &slow);
-	end_thread(thread);
-	EXPECT(is_other(&beside, slow));
-	send_off(&beside);
-}
-
-/* What the thread beside has is no other's, whoever comes then. */
-static void test_end_beside(void)
-{
-	pthread_t thread;
-	struct guest others[2];
-	lwp_t *slow = NULL;
-	atomic_store(&beside.lwp, NULL);
-	start_thread(&thread, end_slowly, &slow);
-	end_thread(thread);
-	EXPECT(slow != NULL && atomic_load(&beside.lwp) != NULL);
-	for (unsigned i = 0; i < 2; i++) {
-		call_in(&others[i]);
-		EXPECT(is_other(&beside, atomic_load(&others[i].lwp)));
-	}
-	EXPECT(is_other(&others[0], atomic_load(&others[1].lwp)));
-	for (unsigned i = 0; i < 2; i++)
-		send_off(&others[i]);
-	send_off(&beside);
-}
-
 /* The thread sanitizer is gone before what the layer keeps of such a thread. */
 #ifndef __SANITIZE_THREAD__
 
+static struct guest beside;
 static lwp_t *again;	/* what the layer kept of the thread: it isn't given back */
 
 /* It calls once more after the layer has ended it. What it had is another's by then. */
@@ -383,7 +254,7 @@ static _Atomic(lwp_t *) itself;
 
 static void work(void *arg)
 {
-	EXPECT(arg == &itself && lock_count == 0 && attributes == NULL);
+	EXPECT(arg == &itself && attributes == NULL);
 	EXPECT(pthread_setspecific(late, arg) == 0);
 	atomic_store(&itself, curlwp);
 	kthread_exit(0);
@@ -403,7 +274,7 @@ static void test_unjoined(void)
 	begins = AWAITED;
 	EXPECT(create(KTHREAD_MPSAFE, &worker) == 0 && worker != NULL);
 	begins = AT_ONCE;
-	EXPECT(lock_count == 0 && blocks == before && atomic_load(&detached) == detached_before + 1);
+	EXPECT(blocks == before && atomic_load(&detached) == detached_before + 1);
 	while (atomic_load(&itself) == NULL)
 		sleep_for(50);
 	EXPECT(atomic_load(&itself) == worker);
@@ -416,37 +287,8 @@ static void test_joined(void)
 	begins = AWAITED;
 	EXPECT(create(KTHREAD_MUSTJOIN, &worker) == 0 && worker != NULL);
 	begins = AT_ONCE;
-	EXPECT(lock_count == 0 && blocks == before + 1 && atomic_load(&detached) == detached_before);
-	EXPECT(kthread_join(worker) == 0 && lock_count == 0 && blocks == before && atomic_load(&itself) == worker);
-}
-
-static void work_long(void *arg)
-{
-	EXPECT(arg == NULL);
-	while (!atomic_load(&has_slept))
-		sleep_for(50);
-	kthread_exit(0);
-}
-
-/* It goes on until the thread that joins it sleeps. That one can't be cancelled meanwhile. */
-static void test_join_waits(void)
-{
-	lwp_t *worker = NULL;
-	EXPECT(kthread_create(PRI_NONE, KTHREAD_MUSTJOIN, NULL, work_long, NULL, &worker, "worker") == 0 && is_cancellable());
-	joins = true;
-	EXPECT(kthread_join(worker) == 0 && atomic_load(&has_slept));
-	joins = false;
-	EXPECT(is_cancellable());
-}
-
-static void test_refused(void)
-{
-	lwp_t *worker = NULL;
-	unsigned before = blocks;
-	begins = REFUSED;
-	EXPECT(create(0, &worker) == EAGAIN && create(KTHREAD_MUSTJOIN, &worker) == EAGAIN);
-	begins = AT_ONCE;
-	EXPECT(lock_count == 0 && blocks == before && worker == NULL);
+	EXPECT(blocks == before + 1 && atomic_load(&detached) == detached_before);
+	EXPECT(kthread_join(worker) == 0 && blocks == before && atomic_load(&itself) == worker);
 }
 
 static atomic_bool created;
@@ -495,6 +337,47 @@ static void test_joined_early(void)
 	after = join_beside;
 	EXPECT(create(KTHREAD_MUSTJOIN, &worker) == 0 && after == NULL);
 	EXPECT(worker == atomic_load(&itself));
+}
+
+/* ---- A lock that goes with its object. ---- */
+
+static atomic_bool gone;
+
+/* Waits for the lock, and ends it: nobody else comes to it any more. */
+static void *take_and_end(void *of)
+{
+	kmutex_t *lock = of;
+	mutex_enter(lock);
+	mutex_exit(lock);
+	mutex_destroy(lock);
+	spoil(lock, sizeof(*lock));
+	atomic_store(&gone, true);
+	return of;
+}
+
+static void await_gone(void)
+{
+	await_flag(&gone);
+}
+
+/* Whoever gives the lock back loses its processor at once, until the lock is gone. No level is left behind. */
+static void test_gone(int level)
+{
+	pthread_t thread;
+	kmutex_t lock;
+	atomic_store(&gone, false);
+	atomic_store(&waited, false);
+	mutex_init(&lock, MUTEX_DEFAULT, level);
+	mutex_enter(&lock);
+	start_thread(&thread, take_and_end, &lock);
+	await_flag(&waited);
+	after = await_gone;
+	mutex_exit(&lock);
+	EXPECT(after == NULL && atomic_load(&gone));
+	end_thread(thread);
+	int s = splhigh();
+	EXPECT(s == IPL_NONE);
+	splx(s);
 }
 
 /* ---- CPUs. ---- */
@@ -646,17 +529,15 @@ static void test_cpus(void)
 
 int main(void)
 {
-	EXPECT(curlwp != NULL && lock_count == 0);
+	EXPECT(curlwp != NULL);
 	EXPECT(pthread_key_create(&late, judge_end) == 0);
 	test_memory();
-	test_begin_beside();
-	test_end_beside();
 	test_unjoined();
 	test_joined();
-	test_join_waits();
-	test_refused();
 	test_cancelled();
 	test_joined_early();
+	test_gone(IPL_NONE);
+	test_gone(IPL_VM);
 	test_cpus();
 	test_call_after_end();
 	puts("each thread had memory and a CPU of its own");

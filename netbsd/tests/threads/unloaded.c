@@ -13,8 +13,7 @@ static void *call_it(void *arg)
 {
 	use();
 	atomic_store(&used, true);
-	while (!atomic_load(&closed))
-		sleep_for(100);
+	await_flag(&closed);
 	return arg;
 }
 
@@ -27,8 +26,7 @@ int main(int argc, char **argv)
 	*(void **)&use = dlsym(plugin, "use_layer");
 	EXPECT(use != NULL);
 	start_thread(&thread, call_it, NULL);
-	while (!atomic_load(&used))
-		sleep_for(100);
+	await_flag(&used);
 	EXPECT(dlclose(plugin) == 0);
 	atomic_store(&closed, true);
 	end_thread(thread);

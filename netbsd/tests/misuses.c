@@ -1,0 +1,754 @@
+/*
+ * misuses - what the manual pages forbid and a call sees: each case ends its process with its line
+ *
+ * The explorer runs them, too, except those of misuses_of_threads.c. The last line counts the cases.
+ */
+#include <sys/callout.h>
+#include <sys/condvar.h>
+#include <sys/cpu.h>
+#include <sys/intr.h>
+#include <sys/kmem.h>
+#include <sys/kthread.h>
+#include <sys/localcount.h>
+#include <sys/mutex.h>
+#include <sys/percpu.h>
+#include <sys/pool.h>
+#include <sys/proc.h>
+#include <sys/pserialize.h>
+#include <sys/psref.h>
+#include <sys/rwlock.h>
+#include <sys/systm.h>
+#include <sys/xcall.h>
+
+#include "stops.h"
+
+static struct psref_class *things;
+static struct psref_target target, other;
+static struct psref psref, second, third;
+static struct localcount count, other_count;
+static pserialize_t psz;
+static kmutex_t lock, softlock, spin, other_spin, softspin, wrong_lock;
+static kcondvar_t cv, wrong_cv;
+static krwlock_t rw;
+static struct pool pool, other_pool;
+static pool_cache_t cache;
+static percpu_t *percpu;
+static void *softint;
+static callout_t callout;
+static lwp_t *worker;
+static char here[8], there[8];
+static atomic_bool ready;
+
+/* What no case initialises, unless it destroys it. */
+static kmutex_t no_lock;
+static kcondvar_t no_cv;
+static krwlock_t no_rw;
+static callout_t no_callout;
+
+HANDLER(nothing, (void)0)
+
+/* What each case begins with: this thread on CPU 0, and one of each thing. */
+static void begin(void)
+{
+	kupaldiz_bind(0);
+	things = psref_class_create("thing", IPL_SOFTNET);
+	psz = pserialize_create();
+	mutex_init(&lock, MUTEX_DEFAULT, IPL_NONE);
+	mutex_init(&wrong_lock, MUTEX_DEFAULT, IPL_NONE);
+	mutex_init(&softlock, MUTEX_DEFAULT, IPL_SOFTNET);
+	mutex_init(&spin, MUTEX_DEFAULT, IPL_VM);
+	mutex_init(&other_spin, MUTEX_DEFAULT, IPL_VM);
+	mutex_init(&softspin, MUTEX_SPIN, IPL_SOFTNET);
+	cv_init(&cv, "count");
+	cv_init(&wrong_cv, "wrong");
+	rw_init(&rw);
+	psref_target_init(&target, things);
+	localcount_init(&count);
+	pool_init(&pool, 24, 0, 0, 0, "thingpl", NULL, IPL_NONE);
+	pool_init(&other_pool, 24, 0, 0, 0, "otherpl", NULL, IPL_NONE);
+	cache = pool_cache_init(24, 0, 0, 0, "thingpl", NULL, IPL_NONE, NULL, NULL, NULL);
+	percpu = percpu_alloc(8);
+	softint = softint_establish(SOFTINT_CLOCK, nothing, NULL);
+	callout_init(&callout, CALLOUT_MPSAFE);
+}
+
+/* ---- What the cases do. ---- */
+
+static void acquire(void)
+{
+	int s = pserialize_read_enter();
+	psref_acquire(&psref, &target, things);
+	pserialize_read_exit(s);
+}
+
+static void release(void)
+{
+	psref_release(&psref, &target, things);
+}
+
+static void count_in(void)
+{
+	int s = pserialize_read_enter();
+	localcount_acquire(&count);
+	pserialize_read_exit(s);
+}
+
+static void count_out(void)
+{
+	localcount_release(&count, &cv, &lock);
+}
+
+static void *drain(void *arg)
+{
+	mutex_enter(&lock);
+	atomic_store(&ready, true);
+	localcount_drain(&count, &cv, &lock);
+	mutex_exit(&lock);
+	return arg;
+}
+
+static void await_ready(void)
+{
+	while (!atomic_load(&ready))
+		sleep_for(100);
+}
+
+/* Starts a thread that doesn't end. */
+static void start_alone(void *(*body)(void *))
+{
+	pthread_t thread;
+	start_thread(&thread, body, NULL);
+}
+
+/* The same, until it is ready. */
+static void start(void *(*body)(void *))
+{
+	start_alone(body);
+	await_ready();
+}
+
+static void on_two_threads(void *(*body)(void *))
+{
+	start_alone(body);
+	on_thread(body);
+}
+
+static void (*soft_body)(void *);
+
+static void run_softly(void *arg)
+{
+	atomic_store(&ready, true);
+	soft_body(arg);
+}
+
+/* Runs a handler as a soft interrupt, which stops. If it doesn't, the case ends with it. */
+static void as_softint(void (*handler)(void *))
+{
+	soft_body = handler;
+	void *cookie = softint_establish(SOFTINT_NET, run_softly, NULL);
+	softint_schedule(cookie);
+	await_ready();
+	softint_disestablish(cookie);
+}
+
+static void run_handler(void *handler, void *arg)
+{
+	(*(void (**)(void *))handler)(arg);
+}
+
+/* Runs it on each CPU as a function of xcall(9). */
+static void broadcast(unsigned flags, void (*handler)(void *))
+{
+	xc_wait(xc_broadcast(flags, run_handler, &handler, NULL));
+}
+
+/* A callout that runs a handler on CPU 0 while this thread goes on elsewhere. */
+static void run_callout(void (*handler)(void *))
+{
+	soft_body = handler;
+	callout_reset(&callout, 1, run_softly, NULL);
+	kupaldiz_unbind();
+	kupaldiz_bind(1);
+	await_ready();
+}
+
+static void make_worker(int flags, void (*body)(void *))
+{
+	EXPECT(kthread_create(PRI_NONE, flags, NULL, body, NULL, &worker, "worker") == 0);
+}
+
+static void acquire_at(const char *place, struct psref *into, const struct psref_target *of)
+{
+	kupaldiz_at(place);
+	(psref_acquire)(into, of, things);
+}
+
+static void enter_at(const char *place)
+{
+	kupaldiz_at(place);
+	(mutex_enter)(&lock);
+}
+
+static void read_at(const char *place)
+{
+	kupaldiz_at(place);
+	(void)(pserialize_read_enter)();
+}
+
+HANDLER(stay_inside, pserialize_read_enter())
+HANDLER(stay_locked, mutex_enter(&softlock))
+HANDLER(stay_spinning, mutex_enter(&spin))
+HANDLER(stay_bound, kpreempt_disable())
+HANDLER(stay_raised, splnet())
+HANDLER(stay_holding, psref_acquire(&psref, &target, things))
+HANDLER(stay_long, sleep_for(20000000))
+HANDLER(exit_at_once, kthread_exit(0))
+
+static void function_stays_holding(void *arg, void *nobody)
+{
+	(void)nobody;
+	stay_holding(arg);
+}
+
+static void run_nothing(void *arg, void *nobody)
+{
+	(void)nobody;
+	nothing(arg);
+}
+
+/* ---- Threads that aren't bound, and bounds that don't go. ---- */
+
+static char beyond[64];
+
+STOPS("pserialize_read_exit: outside any read section, at PLACE", kupaldiz_unbind(); pserialize_read_exit(0))
+STOPS("psref_acquire: the thread is not bound to a CPU, at PLACE", kupaldiz_unbind(); psref_acquire(&psref, &target, things))
+STOPS("psref_held: the thread is not bound to a CPU, at PLACE", kupaldiz_unbind(); psref_held(&target, things))
+STOPS("kupaldiz_unbind: the thread is not bound to a CPU, at PLACE", kupaldiz_unbind(); kupaldiz_unbind())
+STOPS("curlwp_bindx: the thread is not bound to a CPU, at PLACE", int bound = curlwp_bind(); curlwp_bindx(0); curlwp_bindx(bound))
+STOPS("kupaldiz_bind: the thread is bound to CPU 0, at PLACE", kupaldiz_bind(1))
+STOPS(beyond, kupaldiz_unbind(); kupaldiz_bind(KUPALDIZ_CPUS))
+/* Inside a section the thread has a CPU, if it isn't bound, too. */
+STOPS("kupaldiz_bind: inside a read section, entered at PLACE, at PLACE", kupaldiz_unbind(); pserialize_read_enter(); kupaldiz_bind(1))
+STOPS("kupaldiz_unbind: inside a read section, entered at PLACE, at PLACE", pserialize_read_enter(); kupaldiz_unbind())
+STOPS("kupaldiz_unbind: the thread has passive references, at PLACE", acquire(); kupaldiz_unbind())
+STOPS("curlwp_bindx: the thread has passive references, at PLACE", acquire(); curlwp_bindx(0))
+
+/* ---- What threads, handlers and functions leave behind. ---- */
+
+THREAD(end_inside, kupaldiz_bind(1); pserialize_read_enter())
+STOPS("pthread_exit: inside a read section", on_thread(end_inside))
+THREAD(end_holding, kupaldiz_bind(1); acquire())
+STOPS("pthread_exit: the thread has passive references", on_thread(end_holding))
+/* The thread isn't bound: it acquires while it has its CPU. */
+THREAD(end_holding_unbound, kpreempt_disable(); psref_acquire(&psref, &target, things); kpreempt_enable())
+STOPS("pthread_exit: the thread has passive references", on_thread(end_holding_unbound))
+THREAD(end_locked, mutex_enter(&lock))
+STOPS("pthread_exit: with a lock", on_thread(end_locked))
+THREAD(end_spinning, mutex_enter(&spin))
+STOPS("pthread_exit: with a lock", on_thread(end_spinning))
+THREAD(end_raised, splnet())
+STOPS("pthread_exit: with its CPU", on_thread(end_raised))
+STOPS("softint: the handler returned inside a read section", as_softint(stay_inside))
+STOPS("softint: the handler returned with a lock", as_softint(stay_locked))
+STOPS("softint: the handler returned with a lock", as_softint(stay_spinning))
+STOPS("softint: the handler returned with preemption disabled", as_softint(stay_bound))
+STOPS("softint: the handler returned at a raised level", as_softint(stay_raised))
+STOPS("softint: the handler returned at a raised level", callout_reset(&callout, 1, stay_raised, NULL); sleep_for(20000000))
+STOPS("softint: the handler returned with a passive reference", as_softint(stay_holding))
+/* It releases one reference of two. */
+HANDLER(stay_copied, psref_acquire(&psref, &target, things); psref_copy(&second, &psref, things); release())
+STOPS("softint: the handler returned with a passive reference", as_softint(stay_copied))
+STOPS("xc_broadcast: the function returned with a passive reference, at PLACE", xc_broadcast(0, function_stays_holding, NULL, NULL))
+STOPS("xc_broadcast: the function returned inside a read section, at PLACE", broadcast(0, stay_inside))
+STOPS("xc_unicast: the function returned inside a read section",
+    void (*stay)(void *) = stay_inside; xc_wait(xc_unicast(XC_HIGHPRI, run_handler, &stay, NULL, kupaldiz_cpu(3))))
+STOPS("xc_broadcast: the function returned with a lock, at PLACE", broadcast(0, stay_locked))
+STOPS("xc_broadcast: the function returned with a lock, at PLACE", broadcast(XC_HIGHPRI, stay_spinning))
+STOPS("xc_broadcast: the function returned with preemption disabled, at PLACE", broadcast(0, stay_bound))
+STOPS("xc_broadcast: the function returned at a raised level, at PLACE", broadcast(0, stay_raised))
+STOPS("xc_broadcast: the function returned at a raised level, at PLACE", broadcast(XC_HIGHPRI, stay_raised))
+HANDLER(alloc_asleep, kmem_alloc(8, KM_SLEEP))
+STOPS("kmem_alloc: at a raised level, at PLACE", broadcast(XC_HIGHPRI, alloc_asleep))
+
+/* ---- pserialize(9). ---- */
+
+STOPS("pserialize_read_exit: outside any read section, at PLACE", pserialize_read_exit(0))
+STOPS("pserialize_read_exit: not the section that was entered last, at PLACE",
+    int outer = pserialize_read_enter(); pserialize_read_enter(); pserialize_read_exit(outer))
+THREAD(perform, pserialize_perform(psz))
+/* A struct pserialize begins with the number of those that perform. No call tells it, and only once it is set is a destroy sure to be stopped. */
+STOPS("pserialize_destroy: a thread performs with it, at PLACE",
+    pserialize_read_enter(); start_alone(perform);
+    while (atomic_load((atomic_uint *)psz) == 0)
+	    sleep_for(100);
+    pserialize_destroy(psz))
+
+/* ---- psref(9). ---- */
+
+THREAD(release_on_0, kupaldiz_bind(0); release())
+THREAD(copy_on_0, kupaldiz_bind(0); psref_copy(&second, &psref, things))
+THREAD(release_on_1, kupaldiz_bind(1); release())
+THREAD(copy_on_1, kupaldiz_bind(1); psref_copy(&second, &psref, things))
+THREAD(destroy_target, psref_target_destroy(&target, things))
+STOPS("psref_release: the reference is of thread \"misuses\", acquired at PLACE, at PLACE", acquire(); on_thread(release_on_0))
+STOPS("psref_copy: the reference is of thread \"misuses\", acquired at PLACE, at PLACE", acquire(); on_thread(copy_on_0))
+STOPS("psref_release: the reference is of CPU 0, and this is CPU 1, at PLACE", acquire(); on_thread(release_on_1))
+STOPS("psref_copy: the reference is of CPU 0, and this is CPU 1, at PLACE", acquire(); on_thread(copy_on_1))
+STOPS("psref_release: the reference is not held, at PLACE", release())
+STOPS("psref_release: the reference is not held, at PLACE", acquire(); release(); release())
+/* A reference that was copied by its bytes is one reference all the same. */
+STOPS("psref_release: the reference is not held, at PLACE", acquire(); struct psref bytes = psref; release(); psref_release(&bytes, &target, things))
+/* While the first one is held, its bytes elsewhere are none. */
+STOPS("psref_release: the reference was moved by its bytes: it was acquired elsewhere at PLACE, at PLACE",
+    acquire(); struct psref bytes = psref; psref_release(&bytes, &target, things))
+STOPS("psref_copy: the reference was moved by its bytes: it was acquired elsewhere at PLACE, at PLACE",
+    acquire(); struct psref bytes = psref; psref_copy(&second, &bytes, things))
+STOPS("psref_acquire: the reference is held already, at PLACE", acquire(); acquire())
+/* The table of the CPU is asked, whatever the storage says. */
+STOPS("psref_acquire: the reference is held already, at PLACE", acquire(); memset(&psref, 0, sizeof(psref)); acquire())
+STOPS("psref_copy: the reference is held already, at PLACE", acquire(); psref_copy(&second, &psref, things); psref_copy(&second, &psref, things))
+/* The place in the table is used again by another reference. */
+STOPS("psref_release: the reference is not held, at PLACE",
+    acquire(); struct psref bytes = psref; release(); acquire(); psref_release(&bytes, &target, things))
+/* Storage that was never written: its words may be any. The table isn't read beyond its end, which is that of its first room. */
+STOPS("psref_release: the reference is not held, at PLACE", acquire(); psref.psref_cpu = KUPALDIZ_CPUS; release())
+STOPS("psref_release: the reference is not held, at PLACE", acquire(); psref.psref_index = 16; release())
+STOPS("psref_release: the reference was written over, at PLACE", acquire(); psref.psref_target = &other; psref_release(&psref, &other, things))
+STOPS("psref_release: the reference is to another target, at PLACE",
+    psref_target_init(&other, things); acquire(); psref_release(&psref, &other, things))
+STOPS("psref_copy: the reference is not held, at PLACE", psref_copy(&second, &psref, things))
+STOPS("psref_copy: the reference is held already, at PLACE", acquire(); psref_copy(&psref, &psref, things))
+STOPS("psref_copy: the reference is not held, at PLACE", acquire(); release(); psref_copy(&second, &psref, things))
+STOPS("psref_copy: the reference is not held, at PLACE", acquire(); struct psref bytes = psref; release(); psref_copy(&second, &bytes, things))
+STOPS("psref_acquire: the target is not live, at PLACE", pserialize_read_enter(); psref_acquire(&psref, &other, things))
+STOPS("psref_acquire: the target is not live, at PLACE", psref_target_destroy(&target, things); acquire())
+STOPS("psref_acquire: the target is not live, at PLACE", struct psref_target copied = target; psref_acquire(&psref, &copied, things))
+/* The bytes of its life before. */
+STOPS("psref_acquire: the target is not live, at PLACE",
+    struct psref_target before = target; psref_target_destroy(&target, things); psref_target_init(&target, things); target = before;
+    psref_acquire(&psref, &target, things))
+/* Bytes of anything name a row far beyond any registry; the first row of one that isn't there; one that no target ever had; and a count's. */
+STOPS("psref_acquire: the target is not live, at PLACE", memset(&target, 0xa5, sizeof(target)); psref_acquire(&psref, &target, things))
+STOPS("psref_acquire: the target is not live, at PLACE",
+    other.prt_serial = target.prt_serial; other.prt_row = REGISTRY_MOST_SLOTS; psref_acquire(&psref, &other, things))
+STOPS("psref_acquire: the target is not live, at PLACE", target.prt_row = REGISTRY_MOST_SLOTS - 1; psref_acquire(&psref, &target, things))
+STOPS("psref_acquire: the target is not live, at PLACE", target.prt_row = count.lc_row; psref_acquire(&psref, &target, things))
+/* A thread destroys the target and waits for a reference of CPU 0, which goes on acquiring. */
+STOPS("psref_acquire: the target is being destroyed, at PLACE",
+    acquire(); start_alone(destroy_target);
+    for (;;) {
+	    psref_acquire(&second, &target, things);
+	    psref_release(&second, &target, things);
+    })
+STOPS("psref_target_destroy: another thread waits for it already, at PLACE", acquire(); on_two_threads(destroy_target))
+STOPS("psref_target_destroy: the target is not live, at PLACE", psref_target_destroy(&target, things); psref_target_destroy(&target, things))
+STOPS("psref_target_destroy: the target is not live, at PLACE", psref_target_destroy(&other, things))
+STOPS("psref_target_destroy: this thread has a reference to the target, acquired at PLACE, at PLACE", acquire(); psref_target_destroy(&target, things))
+STOPS("psref_target_init: it is live already, at PLACE", psref_target_init(&target, things))
+/* It is live, and the only one. Its bytes are gone. */
+STOPS("psref_target_init: it is live already, at PLACE",
+    drain(NULL); localcount_fini(&count); memset(&target, 0, sizeof(target)); psref_target_init(&target, things))
+/* More are live than a registry takes. The last one's bytes are gone. */
+STOPS("psref_target_init: it is live already, at PLACE",
+    static struct psref_target many[REGISTRY_MOST_SLOTS + 8]; const unsigned last = sizeof(many) / sizeof(many[0]) - 1;
+    for (unsigned at = 0; at <= last; at++)
+	    psref_target_init(&many[at], things);
+    memset(&many[last], 0, sizeof(many[last])); psref_target_init(&many[last], things))
+STOPS("psref_acquire: the target is not of class other, at PLACE",
+    struct psref_class *others = psref_class_create("other", IPL_NONE); pserialize_read_enter(); psref_acquire(&psref, &target, others))
+STOPS("psref_class_destroy: a target of class thing is live, at PLACE", psref_class_destroy(things))
+/* A thread destroys the last target, and waits. As long as a reference is copied the target isn't gone; once it is retired the class still counts it. */
+STOPS("psref_class_destroy: a target of class thing is live, at PLACE",
+    acquire(); start_alone(destroy_target);
+    while (psref_held(&target, things)) {
+	    psref_copy(&second, &psref, things);
+	    psref_release(&second, &target, things);
+	    sleep_for(20000);
+	    psref_class_destroy(things);
+    })
+/* The same, which waits for the section in which the last reference was released, at the end. */
+STOPS("psref_class_destroy: a target of class thing is live, at PLACE",
+    acquire(); start_alone(destroy_target); sleep_for(20000); pserialize_read_enter(); release(); sleep_for(20000); psref_class_destroy(things))
+/* Of three references the second and the third are to the target. The second was released. */
+STOPS("psref_target_destroy: this thread has a reference to the target, acquired at the third call, at the last call",
+    psref_target_init(&other, things); acquire_at("the first call", &psref, &other); acquire_at("the second call", &second, &target);
+    acquire_at("the third call", &third, &target); psref_release(&second, &target, things); kupaldiz_at("the last call");
+    (psref_target_destroy)(&target, things))
+STOPS("psref_release: the reference was moved by its bytes: it was acquired elsewhere at the second call, at the last call",
+    acquire_at("the first call", &psref, &target); acquire_at("the second call", &second, &target); struct psref bytes = second;
+    kupaldiz_at("the last call"); (psref_release)(&bytes, &target, things))
+
+/* ---- localcount(9). ---- */
+
+THREAD(keep_lock, mutex_enter(&lock); atomic_store(&ready, true); sleep_for(20000000))
+STOPS("localcount_drain: the count is not live, at PLACE", mutex_enter(&lock); localcount_drain(&other_count, &cv, &lock))
+STOPS("localcount_drain: the count is not live, at PLACE", drain(NULL); drain(NULL))
+STOPS("localcount_drain: another thread waits for it already, at PLACE", count_in(); on_two_threads(drain))
+STOPS("localcount_drain: the thread does not have the interlock, at PLACE", localcount_drain(&count, &cv, &lock))
+STOPS("localcount_drain: the thread does not have the interlock, at PLACE", count_in(); start(keep_lock); localcount_drain(&count, &cv, &lock))
+STOPS("localcount_drain: the interlock differs from the one before, at PLACE",
+    count_in(); count_out(); mutex_enter(&wrong_lock); localcount_drain(&count, &cv, &wrong_lock))
+STOPS("localcount_drain: the condition variable differs from the one before, at PLACE",
+    count_in(); count_out(); mutex_enter(&lock); localcount_drain(&count, &wrong_cv, &lock))
+STOPS("localcount_fini: the count is not drained, at PLACE", localcount_fini(&count))
+STOPS("localcount_fini: the count is not drained, at PLACE", localcount_fini(&other_count))
+STOPS("localcount_fini: the count is not drained, at PLACE", count_in(); start(drain); localcount_fini(&count))
+STOPS("localcount_fini: the count is not drained, at PLACE", drain(NULL); localcount_fini(&count); localcount_fini(&count))
+/* The bytes say that it was drained, while it is live: that is what a drain leaves there. Then its serial is written over. */
+STOPS("localcount_fini: the count is not drained, at PLACE", count.lc_row = 1; localcount_fini(&count))
+STOPS("localcount_fini: the count is not drained, at PLACE", drain(NULL); count.lc_serial = 7; localcount_fini(&count))
+STOPS("localcount_acquire: the count is not live, at PLACE", drain(NULL); count_in())
+STOPS("localcount_acquire: the count is not live, at PLACE", memset(&count, 0xa5, sizeof(count)); localcount_acquire(&count))
+STOPS("localcount_acquire: the count is not live, at PLACE", count.lc_row = REGISTRY_MOST_SLOTS; localcount_acquire(&count))
+/* A drain waits for a reference of this thread's, which goes on acquiring. */
+STOPS("localcount_acquire: the count is being drained, at PLACE",
+    count_in(); start_alone(drain);
+    for (;;) {
+	    count_in();
+	    count_out();
+    })
+STOPS("localcount_release: no reference to the count is held, at PLACE", count_in(); count_out(); count_out())
+STOPS("localcount_release: the count is not live, at PLACE", drain(NULL); count_out())
+STOPS("localcount_release: the thread has the interlock, at PLACE", count_in(); start(drain); mutex_enter(&lock); count_out())
+STOPS("localcount_release: the interlock differs from the one before, at PLACE",
+    count_in(); count_in(); count_out(); localcount_release(&count, &cv, &wrong_lock))
+STOPS("localcount_release: the condition variable differs from the one before, at PLACE",
+    count_in(); count_in(); count_out(); localcount_release(&count, &wrong_cv, &lock))
+STOPS("localcount_init: it is live already, at PLACE", localcount_init(&count))
+STOPS("localcount_init: it is live already, at PLACE",
+    psref_target_destroy(&target, things); memset(&count, 0, sizeof(count)); localcount_init(&count))
+
+/* ---- mutex(9), spl(9). ---- */
+
+STOPS("mutex_enter: the thread has the lock already, taken at PLACE, at PLACE", mutex_enter(&lock); mutex_enter(&lock))
+STOPS("mutex_enter: the thread has the lock already, taken at PLACE, at PLACE", mutex_enter(&spin); mutex_enter(&spin))
+STOPS("mutex_enter: inside a read section, entered at PLACE, at PLACE", pserialize_read_enter(); mutex_enter(&lock))
+STOPS("mutex_enter: with a spin lock, and this lock does not spin, at PLACE", mutex_enter(&spin); mutex_enter(&lock))
+STOPS("mutex_enter: with preemption disabled, at PLACE", kpreempt_disable(); mutex_enter(&lock))
+HANDLER(take_softly, mutex_enter(&lock))
+STOPS("mutex_enter: in a soft interrupt, and the lock is of IPL_NONE, at PLACE", as_softint(take_softly))
+STOPS("mutex_exit: the thread does not have the lock, at PLACE", mutex_exit(&lock))
+STOPS("mutex_exit: the thread does not have the lock, at PLACE", start(keep_lock); mutex_exit(&lock))
+STOPS("mutex_exit: the thread does not have the lock, at PLACE", mutex_enter(&lock); mutex_exit(&lock); mutex_exit(&lock))
+STOPS("mutex_spin_exit: the thread does not have the lock, at PLACE", mutex_spin_exit(&spin))
+STOPS("mutex_destroy: the lock is held: thread \"misuses\" took it at PLACE, at PLACE", start(keep_lock); mutex_destroy(&lock))
+STOPS("mutex_destroy: the lock is held: thread \"misuses\" took it at PLACE, at PLACE", mutex_enter(&spin); mutex_destroy(&spin))
+/* The lock stays while there is another reference. */
+STOPS("mutex_obj_free: the lock is held: thread \"misuses\" took it at PLACE, at PLACE",
+    kmutex_t *counted = mutex_obj_alloc(MUTEX_DEFAULT, IPL_NONE); mutex_obj_hold(counted); mutex_enter(counted);
+    EXPECT(!mutex_obj_free(counted) && mutex_owned(counted)); mutex_obj_free(counted))
+STOPS("mutex_obj_free: the lock was destroyed, at PLACE",
+    kmutex_t *counted = mutex_obj_alloc(MUTEX_DEFAULT, IPL_NONE); mutex_destroy(counted); mutex_obj_free(counted))
+STOPS("mutex_spin_enter: the lock does not spin, at PLACE", mutex_spin_enter(&lock))
+STOPS("mutex_spin_exit: the lock does not spin, at PLACE", mutex_enter(&lock); mutex_spin_exit(&lock))
+STOPS("mutex_ownable: the thread has the lock already", mutex_enter(&lock); mutex_ownable(&lock))
+STOPS("splx: with a spin lock, at PLACE", int s = splsoftnet(); mutex_enter(&spin); splx(s))
+STOPS("kpreempt_enable: preemption is not disabled, at PLACE", kpreempt_enable())
+STOPS("mutex_enter: the thread has the lock already, taken at the second call, at the third call",
+    enter_at("the first call"); mutex_exit(&lock); enter_at("the second call"); enter_at("the third call"))
+STOPS("mutex_enter: the thread has the lock already, taken at the second call, at the third call",
+    enter_at("the first call"); mutex_exit(&lock); kupaldiz_at("the second call"); EXPECT((mutex_tryenter)(&lock)); enter_at("the third call"))
+STOPS("mutex_enter: inside a read section, entered at the first call, at the third call",
+    read_at("the first call"); read_at("the second call"); enter_at("the third call"))
+STOPS("xc_barrier: inside a read section, entered at the second call, at the third call",
+    read_at("the first call"); pserialize_read_exit(0); read_at("the second call"); kupaldiz_at("the third call"); (xc_barrier)(0))
+
+/* ---- condvar(9). ---- */
+
+STOPS("cv_wait: the thread does not have the lock, at PLACE", cv_wait(&cv, &lock))
+STOPS("cv_timedwait: the thread does not have the lock, at PLACE", start(keep_lock); cv_timedwait(&cv, &lock, 1))
+THREAD(wait_for_it, mutex_enter(&lock); atomic_store(&ready, true); cv_wait(&cv, &lock))
+STOPS("cv_destroy: a thread waits for count, at PLACE", start(wait_for_it); mutex_enter(&lock); cv_destroy(&cv))
+
+/* A lock that spins is given back by a wait, but nothing else. */
+#define MORE(how) how ": the thread has more than this spin lock, at PLACE"
+STOPS(MORE("cv_wait"), mutex_enter(&other_spin); mutex_enter(&spin); cv_wait(&cv, &spin))
+STOPS(MORE("cv_wait"), mutex_enter(&spin); pserialize_read_enter(); cv_wait(&cv, &spin))
+STOPS(MORE("cv_wait"), splsoftnet(); mutex_enter(&spin); cv_wait(&cv, &spin))
+STOPS(MORE("cv_wait"), kpreempt_disable(); mutex_enter(&spin); cv_wait(&cv, &spin))
+STOPS(MORE("cv_timedwait"), mutex_enter(&spin); pserialize_read_enter(); cv_timedwait(&cv, &spin, 1))
+STOPS(MORE("cv_timedwait"), mutex_enter(&other_spin); mutex_enter(&spin); cv_timedwait(&cv, &spin, 1))
+STOPS(MORE("cv_timedwait"), splsoftnet(); mutex_enter(&spin); cv_timedwait(&cv, &spin, 1))
+STOPS(MORE("cv_timedwait"), kpreempt_disable(); mutex_enter(&spin); cv_timedwait(&cv, &spin, 1))
+HANDLER(wait_spinning, mutex_enter(&spin); cv_timedwait(&cv, &spin, 1))
+STOPS("cv_timedwait: in a soft interrupt, at PLACE", as_softint(wait_spinning))
+STOPS("cv_timedwait: at a raised level, at PLACE", mutex_enter(&spin); splhigh(); cv_timedwait(&cv, &spin, 1))
+STOPS("cv_timedwait: at a raised level, at PLACE", mutex_enter(&softspin); splsoftserial(); cv_timedwait(&cv, &softspin, 1))
+/* This lock alone, whose level was raised and lowered again. */
+STOPS("panic: the wait ended, at PLACE",
+    mutex_enter(&softspin); splx(splsoftserial()); cv_timedwait(&cv, &softspin, 1); EXPECT(mutex_owned(&softspin)); mutex_exit(&softspin);
+    EXPECT(!kpreempt_disabled()); panic("the wait ended"))
+/* If a wait for ever goes on, another thread gets the lock. */
+THREAD(take_lock, mutex_enter(&lock); panic("the lock was given back"))
+STOPS("cv_wait: inside a read section, entered at PLACE, at PLACE",
+    mutex_enter(&lock); pserialize_read_enter(); start_alone(take_lock); cv_wait(&cv, &lock))
+STOPS("cv_wait: with preemption disabled, at PLACE", mutex_enter(&lock); kpreempt_disable(); start_alone(take_lock); cv_wait(&cv, &lock))
+
+/* ---- rwlock(9). ---- */
+
+THREAD(write_it, rw_enter(&rw, RW_WRITER); atomic_store(&ready, true); sleep_for(20000000))
+THREAD(read_it, rw_enter(&rw, RW_READER); atomic_store(&ready, true); sleep_for(20000000))
+STOPS("rw_enter: inside a read section, entered at PLACE, at PLACE", pserialize_read_enter(); rw_enter(&rw, RW_READER))
+STOPS("rw_enter: with a spin lock, and this lock does not spin, at PLACE", mutex_enter(&spin); rw_enter(&rw, RW_READER))
+STOPS("rw_enter: with preemption disabled, at PLACE", kpreempt_disable(); rw_enter(&rw, RW_READER))
+STOPS("rw_exit: nobody has the lock, at PLACE", rw_exit(&rw))
+STOPS("rw_exit: nobody has the lock, at PLACE", mutex_enter(&lock); rw_enter(&rw, RW_READER); rw_exit(&rw); rw_exit(&rw))
+STOPS("rw_exit: another thread has the lock as its writer, at PLACE", start(write_it); rw_exit(&rw))
+STOPS("rw_exit: the thread does not have the lock, at PLACE", start(read_it); rw_exit(&rw))
+STOPS("rw_enter: the thread has the lock already, at PLACE", rw_enter(&rw, RW_WRITER); rw_enter(&rw, RW_WRITER))
+STOPS("rw_enter: the thread has the lock already, at PLACE", rw_enter(&rw, RW_WRITER); rw_enter(&rw, RW_READER))
+STOPS("rw_destroy: the lock is held, at PLACE", rw_enter(&rw, RW_READER); rw_destroy(&rw))
+STOPS("rw_destroy: the lock is held, at PLACE", rw_enter(&rw, RW_WRITER); rw_destroy(&rw))
+STOPS("rw_tryupgrade: nobody has the lock", rw_tryupgrade(&rw))
+STOPS("rw_tryupgrade: the thread does not have the lock", start(read_it); rw_tryupgrade(&rw))
+STOPS("rw_downgrade: the thread is not the lock's writer", rw_enter(&rw, RW_READER); rw_downgrade(&rw))
+STOPS("rw_downgrade: the thread is not the lock's writer", rw_downgrade(&rw))
+
+/* ---- kmem(9), pool(9), percpu(9). ---- */
+
+HANDLER(alloc_softly, kmem_alloc(8, KM_NOSLEEP))
+STOPS("kmem_alloc: in a soft interrupt, at PLACE", as_softint(alloc_softly))
+HANDLER(zalloc_softly, kmem_zalloc(8, KM_NOSLEEP))
+STOPS("kmem_zalloc: in a soft interrupt, at PLACE", as_softint(zalloc_softly))
+HANDLER(free_softly, kmem_free(kmem_intr_alloc(8, KM_NOSLEEP), 8))
+STOPS("kmem_free: in a soft interrupt, at PLACE", as_softint(free_softly))
+STOPS("kmem_zalloc: a block of no bytes, at PLACE", kmem_zalloc(0, KM_SLEEP))
+STOPS("kmem_alloc: neither KM_SLEEP nor KM_NOSLEEP alone, at PLACE", kmem_alloc(8, 0))
+STOPS("kmem_alloc: neither KM_SLEEP nor KM_NOSLEEP alone, at PLACE", kmem_alloc(8, KM_SLEEP | KM_NOSLEEP))
+STOPS("kmem_free: 64 bytes are given back of a block of 32, at PLACE", kmem_free(kmem_alloc(32, KM_SLEEP), 64))
+STOPS("kmem_intr_free: 31 bytes are given back of a block of 32, at PLACE", kmem_intr_free(kmem_intr_zalloc(32, KM_NOSLEEP), 31))
+STOPS("kmem_free: no block, at PLACE", kmem_free(NULL, 8))
+STOPS("kmem_free: no block of kmem's, or one that was given back, at PLACE", static uint64_t words[8]; kmem_free(&words[4], 8))
+STOPS("pool_destroy: 1 objects of thingpl are in use, at PLACE", (void)pool_get(&pool, PR_WAITOK); pool_destroy(&pool))
+STOPS("pool_cache_destroy: 1 objects of thingpl are in use, at PLACE", (void)pool_cache_get(cache, PR_WAITOK); pool_cache_destroy(cache))
+STOPS("pool_put: no object of otherpl, or one that was given back, at PLACE", pool_put(&other_pool, pool_get(&pool, PR_WAITOK)))
+STOPS("pool_put: no object of thingpl, or one that was given back, at PLACE", pool_put(&pool, kmem_alloc(24, KM_SLEEP)))
+STOPS("kmem_free: no block of kmem's, or one that was given back, at PLACE", kmem_free(pool_get(&pool, PR_WAITOK), 24))
+/* What isn't of the cache isn't ended either. */
+static void end_object(void *arg, void *object)
+{
+	(void)arg;
+	(void)object;
+	panic("of another cache");
+}
+STOPS("pool_cache_put: no object of otherpl, or one that was given back, at PLACE",
+    pool_cache_t ends = pool_cache_init(24, 0, 0, 0, "otherpl", NULL, IPL_NONE, NULL, end_object, NULL);
+    pool_cache_put(ends, pool_cache_get(cache, PR_WAITOK)))
+STOPS("percpu_free: 16 bytes are given back of 8, at PLACE", percpu_free(percpu, 16))
+STOPS("percpu_putref: without a percpu_getref, at PLACE", percpu_putref(percpu))
+STOPS("kmem_alloc: with preemption disabled, at PLACE", (void)percpu_getref(percpu); kmem_alloc(8, KM_SLEEP))
+
+/* ---- softint(9), callout(9), xcall(9). ---- */
+
+STOPS("softint_schedule: the soft interrupt is not established, at PLACE", softint_disestablish(softint); softint_schedule(softint))
+STOPS("softint_disestablish: the soft interrupt is not established, at PLACE", softint_disestablish(softint); softint_disestablish(softint))
+STOPS("callout_destroy: the callout runs, at PLACE", run_callout(stay_long); callout_destroy(&callout))
+STOPS("callout_halt: inside a read section, entered at PLACE, at PLACE",
+    run_callout(stay_long); pserialize_read_enter(); callout_halt(&callout, NULL))
+/* It has no need to wait. */
+STOPS("callout_halt: the thread does not have the lock, at PLACE", callout_halt(&callout, &lock))
+STOPS("callout_destroy: the callout is pending, at PLACE", callout_reset(&callout, 1000, nothing, NULL); callout_destroy(&callout))
+STOPS("callout_schedule: the callout has no function", callout_schedule(&callout, 1))
+STOPS("xc_wait: no such call", xc_wait(77))
+STOPS("xc_wait: no such call", xc_wait(0))
+/* The first call of all was there, and the third one wasn't. */
+STOPS("panic: it has run, at PLACE", xc_wait(xc_unicast(0, run_nothing, NULL, NULL, kupaldiz_cpu(1))); panic("it has run"))
+STOPS("xc_wait: no such call",
+    xc_wait(xc_broadcast(0, run_nothing, NULL, NULL)); xc_wait(xc_unicast(0, run_nothing, NULL, NULL, kupaldiz_cpu(1))); xc_wait(3))
+
+/* ---- Threads, assertions, pauses. ---- */
+
+STOPS("kthread_exit: kthread_create did not make this thread, at PLACE", kthread_exit(0))
+/* It isn't a thread's end to return. */
+STOPS("kthread_create: the body returned without kthread_exit", make_worker(KTHREAD_MUSTJOIN, nothing); kthread_join(worker))
+/* The layer keeps of it what it kept of a thread of kthread_create's before. */
+THREAD(exit_it, kthread_exit(0))
+STOPS("kthread_exit: kthread_create did not make this thread, at PLACE",
+    make_worker(KTHREAD_MUSTJOIN, exit_at_once); EXPECT(kthread_join(worker) == 0); on_thread(exit_it))
+STOPS("kthread_join: no thread that was made with KTHREAD_MUSTJOIN, at PLACE", kthread_join(curlwp))
+STOPS("kthread_join: no thread that was made with KTHREAD_MUSTJOIN, at PLACE",
+    make_worker(KTHREAD_MUSTJOIN, exit_at_once); EXPECT(kthread_join(worker) == 0); kthread_join(worker))
+STOPS("kthread_join: no thread that was made with KTHREAD_MUSTJOIN, at PLACE", make_worker(0, stay_long); kthread_join(worker))
+STOPS("KASSERT: not so: 1 + 1 == 3, at PLACE", KASSERT(1 + 1 == 3))
+STOPS("KASSERTMSG: not so: 1 + 1 == 3: of 7, at PLACE", KASSERTMSG(1 + 1 == 3, "of %d", 7))
+STOPS("panic: no way, at PLACE", panic("no %s", "way"))
+STOPS("kpause: no time to sleep for, at PLACE", kpause("wait", false, 0, NULL))
+
+/* ---- Each call that may sleep, in each state in which a thread mustn't. ---- */
+
+/* One call, with its words: those of `softlock` are made with that lock. PLACED says that it is a macro, whose line has a place. */
+#define CALL(list, what, is_placed, function, words) \
+	static void NAMED(call_, __LINE__)(void) { (void)function words; } \
+	__attribute__((constructor)) static void NAMED(add_call_, __LINE__)(void) \
+	{ \
+		list[list##_count++] = (struct call){#function, NAMED(call_, __LINE__), is_placed, strstr(#words, "&softlock") != NULL, what}; \
+	}
+#define SLEEPS(is_placed, function, words)	CALL(sleepers, A_LOCK, is_placed, function, words)
+#define USES(what, is_placed, function, words)	CALL(users, what, is_placed, function, words)
+
+enum { BARE, PLACED, MOST_CALLS = 60 };
+enum what { A_LOCK, A_VARIABLE, AN_RWLOCK, A_CALLOUT };
+
+static struct call {
+	const char *name;
+	void (*body)(void);
+	bool has_place, is_locked;
+	enum what what;
+} sleepers[MOST_CALLS], users[MOST_CALLS];
+static unsigned sleepers_count, users_count;
+
+SLEEPS(BARE, pserialize_create, ())
+SLEEPS(PLACED, pserialize_perform, (psz))
+SLEEPS(BARE, psref_class_create, ("other", IPL_NONE))
+SLEEPS(PLACED, psref_target_destroy, (&target, things))
+SLEEPS(PLACED, localcount_init, (&other_count))
+SLEEPS(PLACED, localcount_drain, (&count, &cv, &softlock))
+SLEEPS(PLACED, cv_wait, (&cv, &softlock))
+SLEEPS(PLACED, cv_wait_sig, (&cv, &softlock))
+SLEEPS(PLACED, cv_timedwait, (&cv, &softlock, 1))
+SLEEPS(PLACED, cv_timedwait_sig, (&cv, &softlock, 1))
+SLEEPS(BARE, mutex_obj_alloc, (MUTEX_DEFAULT, IPL_NONE))
+SLEEPS(PLACED, kmem_alloc, (8, KM_SLEEP))
+SLEEPS(PLACED, kmem_zalloc, (8, KM_SLEEP))
+SLEEPS(PLACED, kmem_intr_alloc, (8, KM_SLEEP))
+SLEEPS(PLACED, kmem_intr_zalloc, (8, KM_SLEEP))
+SLEEPS(BARE, kmem_strdupsize, ("text", NULL, KM_SLEEP))
+SLEEPS(PLACED, pool_get, (&pool, PR_WAITOK))
+SLEEPS(BARE, pool_cache_init, (8, 0, 0, 0, "otherpl", NULL, IPL_NONE, NULL, NULL, NULL))
+SLEEPS(PLACED, pool_cache_get, (cache, PR_WAITOK))
+SLEEPS(BARE, percpu_alloc, (8))
+SLEEPS(PLACED, percpu_free, (percpu, 8))
+SLEEPS(PLACED, kpause, ("wait", false, 1, NULL))
+SLEEPS(BARE, kthread_create, (PRI_NONE, 0, NULL, nothing, NULL, NULL, "worker"))
+SLEEPS(PLACED, kthread_join, (curlwp))
+SLEEPS(PLACED, copyin, (here, there, sizeof(there)))
+SLEEPS(PLACED, copyout, (here, there, sizeof(there)))
+SLEEPS(BARE, copyinstr, (here, there, sizeof(there), NULL))
+SLEEPS(BARE, copyoutstr, (here, there, sizeof(there), NULL))
+SLEEPS(PLACED, xc_broadcast, (0, NULL, NULL, NULL))
+SLEEPS(BARE, xc_unicast, (0, NULL, NULL, NULL, kupaldiz_cpu(1)))
+SLEEPS(BARE, xc_wait, (1))
+SLEEPS(PLACED, xc_barrier, (0))
+SLEEPS(BARE, softint_establish, (SOFTINT_NET, nothing, NULL))
+SLEEPS(PLACED, softint_disestablish, (softint))
+SLEEPS(PLACED, ASSERT_SLEEPABLE, ())
+
+static const struct call *made;	/* by the case that runs */
+
+static void make_locked(void)
+{
+	if (made->is_locked)
+		mutex_enter(&softlock);
+}
+
+HANDLER(make_call, make_locked(); made->body())
+
+static void in_section(void) { make_locked(); (void)pserialize_read_enter(); made->body(); }
+static void with_spin(void) { make_locked(); mutex_enter(&spin); made->body(); }
+static void at_level(void) { make_locked(); (void)splnet(); made->body(); }
+static void without_preemption(void) { make_locked(); kpreempt_disable(); made->body(); }
+static void in_softint(void) { as_softint(make_call); }
+
+static const struct state {
+	void (*body)(void);
+	const char *reason;
+} states[] = {
+    {in_section, "inside a read section, entered at PLACE"},
+    {with_spin, "with a spin lock"},
+    {at_level, "at a raised level"},
+    {without_preemption, "with preemption disabled"},
+    {in_softint, "in a soft interrupt"},
+};
+
+/* Judges the call in one state. */
+static void judge_call(void (*body)(void), const char *subject, const char *reason)
+{
+	char line[160];
+	snprintf(line, sizeof(line), "%s: %s%s%s", made->name, subject, reason, made->has_place ? ", at PLACE" : "");
+	judge_case(begin, &(const struct stop_case){body, line, false});
+}
+
+static void judge_sleeper(void)
+{
+	for (unsigned at = 0; at < sizeof(states) / sizeof(states[0]); at++)
+		judge_call(states[at].body, "", states[at].reason);
+}
+
+/* ---- Each call that is given a lock, a condition variable or a callout, with one that was never initialised, and with one that was destroyed. ---- */
+
+USES(A_LOCK, PLACED, mutex_destroy, (&no_lock))
+USES(A_LOCK, PLACED, mutex_enter, (&no_lock))
+USES(A_LOCK, PLACED, mutex_exit, (&no_lock))
+USES(A_LOCK, PLACED, mutex_tryenter, (&no_lock))
+USES(A_LOCK, PLACED, mutex_spin_enter, (&no_lock))
+USES(A_LOCK, PLACED, mutex_spin_exit, (&no_lock))
+USES(A_LOCK, BARE, mutex_ownable, (&no_lock))
+USES(A_LOCK, PLACED, cv_wait, (&cv, &no_lock))
+USES(A_LOCK, PLACED, kpause, ("wait", false, 1, &no_lock))
+USES(A_VARIABLE, PLACED, cv_destroy, (&no_cv))
+USES(A_VARIABLE, PLACED, cv_wait, (&no_cv, &softlock))
+USES(A_VARIABLE, PLACED, cv_wait_sig, (&no_cv, &softlock))
+USES(A_VARIABLE, PLACED, cv_timedwait, (&no_cv, &softlock, 1))
+USES(A_VARIABLE, PLACED, cv_timedwait_sig, (&no_cv, &softlock, 1))
+USES(A_VARIABLE, PLACED, cv_signal, (&no_cv))
+USES(A_VARIABLE, PLACED, cv_broadcast, (&no_cv))
+USES(AN_RWLOCK, PLACED, rw_destroy, (&no_rw))
+USES(AN_RWLOCK, PLACED, rw_enter, (&no_rw, RW_READER))
+USES(AN_RWLOCK, PLACED, rw_tryenter, (&no_rw, RW_WRITER))
+USES(AN_RWLOCK, PLACED, rw_exit, (&no_rw))
+USES(AN_RWLOCK, BARE, rw_tryupgrade, (&no_rw))
+USES(AN_RWLOCK, BARE, rw_downgrade, (&no_rw))
+USES(A_CALLOUT, PLACED, callout_destroy, (&no_callout))
+USES(A_CALLOUT, BARE, callout_setfunc, (&no_callout, nothing, NULL))
+USES(A_CALLOUT, BARE, callout_reset, (&no_callout, 1000, nothing, NULL))
+USES(A_CALLOUT, BARE, callout_schedule, (&no_callout, 1000))
+USES(A_CALLOUT, BARE, callout_stop, (&no_callout))
+USES(A_CALLOUT, PLACED, callout_halt, (&no_callout, NULL))
+USES(A_CALLOUT, BARE, callout_pending, (&no_callout))
+USES(A_CALLOUT, BARE, callout_expired, (&no_callout))
+USES(A_CALLOUT, BARE, callout_active, (&no_callout))
+USES(A_CALLOUT, BARE, callout_invoking, (&no_callout))
+USES(A_CALLOUT, BARE, callout_ack, (&no_callout))
+
+static void destroy_lock(void) { mutex_init(&no_lock, MUTEX_DEFAULT, IPL_NONE); mutex_destroy(&no_lock); }
+static void destroy_cv(void) { cv_init(&no_cv, "gone"); cv_destroy(&no_cv); }
+static void destroy_rw(void) { rw_init(&no_rw); rw_destroy(&no_rw); }
+static void destroy_callout(void) { callout_init(&no_callout, CALLOUT_MPSAFE); callout_destroy(&no_callout); }
+
+static const struct kind {
+	const char *name;
+	void (*destroy)(void);
+} kinds[] = {
+    [A_LOCK] = {"the lock ", destroy_lock},
+    [A_VARIABLE] = {"the condition variable ", destroy_cv},
+    [AN_RWLOCK] = {"the lock ", destroy_rw},
+    [A_CALLOUT] = {"the callout ", destroy_callout},
+};
+
+static void use_never_made(void)
+{
+	make_locked();
+	made->body();
+}
+
+static void use_destroyed(void)
+{
+	kinds[made->what].destroy();
+	use_never_made();
+}
+
+static void judge_user(void)
+{
+	judge_call(use_never_made, kinds[made->what].name, "was never initialised");
+	judge_call(use_destroyed, kinds[made->what].name, "was destroyed");
+}
+
+int main(void)
+{
+	snprintf(beyond, sizeof(beyond), "kupaldiz_bind: there is no CPU %d, at PLACE", KUPALDIZ_CPUS);
+	for (made = sleepers; made < &sleepers[sleepers_count]; made++)
+		judge_sleeper();
+	for (made = users; made < &users[users_count]; made++)
+		judge_user();
+	return run_cases(begin);
+}
