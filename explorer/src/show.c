@@ -58,6 +58,8 @@ static void show_counts(FILE *to, const struct bench_found *found)
 {
 	fprintf(to, "%s: %llu schedules, %llu cut short, %llu states, %llu points, %llu switches\n", options.name, (unsigned long long)found->schedules,
 	    (unsigned long long)found->cut, (unsigned long long)found->states, (unsigned long long)found->points, (unsigned long long)found->switches);
+	if (found->failures > 0)
+		fprintf(to, "%s: %llu failures were tried in turn\n", options.name, (unsigned long long)found->failures);
 	if (found->exhausted)
 		fprintf(to, "%s: every schedule of its points was tried%s\n", options.name, options.whole ? "" : ", or one that is the same as it");
 	else if (found->complete)
@@ -82,6 +84,8 @@ void show(FILE *to, const struct bench_found *found)
 	if (found->first == 0)
 		return;
 	fprintf(to, "%s: FAULT: %s\n", options.name, found->line);
+	if (found->failed[0] != '\0')
+		fprintf(to, "%s: before that: %s\n", options.name, found->failed);
 	fprintf(to, "%s: found by run %llu; schedule %s, switches %u, preemptions %u\n", options.name, (unsigned long long)found->first,
 	    found->schedule, found->changes, found->preemptions);
 	show_steps(to);

@@ -765,7 +765,7 @@ static const struct find {
 	{"a passive reference that is left", "pthread_exit: the thread has passive references", left_reference, NULL},
 	{"a section that is left", "pthread_exit: inside a read section", left_section, NULL},
 	{"locks that are destroyed", NULL, two_writers, destroy_things},
-	{"a lock that is left", "1 locks or condition variables are left at the end, one of them made by mutex_init", two_writers, destroy_some},
+	{"a lock that is left", "1 locks, condition variables or callouts are left at the end, one of them made by mutex_init", two_writers, destroy_some},
 	{"a lock that is held at the end", "pthread_exit: with a lock", two_writers, end_locked},
 };
 

@@ -55,9 +55,11 @@
 #include "../include/kupaldiz/localcount.h"
 #include "../include/kupaldiz/locks.h"
 #include "../include/kupaldiz/memory.h"
+#include "../include/kupaldiz/module_hook.h"
 #include "../include/kupaldiz/pserialize.h"
 #include "../include/kupaldiz/psref.h"
 #include "../include/kupaldiz/softint.h"
+#include "../include/kupaldiz/workqueue.h"
 #include "registry.h"
 
 /* The limits, which a test may change: of a bank; how many nanoseconds a drain waits before it looks again; how many milliseconds a wait lasts before it
@@ -134,6 +136,18 @@ void __asan_unpoison_memory_region(const volatile void *at, size_t size);
 #define HIDE(at, size)		((void)(at), (void)(size))
 #define UNHIDE(at, size)	((void)(at), (void)(size))
 #endif
+#endif
+
+/* How a wait for a condition variable ends: early if nobody ended it. */
+enum ending { IN_TIME, AS_IF_WOKEN, BY_SIGNAL };
+
+/* What the bench alone decides: whether a call that may fail does so, and whether the code's next wait, which may be one that signals end, ends early; how
+ * the last one has ended. It is told of a work that isn't in its queue any more. */
+#ifndef FAILS
+#define FAILS()			false
+#define MAY_END_EARLY(signals)	((void)(signals))
+#define LAST_ENDING()		IN_TIME
+#define DEQUEUED(work)		((void)(work))
 #endif
 
 struct thread;
@@ -289,6 +303,10 @@ static inline void end_wait(int before)
 	pthread_setcancelstate(before, NULL);
 }
 
+/* ---- kernel.c, for other calls. ---- */
+
+void await_thread(struct thread *me, pthread_t id, const struct thread *thread);
+
 /* ---- softint.c, and the threads of soft interrupts in softint_thread.c ---- */
 
 extern pthread_mutex_t pending_list;
@@ -391,6 +409,12 @@ void sweep_banks(struct thread *me);
 const void *live_owner(size_t *held);
 void close_banks(struct thread *me);
 
+/* ---- pserialize.c ---- */
+
+struct pserialize {
+	unsigned performing;	/* an atomic */
+};
+
 /* ---- pause.c: waits. ---- */
 
 /* A wait's pauses: how long the next one is, and when it says what it waits for. */
@@ -409,6 +433,7 @@ void tell_of_reference(struct thread *me, uint64_t cpu, const struct psref_targe
 /* ---- mutex.c and condvar.c, for other calls. ---- */
 
 void take_mutex(struct thread *me, kmutex_t *mutex);
+void enter_mutex(struct thread *me, kmutex_t *mutex);
 void give_mutex(struct thread *me, kmutex_t *mutex);
 bool has_mutex(const struct thread *me, const kmutex_t *mutex);
 void want_mutex(const struct thread *me, const kmutex_t *mutex);

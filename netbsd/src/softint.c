@@ -172,7 +172,7 @@ void *make_softint(unsigned flags, void (*handler)(void *), void *arg)
 void *softint_establish(unsigned flags, void (*handler)(void *), void *arg)
 {
 	want_sleepable(begin_plain(__func__));
-	return make_softint(flags, handler, arg);
+	return FAILS() ? NULL : make_softint(flags, handler, arg);
 }
 
 /* Whether it is established. The caller has the list. */

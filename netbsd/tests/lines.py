@@ -8,7 +8,7 @@ import sys
 from pathlib import Path
 
 HERE = Path(__file__).resolve().parent
-TESTS = ("misuse", "misuse_kernel", "sleepers", "unmade", "lacks", "bytes", "full", "tells", "looks")
+TESTS = ("misuse", "misuse_kernel", "sleepers", "unmade", "lacks", "bytes", "full", "tells", "looks", "workqueues", "hooks")
 # Some files have the same line: each needs a test of its own call.
 BEGINS = {"rwlock.c": r'"rw_[a-z]+: ', "mutex.c": r'"(?:mutex|cv)_[a-z_]+: ', "callout.c": r'"callout_[a-z]+: '}
 TEXT = re.compile(r'"((?:[^"\\]|\\.)*)"')

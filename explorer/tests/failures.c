@@ -1,0 +1,491 @@
+/*
+ * failures - calls that fail, waits that end early, and works, callouts and hooks: what the bench finds by them, and that it tries each
+ *
+ * The last line counts the cases.
+ */
+#include <errno.h>
+#include <string.h>
+#include <sys/atomic.h>
+#include <sys/callout.h>
+#include <sys/condvar.h>
+#include <sys/container_of.h>
+#include <sys/intr.h>
+#include <sys/kmem.h>
+#include <sys/kthread.h>
+#include <sys/module_hook.h>
+#include <sys/mutex.h>
+#include <sys/pool.h>
+#include <sys/systm.h>
+#include <sys/workqueue.h>
+
+#include "../../c/examples/expect.h"
+#include "../../netbsd/tests/places.h"
+#include "../bench.h"
+
+static kmutex_t lock;
+static kcondvar_t cv;
+static bool ready;
+static unsigned count;
+
+static void begin_lock(void)
+{
+	mutex_init(&lock, MUTEX_DEFAULT, IPL_NONE);
+	cv_init(&cv, "cv");
+}
+
+static void end_lock(void)
+{
+	cv_destroy(&cv);
+	mutex_destroy(&lock);
+}
+
+static void nothing(void *arg)
+{
+	(void)arg;
+}
+
+/* ---- Calls that fail. ---- */
+
+static void use_block(void *arg)
+{
+	(void)arg;
+	unsigned *block = kmem_alloc(sizeof(*block), KM_NOSLEEP);
+	KASSERT(block != NULL);
+	kmem_free(block, sizeof(*block));
+}
+
+static void begin_block(void)
+{
+	bench_thread("block", use_block, NULL);
+}
+
+static void use_object(void *arg)
+{
+	static struct pool pool;
+	(void)arg;
+	pool_init(&pool, 8, 0, 0, 0, "pl", NULL, IPL_NONE);
+	void *object = pool_get(&pool, PR_NOWAIT);
+	KASSERT(object != NULL);
+	pool_put(&pool, object);
+	pool_destroy(&pool);
+}
+
+static void begin_object(void)
+{
+	bench_thread("object", use_object, NULL);
+}
+
+static void end_at_once(void *arg)
+{
+	(void)arg;
+	kthread_exit(0);
+}
+
+static void make_thread(void *arg)
+{
+	(void)arg;
+	KASSERT(kthread_create(PRI_NONE, KTHREAD_MPSAFE, NULL, end_at_once, NULL, NULL, "made") == 0);
+}
+
+static void begin_thread(void)
+{
+	bench_thread("maker", make_thread, NULL);
+}
+
+static void make_softint(void *arg)
+{
+	(void)arg;
+	void *softint = softint_establish(SOFTINT_NET | SOFTINT_MPSAFE, nothing, NULL);
+	KASSERT(softint != NULL);
+	softint_disestablish(softint);
+}
+
+static void begin_softint(void)
+{
+	bench_thread("maker", make_softint, NULL);
+}
+
+static void do_no_work(struct work *work, void *arg)
+{
+	(void)work;
+	(void)arg;
+}
+
+static void make_queue(void *arg)
+{
+	struct workqueue *queue;
+	(void)arg;
+	KASSERT(workqueue_create(&queue, "queue", do_no_work, NULL, PRI_NONE, IPL_NONE, WQ_MPSAFE) == 0);
+	workqueue_destroy(queue);
+}
+
+static void begin_queue(void)
+{
+	bench_thread("maker", make_queue, NULL);
+}
+
+/* Of two blocks only one may be missing. */
+static void use_two_blocks(void *arg)
+{
+	(void)arg;
+	void *one = kmem_alloc(8, KM_NOSLEEP), *two = kmem_alloc(8, KM_NOSLEEP);
+	KASSERT(one != NULL || two != NULL);
+	if (one != NULL)
+		kmem_free(one, 8);
+	if (two != NULL)
+		kmem_free(two, 8);
+}
+
+static void begin_two_blocks(void)
+{
+	bench_thread("blocks", use_two_blocks, NULL);
+}
+
+/* ---- Waits that end early. ---- */
+
+static void wait_once(void *arg)
+{
+	(void)arg;
+	mutex_enter(&lock);
+	if (!ready)
+		cv_wait(&cv, &lock);
+	KASSERT(ready);
+	mutex_exit(&lock);
+}
+
+static void wait_as_told(void *arg)
+{
+	int error = 0;
+	(void)arg;
+	mutex_enter(&lock);
+	while (!ready && error == 0)
+		error = cv_wait_sig(&cv, &lock);
+	bench_outcome("%s", error == EINTR ? "EINTR" : error == 0 ? "ready" : "?");
+	mutex_exit(&lock);
+}
+
+static void wait_for_time(void *arg)
+{
+	int error = 0;
+	unsigned turns = 0;
+	(void)arg;
+	mutex_enter(&lock);
+	for (; !ready && error == 0; turns++)
+		error = cv_timedwait_sig(&cv, &lock, 1);
+	bench_outcome("%s after %u", error == EINTR ? "EINTR" : error == EWOULDBLOCK ? "late" : "ready", turns);
+	mutex_exit(&lock);
+}
+
+static void pause_once(void *arg)
+{
+	(void)arg;
+	mutex_enter(&lock);
+	bench_outcome("%s ", kpause("pause", true, 1, &lock) == EINTR ? "EINTR" : "over");
+	bench_outcome("%s", ready ? "ready" : "not ready");
+	mutex_exit(&lock);
+}
+
+static void make_ready(void *arg)
+{
+	(void)arg;
+	mutex_enter(&lock);
+	ready = true;
+	cv_signal(&cv);
+	mutex_exit(&lock);
+}
+
+static void begin_waits(void (*waits)(void *))
+{
+	begin_lock();
+	bench_thread("waiter", waits, NULL);
+	bench_thread("waker", make_ready, NULL);
+}
+
+static void begin_once(void)
+{
+	begin_waits(wait_once);
+}
+
+static void begin_told(void)
+{
+	begin_waits(wait_as_told);
+}
+
+static void begin_timed(void)
+{
+	begin_waits(wait_for_time);
+}
+
+static void begin_pause(void)
+{
+	begin_waits(pause_once);
+}
+
+/* Nobody wakes it. */
+static void begin_alone(void)
+{
+	begin_lock();
+	bench_thread("waiter", wait_as_told, NULL);
+}
+
+/* ---- What lies in memory that is given back. ---- */
+
+struct softc {
+	callout_t callout;
+	struct work work;
+	kmutex_t lock;
+};
+
+static struct workqueue *queue;
+
+static void free_callout(void *arg)
+{
+	struct softc *sc = kmem_zalloc(sizeof(*sc), KM_SLEEP);
+	(void)arg;
+	callout_init(&sc->callout, CALLOUT_MPSAFE);
+	kmem_free(sc, sizeof(*sc));
+}
+
+static void begin_callout(void)
+{
+	bench_thread("free", free_callout, NULL);
+}
+
+static void take_lock(struct work *work, void *arg)
+{
+	(void)work;
+	(void)arg;
+	mutex_enter(&lock);
+	count++;
+	mutex_exit(&lock);
+}
+
+static void free_work(void *arg)
+{
+	struct softc *sc = kmem_zalloc(sizeof(*sc), KM_SLEEP);
+	(void)arg;
+	workqueue_enqueue(queue, &sc->work, NULL);
+	kmem_free(sc, sizeof(*sc));
+}
+
+static void begin_work(void)
+{
+	begin_lock();
+	KASSERT(workqueue_create(&queue, "queue", take_lock, NULL, PRI_NONE, IPL_NONE, WQ_MPSAFE) == 0);
+	bench_thread("free", free_work, NULL);
+}
+
+/* The queue's thread waits for the lock of the one that waits for its work. */
+static void wait_with_lock(void *arg)
+{
+	static struct work work;
+	(void)arg;
+	mutex_enter(&lock);
+	workqueue_enqueue(queue, &work, NULL);
+	workqueue_wait(queue, &work);
+	mutex_exit(&lock);
+}
+
+static void begin_deadlock(void)
+{
+	begin_lock();
+	KASSERT(workqueue_create(&queue, "queue", take_lock, NULL, PRI_NONE, IPL_NONE, WQ_MPSAFE) == 0);
+	bench_thread("wait", wait_with_lock, NULL);
+}
+
+/* ---- A work, and the end of its queue; a hook that is unset while it is called. ---- */
+
+static struct work works[2];
+
+static void enqueue(void *work)
+{
+	workqueue_enqueue(queue, work, NULL);
+	mutex_enter(&lock);
+	bench_outcome("%u", count);
+	mutex_exit(&lock);
+	workqueue_wait(queue, work);
+	KASSERT(atomic_load_relaxed(&count) > 0);
+}
+
+static void begin_works(void)
+{
+	begin_lock();
+	KASSERT(workqueue_create(&queue, "queue", take_lock, NULL, PRI_NONE, IPL_NONE, WQ_MPSAFE) == 0);
+	bench_thread("one", enqueue, &works[0]);
+	bench_thread("two", enqueue, &works[1]);
+}
+
+static void end_works(void)
+{
+	KASSERT(count == 2);
+	workqueue_destroy(queue);
+	end_lock();
+}
+
+MODULE_HOOK(touch_hook, int, (unsigned *));
+struct touch_hook_t touch_hook;
+
+static int touch_it(unsigned *at)
+{
+	return (int)atomic_inc_uint_nv(at);
+}
+
+static void call_hook(void *at)
+{
+	int result;
+	MODULE_HOOK_CALL(touch_hook, (at), -1, result);
+	bench_outcome("%d", result);
+}
+
+static void unset_hook(void *at)
+{
+	MODULE_HOOK_UNSET(touch_hook);
+	kmem_free(at, sizeof(unsigned));
+}
+
+static void begin_hook(void)
+{
+	unsigned *at = kmem_zalloc(sizeof(*at), KM_SLEEP);
+	MODULE_HOOK_SET(touch_hook, touch_it);
+	bench_thread("call", call_hook, at);
+	bench_thread("unset", unset_hook, at);
+}
+
+/* It forgets to wait for the calls. */
+static void forget_hook(void *at)
+{
+	atomic_store_relaxed(&touch_hook.hooked, false);
+	kmem_free(at, sizeof(unsigned));
+}
+
+static void begin_forgotten(void)
+{
+	unsigned *at = kmem_zalloc(sizeof(*at), KM_SLEEP);
+	MODULE_HOOK_SET(touch_hook, touch_it);
+	bench_thread("call", call_hook, at);
+	bench_thread("forget", forget_hook, at);
+}
+
+/* ---- The cases: a fault by its line, and what had failed before; or outcomes. ---- */
+
+static const struct fault_case {
+	const char *name;
+	void (*setup)(void), (*finish)(void);
+	unsigned failures;
+	bool reliable;		/* it is found without a failure, too; else it isn't */
+	const char *line, *failed;
+} fault_cases[] = {
+	{"block", begin_block, NULL, 1, false, "KASSERT: not so: block != NULL, at PLACE", "kmem_alloc at PLACE fails in thread \"block\""},
+	{"object", begin_object, NULL, 1, false, "KASSERT: not so: object != NULL, at PLACE", "pool_get at PLACE fails in thread \"object\""},
+	{"thread", begin_thread, NULL, 1, false,
+	    "KASSERT: not so: kthread_create(PRI_NONE, KTHREAD_MPSAFE, NULL, end_at_once, NULL, NULL, \"made\") == 0, at PLACE",
+	    "kthread_create fails in thread \"maker\""},
+	{"softint", begin_softint, NULL, 1, false, "KASSERT: not so: softint != NULL, at PLACE", "softint_establish fails in thread \"maker\""},
+	{"queue", begin_queue, NULL, 1, false,
+	    "KASSERT: not so: workqueue_create(&queue, \"queue\", do_no_work, NULL, PRI_NONE, IPL_NONE, WQ_MPSAFE) == 0, at PLACE",
+	    "workqueue_create fails in thread \"maker\""},
+	{"two blocks", begin_two_blocks, NULL, 2, false, "KASSERT: not so: one != NULL || two != NULL, at PLACE",
+	    "kmem_alloc at PLACE fails in thread \"blocks\"; kmem_alloc at PLACE fails in thread \"blocks\""},
+	{"once", begin_once, end_lock, 1, false, "KASSERT: not so: ready, at PLACE", "cv_wait at PLACE ends although nobody woke it in thread \"waiter\""},
+	{"callout", begin_callout, NULL, 1, true, "kmem_free at PLACE: what callout_init has made lies in it and was never destroyed", ""},
+	{"work", begin_work, NULL, 1, true, "kmem_free at PLACE: what workqueue_enqueue has made lies in it and was never destroyed", ""},
+	{"deadlock", begin_deadlock, NULL, 1, true,
+	    "deadlock: thread \"wait\" waits in workqueue_wait at PLACE for a wake-up that nobody is left to give", ""},
+	{"hook", begin_forgotten, NULL, 1, true, "atomic change at PLACE: use of freed memory: thread \"forget\" gave it back by kmem_free at PLACE", ""},
+};
+
+/* Explores a case. Whether it went wrong. */
+static bool explore(const struct fault_case *of, bool reliable, const char *replay, struct bench_found *found)
+{
+	const struct bench_options options = {.name = of->name, .finish = of->finish, .failures = of->failures, .reliable = reliable, .quiet = true,
+	    .replay = replay, .found = found};
+	bool wrong = bench_explore(of->setup, &options) != 0;
+	hide_places(found->line);
+	hide_places(found->failed);
+	return wrong;
+}
+
+static bool is_as_told(const struct fault_case *of, const struct bench_found *found)
+{
+	bool right = strcmp(found->line, of->line) == 0 && strcmp(found->failed, of->failed) == 0;
+	if (!right)
+		printf("%s: %s\n    before that: %s\n", of->name, found->line, found->failed);
+	return right;
+}
+
+/* A fault is found with failures, and by its schedule again; without failures, or with fewer in a run, it isn't unless it needs none. */
+static bool is_found(const struct fault_case *of)
+{
+	struct bench_found found, again, fewer;
+	struct fault_case less = *of;
+	less.failures--;
+	bool wrong = explore(of, false, NULL, &found) && is_as_told(of, &found) && explore(of, false, found.schedule, &again) && is_as_told(of, &again);
+	bool alone = explore(&less, less.failures == 0, NULL, &fewer);
+	return wrong && alone == of->reliable;
+}
+
+static const struct outcome_case {
+	const char *name;
+	void (*setup)(void), (*finish)(void);
+	const char *outcomes;	/* each with a bar before and after it */
+} outcome_cases[] = {
+	{"told", begin_told, end_lock, "|EINTR|ready|"},
+	{"alone", begin_alone, end_lock, NULL},
+	{"timed", begin_timed, end_lock, "|EINTR after 1|late after 1|late after 2|ready after 0|ready after 1|ready after 2|"},
+	{"pause", begin_pause, end_lock, "|EINTR not ready|EINTR ready|over not ready|over ready|"},
+	{"works", begin_works, end_works, "|00|01|02|10|11|12|20|21|22|"},
+	{"hook", begin_hook, NULL, "|-1|1|"},
+};
+
+/* Whether each outcome is among those of a text, and how many there are. */
+static bool are_among(const struct bench_found *found, const char *outcomes)
+{
+	for (unsigned at = 0; at < found->outcomes; at++) {
+		char text[BENCH_TEXT + 2];
+		snprintf(text, sizeof(text), "|%s|", found->outcome[at].text);
+		if (strstr(outcomes, text) == NULL) {
+			printf("    outcome %s\n", found->outcome[at].text);
+			return false;
+		}
+	}
+	return true;
+}
+
+static bool has_same_outcomes(const struct bench_found *one, const struct bench_found *other)
+{
+	char all[BENCH_OUTCOMES * BENCH_TEXT] = "|";
+	for (unsigned at = 0; at < other->outcomes; at++) {
+		strcat(all, other->outcome[at].text);
+		strcat(all, "|");
+	}
+	return one->outcomes == other->outcomes && are_among(one, all);
+}
+
+/* The outcomes are these, with the reduction and without; some come by a failure alone. */
+static bool comes_to(const struct outcome_case *of)
+{
+	static struct bench_found found, whole;
+	struct bench_options options = {.name = of->name, .finish = of->finish, .quiet = true, .found = &found};
+	bool wrong = bench_explore(of->setup, &options) != 0;
+	if (of->outcomes == NULL)
+		return wrong && strstr(found.line, "a wake-up that nobody is left to give") != NULL;
+	options.whole = true;
+	options.found = &whole;
+	options.schedules = 2000000;
+	wrong |= bench_explore(of->setup, &options) != 0;
+	bool right = !wrong && found.exhausted && whole.exhausted && are_among(&found, of->outcomes) && has_same_outcomes(&found, &whole);
+	if (!right)
+		printf("%s: %s%s, %u and %u outcomes\n", of->name, found.line, whole.line, found.outcomes, whole.outcomes);
+	return right;
+}
+
+int main(void)
+{
+	unsigned passed = 0, cases = 0;
+	for (unsigned at = 0; at < sizeof(fault_cases) / sizeof(fault_cases[0]); at++, cases++)
+		passed += is_found(&fault_cases[at]);
+	for (unsigned at = 0; at < sizeof(outcome_cases) / sizeof(outcome_cases[0]); at++, cases++)
+		passed += comes_to(&outcome_cases[at]);
+	printf("%u passed, %u failed\n", passed, cases - passed);
+	return passed != cases;
+}
