@@ -592,7 +592,7 @@ static bool has_outcome(const struct bench_found *found, const char *text)
 static void test_question(const struct question *question, bool whole)
 {
 	struct bench_found found;
-	const struct bench_options options = {.quiet = true, .whole = whole, .finish = end_question, .found = &found};
+	const struct bench_options options = {.quiet = true, .whole = whole, .finish = end_question, .reliable = true, .found = &found};
 	unsigned answers = 0;
 	asked = question;
 	EXPECT(bench_explore(make_question, &options) == 0 && found.exhausted);

@@ -221,13 +221,6 @@ static void begin_pause(void)
 	begin_waits(pause_once);
 }
 
-/* Nobody wakes it. */
-static void begin_alone(void)
-{
-	begin_lock();
-	bench_thread("waiter", wait_as_told, NULL);
-}
-
 /* ---- What lies in memory that is given back. ---- */
 
 struct softc {
@@ -327,7 +320,7 @@ struct touch_hook_t touch_hook;
 
 static int touch_it(unsigned *at)
 {
-	return (int)atomic_inc_uint_nv(at);
+	return (int)atomic_load_relaxed(at) + 1;
 }
 
 static void call_hook(void *at)
@@ -351,19 +344,19 @@ static void begin_hook(void)
 	bench_thread("unset", unset_hook, at);
 }
 
-/* It forgets to wait for the calls. */
-static void forget_hook(void *at)
+/* It forgets the calls that are under way. */
+static void free_early(void *at)
 {
-	atomic_store_relaxed(&touch_hook.hooked, false);
 	kmem_free(at, sizeof(unsigned));
+	MODULE_HOOK_UNSET(touch_hook);
 }
 
-static void begin_forgotten(void)
+static void begin_early(void)
 {
 	unsigned *at = kmem_zalloc(sizeof(*at), KM_SLEEP);
 	MODULE_HOOK_SET(touch_hook, touch_it);
 	bench_thread("call", call_hook, at);
-	bench_thread("forget", forget_hook, at);
+	bench_thread("free", free_early, at);
 }
 
 /* ---- The cases: a fault by its line, and what had failed before; or outcomes. ---- */
@@ -390,8 +383,8 @@ static const struct fault_case {
 	{"callout", begin_callout, NULL, 1, true, "kmem_free at PLACE: what callout_init has made lies in it and was never destroyed", ""},
 	{"work", begin_work, NULL, 1, true, "kmem_free at PLACE: what workqueue_enqueue has made lies in it and was never destroyed", ""},
 	{"deadlock", begin_deadlock, NULL, 1, true,
-	    "deadlock: thread \"wait\" waits in workqueue_wait at PLACE for a wake-up that nobody is left to give", ""},
-	{"hook", begin_forgotten, NULL, 1, true, "atomic change at PLACE: use of freed memory: thread \"forget\" gave it back by kmem_free at PLACE", ""},
+	    "nobody can go on: thread \"wait\" waits in workqueue_wait at PLACE for a wake-up that nobody is left to give", ""},
+	{"hook", begin_early, NULL, 1, true, "atomic load at PLACE: use of freed memory: thread \"free\" gave it back by kmem_free at PLACE", ""},
 };
 
 /* Explores a case. Whether it went wrong. */
@@ -427,55 +420,38 @@ static bool is_found(const struct fault_case *of)
 static const struct outcome_case {
 	const char *name;
 	void (*setup)(void), (*finish)(void);
-	const char *outcomes;	/* each with a bar before and after it */
+	bool reliable;
+	const char *outcomes[16];
 } outcome_cases[] = {
-	{"told", begin_told, end_lock, "|EINTR|ready|"},
-	{"alone", begin_alone, end_lock, NULL},
-	{"timed", begin_timed, end_lock, "|EINTR after 1|late after 1|late after 2|ready after 0|ready after 1|ready after 2|"},
-	{"pause", begin_pause, end_lock, "|EINTR not ready|EINTR ready|over not ready|over ready|"},
-	{"works", begin_works, end_works, "|00|01|02|10|11|12|20|21|22|"},
-	{"hook", begin_hook, NULL, "|-1|1|"},
+	{"told", begin_told, end_lock, false, {"EINTR", "ready"}},
+	{"told, without failures", begin_told, end_lock, true, {"ready"}},
+	{"timed", begin_timed, end_lock, false, {"EINTR after 1", "late after 1", "late after 2", "ready after 0", "ready after 1", "ready after 2"}},
+	{"pause", begin_pause, end_lock, false, {"EINTR not ready", "EINTR ready", "over not ready", "over ready"}},
+	{"works", begin_works, end_works, true, {"00", "01", "02", "11", "12", "22"}},
+	{"hook", begin_hook, NULL, true, {"-1", "1"}},
 };
 
-/* Whether each outcome is among those of a text, and how many there are. */
-static bool are_among(const struct bench_found *found, const char *outcomes)
+/* Whether there are just these outcomes. */
+static bool has_outcomes(const struct bench_found *found, const char *const *outcomes)
 {
-	for (unsigned at = 0; at < found->outcomes; at++) {
-		char text[BENCH_TEXT + 2];
-		snprintf(text, sizeof(text), "|%s|", found->outcome[at].text);
-		if (strstr(outcomes, text) == NULL) {
-			printf("    outcome %s\n", found->outcome[at].text);
-			return false;
-		}
-	}
-	return true;
+	unsigned wanted = 0, seen = 0;
+	for (; outcomes[wanted] != NULL; wanted++)
+		for (unsigned at = 0; at < found->outcomes; at++)
+			seen += strcmp(found->outcome[at].text, outcomes[wanted]) == 0;
+	for (unsigned at = 0; at < found->outcomes && (seen != wanted || wanted != found->outcomes); at++)
+		printf("    outcome %s\n", found->outcome[at].text);
+	return seen == wanted && wanted == found->outcomes;
 }
 
-static bool has_same_outcomes(const struct bench_found *one, const struct bench_found *other)
+/* All schedules are tried, with the reduction or without, and come to these outcomes. */
+static bool comes_to(const struct outcome_case *of, bool whole)
 {
-	char all[BENCH_OUTCOMES * BENCH_TEXT] = "|";
-	for (unsigned at = 0; at < other->outcomes; at++) {
-		strcat(all, other->outcome[at].text);
-		strcat(all, "|");
-	}
-	return one->outcomes == other->outcomes && are_among(one, all);
-}
-
-/* The outcomes are these, with the reduction and without; some come by a failure alone. */
-static bool comes_to(const struct outcome_case *of)
-{
-	static struct bench_found found, whole;
-	struct bench_options options = {.name = of->name, .finish = of->finish, .quiet = true, .found = &found};
-	bool wrong = bench_explore(of->setup, &options) != 0;
-	if (of->outcomes == NULL)
-		return wrong && strstr(found.line, "a wake-up that nobody is left to give") != NULL;
-	options.whole = true;
-	options.found = &whole;
-	options.schedules = 2000000;
-	wrong |= bench_explore(of->setup, &options) != 0;
-	bool right = !wrong && found.exhausted && whole.exhausted && are_among(&found, of->outcomes) && has_same_outcomes(&found, &whole);
+	static struct bench_found found;
+	const struct bench_options options = {.name = of->name, .finish = of->finish, .quiet = true, .found = &found, .reliable = of->reliable,
+	    .whole = whole, .schedules = 2000000};
+	bool right = bench_explore(of->setup, &options) == 0 && found.exhausted && has_outcomes(&found, of->outcomes);
 	if (!right)
-		printf("%s: %s%s, %u and %u outcomes\n", of->name, found.line, whole.line, found.outcomes, whole.outcomes);
+		printf("%s: %s\n", of->name, found.line);
 	return right;
 }
 
@@ -485,7 +461,7 @@ int main(void)
 	for (unsigned at = 0; at < sizeof(fault_cases) / sizeof(fault_cases[0]); at++, cases++)
 		passed += is_found(&fault_cases[at]);
 	for (unsigned at = 0; at < sizeof(outcome_cases) / sizeof(outcome_cases[0]); at++, cases++)
-		passed += comes_to(&outcome_cases[at]);
+		passed += comes_to(&outcome_cases[at], false) && comes_to(&outcome_cases[at], true);
 	printf("%u passed, %u failed\n", passed, cases - passed);
 	return passed != cases;
 }
