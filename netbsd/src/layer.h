@@ -35,7 +35,7 @@
  * reference is still held: only then it takes the caller's lock, gives the reference up, and wakes the drain, which can't return before that lock is
  * free. After any other release the count isn't touched again, for the drain may have returned.
  *
- * A soft interrupt is a thread of its CPU's. It takes the CPU, or gets it from the thread that has it, which waits meanwhile.
+ * The soft interrupts of a level are a thread of their CPU's. It takes the CPU, or gets it from the thread that has it, which waits meanwhile.
  *
  * The order of locks: the caller's, then a CPU's hold, then the row's or the interlock, and a bucket of lock.c. No other lock is taken under the
  * last three.
@@ -96,7 +96,6 @@ enum {
 	LAST_ROUND = PTHREAD_DESTRUCTOR_ITERATIONS - 1,	/* of destructors: in the one after it the thread sanitizer is gone */
 	LONGEST_PAUSE = 1000000,	/* nanoseconds */
 	LEVELS = IPL_HIGH + 1,
-	ANY_LEVEL = -1,
 	TICK = 1000000000 / 100		/* nanoseconds: hz is 100 */
 };
 
@@ -237,8 +236,8 @@ struct cpu {
 	uint32_t *chains;		/* the first reference of each, by the address of its storage; NOTHING where there is none */
 	uint32_t room, first_free, counted_elsewhere;	/* there are as many chains as places: a power of two, or none */
 	uint64_t serial;
-	uint32_t pending;		/* an atomic: a bit for each level with a soft interrupt that waits, or that of `goes_on` alone */
-	uint32_t goes_on;		/* the bit of a handler that has waited for a lock, and waits for the CPU; else 0. Under pending_list */
+	uint32_t pending;		/* an atomic: a bit for each level with a soft interrupt that may run next */
+	uint32_t blocked, goes_on;	/* the levels with a handler that waits for a lock; that has it, and waits for the CPU. Under pending_list */
 	uint32_t bound;			/* an atomic: threads that are bound to it */
 	char edge;			/* what comes before the end of a section */
 };

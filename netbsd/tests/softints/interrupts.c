@@ -273,12 +273,13 @@ static void test_goes_on(void (*others)(void), int level)
 	softint_schedule(blocked);
 	EXPECT(splsoftnet() == level);
 	mutex_exit(&lock);
-	await_above(&returns, before);
+	/* It gives the list back as it begins to wait, and once it has the lock. */
+	await_above(&returns, before + 1);
 	others();
 	pserialize_read_exit(pserialize_read_enter());
 	EXPECT(atomic_load(&done) == done_before && pserialize_in_read_section());
 	splx(level);
-	EXPECT(atomic_load(&done) == done_before + 1 && atomic_load(&returns) == before + 2);
+	EXPECT(atomic_load(&done) == done_before + 1 && atomic_load(&returns) == before + 3);
 	splx(before_level);
 	pserialize_read_exit(section);
 	kupaldiz_unbind();
