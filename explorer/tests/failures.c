@@ -315,6 +315,33 @@ static void end_works(void)
 	end_lock();
 }
 
+/* A queue for each CPU: its threads run works at the same time. */
+static void enqueue_on(void *arg)
+{
+	unsigned cpu = *(unsigned *)arg;
+	workqueue_enqueue(queue, &works[cpu], kupaldiz_cpu(cpu));
+	workqueue_wait(queue, &works[cpu]);
+}
+
+static void note_cpu(struct work *work, void *arg)
+{
+	(void)arg;
+	KASSERT(work == &works[cpu_number()]);
+	bench_outcome("%u", cpu_number());
+	mutex_enter(&lock);
+	count++;
+	mutex_exit(&lock);
+}
+
+static void begin_each(void)
+{
+	static unsigned numbers[] = {0, 1};
+	begin_lock();
+	KASSERT(workqueue_create(&queue, "each", note_cpu, NULL, PRI_NONE, IPL_NONE, WQ_MPSAFE | WQ_PERCPU) == 0);
+	bench_thread("one", enqueue_on, &numbers[0]);
+	bench_thread("two", enqueue_on, &numbers[1]);
+}
+
 MODULE_HOOK(touch_hook, int, (unsigned *));
 struct touch_hook_t touch_hook;
 
@@ -428,6 +455,7 @@ static const struct outcome_case {
 	{"timed", begin_timed, end_lock, false, {"EINTR after 1", "late after 1", "late after 2", "ready after 0", "ready after 1", "ready after 2"}},
 	{"pause", begin_pause, end_lock, false, {"EINTR not ready", "EINTR ready", "over not ready", "over ready"}},
 	{"works", begin_works, end_works, true, {"00", "01", "02", "11", "12", "22"}},
+	{"each", begin_each, end_works, true, {"01", "10"}},
 	{"hook", begin_hook, NULL, true, {"-1", "1"}},
 };
 

@@ -44,7 +44,7 @@ void module_hook_exit(struct localcount *lc);
 /* MODULE_HOOK_UNSET - no call reaches the function any more: waits for those under way. Stops where the hook isn't set, and where the thread mustn't sleep. */
 #define MODULE_HOOK_UNSET(hook)	module_hook_unset(&(hook).hooked, &(hook).lc)
 
-/* MODULE_HOOK_CALL - call the function with `words`, which stand in parentheses, and set `result`; where the hook isn't set, `result` is `otherwise`. */
+/* MODULE_HOOK_CALL - call the function with the arguments `words`, in parentheses, and set `result`: to `otherwise` where the hook isn't set. */
 #define MODULE_HOOK_CALL(hook, words, otherwise, result) \
 	do { \
 		if (module_hook_tryenter(&(hook).hooked, &(hook).lc)) { \

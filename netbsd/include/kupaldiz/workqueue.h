@@ -43,7 +43,7 @@ void workqueue_enqueue(struct workqueue *queue, struct work *work, struct cpu_in
 /*
  * workqueue_wait - wait until a work is neither enqueued nor being done
  *
- * The caller sees to it that nobody enqueues it meanwhile. The function of a queue doesn't wait for the works of its own thread: then it returns at once.
+ * The caller ensures that nobody enqueues it meanwhile. The function of a queue doesn't wait for the works of its own thread: then it returns at once.
  * Stops where the thread mustn't sleep.
  */
 void workqueue_wait(struct workqueue *queue, struct work *work);
