@@ -272,6 +272,7 @@ static void search(void)
 	}
 	while (!is_wrong() && next_failure())
 		board->found.complete &= search_all();
+	board->found.complete &= has_all_failures();
 	board->found.exhausted = board->found.complete && board->found.barred == 0;
 }
 

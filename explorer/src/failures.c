@@ -27,6 +27,7 @@ struct plan {
 /* In memory that the parent shares. */
 static struct plans {
 	unsigned now, count;
+	bool left_out;		/* there was no room for a plan */
 	char told[BENCH_LINE];	/* of the chances that were taken */
 	struct plan of[MOST_PLANS];
 } *plans;
@@ -55,6 +56,12 @@ void release_failures(void)
 void forget_failures(void)
 {
 	plans->told[0] = '\0';
+}
+
+/* Whether each plan had room. */
+bool has_all_failures(void)
+{
+	return !plans->left_out;
 }
 
 /* Begins the next plan. Whether there is one. */
@@ -91,9 +98,9 @@ static void add_plan(struct chance chance)
 	for (unsigned at = 0; at < plans->count; at++)
 		if (memcmp(&plans->of[at], &more, sizeof(more)) == 0)
 			return;
-	if (plans->count == MOST_PLANS)
-		refuse("more than %d calls may fail", MOST_PLANS);
-	plans->of[plans->count++] = more;
+	plans->left_out |= plans->count == MOST_PLANS;
+	if (plans->count < MOST_PLANS)
+		plans->of[plans->count++] = more;
 }
 
 /* Whether this thread's next chance is taken; else the chance is for another plan. */

@@ -258,6 +258,7 @@ void leaving_cpu(const char *call);
 void prepare_failures(void);
 void release_failures(void);
 bool next_failure(void);
+bool has_all_failures(void);
 bool ends_early(const struct routine *routine);
 void note_ending(struct routine *me, bool early);
 const char *told_failure(void);

@@ -58,14 +58,14 @@ static void show_counts(FILE *to, const struct bench_found *found)
 {
 	fprintf(to, "%s: %llu schedules, %llu cut short, %llu states, %llu points, %llu switches\n", options.name, (unsigned long long)found->schedules,
 	    (unsigned long long)found->cut, (unsigned long long)found->states, (unsigned long long)found->points, (unsigned long long)found->switches);
-	if (found->failures > 0)
-		fprintf(to, "%s: %llu failures were tried in turn\n", options.name, (unsigned long long)found->failures);
 	if (found->exhausted)
 		fprintf(to, "%s: every schedule of its points was tried%s\n", options.name, options.whole ? "" : ", or one that is the same as it");
 	else if (found->complete)
 		fprintf(to, "%s: left out: schedules in which a thread goes on for more than 200 points while another can\n", options.name);
 	else if (found->first == 0 && options.replay == NULL)
 		show_left_out(to, found);
+	if (found->failures > 0)
+		fprintf(to, "%s: %llu failures were tried in turn\n", options.name, (unsigned long long)found->failures);
 }
 
 static void show_outcomes(FILE *to, const struct bench_found *found)

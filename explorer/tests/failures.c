@@ -483,9 +483,25 @@ static bool comes_to(const struct outcome_case *of, bool whole)
 	return right;
 }
 
+/* So many runs are enough without a failure, and not with one: the search isn't exhausted. */
+static bool tells_what_is_left_out(void)
+{
+	static struct bench_found found;
+	struct bench_options options = {.finish = end_lock, .quiet = true, .found = &found, .reliable = true};
+	bool right = bench_explore(begin_timed, &options) == 0 && found.exhausted && found.failures == 0;
+	options.schedules = found.schedules + found.cut;
+	right &= bench_explore(begin_timed, &options) == 0 && found.exhausted;
+	options.reliable = false;
+	options.bounded = options.random = 1;
+	right &= bench_explore(begin_timed, &options) == 0 && !found.exhausted && !found.complete && found.failures > 0;
+	if (!right)
+		printf("left out: %llu schedules, %llu failures\n", (unsigned long long)found.schedules, (unsigned long long)found.failures);
+	return right;
+}
+
 int main(void)
 {
-	unsigned passed = 0, cases = 0;
+	unsigned passed = tells_what_is_left_out(), cases = 1;
 	for (unsigned at = 0; at < sizeof(fault_cases) / sizeof(fault_cases[0]); at++, cases++)
 		passed += is_found(&fault_cases[at]);
 	for (unsigned at = 0; at < sizeof(outcome_cases) / sizeof(outcome_cases[0]); at++, cases++)
