@@ -157,6 +157,7 @@ static void stop_bridge(void *arg)
 {
 	(void)arg;
 	bridge_stop();
+	KASSERT(atomic_load_relaxed(&bridge.sc_rtage_scheduled) == 0);
 }
 
 static void do_nothing(void *arg)
