@@ -25,6 +25,7 @@ enum {
 	BENCH_THREADS = 16,	/* at most, with the first one, the layer's own and the clock */
 	BENCH_POINTS = 2000,	/* of one run, at most */
 	BENCH_OUTCOMES = 256,
+	BENCH_FAILURES = 3,	/* of one run, at most */
 	BENCH_TEXT = 64,
 	BENCH_LINE = 768,
 	BENCH_SCHEDULE = BENCH_POINTS + 16
@@ -48,11 +49,13 @@ struct bench_found {
 	bool exhausted;		/* and left nothing out: every schedule of the points was tried, or is the same as one that was */
 	int bound;		/* every schedule with at most so many preemptions was tried; -1 where none */
 	uint64_t random;	/* runs by random priorities */
+	uint64_t failures;	/* calls that were let fail, and waits that were let end early, in turn */
 	uint64_t first;		/* how many runs it took until the fault; 0 where none was found */
 	unsigned preemptions;	/* of the schedule below */
 	unsigned changes;	/* its switches from one thread to another */
 	char schedule[BENCH_SCHEDULE];	/* with the fault, by as few switches as were found */
 	char line[BENCH_LINE];	/* what is wrong; empty where nothing is */
+	char failed[BENCH_LINE];	/* which call had failed, or which wait had ended early, before that; empty where none had */
 	uint64_t others;	/* runs with an outcome beyond the room */
 	unsigned outcomes;
 	struct bench_outcome outcome[BENCH_OUTCOMES];
@@ -69,6 +72,8 @@ struct bench_options {
 	uint64_t seed;		/* of these; 1 */
 	unsigned ticks;		/* how often in a run the clock may jump while a thread could go on; 1 */
 	unsigned left;		/* blocks of memory that may be left at the end */
+	unsigned failures;	/* how many calls may fail, and waits end early, in one run; 1 */
+	bool reliable;		/* none does */
 	bool whole;		/* without the reduction */
 	bool frees;		/* a free commutes with no step: plain accesses that aren't announced are tried before and after it */
 	bool quiet;		/* prints nothing; else the counts and the fault are printed on standard output */

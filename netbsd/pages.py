@@ -20,6 +20,8 @@ HEADERS = {
     "localcount": (["sys/localcount.h"], "localcount(9) for threads of user space"),
     "locks": (["sys/mutex.h", "sys/condvar.h", "sys/rwlock.h"], "mutex(9), condvar(9) and rwlock(9) for threads of user space"),
     "softint": (["sys/intr.h", "sys/xcall.h", "sys/callout.h"], "softint(9), spl(9), xcall(9) and callout(9) for threads of user space"),
+    "workqueue": (["sys/workqueue.h"], "workqueue(9) for threads of user space"),
+    "module_hook": (["sys/module_hook.h"], "module_hook(9) for threads of user space"),
     "memory": (["sys/kmem.h", "sys/pool.h", "sys/percpu.h"], "kmem(9), pool(9), pool_cache(9) and percpu(9) for threads of user space"),
     "kernel": (["sys/systm.h", "sys/kthread.h", "sys/proc.h", "sys/module.h", "sys/evcnt.h"], "assertions, panic(9), kthread(9), kpause(9), copy(9)"),
 }

@@ -93,6 +93,8 @@ for way in plain sanitized; do
     check "counts, $way" "$out/$way/counts"
     [ "$way" = plain ] || check "the seven drivers in every order, $way" "$out/$way/drivers"
     counted "what it finds, $way" "$out/$way/finds"
+    counted "failures, works, callouts and hooks, $way" "$out/$way/failures"
+    check "four files in the idiom of the kernel's own, $way" "$out/$way/kernel_files"
     counted "what it refuses, $way" "$out/$way/refusals"
     check "a fault by the fewest switches, $way" "$out/$way/shortest"
     check "each name that a driver may use does what its page says, $way" "$out/$way/named"

@@ -20,10 +20,10 @@ header_alone() {
     local standard
     for standard in c99 c11 c17 gnu17; do
         printf '#include <%s>\nint one_thing;\n' "$1" |
-            gcc -std=$standard -D_POSIX_C_SOURCE=200809L -Wall -Wextra -Wpedantic -Werror -I$folder -fsyntax-only -xc - || return 1
+            gcc -std=$standard -D_POSIX_C_SOURCE=200809L -Wall -Wextra -Wpedantic -Werror -I$folder/include -fsyntax-only -xc - || return 1
     done
     if command -v g++ >/dev/null; then
-        printf '#include <%s>\nint one_thing;\n' "$1" | g++ -std=c++11 -Wall -Wextra -Wpedantic -Werror -I$folder -fsyntax-only -xc++ -
+        printf '#include <%s>\nint one_thing;\n' "$1" | g++ -std=c++11 -Wall -Wextra -Wpedantic -Werror -I$folder/include -fsyntax-only -xc++ -
     fi
 }
 
@@ -79,7 +79,7 @@ watched() {
     limited valgrind -q --fair-sched=try --error-exitcode=99 --leak-check=full --show-leak-kinds=definite --errors-for-leak-kinds=definite "$@"
 }
 
-for header in $(cd $folder && ls kupaldiz/*.h sys/*.h net/*.h); do
+for header in $(cd $folder/include && ls kupaldiz/*.h sys/*.h net/*.h); do
     check "$header alone, in four C standards" header_alone "$header"
 done
 counted "each line of the layer is in a test" netbsd/tests/lines.py

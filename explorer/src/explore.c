@@ -112,6 +112,7 @@ static enum end run_here(void)
 {
 	struct thread nobody = {.call = "bench_explore"};
 	restore_state();
+	forget_failures();
 	board->end = DIED;
 	board->length = 0;
 	board->stuck = false;
@@ -254,16 +255,25 @@ static void run_random(void)
 
 /* ---- In the child. ---- */
 
-static void search(void)
+static bool search_all(void)
 {
 	begin_search(options.whole ? WHOLE : REDUCED, options.schedules, 0);
-	board->found.complete = run_all();
+	return run_all();
+}
+
+/* First without a failure, and then with each in turn. */
+static void search(void)
+{
+	board->found.complete = search_all();
+	if (!board->found.complete && !is_wrong() && !options.whole) {
+		run_bounded();
+		if (!is_wrong())
+			run_random();
+	}
+	while (!is_wrong() && next_failure())
+		board->found.complete &= search_all();
+	board->found.complete &= has_all_failures();
 	board->found.exhausted = board->found.complete && board->found.barred == 0;
-	if (board->found.complete || is_wrong() || options.whole)
-		return;
-	run_bounded();
-	if (!is_wrong())
-		run_random();
 }
 
 /* Goes on until a run goes wrong by the line that is wanted. */
@@ -315,6 +325,8 @@ static void keep_schedule(struct bench_found *found)
 	found->preemptions = board->length == 0 ? 0 : last->preemptions;
 	found->changes = board->length == 0 ? 0 : last->switches;
 	write_schedule(found->schedule, sizeof(found->schedule));
+	write_failures(found->schedule, sizeof(found->schedule));
+	snprintf(found->failed, sizeof(found->failed), "%s", told_failure());
 }
 
 /* Runs the schedule of the fault once more, so that the steps are its own. */
@@ -365,7 +377,8 @@ static unsigned add_turns(unsigned count, unsigned thread, unsigned long turns)
 static void read_schedule(const char *text)
 {
 	unsigned count = 0;
-	for (const char *at = text; *at != '\0';) {
+	const char *failures = strchr(text, '!');
+	for (const char *at = text; *at != '\0' && at != failures;) {
 		unsigned thread = *at == '.' ? THREADS - 1 : (unsigned)(*at - 'a');
 		char *end = (char *)at + 1;
 		unsigned long turns = at[1] >= '0' && at[1] <= '9' ? strtoul(at + 1, &end, 10) : 1;
@@ -374,6 +387,8 @@ static void read_schedule(const char *text)
 		count = add_turns(count, thread, turns);
 		at = end;
 	}
+	if (!read_failures(failures == NULL ? "" : failures))
+		refuse("\"%s\" is no schedule: \"!\", a letter for a thread, and which of its calls fails", failures);
 	begin_search(REPLAYED, 1, 0);
 	board->prefix = count;
 	board->fresh = 0;
@@ -417,6 +432,9 @@ static void fill_options(const struct bench_options *given)
 	options.random = options.random == 0 ? 10000 : options.random;
 	options.seed = options.seed == 0 ? 1 : options.seed;
 	options.ticks = options.ticks == 0 ? 1 : options.ticks;
+	options.failures = options.failures == 0 ? 1 : options.failures;
+	if (options.failures > BENCH_FAILURES)
+		refuse("at most %d failures in a run", BENCH_FAILURES);
 }
 
 static void make_board(void)
@@ -428,6 +446,7 @@ static void make_board(void)
 	board->seed = options.seed * 0x9e3779b97f4a7c15;
 	prepare_stacks();
 	prepare_heap();
+	prepare_failures();
 }
 
 int bench_explore(void (*setup)(void), const struct bench_options *given)
@@ -453,6 +472,7 @@ int bench_explore(void (*setup)(void), const struct bench_options *given)
 	munmap(board, sizeof(*board));
 	release_stacks();
 	release_heap();
+	release_failures();
 	return found.first != 0;
 }
 

@@ -253,6 +253,19 @@ void at_thing(const char *call, enum kind kind, const void *thing, size_t size, 
 void at_cpu(const char *call, unsigned how);
 void leaving_cpu(const char *call);
 
+/* ---- failures.c: calls that fail, and waits that end early. ---- */
+
+void prepare_failures(void);
+void release_failures(void);
+bool next_failure(void);
+bool has_all_failures(void);
+bool ends_early(const struct routine *routine);
+void note_ending(struct routine *me, bool early);
+const char *told_failure(void);
+void write_failures(char *text, size_t room);
+bool read_failures(const char *text);
+void forget_failures(void);
+
 /* ---- made.c: what is initialised and must be ended, and wake-ups that came too early. ---- */
 
 void note_made(const char *call, const void *lock);

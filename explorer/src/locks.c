@@ -121,7 +121,7 @@ void bucket_unlock(struct bucket *bucket)
 /* Whether it was woken, or its time is over, and the lock is free that it takes then. */
 bool was_woken(const struct routine *me)
 {
-	if (!me->woken && !is_late(me))
+	if (!me->woken && !is_late(me) && !ends_early(me))
 		return false;
 	return me->retake == NULL || !is_live(me->retake) || me->retake->mtx_word == 0;
 }
@@ -133,10 +133,11 @@ static void set_deadline(struct routine *me, int64_t deadline)
 	me->deadline = deadline;
 }
 
-/* The wake-up alone has enabled it, unless its time is over. */
+/* The wake-up alone has enabled it, unless its time is over or it might end early. */
 static void leave_queue(struct routine *me, const void *of)
 {
-	touch(ON_WAKE, me, 0, WRITES | (is_late(me) ? 0 : TAKES));
+	touch(ON_WAKE, me, 0, WRITES | (is_late(me) || ends_early(me) ? 0 : TAKES));
+	note_ending(me, !me->woken && !is_late(me));
 	if (me->woken)
 		take_clock(ON_WAKE, me, 0);
 	else
@@ -339,11 +340,14 @@ int bench_create(pthread_t *id, void *(*body)(void *), void *arg, const char *fi
 {
 	struct start *start = allocate(sizeof(*start), 16, false);
 	*start = (struct start){body, arg};
-	bool daemon = strstr(file, "callout") != NULL;
+	bool callout = strstr(file, "callout") != NULL, works = strstr(file, "workqueue") != NULL;
 	/* It may be bound as it begins. */
-	if (!daemon)
+	if (!callout)
 		touch(ON_BOUND, NULL, ANY, WRITES);
-	struct routine *made = make_routine(daemon ? "callout" : NULL, run_start, start, daemon);
+	/* Its CPU goes by its number. */
+	if (works)
+		touch(ON_THREAD, NULL, 0, WRITES);
+	struct routine *made = make_routine(callout ? "callout" : NULL, run_start, start, callout || works);
 	*id = (pthread_t)made->number;
 	start_routines();
 	return 0;

@@ -1,4 +1,4 @@
-/* made.c - locks that were initialised, as far as they lie in memory that is given back; and wake-ups for which nobody waited */
+/* made.c - locks, callouts and works in queues, as far as they lie in memory that is given back; and wake-ups for which nobody waited */
 #include <stdio.h>
 #include <string.h>
 
@@ -62,7 +62,7 @@ void want_none_left(void)
 		call = rows[at].call;
 	}
 	if (left > 0)
-		fail("%u locks or condition variables are left at the end, one of them made by %s", left, call);
+		fail("%u locks, condition variables or callouts are left at the end, one of them made by %s", left, call);
 }
 
 void mutex_init(kmutex_t *mutex, kmutex_type_t type, int level)

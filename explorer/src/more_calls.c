@@ -307,6 +307,7 @@ LAYER(bool, callout_active, (callout_t *callout));
 LAYER(bool, callout_invoking, (callout_t *callout));
 LAYER(void, callout_ack, (callout_t *callout));
 LAYER(int, getticks, (void));
+LAYER(time_t, getuptime, (void));
 LAYER(int, kthread_join, (lwp_t *thread));
 LAYER(int, kpause, (const char *name, bool interruptible, int ticks, kmutex_t *mutex));
 LAYER(void, delay, (unsigned microseconds));
@@ -324,6 +325,7 @@ static void at_callout(const char *call, callout_t *callout)
 /* The layer's own soft interrupt for callouts is never ended. */
 void callout_init(callout_t *callout, unsigned flags)
 {
+	note_made(__func__, callout);
 	run.own_memory = true;
 	layer_callout_init(callout, flags);
 	run.own_memory = false;
@@ -332,6 +334,7 @@ void callout_init(callout_t *callout, unsigned flags)
 void callout_destroy(callout_t *callout)
 {
 	at_callout(__func__, callout);
+	note_ended(callout);
 	layer_callout_destroy(callout);
 }
 
@@ -399,6 +402,12 @@ int getticks(void)
 {
 	at_thing(__func__, ON_TIME, NULL, 0, 0);
 	return layer_getticks();
+}
+
+time_t getuptime(void)
+{
+	at_thing(__func__, ON_TIME, NULL, 0, 0);
+	return layer_getuptime();
 }
 
 int kthread_join(lwp_t *thread)

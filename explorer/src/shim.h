@@ -36,6 +36,11 @@
 #define aligned_alloc(align, size)	bench_aligned_alloc(align, size)
 #define posix_memalign(block, align, size)	bench_aligned(block, align, size)
 
+#define FAILS()				bench_fails()
+#define MAY_END_EARLY(signals)		bench_may_end_early(signals)
+#define LAST_ENDING()			bench_last_ending()
+#define DEQUEUED(work)			bench_dequeued(work)
+
 #define HIDE(at, size)			bench_hide(at)
 #define UNHIDE(at, size)		bench_unhide(at)
 

@@ -64,6 +64,8 @@ static void show_counts(FILE *to, const struct bench_found *found)
 		fprintf(to, "%s: left out: schedules in which a thread goes on for more than 200 points while another can\n", options.name);
 	else if (found->first == 0 && options.replay == NULL)
 		show_left_out(to, found);
+	if (found->failures > 0)
+		fprintf(to, "%s: %llu failures were tried in turn\n", options.name, (unsigned long long)found->failures);
 }
 
 static void show_outcomes(FILE *to, const struct bench_found *found)
@@ -82,6 +84,8 @@ void show(FILE *to, const struct bench_found *found)
 	if (found->first == 0)
 		return;
 	fprintf(to, "%s: FAULT: %s\n", options.name, found->line);
+	if (found->failed[0] != '\0')
+		fprintf(to, "%s: before that: %s\n", options.name, found->failed);
 	fprintf(to, "%s: found by run %llu; schedule %s, switches %u, preemptions %u\n", options.name, (unsigned long long)found->first,
 	    found->schedule, found->changes, found->preemptions);
 	show_steps(to);

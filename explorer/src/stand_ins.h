@@ -3,6 +3,7 @@
 #define KUPALDIZ_BENCH_STAND_INS_H
 
 #include <pthread.h>
+#include <stdbool.h>
 #include <stdint.h>
 #include <sys/types.h>
 #include <time.h>
@@ -14,6 +15,10 @@ void *bench_calloc(size_t count, size_t size);
 void *bench_realloc(void *block, size_t size);
 void bench_free(void *block);
 void *bench_aligned_alloc(size_t align, size_t size);
+bool bench_fails(void);
+void bench_may_end_early(bool signals);
+int bench_last_ending(void);
+void bench_dequeued(const void *work);
 void bench_hide(void *at);
 void bench_unhide(void *at);
 void bench_yield(void);

@@ -315,7 +315,7 @@ static void test_tables(void)
 {
 	test_many(make_writers, NULL, "two accesses to one memory without an order");
 	test_many(make_releasers, NULL, "two accesses to one memory without an order");
-	test_many(make_locks, destroy_all_but_one, "1 locks or condition variables are left at the end");
+	test_many(make_locks, destroy_all_but_one, "1 locks, condition variables or callouts are left at the end");
 }
 
 /* ---- Questions: what one thread asks another one may change at the same time, so both answers are come to. ---- */
@@ -592,7 +592,7 @@ static bool has_outcome(const struct bench_found *found, const char *text)
 static void test_question(const struct question *question, bool whole)
 {
 	struct bench_found found;
-	const struct bench_options options = {.quiet = true, .whole = whole, .finish = end_question, .found = &found};
+	const struct bench_options options = {.quiet = true, .whole = whole, .finish = end_question, .reliable = true, .found = &found};
 	unsigned answers = 0;
 	asked = question;
 	EXPECT(bench_explore(make_question, &options) == 0 && found.exhausted);

@@ -16,6 +16,6 @@ static void begin(void)
 
 int main(void)
 {
-	const struct bench_options options = {.name = "names"};
+	const struct bench_options options = {.name = "names", .reliable = true};
 	return bench_explore(begin, &options);
 }

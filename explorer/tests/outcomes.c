@@ -321,7 +321,7 @@ static uint64_t most_schedules = 15000;
 static struct bench_found explore(bool whole)
 {
 	struct bench_found found;
-	const struct bench_options options = {.quiet = true, .whole = whole, .schedules = most_schedules, .finish = finish, .found = &found, .bounded = 1,
+	const struct bench_options options = {.quiet = true, .whole = whole, .reliable = true, .schedules = most_schedules, .finish = finish, .found = &found, .bounded = 1,
 	    .preemptions = 1, .random = 1};
 	bench_explore(begin, &options);
 	return found;

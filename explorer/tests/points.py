@@ -12,7 +12,8 @@ WITHOUT = {
     "looks at nothing but the thread itself": "assert_sleepable at cpu cpu_softintr_p curcpu curlwp kpreempt_disabled"
     " mutex_ownable mutex_owned pserialize_in_read_section pserialize_not_in_read_section rw_write_held",
     "initialises what no other thread has yet": "kthread_create mutex_obj_alloc percpu_alloc percpu_create pool_cache_init pool_init pserialize_create"
-    " psref_class_create softint_establish",
+    " psref_class_create softint_establish workqueue_create",
+    "is made of calls that have points": "module_hook_exit module_hook_set module_hook_tryenter module_hook_unset",
     "ends the thread or the run": "failed failed_with kthread_exit panic",
 }
 # Those that the bench has a call of its own for, which says what the step touches.

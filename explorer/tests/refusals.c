@@ -81,6 +81,18 @@ static void bad_count(void)
 	bench_explore(two_orders, &options);
 }
 
+static void bad_failure(void)
+{
+	const struct bench_options options = {.replay = "b2!b0"};
+	bench_explore(two_orders, &options);
+}
+
+static void too_many_failures(void)
+{
+	const struct bench_options options = {.failures = 4};
+	bench_explore(two_orders, &options);
+}
+
 static void thread_outside(void)
 {
 	bench_thread("lost", one_two, NULL);
@@ -226,6 +238,8 @@ static const struct refusal {
 	{"a schedule with a huge number", "bench: the schedule is too long\n", huge_turn},
 	{"no schedule", "bench: \"b3?\" is no schedule: ", bad_letter},
 	{"no points", "bench: \"b0\" is no schedule: ", bad_count},
+	{"no failure", "bench: \"!b0\" is no schedule: ", bad_failure},
+	{"too many failures", "bench: at most 3 failures in a run\n", too_many_failures},
 	{"a schedule that doesn't fit", "bench: the schedule doesn't fit: at point ", bad_turn},
 	{"code that depends on something else", "bench: two runs by one schedule differ at point ", outside_of_schedule},
 };

@@ -50,7 +50,7 @@ void entry_fini(void);
 int entry_ioctl(unsigned long command, void *data);
 
 /* rxintr.c - packets from an interrupt to those that listen: a queue under a spin lock, and a soft interrupt that empties it. */
-void rx_init(void);
+int rx_init(void);
 void rx_fini(void);
 void rx_interrupt(unsigned packet);
 void *rx_listen(void (*input)(void *, unsigned), void *arg);

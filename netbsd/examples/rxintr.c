@@ -73,15 +73,17 @@ rx_softint(void *arg)
 	}
 }
 
-void
+int
 rx_init(void)
 {
+	rx_si = softint_establish(SOFTINT_NET | SOFTINT_MPSAFE, rx_softint, NULL);
+	if (rx_si == NULL)
+		return ENOMEM;
 	mutex_init(&rxq_lock, MUTEX_DEFAULT, IPL_NET);
 	mutex_init(&listener_lock, MUTEX_DEFAULT, IPL_NONE);
 	listener_class = psref_class_create("listener", IPL_SOFTNET);
 	listener_psz = pserialize_create();
-	rx_si = softint_establish(SOFTINT_NET | SOFTINT_MPSAFE, rx_softint, NULL);
-	KASSERT(rx_si != NULL);
+	return 0;
 }
 
 /* What an interrupt does: it queues the packet at its level, and leaves the rest to the soft interrupt. */

@@ -97,6 +97,16 @@ ticker_worker(void *arg)
 	kthread_exit(0);
 }
 
+static void
+ticker_free(struct ticker_softc *sc)
+{
+	callout_destroy(&sc->sc_callout);
+	rw_destroy(&sc->sc_rwlock);
+	cv_destroy(&sc->sc_cv);
+	mutex_destroy(&sc->sc_lock);
+	kmem_free(sc, sizeof(*sc));
+}
+
 static int
 ticker_load(void)
 {
@@ -116,7 +126,7 @@ ticker_load(void)
 	callout_setfunc(&sc->sc_callout, ticker_tick, sc);
 	error = kthread_create(PRI_NONE, KTHREAD_MPSAFE | KTHREAD_MUSTJOIN, NULL, ticker_worker, sc, &sc->sc_worker, "ticker");
 	if (error) {
-		kmem_free(sc, sizeof(*sc));
+		ticker_free(sc);
 		return error;
 	}
 	callout_schedule(&sc->sc_callout, 1);
@@ -145,11 +155,7 @@ ticker_unload(void)
 	mutex_exit(&sc->sc_lock);
 	kthread_join(sc->sc_worker);
 
-	callout_destroy(&sc->sc_callout);
-	rw_destroy(&sc->sc_rwlock);
-	cv_destroy(&sc->sc_cv);
-	mutex_destroy(&sc->sc_lock);
-	kmem_free(sc, sizeof(*sc));
+	ticker_free(sc);
 	return 0;
 }
 

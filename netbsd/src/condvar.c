@@ -74,32 +74,40 @@ void wake_cv(struct thread *me, kcondvar_t *cv, bool all)
 	bucket_unlock(bucket);
 }
 
-/* 0 ticks are for ever. Below 0 the time is over already. */
-static int timed(struct thread *me, kcondvar_t *cv, kmutex_t *mutex, int ticks)
+/* A wait of the code's own. 0 ticks are for ever. Below 0 the time is over already. */
+static int timed(struct thread *me, kcondvar_t *cv, kmutex_t *mutex, int ticks, bool signals)
 {
 	int64_t nanoseconds = ticks == 0 ? -1 : ticks < 0 ? 0 : (int64_t)ticks * TICK;
-	return wait_for(me, cv, mutex, nanoseconds) ? 0 : EWOULDBLOCK;
+	MAY_END_EARLY(signals);
+	bool woken = wait_for(me, cv, mutex, nanoseconds);
+	switch (LAST_ENDING()) {
+	case AS_IF_WOKEN:
+		return 0;
+	case BY_SIGNAL:
+		return EINTR;
+	default:
+		return woken ? 0 : EWOULDBLOCK;
+	}
 }
 
 void cv_wait(kcondvar_t *cv, kmutex_t *mutex)
 {
-	wait_for(begin_call(__func__), cv, mutex, -1);
+	(void)timed(begin_call(__func__), cv, mutex, 0, false);
 }
 
 int cv_wait_sig(kcondvar_t *cv, kmutex_t *mutex)
 {
-	wait_for(begin_call(__func__), cv, mutex, -1);
-	return 0;
+	return timed(begin_call(__func__), cv, mutex, 0, true);
 }
 
 int cv_timedwait(kcondvar_t *cv, kmutex_t *mutex, int ticks)
 {
-	return timed(begin_call(__func__), cv, mutex, ticks);
+	return timed(begin_call(__func__), cv, mutex, ticks, false);
 }
 
 int cv_timedwait_sig(kcondvar_t *cv, kmutex_t *mutex, int ticks)
 {
-	return timed(begin_call(__func__), cv, mutex, ticks);
+	return timed(begin_call(__func__), cv, mutex, ticks, true);
 }
 
 void cv_signal(kcondvar_t *cv)

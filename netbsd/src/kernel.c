@@ -51,6 +51,11 @@ int getticks(void)
 	return (int)((uint64_t)now.tv_sec * (1000000000 / TICK) + (uint64_t)now.tv_nsec / TICK);
 }
 
+time_t getuptime(void)
+{
+	return time_after(0).tv_sec;
+}
+
 void delay(unsigned microseconds)
 {
 	struct timespec end = time_after((int64_t)microseconds * 1000), now;
@@ -65,19 +70,21 @@ int kpause(const char *name, bool interruptible, int ticks, kmutex_t *mutex)
 	struct thread *me = begin_call(__func__);
 	struct timespec left = {ticks * (long)TICK / 1000000000, ticks * (long)TICK % 1000000000};
 	(void)name;
-	(void)interruptible;
 	if (mutex != NULL)
 		give_mutex(me, mutex);
 	want_sleepable(me);
 	if (ticks <= 0)
 		stop(me, "no time to sleep for");
+	bool ended = interruptible && FAILS();
 	int waits = begin_wait();
-	while (nanosleep(&left, &left) != 0)
-		;	/* a signal has come */
+	if (ended)
+		sched_yield();
+	while (!ended && nanosleep(&left, &left) != 0)
+		;	/* a signal has come to the process, which isn't the thread's */
 	end_wait(waits);
 	if (mutex != NULL)
 		take_mutex(me, mutex);
-	return EWOULDBLOCK;
+	return ended ? EINTR : EWOULDBLOCK;
 }
 
 /* ---- kthread(9) ---- */
@@ -138,10 +145,12 @@ static int start(struct kthread *kthread, lwp_t **made)
 	return 0;
 }
 
-int kthread_create(int priority, int flags, struct cpu_info *cpu, void (*body)(void *), void *arg, lwp_t **made, const char *format, ...)
+int kthread_create(pri_t priority, int flags, struct cpu_info *cpu, void (*body)(void *), void *arg, lwp_t **made, const char *format, ...)
 {
 	struct thread *me = begin_plain(__func__);
 	want_sleepable(me);
+	if (FAILS())
+		return ENOMEM;
 	struct kthread *kthread = memory(me, sizeof(*kthread));
 	bool joined = (flags & KTHREAD_MUSTJOIN) != 0;
 	va_list words;
@@ -170,14 +179,16 @@ void kthread_exit(int code)
 	pthread_exit(NULL);
 }
 
-/* Waits for its end, and says after a while that it waits. */
-static void await_end(struct thread *me, const struct kthread *kthread)
+/* Waits for the end of a thread of the layer's, and says after a while that it waits. */
+void await_thread(struct thread *me, pthread_t id, const struct thread *thread)
 {
 	char name[64];
 	struct pauses pauses = begin_pauses();
-	while (pthread_tryjoin_np(kthread->id, NULL) == EBUSY)
+	int waits = begin_wait();
+	while (pthread_tryjoin_np(id, NULL) == EBUSY)
 		if (pause_longer(&pauses, NULL))
-			say(me, "waits for thread \"%s\" to end", name_of(kthread->thread, name, sizeof(name)));
+			say(me, "waits for thread \"%s\" to end", name_of(thread, name, sizeof(name)));
+	end_wait(waits);
 }
 
 int kthread_join(lwp_t *thread)
@@ -196,9 +207,7 @@ int kthread_join(lwp_t *thread)
 	pthread_mutex_unlock(&kthreads_lock);
 	if (found == NULL)
 		stop(me, "no thread that was made with KTHREAD_MUSTJOIN");
-	int waits = begin_wait();
-	await_end(me, found);
-	end_wait(waits);
+	await_thread(me, found->id, found->thread);
 	reuse_thread(found->thread);
 	free(found);
 	return 0;

@@ -35,7 +35,7 @@
  * reference is still held: only then it takes the caller's lock, gives the reference up, and wakes the drain, which can't return before that lock is
  * free. After any other release the count isn't touched again, for the drain may have returned.
  *
- * A soft interrupt is a thread of its CPU's. It takes the CPU, or gets it from the thread that has it, which waits meanwhile.
+ * The soft interrupts of a level are a thread of their CPU's. It takes the CPU, or gets it from the thread that has it, which waits meanwhile.
  *
  * The order of locks: the caller's, then a CPU's hold, then the row's or the interlock, and a bucket of lock.c. No other lock is taken under the
  * last three.
@@ -55,9 +55,11 @@
 #include "../include/kupaldiz/localcount.h"
 #include "../include/kupaldiz/locks.h"
 #include "../include/kupaldiz/memory.h"
+#include "../include/kupaldiz/module_hook.h"
 #include "../include/kupaldiz/pserialize.h"
 #include "../include/kupaldiz/psref.h"
 #include "../include/kupaldiz/softint.h"
+#include "../include/kupaldiz/workqueue.h"
 #include "registry.h"
 
 /* The limits, which a test may change: of a bank; how many nanoseconds a drain waits before it looks again; how many milliseconds a wait lasts before it
@@ -94,7 +96,6 @@ enum {
 	LAST_ROUND = PTHREAD_DESTRUCTOR_ITERATIONS - 1,	/* of destructors: in the one after it the thread sanitizer is gone */
 	LONGEST_PAUSE = 1000000,	/* nanoseconds */
 	LEVELS = IPL_HIGH + 1,
-	ANY_LEVEL = -1,
 	TICK = 1000000000 / 100		/* nanoseconds: hz is 100 */
 };
 
@@ -134,6 +135,18 @@ void __asan_unpoison_memory_region(const volatile void *at, size_t size);
 #define HIDE(at, size)		((void)(at), (void)(size))
 #define UNHIDE(at, size)	((void)(at), (void)(size))
 #endif
+#endif
+
+/* How a wait for a condition variable ends: early if nobody ended it. */
+enum ending { IN_TIME, AS_IF_WOKEN, BY_SIGNAL };
+
+/* What the bench alone decides: whether a call that may fail does so, and whether the code's next wait, which may be one that signals end, ends early; how
+ * the last one has ended. It is told of a work that isn't in its queue any more. */
+#ifndef FAILS
+#define FAILS()			false
+#define MAY_END_EARLY(signals)	((void)(signals))
+#define LAST_ENDING()		IN_TIME
+#define DEQUEUED(work)		((void)(work))
 #endif
 
 struct thread;
@@ -223,8 +236,8 @@ struct cpu {
 	uint32_t *chains;		/* the first reference of each, by the address of its storage; NOTHING where there is none */
 	uint32_t room, first_free, counted_elsewhere;	/* there are as many chains as places: a power of two, or none */
 	uint64_t serial;
-	uint32_t pending;		/* an atomic: a bit for each level with a soft interrupt that waits, or that of `goes_on` alone */
-	uint32_t goes_on;		/* the bit of a handler that has waited for a lock, and waits for the CPU; else 0. Under pending_list */
+	uint32_t pending;		/* an atomic: a bit for each level with a soft interrupt that may run next */
+	uint32_t blocked, goes_on;	/* the levels with a handler that waits for a lock; that has it, and waits for the CPU. Under pending_list */
 	uint32_t bound;			/* an atomic: threads that are bound to it */
 	char edge;			/* what comes before the end of a section */
 };
@@ -288,6 +301,10 @@ static inline void end_wait(int before)
 {
 	pthread_setcancelstate(before, NULL);
 }
+
+/* ---- kernel.c, for other calls. ---- */
+
+void await_thread(struct thread *me, pthread_t id, const struct thread *thread);
 
 /* ---- softint.c, and the threads of soft interrupts in softint_thread.c ---- */
 
@@ -391,6 +408,12 @@ void sweep_banks(struct thread *me);
 const void *live_owner(size_t *held);
 void close_banks(struct thread *me);
 
+/* ---- pserialize.c ---- */
+
+struct pserialize {
+	unsigned performing;	/* an atomic */
+};
+
 /* ---- pause.c: waits. ---- */
 
 /* A wait's pauses: how long the next one is, and when it says what it waits for. */
@@ -409,6 +432,7 @@ void tell_of_reference(struct thread *me, uint64_t cpu, const struct psref_targe
 /* ---- mutex.c and condvar.c, for other calls. ---- */
 
 void take_mutex(struct thread *me, kmutex_t *mutex);
+void enter_mutex(struct thread *me, kmutex_t *mutex);
 void give_mutex(struct thread *me, kmutex_t *mutex);
 bool has_mutex(const struct thread *me, const kmutex_t *mutex);
 void want_mutex(const struct thread *me, const kmutex_t *mutex);

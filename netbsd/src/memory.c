@@ -66,6 +66,8 @@ static void *take_block(struct thread *me, size_t size, bool sleeps, const struc
 		stop(me, "a block of no bytes");
 	if (sleeps)
 		want_sleepable(me);
+	else if (FAILS())
+		return NULL;
 	struct head *head = take_memory(size, alignment_of(size, pool));
 	if (head == NULL && sleeps)
 		stop(me, "out of memory");
@@ -185,9 +187,8 @@ void pool_init(struct pool *pool, size_t size, unsigned align, unsigned offset, 
     int level)
 {
 	(void)offset;
-	(void)flags;
 	(void)from;
-	*pool = (struct pool){.pr_name = name, .pr_size = size, .pr_align = align, .pr_level = level};
+	*pool = (struct pool){.pr_name = name, .pr_size = size, .pr_align = align, .pr_level = level, .pr_flags = flags};
 }
 
 static void want_unused(struct thread *me, struct pool *pool)
@@ -243,6 +244,12 @@ pool_cache_t pool_cache_init(size_t size, unsigned align, unsigned offset, unsig
 	return cache;
 }
 
+/* Whether readers may still look at an object that was given back. */
+static bool is_looked_at(const struct pool_cache *cache)
+{
+	return (cache->pool.pr_flags & PR_PSERIALIZE) != 0;
+}
+
 /* A constructed object that nobody uses; NULL where there is none. */
 static struct head *take_constructed(pool_cache_t cache)
 {
@@ -251,15 +258,20 @@ static struct head *take_constructed(pool_cache_t cache)
 	if (head != NULL)
 		cache->constructed = head->next;
 	pthread_mutex_unlock(&cache->lock);
-	if (head != NULL)
+	if (head != NULL && !is_looked_at(cache))
 		UNHIDE(head + 1, head->size);
 	return head;
 }
 
 void pool_cache_destroy(pool_cache_t cache)
 {
+	struct thread *me = begin_call(__func__);
 	struct head *head;
-	want_unused(begin_call(__func__), &cache->pool);
+	want_unused(me, &cache->pool);
+	if (is_looked_at(cache)) {
+		want_sleepable(me);
+		perform_all(me);
+	}
 	while ((head = take_constructed(cache)) != NULL) {
 		if (cache->end != NULL)
 			cache->end(cache->arg, head + 1);
@@ -298,7 +310,8 @@ void pool_cache_put(pool_cache_t cache, void *object)
 	struct thread *me = begin_call(__func__);
 	struct head *head = head_of(me, object, &cache->pool);
 	__atomic_store_n(&head->mark, 0, __ATOMIC_RELAXED);
-	HIDE(object, head->size);
+	if (!is_looked_at(cache))
+		HIDE(object, head->size);
 	pthread_mutex_lock(&cache->lock);
 	head->next = cache->constructed;
 	cache->constructed = head;

@@ -152,11 +152,15 @@ static void want_for_softint(const struct thread *me, const kmutex_t *mutex)
 		stop(me, "in a soft interrupt, and the lock is of IPL_NONE");
 }
 
-void mutex_enter(kmutex_t *mutex)
+void enter_mutex(struct thread *me, kmutex_t *mutex)
 {
-	struct thread *me = begin_call(__func__);
 	want_for_softint(me, mutex);
 	take_mutex(me, mutex);
+}
+
+void mutex_enter(kmutex_t *mutex)
+{
+	enter_mutex(begin_call(__func__), mutex);
 }
 
 void mutex_exit(kmutex_t *mutex)

@@ -3,10 +3,6 @@
 
 #include "layer.h"
 
-struct pserialize {
-	unsigned performing;	/* an atomic */
-};
-
 pserialize_t pserialize_create(void)
 {
 	struct thread *me = begin_plain(__func__);

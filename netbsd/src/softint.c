@@ -67,14 +67,15 @@ void splx(int level)
 
 /* ---- Handlers. ---- */
 
-/* Writes down which levels have a soft interrupt that waits on a CPU. None begins before a handler that goes on there. The caller has the list. */
+/* Writes down which levels of a CPU have a soft interrupt that may run next: one that waits, unless another handler of the level waits for a lock; or such
+ * a handler, once it has the lock. The caller has the list. */
 void note_pending(struct cpu *cpu)
 {
 	uint32_t pending = 0;
 	for (int level = 0; level < LEVELS; level++)
 		if (queues[cpu->info.ci_index][level] != NULL)
 			pending |= UINT32_C(1) << level;
-	__atomic_store_n(&cpu->pending, cpu->goes_on != 0 ? cpu->goes_on : pending, __ATOMIC_RELEASE);
+	__atomic_store_n(&cpu->pending, (pending & ~cpu->blocked) | cpu->goes_on, __ATOMIC_RELEASE);
 }
 
 /* Puts one at the end of its queue, unless it waits there. The caller has the list. */
@@ -102,15 +103,6 @@ static void dequeue(struct softint *softint, unsigned cpu)
 	softint->pending[cpu] = false;
 }
 
-/* The next one to run on a CPU, of the highest level that is above a level; NULL where there is none. */
-static struct softint *next_of(const struct cpu *cpu, int above)
-{
-	int level = LEVELS - 1;
-	while (level > above && queues[cpu->info.ci_index][level] == NULL)
-		level--;
-	return level > above ? queues[cpu->info.ci_index][level] : NULL;
-}
-
 /* Stops where a handler, or a function of xcall(9), left something behind. It began at this level, with so many locks and references. */
 void judge_return(const struct thread *me, const char *what, int level, unsigned locks, unsigned references)
 {
@@ -126,12 +118,12 @@ void judge_return(const struct thread *me, const char *what, int level, unsigned
 		stop(me, "%s returned at a raised level", what);
 }
 
-/* Runs the next handler of a level, or of any. Whether there was one. */
+/* Runs the next handler of a level. Whether there was one, and the level is above that of the CPU's lender. */
 bool run_softint(struct thread *me, int level)
 {
 	int above = me->lender == NULL ? IPL_NONE : me->lender->level;
 	pthread_mutex_lock(&pending_list);
-	struct softint *next = level == ANY_LEVEL ? next_of(me->cpu, above) : level > above ? queues[me->cpu->info.ci_index][level] : NULL;
+	struct softint *next = level > above ? queues[me->cpu->info.ci_index][level] : NULL;
 	if (next != NULL) {
 		dequeue(next, me->cpu->info.ci_index);
 		next->running++;
@@ -172,7 +164,7 @@ void *make_softint(unsigned flags, void (*handler)(void *), void *arg)
 void *softint_establish(unsigned flags, void (*handler)(void *), void *arg)
 {
 	want_sleepable(begin_plain(__func__));
-	return make_softint(flags, handler, arg);
+	return FAILS() ? NULL : make_softint(flags, handler, arg);
 }
 
 /* Whether it is established. The caller has the list. */

@@ -1,8 +1,9 @@
 /*
  * softint_thread.c - the threads of soft interrupts
  *
- * Each CPU has a thread for its soft interrupts from the first one that is scheduled there. It has the CPU while it runs a handler: by taking its
- * lock, or by getting it from the thread that has it, which waits meanwhile and gets it back. It gets it back, too, where a handler waits for a lock.
+ * Each CPU has a thread for the soft interrupts of each level, from the first one of that level which is scheduled there. It has the CPU while it runs a
+ * handler: by taking its lock, or by getting it from the thread that has it, which waits meanwhile and gets it back. It gets it back, too, where a handler
+ * waits for a lock: then handlers of other levels may have the CPU. Of those that can run the highest goes first.
  */
 #include <stdio.h>
 
@@ -10,15 +11,22 @@
 
 struct softint_thread {
 	struct cpu *cpu;
+	int level;
 	struct thread *thread;	/* NULL until it has begun */
-	bool blocked;		/* a handler waits for a lock: written with the CPU as it becomes so, and under the list as it ends */
 };
 
-static struct softint_thread threads[KUPALDIZ_CPUS];
+static struct softint_thread threads[KUPALDIZ_CPUS][LEVELS];
 
-static struct softint_thread *thread_of(const struct cpu *cpu)
+static uint32_t bit_of(int level)
 {
-	return &threads[cpu->info.ci_index];
+	return UINT32_C(1) << level;
+}
+
+/* The highest level that waits on a CPU; IPL_NONE where none does. */
+static int highest(const struct cpu *cpu)
+{
+	uint32_t pending = __atomic_load_n(&cpu->pending, __ATOMIC_ACQUIRE);
+	return pending == 0 ? IPL_NONE : 31 - __builtin_clz(pending);
 }
 
 /* Gives the CPU back to whoever lent it, else to all. */
@@ -32,12 +40,36 @@ static void give_cpu(struct thread *me)
 		lock_give(&me->cpu->hold, me);
 }
 
-/* Waits for a soft interrupt of this CPU. */
-static void await_pending(struct thread *me)
+/* The levels of a CPU with a handler that waits for a lock, and those with one that has it and waits for the CPU. */
+static void note_waits(struct cpu *cpu, uint32_t blocked, uint32_t goes_on)
+{
+	cpu->blocked = blocked;
+	cpu->goes_on = goes_on;
+	note_pending(cpu);
+	pthread_cond_broadcast(&pending_changed);
+}
+
+/* Waits for a soft interrupt of this level, above which none waits, or until the CPU is lent. */
+static void await_turn(const struct softint_thread *of)
 {
 	pthread_mutex_lock(&pending_list);
-	while (me->cpu->pending == 0 && lock_owner(&me->cpu->hold) != me)
+	while (highest(of->cpu) != of->level && lock_owner(&of->cpu->hold) != of->thread)
 		pthread_cond_wait(&pending_changed, &pending_list);
+	pthread_mutex_unlock(&pending_list);
+}
+
+/* Runs the handlers of a level, until one of a higher level waits. The thread has the CPU. */
+static void run_level(struct thread *me, int level)
+{
+	me->holds = 1;
+	while (highest(me->cpu) <= level && run_softint(me, level))
+		;
+	me->holds = 0;
+	me->level = IPL_NONE;
+	give_cpu(me);
+	/* Lower levels go on. */
+	pthread_mutex_lock(&pending_list);
+	pthread_cond_broadcast(&pending_changed);
 	pthread_mutex_unlock(&pending_list);
 }
 
@@ -56,25 +88,19 @@ static _Noreturn void *run_all(void *of)
 	pthread_cond_broadcast(&pending_changed);
 	pthread_mutex_unlock(&pending_list);
 	for (;;) {
-		await_pending(me);
+		await_turn(softint_thread);
 		lock_take(&me->cpu->hold, me, NULL);
-		me->holds = 1;
-		while (run_softint(me, ANY_LEVEL))
-			;
-		me->holds = 0;
-		me->level = IPL_NONE;
-		give_cpu(me);
+		run_level(me, softint_thread->level);
 	}
 }
 
-/* The thread of a CPU, of all levels, which is begun where it isn't. The caller has the list. */
+/* The thread of a CPU's level, which is begun where it isn't. The caller has the list. */
 void want_softint_thread(struct thread *me, struct cpu *cpu, int level)
 {
-	(void)level;
 	pthread_t thread;
-	struct softint_thread *softint_thread = thread_of(cpu);
+	struct softint_thread *softint_thread = &threads[cpu->info.ci_index][level];
 	if (softint_thread->cpu == NULL) {
-		softint_thread->cpu = cpu;
+		*softint_thread = (struct softint_thread){.cpu = cpu, .level = level};
 		if (pthread_create(&thread, NULL, run_all, softint_thread) != 0)
 			stop(me, "no thread is left");
 		pthread_detach(thread);
@@ -85,22 +111,28 @@ void want_softint_thread(struct thread *me, struct cpu *cpu, int level)
 	end_wait(waits);
 }
 
-/* Lets the soft interrupts that wait have the CPU, and waits for it. */
+/* The thread of the highest level that waits on this thread's CPU above its own level; NULL where none does. */
+static struct thread *next_above(const struct thread *me)
+{
+	pthread_mutex_lock(&pending_list);
+	int level = highest(me->cpu);
+	struct thread *next = level > me->level ? threads[me->cpu->info.ci_index][level].thread : NULL;
+	pthread_mutex_unlock(&pending_list);
+	return next;
+}
+
+/* Lets the soft interrupts that wait have the CPU, one level after another, and waits for it. */
 void offer_cpu(struct thread *me)
 {
-	struct softint_thread *softint_thread = thread_of(me->cpu);
-	pthread_mutex_lock(&pending_list);
-	/* A handler that was blocked goes on first, and may be of a lower level than what was seen to wait. */
-	bool can_run = !softint_thread->blocked && is_interrupted(me);
-	pthread_mutex_unlock(&pending_list);
-	if (!can_run)
-		return;
-	softint_thread->thread->lender = me;
-	lock_pass(&me->cpu->hold, softint_thread->thread);
-	pthread_mutex_lock(&pending_list);
-	pthread_cond_broadcast(&pending_changed);
-	pthread_mutex_unlock(&pending_list);
-	lock_await(&me->cpu->hold, me);
+	struct thread *next;
+	while ((next = next_above(me)) != NULL) {
+		next->lender = me;
+		lock_pass(&me->cpu->hold, next);
+		pthread_mutex_lock(&pending_list);
+		pthread_cond_broadcast(&pending_changed);
+		pthread_mutex_unlock(&pending_list);
+		lock_await(&me->cpu->hold, me);
+	}
 }
 
 /* A thread that has its CPU waits for a lock: others get the CPU meanwhile. */
@@ -110,7 +142,9 @@ void step_off(struct thread *me)
 		lock_give(&me->cpu->hold, me);
 		return;
 	}
-	thread_of(me->cpu)->blocked = true;
+	pthread_mutex_lock(&pending_list);
+	note_waits(me->cpu, me->cpu->blocked | bit_of(me->level), me->cpu->goes_on);
+	pthread_mutex_unlock(&pending_list);
 	give_cpu(me);
 }
 
@@ -121,13 +155,12 @@ void step_on(struct thread *me)
 		lock_take(&me->cpu->hold, me, tell_of_cpu);
 		return;
 	}
+	uint32_t level = bit_of(me->level);
 	pthread_mutex_lock(&pending_list);
-	me->cpu->goes_on = UINT32_C(1) << me->level;
-	note_pending(me->cpu);
-	thread_of(me->cpu)->blocked = false;
+	note_waits(me->cpu, me->cpu->blocked & ~level, me->cpu->goes_on | level);
 	pthread_mutex_unlock(&pending_list);
 	lock_take(&me->cpu->hold, me, NULL);
 	pthread_mutex_lock(&pending_list);
-	me->cpu->goes_on = 0;
+	note_waits(me->cpu, me->cpu->blocked, me->cpu->goes_on & ~level);
 	pthread_mutex_unlock(&pending_list);
 }

@@ -223,7 +223,7 @@ static void change_listeners(void)
 static void test_rxintr(void)
 {
 	atomic_store(&received, 0);
-	rx_init();
+	EXPECT(rx_init() == 0);
 	void *listener = rx_listen(input_all, &received);
 	run_beside(interrupt_all, change_listeners);
 	await_least(&received, THREADS * PACKETS);

@@ -45,6 +45,13 @@ void kupaldiz_assert_sleepable(void);
 /* How many ticks a second has: 100. */
 static const int hz = 100;
 
+/* Whether the kernel still starts: never. */
+static const int cold = 0;
+
+/* getuptime, time_uptime - the time of the clock that nobody sets, in seconds. The second is a word for the same. */
+time_t getuptime(void);
+#define time_uptime	getuptime()
+
 /* getticks - the time of the clock that nobody sets, in ticks. It wraps around: only the difference of two is of use. */
 int getticks(void);
 
@@ -52,13 +59,31 @@ int getticks(void);
 void delay(unsigned microseconds);
 #define DELAY(microseconds)	delay(microseconds)
 
-/* kpause - sleep for so many ticks, without the lock meanwhile, which may be NULL. Returns EWOULDBLOCK, since no signal ends it. Stops where the thread
- * mustn't sleep. */
+/* kpause - sleep for so many ticks, without the lock meanwhile, which may be NULL. Returns EWOULDBLOCK. In the bench a signal may end it if it is
+ * interruptible, and it returns EINTR. Stops where the thread mustn't sleep. */
 int kpause(const char *name, bool interruptible, int ticks, kmutex_t *mutex);
 
 /* ---- kthread(9) ---- */
 
+/* Priorities, the lowest first: of user threads, of the kernel's, and of those in real time. They change nothing. */
 #define PRI_NONE	(-1)
+#define PRI_USER	0
+#define PRI_IDLE	PRI_USER
+#define PRI_KERNEL	64
+#define PRI_KTHREAD	96
+#define PRI_BIO		111
+#define PRI_IOFLUSH	115
+#define PRI_VM		119
+#define PRI_PGDAEMON	123
+#define PRI_XCALL	127
+#define PRI_USER_RT	128
+#define PRI_KERNEL_RT	192
+#define PRI_SOFTCLOCK	211
+#define PRI_SOFTBIO	215
+#define PRI_SOFTNET	219
+#define PRI_SOFTSERIAL	223
+#define PRI_COUNT	224
+
 #define KTHREAD_IDLE	0x01
 #define KTHREAD_MPSAFE	0x02
 #define KTHREAD_INTR	0x04
@@ -67,7 +92,7 @@ int kpause(const char *name, bool interruptible, int ticks, kmutex_t *mutex);
 
 /* kthread_create - a thread that runs `body(arg)`, bound to `cpu` where that isn't NULL. Returns 0 or an errno; the thread is written to `made`. Stops
  * where the thread mustn't sleep, and where the body returns: it ends by kthread_exit. */
-int kthread_create(int priority, int flags, struct cpu_info *cpu, void (*body)(void *), void *arg, lwp_t **made, const char *format, ...) __attribute__((format(printf, 7, 8)));
+int kthread_create(pri_t priority, int flags, struct cpu_info *cpu, void (*body)(void *), void *arg, lwp_t **made, const char *format, ...) __attribute__((format(printf, 7, 8)));
 
 /* kthread_exit - end this thread. Stops where kthread_create didn't make it. */
 void kthread_exit(int code) __attribute__((noreturn));

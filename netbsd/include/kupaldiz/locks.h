@@ -87,18 +87,19 @@ void cv_destroy(kcondvar_t *cv);
 /*
  * cv_wait - wait to be woken, without the lock meanwhile
  *
+ * A wait may end although nobody woke it: in the bench it does. So the caller looks again at what it waits for.
  * Stops where this thread doesn't have the lock, and where it mustn't sleep. The lock itself may be a spin lock.
  */
 void cv_wait(kcondvar_t *cv, kmutex_t *mutex);
 
-/* cv_wait_sig - cv_wait; it returns 0, since no signal ends it. */
+/* cv_wait_sig - cv_wait. It returns 0, since there are no signals; in the bench, kupaldiz_bench(7), one may end the wait, and it returns EINTR. */
 int cv_wait_sig(kcondvar_t *cv, kmutex_t *mutex);
 
 /* cv_timedwait - cv_wait for at most so many ticks of 1/hz second, 0 for ever. Returns 0 where it was woken, EWOULDBLOCK after the time. Below 0 the time is
  * over already. */
 int cv_timedwait(kcondvar_t *cv, kmutex_t *mutex, int ticks);
 
-/* cv_timedwait_sig - cv_timedwait. */
+/* cv_timedwait_sig - cv_timedwait, which a signal may end as it ends cv_wait_sig. */
 int cv_timedwait_sig(kcondvar_t *cv, kmutex_t *mutex, int ticks);
 
 /* cv_signal - wake the thread that has waited longest. */

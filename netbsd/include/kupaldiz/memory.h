@@ -45,7 +45,15 @@ void kmem_strfree(char *text);
 
 #define PR_WAITOK	0x01
 #define PR_NOWAIT	0x02
-#define PR_ZERO		0x04
+#define PR_ZERO		0x8000
+
+/* Of pool_init and pool_cache_init. PR_PSERIALIZE: readers in read sections may still look at an object that was given back. The others change nothing. */
+#define PR_LIMITFAIL	0x100
+#define PR_RECURSIVE	0x200
+#define PR_NOTOUCH	0x400
+#define PR_NOALIGN	0x800
+#define PR_LARGECACHE	0x1000
+#define PR_PSERIALIZE	0x20000
 
 struct pool_allocator;
 
@@ -56,12 +64,13 @@ struct pool {
 	size_t pr_align;
 	size_t pr_out;	/* objects that are in use */
 	int pr_level;
+	int pr_flags;
 };
 
 typedef struct pool_cache *pool_cache_t;
 
 /* pool_init - make a pool of objects of that size, aligned to `align` bytes; with 0, as kmem_alloc aligns. Its name appears in lines and isn't copied. The
- * other parameters change nothing. */
+ * other parameters and flags change nothing. */
 void pool_init(struct pool *pool, size_t size, unsigned align, unsigned offset, int flags, const char *name, struct pool_allocator *from, int level);
 
 /* pool_destroy - end it. Stops where an object is in use. */
@@ -77,7 +86,8 @@ void pool_put(struct pool *pool, void *object);
  * mustn't sleep. */
 pool_cache_t pool_cache_init(size_t size, unsigned align, unsigned offset, unsigned flags, const char *name, struct pool_allocator *from, int level, int (*make)(void *, void *, int), void (*end)(void *, void *), void *arg);
 
-/* pool_cache_destroy - end it. Stops where an object is in use. */
+/* pool_cache_destroy - end it; with PR_PSERIALIZE it waits for read sections first. Stops where an object is in use, and, if it waits, where the thread
+ * mustn't sleep. */
 void pool_cache_destroy(pool_cache_t cache);
 
 /* pool_cache_get - a constructed object: one that was given back, as it was then, or a new one. NULL where memory runs out, or `make` fails. */

@@ -1,15 +1,15 @@
 /*
  * softint.h - softint(9), spl(9), xcall(9) and callout(9), for threads of user space
  *
- * Each CPU has a thread for its soft interrupts. It runs a handler on the CPU where the handler was scheduled:
+ * Each CPU has a thread for the soft interrupts of each level. It runs a handler on the CPU where the handler was scheduled:
  * - At once, where no thread of that CPU is in a read section, has a spin lock, is at a raised level or has preemption disabled.
  * - Else once the thread that has the CPU gives it up. Or before that, when this thread ends one of these calls, inside its section too, at a level below
  *   the handler's: pserialize_read_enter, pserialize_read_exit, psref_acquire, psref_copy, psref_held, psref_release, localcount_acquire,
  *   localcount_release, mutex_exit, mutex_spin_exit, cv_signal, cv_broadcast, splx, kpreempt_enable, percpu_putref, softint_schedule. The call then waits
  *   for the CPU. It returns when the handlers have ended, or when one of them waits for a lock.
  *
- * Handlers of one CPU run one after another, those of the highest level first, and those of one level in the order in which they were scheduled. A
- * handler stops where it returns in a read section, with a lock, with preemption disabled, with a passive reference, or at a higher level than its own.
+ * Handlers of one CPU run one after another, those of the highest level first, and those of one level in the order in which they were scheduled. While
+ * one waits for a lock, those of other levels run on its CPU, and those of its own level wait. A handler stops where it returns in a read section, with a lock, with preemption disabled, with a passive reference, or at a higher level than its own.
  * kupaldiz_netbsd(7) lists what differs from the kernel.
  */
 #ifndef KUPALDIZ_NETBSD_SOFTINT_H

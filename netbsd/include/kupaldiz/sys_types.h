@@ -68,6 +68,12 @@ enum {
 
 typedef int ipl_cookie_t;
 
+/* A priority, which sys/types.h has too. */
+#ifndef KUPALDIZ_PRI
+#define KUPALDIZ_PRI
+typedef int pri_t;
+#endif
+
 /* makeiplcookie - the level itself. */
 static inline ipl_cookie_t makeiplcookie(int level)
 {

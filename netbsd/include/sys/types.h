@@ -13,6 +13,11 @@ typedef int32_t kupaldiz_devmajor_t;
 typedef int32_t kupaldiz_devminor_t;
 #define devminor_t	kupaldiz_devminor_t
 
+#ifndef KUPALDIZ_PRI
+#define KUPALDIZ_PRI
+typedef int pri_t;
+#endif
+
 /* SET, CLR, ISSET - put bits into a word, take them out, and which of them are in it. */
 #define SET(word, bits)		((word) |= (bits))
 #define CLR(word, bits)		((word) &= ~(bits))

@@ -181,6 +181,39 @@ static void test_blocked(void)
 	softint_disestablish(cookie);
 }
 
+static void count_run(void *arg)
+{
+	atomic_fetch_add((atomic_uint *)arg, 1);
+}
+
+/* While a handler waits for a lock, those of other levels run on its CPU, above and below; one of its own level waits. */
+static void test_levels_apart(void)
+{
+	static const unsigned flags[] = {SOFTINT_NET, SOFTINT_CLOCK, SOFTINT_BIO, SOFTINT_SERIAL};
+	atomic_uint done = 0, ran[4] = {0};
+	void *cookie = softint_establish(SOFTINT_NET, handle_locked, &done), *others[4];
+	unsigned before = atomic_load(&waits);
+	mutex_enter(&lock);
+	softint_schedule(cookie);
+	while (atomic_load(&waits) == before)
+		sleep_for(10);
+	for (unsigned at = 0; at < 4; at++) {
+		others[at] = softint_establish(flags[at], count_run, &ran[at]);
+		softint_schedule(others[at]);
+	}
+	for (unsigned at = 1; at < 4; at++)
+		while (atomic_load(&ran[at]) == 0)
+			sleep_for(10);
+	EXPECT(atomic_load(&done) == 0 && atomic_load(&ran[0]) == 0);
+	mutex_exit(&lock);
+	while (atomic_load(&ran[0]) == 0)
+		sleep_for(10);
+	EXPECT(atomic_load(&done) == 1);
+	for (unsigned at = 0; at < 4; at++)
+		softint_disestablish(others[at]);
+	softint_disestablish(cookie);
+}
+
 /* The thread gives the lock back, and keeps its CPU: the handler goes on between two of its calls, once the level is below the handler's. */
 static void test_blocked_inside(void)
 {
@@ -378,6 +411,7 @@ int main(void)
 	test_levels();
 	test_once();
 	test_blocked();
+	test_levels_apart();
 	test_blocked_inside();
 	test_ended_waiting();
 	test_raised();

@@ -1,0 +1,205 @@
+/*
+ * failures.c - calls that fail although memory is left, and waits that end although nobody ended them
+ *
+ * A chance is such a call or wait, by its thread and its number among that thread's chances. A plan is a few chances, and in each of its runs just these are
+ * taken. The first plan is empty. Whoever meets a chance that isn't in its plan adds a further plan, with that one too, as long as it has few enough. So each
+ * chance that some schedule comes to is taken in all schedules that come to it.
+ */
+#include <stdio.h>
+#include <stdlib.h>
+#include <string.h>
+#include <sys/mman.h>
+
+#include "inside.h"
+#include "stand_ins.h"
+
+enum { MOST_PLANS = 4096 };
+
+struct chance {
+	uint16_t thread, number;
+};
+
+struct plan {
+	unsigned count;
+	struct chance of[BENCH_FAILURES];	/* in order */
+};
+
+/* In memory that the parent shares. */
+static struct plans {
+	unsigned now, count;
+	bool left_out;		/* there was no room for a plan */
+	char told[BENCH_LINE];	/* of the chances that were taken */
+	struct plan of[MOST_PLANS];
+} *plans;
+
+/* Of each thread, in this run. */
+static struct {
+	uint16_t chances;
+	bool may_end;		/* the wait that it is in, or that comes next */
+	enum ending as, ending;	/* how that may end, and how the last one did */
+} threads[THREADS];
+
+void prepare_failures(void)
+{
+	plans = mmap(NULL, sizeof(*plans), PROT_READ | PROT_WRITE, MAP_SHARED | MAP_ANONYMOUS | MAP_NORESERVE, -1, 0);
+	if (plans == MAP_FAILED)
+		refuse("out of memory");
+	plans->count = 1;
+}
+
+void release_failures(void)
+{
+	munmap(plans, sizeof(*plans));
+}
+
+/* A run begins. */
+void forget_failures(void)
+{
+	plans->told[0] = '\0';
+}
+
+/* Whether each plan had room. */
+bool has_all_failures(void)
+{
+	return !plans->left_out;
+}
+
+/* Begins the next plan. Whether there is one. */
+bool next_failure(void)
+{
+	if (plans->now + 1 == plans->count)
+		return false;
+	board->found.failures = ++plans->now;
+	return true;
+}
+
+/* ---- Chances. ---- */
+
+static int compare(const void *one, const void *other)
+{
+	const struct chance *a = one, *b = other;
+	return a->thread != b->thread ? a->thread - b->thread : a->number - b->number;
+}
+
+static bool is_planned(struct chance chance)
+{
+	const struct plan *plan = &plans->of[plans->now];
+	return bsearch(&chance, plan->of, plan->count, sizeof(chance), compare) != NULL;
+}
+
+/* Adds the plan that has this chance, too, unless it is there. */
+static void add_plan(struct chance chance)
+{
+	struct plan more = plans->of[plans->now];
+	if (more.count == options.failures)
+		return;
+	more.of[more.count++] = chance;
+	qsort(more.of, more.count, sizeof(chance), compare);
+	for (unsigned at = 0; at < plans->count; at++)
+		if (memcmp(&plans->of[at], &more, sizeof(more)) == 0)
+			return;
+	plans->left_out |= plans->count == MOST_PLANS;
+	if (plans->count < MOST_PLANS)
+		plans->of[plans->count++] = more;
+}
+
+/* Whether this thread's next chance is taken; else the chance is for another plan. */
+static bool takes_chance(void)
+{
+	const struct chance chance = {(uint16_t)run.now_runs->number, threads[run.now_runs->number].chances++};
+	if (is_planned(chance))
+		return true;
+	add_plan(chance);
+	return false;
+}
+
+/* Tells of a chance that was taken, the call that the thread is in. */
+static void tell_failure(const char *how)
+{
+	const struct routine *me = run.now_runs;
+	const struct thread *self = kupaldiz_self;
+	size_t length = strlen(plans->told);
+	snprintf(plans->told + length, sizeof(plans->told) - length, "%s%s%s%s %s in thread \"%s\"", length > 0 ? "; " : "", self->call,
+	    self->place == NULL ? "" : " at ", self->place == NULL ? "" : self->place, how, me->name == NULL ? self->name : me->name);
+}
+
+const char *told_failure(void)
+{
+	return plans->told;
+}
+
+bool bench_fails(void)
+{
+	if (options.reliable || run.now_runs == NULL || !takes_chance())
+		return false;
+	tell_failure("fails");
+	return true;
+}
+
+/* ---- Waits that end early. ---- */
+
+void bench_may_end_early(bool signals)
+{
+	unsigned number = run.now_runs->number;
+	threads[number].ending = IN_TIME;
+	threads[number].as = IN_TIME;
+	if (options.reliable)
+		return;
+	if (takes_chance())
+		threads[number].as = AS_IF_WOKEN;
+	if (signals && takes_chance())
+		threads[number].as = BY_SIGNAL;
+}
+
+bool ends_early(const struct routine *routine)
+{
+	return threads[routine->number].as != IN_TIME;
+}
+
+/* A wait has ended, early or not. */
+void note_ending(struct routine *me, bool early)
+{
+	threads[me->number].ending = early ? threads[me->number].as : IN_TIME;
+	threads[me->number].as = IN_TIME;
+	if (early)
+		tell_failure(threads[me->number].ending == BY_SIGNAL ? "is ended by a signal" : "ends although nobody woke it");
+}
+
+int bench_last_ending(void)
+{
+	return (int)threads[run.now_runs->number].ending;
+}
+
+/* ---- Plans in the text of a schedule: "!" before the letter of each chance's thread, and its number from 1 on. ---- */
+
+void write_failures(char *text, size_t room)
+{
+	const struct plan *plan = &plans->of[plans->now];
+	size_t length = strlen(text);
+	for (unsigned at = 0; at < plan->count && length + 8 < room; at++)
+		length += (size_t)snprintf(text + length, room - length, "!%c%u", 'a' + plan->of[at].thread, plan->of[at].number + 1u);
+}
+
+/* The chance that a text begins with; how long that is, 0 where it is none. */
+static int read_chance(const char *text, struct chance *chance)
+{
+	char letter;
+	unsigned number;
+	int length = 0;
+	if (sscanf(text, "!%c%u%n", &letter, &number, &length) != 2 || letter < 'a' || letter >= 'a' + THREADS || number == 0 || number > UINT16_MAX)
+		return 0;
+	*chance = (struct chance){(uint16_t)(letter - 'a'), (uint16_t)(number - 1)};
+	return length;
+}
+
+/* Plans what a text says. Whether it is well-formed. */
+bool read_failures(const char *text)
+{
+	struct plan *plan = &plans->of[plans->now = 0];
+	*plan = (struct plan){0};
+	for (int length; *text != '\0'; text += length)
+		if (plan->count == BENCH_FAILURES || (length = read_chance(text, &plan->of[plan->count++])) == 0)
+			return false;
+	qsort(plan->of, plan->count, sizeof(plan->of[0]), compare);
+	return true;
+}

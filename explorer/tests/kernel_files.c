@@ -1,0 +1,239 @@
+/*
+ * kernel_files - the files of netbsd/examples/kernel, in the idiom of the kernel's own: no schedule of their threads breaks them, nor does a failure
+ *
+ *     kernel_files [CASE [SCHEDULE]]
+ */
+#include <string.h>
+
+#include "../../netbsd/examples/kernel/if.c"
+#include "../../netbsd/examples/kernel/if_bridge.c"
+#include "../../netbsd/examples/kernel/key.c"
+#include "../../netbsd/examples/kernel/subr_devsw.c"
+#include "../../c/examples/expect.h"
+#include "../bench.h"
+
+/* ---- if.c: a packet goes by an interface, whose link changes, while it is detached. ---- */
+
+static struct ifnet *wm0;
+
+static void output_wm0(void *arg)
+{
+	int error = if_output_byname("wm0");
+	(void)arg;
+	KASSERT(error == 0 || error == ENXIO);
+}
+
+static void detach_wm0(void *arg)
+{
+	(void)arg;
+	if_detach(wm0);
+	kmem_free(wm0, sizeof(*wm0));
+}
+
+static void begin_if(void)
+{
+	ifinit1();
+	wm0 = kmem_zalloc(sizeof(*wm0), KM_SLEEP);
+	strlcpy(wm0->if_xname, "wm0", sizeof(wm0->if_xname));
+	KASSERT(if_attach(wm0) == 0);
+	bench_thread("output", output_wm0, NULL);
+	bench_thread("detach", detach_wm0, NULL);
+}
+
+/* ---- key.c: packets are received while the association that they use is destroyed. ---- */
+
+static void receive(void *arg)
+{
+	(void)arg;
+	key_receive(256);
+}
+
+static void destroy_sav(void *sav)
+{
+	key_destroy_sav(sav);
+}
+
+static void begin_key(void)
+{
+	key_init();
+	struct secasvar *sav = key_newsav(256);
+	if (key_input_si != NULL)
+		bench_thread("receive", receive, NULL);
+	bench_thread("destroy", destroy_sav, sav);
+}
+
+static void end_key(void)
+{
+	KASSERT(unrefs <= 1 && in_flight == NULL);
+	key_fini();
+}
+
+/* ---- subr_devsw.c: a device is opened while its driver is detached, and another driver is attached, for which the table grows. ---- */
+
+static u_int in_first;
+static int attached;
+
+static int open_first(devminor_t minor)
+{
+	atomic_inc_uint(&in_first);
+	atomic_dec_uint(&in_first);
+	return minor;
+}
+
+static int open_second(devminor_t minor)
+{
+	return minor;
+}
+
+static const struct cdevsw first_cdev = {.d_open = open_first}, second_cdev = {.d_open = open_second};
+
+static void open_devices(void *arg)
+{
+	(void)arg;
+	for (devmajor_t major = 1; major <= 5; major += 4) {
+		int error = cdev_open(major, 0);
+		KASSERT(error == 0 || error == ENXIO);
+	}
+}
+
+static void detach_first(void *arg)
+{
+	(void)arg;
+	devsw_detach(&first_cdev);
+	KASSERT(atomic_load_relaxed(&in_first) == 0);
+}
+
+static void attach_second(void *arg)
+{
+	(void)arg;
+	attached = devsw_attach(&second_cdev, 5);
+	KASSERT(attached == 0 || attached == ENOMEM);
+}
+
+static void begin_devsw(void)
+{
+	attached = -1;
+	devsw_init();
+	int error = devsw_attach(&first_cdev, 1);
+	KASSERT(error == 0 || error == ENOMEM);
+	bench_thread("open", open_devices, NULL);
+	if (error == 0)
+		bench_thread("detach", detach_first, NULL);
+	bench_thread("attach", attach_second, NULL);
+}
+
+static void end_devsw(void)
+{
+	if (attached == 0)
+		devsw_detach(&second_cdev);
+	devsw_fini();
+}
+
+/* ---- if_bridge.c: packets are forwarded while a member is deleted, and while old addresses go. ---- */
+
+enum { ONE = 1, TWO = 2 };
+
+static void forward(void *arg)
+{
+	unsigned to = bridge_forward(ONE, 0x10, 0x20);
+	(void)arg;
+	KASSERT(to == 0 || to == TWO);
+}
+
+static void answer(void *arg)
+{
+	unsigned to = bridge_forward(TWO, 0x20, 0x10);
+	(void)arg;
+	KASSERT(to == 0 || to == ONE);
+}
+
+static void delete_two(void *arg)
+{
+	(void)arg;
+	bridge_delete(TWO);
+}
+
+static void stop_bridge(void *arg)
+{
+	(void)arg;
+	bridge_stop();
+	KASSERT(atomic_load_relaxed(&bridge.sc_rtage_scheduled) == 0);
+}
+
+static void do_nothing(void *arg)
+{
+	(void)arg;
+}
+
+static int no_bridge;
+
+static void begin_bridge(void)
+{
+	no_bridge = bridge_init();
+	if (no_bridge == 0) {
+		bridge_add(ONE);
+		bridge_add(TWO);
+	}
+}
+
+static void begin_forward(void)
+{
+	begin_bridge();
+	if (no_bridge != 0) {
+		bench_thread("nothing", do_nothing, NULL);
+		return;
+	}
+	bench_thread("answer", answer, NULL);
+	bench_thread("delete", delete_two, NULL);
+}
+
+static void begin_age(void)
+{
+	begin_bridge();
+	if (no_bridge != 0) {
+		bench_thread("nothing", do_nothing, NULL);
+		return;
+	}
+	(void)bridge_forward(ONE, 0x10, 0x20);
+	bridge_start();
+	bench_thread("forward", forward, NULL);
+	bench_thread("stop", stop_bridge, NULL);
+}
+
+static void end_bridge(void)
+{
+	if (no_bridge == 0)
+		bridge_fini();
+}
+
+/* Where the workqueue can't be made as the kernel starts, if.c panics. */
+static const struct {
+	const char *name;
+	void (*setup)(void), (*finish)(void);
+	bool reliable;
+} file_cases[] = {
+	{"if", begin_if, ifnet_fini, true},
+	{"key", begin_key, end_key, false},
+	{"subr_devsw", begin_devsw, end_devsw, false},
+	{"forward", begin_forward, end_bridge, false},
+	{"age", begin_age, end_bridge, false},
+};
+
+int main(int count, char **words)
+{
+	unsigned tried = 0;
+	for (unsigned at = 0; at < sizeof(file_cases) / sizeof(file_cases[0]); at++) {
+		struct bench_found found;
+		struct bench_options options = {.name = file_cases[at].name, .finish = file_cases[at].finish, .found = &found,
+		    .reliable = file_cases[at].reliable};
+		if (count > 1 && strcmp(words[1], file_cases[at].name) != 0)
+			continue;
+		options.replay = count > 2 ? words[2] : NULL;
+		tried++;
+		EXPECT(bench_explore(file_cases[at].setup, &options) == 0);
+		EXPECT(found.exhausted || options.replay != NULL);
+	}
+	EXPECT(tried > 0);
+	printf("%u cases were tried\n", tried);
+	return 0;
+}

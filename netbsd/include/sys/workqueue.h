@@ -1,0 +1,2 @@
+/* sys/workqueue.h - under the name that the pages give it */
+#include "../kupaldiz/workqueue.h"

@@ -1,0 +1,199 @@
+/*
+ * workqueue.c - workqueue(9)
+ *
+ * A queue has a lock, a condition variable and a thread, which runs one work after another without the lock. A work's memory isn't touched once its
+ * function is called, which may have freed it. The condition variable tells of a work for the thread, and of an end for those who wait.
+ */
+#include <errno.h>
+#include <stdio.h>
+#include <stdlib.h>
+
+#include "layer.h"
+
+/* Works for one thread. What follows the lock is under it. */
+struct queue {
+	kmutex_t lock;
+	kcondvar_t changed;
+	struct work *first, **last;	/* those that wait */
+	const struct work *current;	/* the one being done */
+	bool ends;
+	struct thread *thread;		/* NULL until it has begun */
+	struct workqueue *all;
+	struct cpu *cpu;		/* NULL where the thread isn't bound */
+	pthread_t id;
+	char name[32];
+};
+
+struct workqueue {
+	void (*body)(struct work *, void *);
+	void *arg;
+	unsigned count;	/* of queues: one, or one for each CPU */
+	struct queue queues[];
+};
+
+/* ---- The thread of a queue. ---- */
+
+/* Takes the first work out of the queue. The caller has the lock. */
+static struct work *dequeue(struct queue *queue)
+{
+	struct work *work = queue->first;
+	queue->first = work->wk_next;
+	if (queue->first == NULL)
+		queue->last = &queue->first;
+	DEQUEUED(work);
+	return work;
+}
+
+/* Does the first work. The caller has the lock, which is free meanwhile. */
+static void do_first(struct thread *me, struct queue *queue)
+{
+	struct work *work = dequeue(queue);
+	queue->current = work;
+	give_mutex(me, &queue->lock);
+	queue->all->body(work, queue->all->arg);
+	me->call = "workqueue";
+	me->place = NULL;
+	judge_return(me, "the function", IPL_NONE, 0, 0);
+	take_mutex(me, &queue->lock);
+	queue->current = NULL;
+	wake_cv(me, &queue->changed, true);
+}
+
+static void *run_queue(void *of)
+{
+	struct queue *queue = of;
+	struct thread *me = named_thread("workqueue", queue->name);
+	me->kept = true;
+	if (queue->cpu != NULL)
+		bind_to(me, queue->cpu);
+	take_mutex(me, &queue->lock);
+	queue->thread = me;
+	wake_cv(me, &queue->changed, true);
+	for (;;) {
+		while (queue->first == NULL && !queue->ends)
+			wait_for(me, &queue->changed, &queue->lock, -1);
+		if (queue->first == NULL)
+			break;
+		do_first(me, queue);
+	}
+	give_mutex(me, &queue->lock);
+	return NULL;
+}
+
+/* ---- Making and ending queues. ---- */
+
+/* Makes a queue and its thread, and waits until that has begun. 0 or an errno. */
+static int begin_queue(struct thread *me, struct queue *queue, int level)
+{
+	mutex_init(&queue->lock, MUTEX_DEFAULT, level);
+	cv_init(&queue->changed, queue->name);
+	queue->last = &queue->first;
+	int answer = pthread_create(&queue->id, NULL, run_queue, queue);
+	if (answer != 0)
+		return answer;
+	take_mutex(me, &queue->lock);
+	while (queue->thread == NULL)
+		wait_for(me, &queue->changed, &queue->lock, -1);
+	give_mutex(me, &queue->lock);
+	return 0;
+}
+
+/* Ends a queue and its thread. */
+static void end_queue(struct thread *me, struct queue *queue)
+{
+	take_mutex(me, &queue->lock);
+	if (queue->thread == me)
+		stop(me, "in a function of the queue");
+	if (queue->first != NULL)
+		stop(me, "a work is enqueued");
+	queue->ends = true;
+	wake_cv(me, &queue->changed, true);
+	give_mutex(me, &queue->lock);
+	await_thread(me, queue->id, queue->thread);
+	reuse_thread(queue->thread);
+}
+
+static void end_queues(struct thread *me, struct workqueue *all, unsigned count)
+{
+	for (unsigned at = 0; at < count; at++)
+		end_queue(me, &all->queues[at]);
+	free(all);
+}
+
+int workqueue_create(struct workqueue **made, const char *name, void (*body)(struct work *, void *), void *arg, pri_t priority, int level, int flags)
+{
+	struct thread *me = begin_plain(__func__);
+	bool each = (flags & WQ_PERCPU) != 0;
+	unsigned count = each ? KUPALDIZ_CPUS : 1;
+	(void)priority;
+	want_sleepable(me);
+	if (FAILS())
+		return ENOMEM;
+	struct workqueue *all = memory(me, sizeof(*all) + count * sizeof(all->queues[0]));
+	*all = (struct workqueue){.body = body, .arg = arg, .count = count};
+	for (unsigned at = 0; at < count; at++) {
+		struct queue *queue = &all->queues[at];
+		queue->all = all;
+		queue->cpu = each ? &cpus[at] : NULL;
+		snprintf(queue->name, sizeof(queue->name), each ? "%s/%u" : "%s", name, at);
+		if (begin_queue(me, queue, level) != 0) {
+			end_queues(me, all, at);
+			return ENOMEM;
+		}
+	}
+	*made = all;
+	return 0;
+}
+
+void workqueue_destroy(struct workqueue *all)
+{
+	struct thread *me = begin_call(__func__);
+	want_sleepable(me);
+	end_queues(me, all, all->count);
+}
+
+/* ---- Works. ---- */
+
+/* Whether a work waits in a queue. The caller has the lock. */
+static bool is_enqueued(const struct queue *queue, const struct work *work)
+{
+	const struct work *at = queue->first;
+	while (at != NULL && at != work)
+		at = at->wk_next;
+	return at != NULL;
+}
+
+void workqueue_enqueue(struct workqueue *all, struct work *work, struct cpu_info *cpu)
+{
+	struct thread *me = begin_call(__func__);
+	if (all->count == 1 && cpu != NULL)
+		stop(me, "a CPU is named, and the queue is without WQ_PERCPU");
+	unsigned number = all->count == 1 ? 0 : cpu != NULL ? cpu->ci_index : cpu_of(me)->info.ci_index;
+	struct queue *queue = &all->queues[number];
+	enter_mutex(me, &queue->lock);
+	if (is_enqueued(queue, work))
+		stop(me, "the work is enqueued already");
+	work->wk_next = NULL;
+	*queue->last = work;
+	queue->last = &work->wk_next;
+	wake_cv(me, &queue->changed, true);
+	give_mutex(me, &queue->lock);
+	end_call(me);
+}
+
+/* Waits until a work is neither in a queue nor being done by another thread than this one. */
+static void await_work(struct thread *me, struct queue *queue, const struct work *work)
+{
+	take_mutex(me, &queue->lock);
+	while (queue->thread != me && (is_enqueued(queue, work) || queue->current == work))
+		wait_for(me, &queue->changed, &queue->lock, -1);
+	give_mutex(me, &queue->lock);
+}
+
+void workqueue_wait(struct workqueue *all, struct work *work)
+{
+	struct thread *me = begin_call(__func__);
+	want_sleepable(me);
+	for (unsigned at = 0; at < all->count; at++)
+		await_work(me, &all->queues[at], work);
+}
