@@ -275,7 +275,10 @@ void rw_exit(krwlock_t *rw)
 int rw_tryupgrade(krwlock_t *rw)
 {
 	at_thing(__func__, ON_LOCK, rw, sizeof(*rw), WRITES);
-	return layer_rw_tryupgrade(rw);
+	int upgraded = layer_rw_tryupgrade(rw);
+	if (upgraded)
+		take_clock(ON_LOCK, rw, 0);
+	return upgraded;
 }
 
 void rw_downgrade(krwlock_t *rw)
@@ -329,8 +332,6 @@ void pserialize_perform(pserialize_t psz)
 	at_thing(__func__, ON_TARGET, psz, 1, 0);
 	layer_pserialize_perform(psz);
 	touch(ON_TARGET, psz, 0, 0);
-	for (unsigned cpu = 0; cpu < KUPALDIZ_CPUS; cpu++)
-		take_clock(ON_SECTION, NULL, cpu);
 }
 
 void pserialize_destroy(pserialize_t psz)

@@ -436,6 +436,7 @@ int bench_explore(void (*setup)(void), const struct bench_options *given)
 	if (run.now_runs != NULL)
 		refuse("bench_explore inside of a run");
 	fill_options(given);
+	want_own_calls();
 	if (setup == NULL)
 		refuse("there is no setup");
 	prepare = setup;

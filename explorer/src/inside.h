@@ -82,6 +82,8 @@ struct routine {
 	struct places places;
 	const char *from;	/* the place of the next point that lies in a header */
 	const char *call, *place;	/* the point where it is */
+	const void *pc;		/* of it, where the compiler's call has made it: no text says the place */
+	const volatile void *announced;	/* the atomic access that comes next and has had its point; the thread itself for a barrier */
 	guard_fn *guard;	/* NULL, or whether it can go on from there */
 	const void *of;		/* what the guard looks at */
 	uint64_t noted;
@@ -145,6 +147,7 @@ struct step {
 	uint16_t switches;	/* the same */
 	uint16_t turns;		/* of the thread without another one between */
 	const char *call, *place;
+	const void *pc;
 	uint32_t clock[THREADS];
 	struct set set;
 	struct set tried[THREADS];
@@ -153,6 +156,14 @@ struct step {
 
 enum way { REDUCED, WHOLE, BOUNDED, RANDOM, REPLAYED };
 enum end { ENDED_WELL, CUT, FAILED, UNFIT, DIED };
+
+/* An instruction, and the text of its place. */
+struct spot {
+	const void *pc;
+	char text[128];
+};
+
+enum { SPOTS = 256 };
 
 struct board {
 	enum way way;
@@ -173,11 +184,17 @@ struct board {
 	char names[THREADS][32];
 	uint32_t ended;		/* a bit for each thread that has */
 	bool stuck;		/* the others can't go on */
+	struct spot spots[SPOTS];	/* those that were asked for last */
+	unsigned spot_count;
 	struct step steps[POINTS + 1];
 };
 
 extern struct board *board;
 extern struct bench_options options;
+enum { MOST_UNSEEN = 8 };
+
+extern const char *unseen_files[MOST_UNSEEN];	/* those that are compiled without -fsanitize=thread */
+extern unsigned unseen_count;
 
 /* ---- What a run needs and the next one needn't find empty: it lies in memory of its own. ---- */
 
@@ -188,6 +205,7 @@ struct block {
 	bool live, judged;
 	bool hidden;		/* it was given back to a cache, and stays as it is */
 	unsigned by, freed_by;
+	uint32_t made_at;	/* the clock of its thread then */
 	const char *call, *place, *freed_call, *freed_place;
 };
 
@@ -197,14 +215,23 @@ struct given {
 	clocks clock;
 };
 
-/* An access to memory. */
-struct plain {
-	uintptr_t from, to;
+/* What a thread does with memory, and where: a text, or an instruction. */
+struct use {
+	const char *verb, *place;
+	const void *pc;
 	bool writes, atomic;
-	unsigned thread;
-	uint32_t at;
-	const char *place;
 };
+
+/* Its use of some of eight bytes. */
+struct plain {
+	uintptr_t grain;	/* their address */
+	uint32_t next;		/* the row of the next one in its list, counted from 1; 0 for none */
+	uint32_t at;		/* the clock of the thread then */
+	uint8_t thread, bytes;	/* a bit for each byte */
+	struct use use;
+};
+
+enum { LISTS = 4096 };
 
 struct beside {
 	struct {
@@ -212,6 +239,7 @@ struct beside {
 		size_t room;	/* in rows */
 	} tables[TABLES];
 	unsigned list[POINTS + 1], races[POINTS + 1];
+	uint32_t lists[LISTS];	/* of uses, by their bytes: the row of the first, counted from 1 */
 };
 
 extern struct beside *beside;
@@ -220,6 +248,7 @@ extern struct beside *beside;
 
 void prepare_stacks(void);
 void release_stacks(void);
+bool is_on_stack(const struct routine *routine, const volatile void *at);
 struct routine *make_routine(const char *name, void (*body)(void *), void *arg, bool daemon);
 void switch_to(struct routine *routine);
 void first_point(struct routine *me);
@@ -233,7 +262,6 @@ void point(const char *call, const char *place, guard_fn *guard, const void *of)
 void wait_here(guard_fn *guard, const void *of);
 void touch(enum kind kind, const volatile void *address, unsigned cpu, unsigned how);
 void touch_memory(const volatile void *address, size_t size, unsigned how);
-void touch_all(void);
 void touch_deadlines(unsigned thread, unsigned how);
 void make_barrier(void);
 void judge_end_of_run(void);
@@ -290,6 +318,21 @@ void take_clock(enum kind kind, const volatile void *address, unsigned cpu);
 void inherit_clock(struct routine *made);
 void take_all_clocks(void);
 
+void meet_atomic(const volatile void *address, size_t size, unsigned how, const char *place, const void *pc);
+
+/* ---- plain.c ---- */
+
+void use_memory(const volatile void *address, size_t size, const struct use *use);
+void access_plainly(const volatile void *address, size_t size, bool writes, const void *pc);
+
+/* ---- tsan.c ---- */
+
+void want_own_calls(void);
+
+/* ---- places.c ---- */
+
+const char *place_of(const char *place, const void *pc);
+
 /* ---- tables.c ---- */
 
 void *rows_of(enum table table);
@@ -300,8 +343,10 @@ void *new_row(enum table table);
 void prepare_heap(void);
 void release_heap(void);
 bool is_live(const void *at);
+size_t size_of_block(const void *at);
 void *resize(void *block, size_t size);
 void want_live(const char *call, const volatile void *at, size_t size);
+void want_usable(const struct routine *me, const volatile void *at, size_t size, const struct use *use);
 void *allocate(size_t size, size_t align, bool judged);
 void release(void *block);
 void judge_heap(void);
@@ -325,6 +370,7 @@ _Noreturn void fail(const char *format, ...) __attribute__((format(printf, 1, 2)
 _Noreturn void refuse(const char *format, ...) __attribute__((format(printf, 1, 2)));
 void write_schedule(char *text, size_t room);
 const char *short_place(const char *place);
+const char *place_of_step(const struct step *step);
 void show(FILE *to, const struct bench_found *found);
 bool draw(const char *name, const struct bench_found *found);
 

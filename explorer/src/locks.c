@@ -255,6 +255,7 @@ static void await_section(struct routine *me, unsigned cpu)
 	me->noted = number;
 	wait_here(has_ended_section, (const void *)(uintptr_t)cpu);
 	touch(ON_END, (const void *)(uintptr_t)(number + 1), cpu, ORDERS | WRITES);
+	take_clock(ON_END, (const void *)(uintptr_t)(number + 1), cpu);
 }
 
 bool pause_longer(struct pauses *pauses, const struct registry_stage *met)
@@ -290,10 +291,11 @@ uint32_t bench_section_exit(struct registry_cpu *cpu)
 	run.ends[number]++;
 	touch(ON_SECTION, NULL, number, WRITES | GIVES);
 	touch(ON_END, (const void *)(uintptr_t)run.ends[number], number, ORDERS | WRITES);
+	give_clock(ON_END, (const void *)(uintptr_t)run.ends[number], number);
 	return answer;
 }
 
-/* What ended sections and releases on all CPUs have left comes before what a wait has waited for. */
+/* What the sections that have ended on all CPUs have left comes before a wait that begins now. */
 static void take_sections(void)
 {
 	for (unsigned cpu = 0; cpu < KUPALDIZ_CPUS; cpu++)
@@ -316,6 +318,7 @@ uint32_t bench_destroy(struct registry_keeper *keeper, struct registry_cpu *cpu,
 uint32_t bench_perform_begin(struct registry_keeper *keeper, struct registry_cpu *cpu, struct registry_wait *wait)
 {
 	touch(ON_SECTION, NULL, ANY, 0);
+	take_sections();
 	return registry_perform_begin(keeper, cpu, wait);
 }
 
@@ -371,12 +374,21 @@ void bench_exit(void)
 /* No step ends with one of the layer's own mutexes held, so nobody waits for one. */
 void bench_mutex_lock(const void *watched)
 {
+	if (watched == NULL)
+		return;
+	touch(ON_LOCK, watched, 0, WRITES);
+	take_clock(ON_LOCK, watched, 0);
+}
+
+void bench_mutex_unlock(const void *watched)
+{
 	if (watched != NULL)
-		touch(ON_LOCK, watched, 0, WRITES);
+		give_clock(ON_LOCK, watched, 0);
 }
 
 int bench_cond_wait(const void *cond, const struct timespec *deadline, const void *watched)
 {
+	bench_mutex_unlock(watched);
 	bool woken = wait_for_wake(cond, time_of(deadline));
 	bench_mutex_lock(watched);
 	return woken ? 0 : ETIMEDOUT;

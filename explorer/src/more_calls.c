@@ -29,11 +29,11 @@ static void at_block(const char *call, const void *block, size_t size)
 	point(call, NULL, NULL, NULL);
 	if (block == NULL)
 		return;
+	const struct use use = {.verb = "frees", .place = run.now_runs->place, .writes = true};
 	want_live(call, block, 1);
 	want_none_made(call, block, size);
 	touch_memory(block, size, WRITES);
-	if (options.frees)
-		touch_all();
+	use_memory(block, size, &use);
 }
 
 void *kmem_alloc(size_t size, km_flag_t flags)
@@ -68,7 +68,7 @@ char *kmem_strdupsize(const char *text, size_t *size, km_flag_t flags)
 
 void kmem_strfree(char *text)
 {
-	at_block(__func__, text, 1);
+	at_block(__func__, text, size_of_block(text));
 	layer_kmem_strfree(text);
 }
 
@@ -106,6 +106,7 @@ void *pool_get(struct pool *pool, int flags)
 void *pool_cache_get(pool_cache_t cache, int flags)
 {
 	at_pool(__func__, pool_of(cache), WRITES);
+	take_clock(ON_MEMORY, &pool_of(cache)->pr_out, 0);
 	return layer_pool_cache_get(cache, flags);
 }
 
@@ -132,6 +133,7 @@ void pool_cache_put(pool_cache_t cache, void *object)
 {
 	at_block(__func__, object, pool_of(cache)->pr_size);
 	touch_memory(&pool_of(cache)->pr_out, sizeof(size_t), WRITES);
+	give_clock(ON_MEMORY, &pool_of(cache)->pr_out, 0);
 	layer_pool_cache_put(cache, object);
 }
 
@@ -259,6 +261,7 @@ int kupaldiz_splraise(int level)
 {
 	at_cpu("splraise", 0);
 	at_level();
+	take_clock(ON_LOCK, &cpu_here(run.now_runs)->hold, 0);
 	return layer_kupaldiz_splraise(level);
 }
 
@@ -266,6 +269,7 @@ void splx(int level)
 {
 	leaving_cpu(__func__);
 	at_level();
+	give_clock(ON_LOCK, &cpu_here(run.now_runs)->hold, 0);
 	layer_splx(level);
 }
 
@@ -280,6 +284,8 @@ void softint_disestablish(void *cookie)
 	point(__func__, NULL, NULL, NULL);
 	touch(ON_PENDING, NULL, ANY, WRITES);
 	layer_softint_disestablish(cookie);
+	for (unsigned cpu = 0; cpu < KUPALDIZ_CPUS; cpu++)
+		take_clock(ON_PENDING, NULL, cpu);
 }
 
 /* Each CPU is a point of its own. */

@@ -157,7 +157,7 @@ static void draw_steps(FILE *to)
 		fprintf(to, "%u ", at + 1);
 		escape(to, board->steps[at].call);
 		fputc(' ', to);
-		escape(to, short_place(board->steps[at].place));
+		escape(to, place_of_step(&board->steps[at]));
 		fputs("</title></circle>\n", to);
 		if (board->length > 45 && (at + 1) % 5 != 0)
 			continue;
@@ -184,7 +184,7 @@ static double list_steps(FILE *to, double y)
 		text_at(to, 14, y, "faint", line);
 		text_at(to, 50, y, at == 0 || board->steps[at - 1].chosen != step->chosen ? "" : "faint", board->names[step->chosen]);
 		text_at(to, 180, y, "", step->call);
-		text_at(to, 380, y, "", short_place(step->place));
+		text_at(to, 380, y, "", place_of_step(step));
 	}
 	return y;
 }

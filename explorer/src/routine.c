@@ -60,6 +60,11 @@ void prepare_stacks(void)
 	}
 }
 
+bool is_on_stack(const struct routine *routine, const volatile void *at)
+{
+	return (uintptr_t)at - (uintptr_t)stack_of(routine->number) < STACK;
+}
+
 void release_stacks(void)
 {
 	for (unsigned number = 0; number < THREADS; number++)

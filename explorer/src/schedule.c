@@ -53,13 +53,6 @@ void touch_memory(const volatile void *address, size_t size, unsigned how)
 	note((struct access){(uintptr_t)address, (uint32_t)size, 0, ON_MEMORY, (uint8_t)how});
 }
 
-/* The step commutes with no other. */
-void touch_all(void)
-{
-	if (run.step > board->fresh && board->way == REDUCED)
-		board->steps[run.step - 1].set.full = true;
-}
-
 /* A thread's deadline, or with ANY all of them. */
 void touch_deadlines(unsigned thread, unsigned how)
 {
@@ -325,6 +318,7 @@ static void name_step(struct step *step, const struct routine *routine)
 	step->guarded = routine == NULL || routine->guard != NULL;
 	step->call = routine == NULL ? "clock" : routine->call;
 	step->place = routine == NULL ? NULL : routine->place;
+	step->pc = routine == NULL ? NULL : routine->pc;
 	step->cpu = routine == NULL || routine->self == NULL || routine->self->cpu == NULL ? NOBODY : (uint8_t)routine->self->cpu->info.ci_index;
 }
 
@@ -389,7 +383,8 @@ void point(const char *call, const char *place, guard_fn *guard, const void *of)
 {
 	struct routine *me = here(call);
 	me->call = call;
-	me->place = place != NULL ? place : me->from != NULL ? me->from
+	me->announced = NULL;
+	me->place = place != NULL || me->pc != NULL ? place : me->from != NULL ? me->from
 	    : kupaldiz_places.count > 0			     ? kupaldiz_places.at[kupaldiz_places.count - 1]
 							     : NULL;
 	me->from = NULL;

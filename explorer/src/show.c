@@ -33,6 +33,11 @@ const char *short_place(const char *place)
 	return place == NULL ? "" : slash == NULL ? place : slash + 1;
 }
 
+const char *place_of_step(const struct step *step)
+{
+	return step->place == NULL && step->pc == NULL ? "" : short_place(place_of(step->place, step->pc));
+}
+
 static void show_steps(FILE *to)
 {
 	for (unsigned at = 0; at < board->length; at++) {
@@ -41,7 +46,7 @@ static void show_steps(FILE *to)
 		char cpu[8] = "";
 		if (step->cpu != NOBODY)
 			snprintf(cpu, sizeof(cpu), "CPU %u", step->cpu);
-		fprintf(to, "  %4u  %-16s %-5s  %-22s %s\n", at + 1, changes ? board->names[step->chosen] : "", cpu, step->call, short_place(step->place));
+		fprintf(to, "  %4u  %-16s %-5s  %-22s %s\n", at + 1, changes ? board->names[step->chosen] : "", cpu, step->call, place_of_step(step));
 	}
 }
 
@@ -66,6 +71,17 @@ static void show_counts(FILE *to, const struct bench_found *found)
 		show_left_out(to, found);
 }
 
+/* Which plain accesses weren't seen. */
+static void show_unseen(FILE *to)
+{
+	if (unseen_count > 0)
+		fprintf(to, "%s: plain accesses weren't seen in ", options.name);
+	for (unsigned at = 0; at < unseen_count && at < MOST_UNSEEN; at++)
+		fprintf(to, "%s%s", at > 0 ? ", " : "", short_place(unseen_files[at]));
+	if (unseen_count > 0)
+		fprintf(to, "%s: compiled without -fsanitize=thread\n", unseen_count > MOST_UNSEEN ? ", .." : "");
+}
+
 static void show_outcomes(FILE *to, const struct bench_found *found)
 {
 	for (unsigned at = 0; at < found->outcomes; at++)
@@ -78,6 +94,7 @@ static void show_outcomes(FILE *to, const struct bench_found *found)
 void show(FILE *to, const struct bench_found *found)
 {
 	show_counts(to, found);
+	show_unseen(to);
 	show_outcomes(to, found);
 	if (found->first == 0)
 		return;

@@ -77,6 +77,7 @@ static void run_waiting(struct thread *me, unsigned number, int level)
 	while (!has_higher(me->cpu, level) && run_softint(me, level)) {
 		run.handlers++;
 		touch(ON_PENDING, NULL, number, WRITES);
+		give_clock(ON_PENDING, NULL, number);
 	}
 	me->holds = 0;
 	me->level = IPL_NONE;

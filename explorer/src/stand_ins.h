@@ -36,6 +36,7 @@ static inline void bench_cancel_state(int state, int *before)
 
 void bench_exit(void) __attribute__((noreturn));
 void bench_mutex_lock(const void *watched);
+void bench_mutex_unlock(const void *watched);
 int bench_cond_wait(const void *cond, const struct timespec *deadline, const void *watched);
 void bench_cond_broadcast(const void *cond);
 int bench_sleep(const struct timespec *time);

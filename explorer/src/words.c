@@ -1,5 +1,5 @@
 /*
- * words.c - atomic accesses, barriers, and plain accesses that the code declares
+ * words.c - atomic accesses and barriers, and which step comes after which
  *
  * Each thread has a vector clock: what of the others' comes before it. Whoever gives something leaves its clock there, and whoever takes it joins that
  * with its own. Two accesses are ordered where the later thread's clock has the earlier one's.
@@ -94,43 +94,6 @@ void inherit_clock(struct routine *made)
 	made->clock[made->number] = 1;
 }
 
-/* ---- Accesses that are recorded. ---- */
-
-static const char *known(const char *place)
-{
-	return place == NULL ? "a place unknown" : place;
-}
-
-static void want_ordered(const struct routine *me, const struct plain *now)
-{
-	const struct plain *rows = rows_of(PLAIN);
-	for (size_t at = 0; at < run.rows[PLAIN]; at++) {
-		const struct plain *old = &rows[at];
-		if (old->thread == me->number || old->from >= now->to || now->from >= old->to)
-			continue;
-		if ((!old->writes && !now->writes) || (old->atomic && now->atomic) || me->clock[old->thread] >= old->at)
-			continue;
-		fail("two accesses to one memory without an order: thread \"%s\" %s it at %s, and thread \"%s\" %s it at %s",
-		    run.routines[old->thread].name, old->writes ? "writes" : "reads", known(old->place), me->name, now->writes ? "writes" : "reads",
-		    known(now->place));
-	}
-}
-
-static void record(const struct routine *me, const volatile void *address, size_t size, bool writes, bool atomic, const char *place)
-{
-	const struct plain now = {(uintptr_t)address, (uintptr_t)address + size, writes, atomic, me->number, me->clock[me->number], place};
-	want_ordered(me, &now);
-	struct plain *rows = rows_of(PLAIN);
-	for (size_t at = 0; at < run.rows[PLAIN]; at++) {
-		struct plain *old = &rows[at];
-		if (old->thread == now.thread && old->from == now.from && old->to == now.to && old->writes == writes && old->atomic == atomic) {
-			*old = now;
-			return;
-		}
-	}
-	*(struct plain *)new_row(PLAIN) = now;
-}
-
 /* ---- The points. ---- */
 
 void kupaldiz_from(const char *place)
@@ -164,6 +127,7 @@ static void pass_barrier(struct routine *me, unsigned how)
 	}
 }
 
+/* A store that doesn't load ends what the stores before it have left. */
 static void order_access(struct routine *me, const volatile void *address, unsigned how)
 {
 	struct given *at = given_at(ON_MEMORY, address, 0);
@@ -171,45 +135,39 @@ static void order_access(struct routine *me, const volatile void *address, unsig
 		join((how & KUPALDIZ_ACQUIRES) != 0 ? me->clock : me->pending, at->clock);
 	if ((how & KUPALDIZ_STORES) == 0)
 		return;
+	if ((how & KUPALDIZ_LOADS) == 0)
+		memset(at->clock, 0, sizeof(at->clock));
 	if ((how & KUPALDIZ_RELEASES) != 0)
 		give_clock(ON_MEMORY, address, 0);
 	else
 		join(at->clock, me->released);
 }
 
-void kupaldiz_point(const volatile void *address, size_t size, unsigned how, const char *place)
+/* An atomic access, or a barrier where there is no address. */
+void meet_atomic(const volatile void *address, size_t size, unsigned how, const char *place, const void *pc)
 {
 	const char *call = name_of_access(how);
 	struct routine *me = here(call);
 	const char *from = me->from;
+	bool writes = (how & KUPALDIZ_STORES) != 0;
+	me->pc = pc;
 	point(call, from != NULL ? from : place, NULL, NULL);
 	if (address == NULL) {
 		pass_barrier(me, how);
-		return;
+	} else {
+		const struct use use = {writes ? "writes" : "reads", me->place, me->pc, writes, true};
+		want_live(call, address, size);
+		touch_memory(address, size, writes ? WRITES : 0);
+		use_memory(address, size, &use);
+		order_access(me, address, how);
 	}
-	want_live(call, address, size);
-	touch_memory(address, size, (how & KUPALDIZ_STORES) != 0 ? WRITES : 0);
-	record(me, address, size, (how & KUPALDIZ_STORES) != 0, true, me->place);
-	order_access(me, address, how);
+	me->pc = NULL;
 }
 
-static void access_plainly(const char *call, const volatile void *at, size_t size, bool writes, const char *place)
+void kupaldiz_point(const volatile void *address, size_t size, unsigned how, const char *place)
 {
-	struct routine *me = here(call);
-	point(call, place, NULL, NULL);
-	want_live(call, at, size);
-	touch_memory(at, size, writes ? WRITES : 0);
-	record(me, at, size, writes, false, place);
-}
-
-void bench_reads(const volatile void *at, size_t size, const char *place)
-{
-	access_plainly("plain read", at, size, false, place);
-}
-
-void bench_writes(const volatile void *at, size_t size, const char *place)
-{
-	access_plainly("plain write", at, size, true, place);
+	meet_atomic(address, size, how, place, __builtin_return_address(0));
+	run.now_runs->announced = address == NULL ? run.now_runs : address;
 }
 
 void bench_point(void)

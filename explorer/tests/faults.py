@@ -27,7 +27,7 @@ class Fault(NamedTuple):
     edits: list     # (before, after) pairs; each `before` is in the driver's file once
 
 
-FREED = r"use of freed memory|written to freed memory|is not live|being destroyed|being drained|ends by signal 11|AddressSanitizer|status 1"
+FREED = r"data race|use of freed memory|written to freed memory|is not live|being destroyed|being drained|ends by signal 11|AddressSanitizer|status 1"
 
 BRIDGE_END = """	PSLIST_WRITER_REMOVE(bif, bif_next);
 	BRIDGE_PSZ_PERFORM(sc);
@@ -225,13 +225,13 @@ def plant(fault, folder):
     return file
 
 
-def build(words, file, driver):
-    """Compiles the driver and links the cases with it. The program."""
+def build(words, file, driver, *flags):
+    """Compiles the driver, with these flags, and links the cases with it. The program."""
     program = file.with_suffix("")
     driver_words = [word for word in words if not word.endswith((".o", ".a"))]
     others = [word for word in words if word.endswith((".o", ".a")) and not word.endswith(f"driver-{driver}.o")]
     made = file.with_suffix(".o")
-    subprocess.run([*driver_words, f"-I{EXAMPLES}", "-w", "-c", "-o", made, file], check=True)
+    subprocess.run([*driver_words, *flags, f"-I{EXAMPLES}", "-w", "-c", "-o", made, file], check=True)
     subprocess.run([*driver_words, "-o", program, made, *others, "-pthread"], check=True)
     return program
 
@@ -269,7 +269,7 @@ def main():
         return
     passed = failed = 0
     for fault in chosen():
-        program = build(words, plant(fault, folder), fault.driver)
+        program = build(words, plant(fault, folder), fault.driver, "-fsanitize=thread")
         ran = subprocess.run([program, fault.case], stdout=subprocess.PIPE, stderr=subprocess.DEVNULL, text=True, timeout=120, check=False)
         found, run, switches, line = judge(fault, ran.stdout)
         passed, failed = passed + found, failed + (not found)

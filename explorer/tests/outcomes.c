@@ -13,6 +13,7 @@
 #include <sys/condvar.h>
 #include <sys/intr.h>
 #include <sys/kmem.h>
+#include <sys/kthread.h>
 #include <sys/localcount.h>
 #include <sys/lwp.h>
 #include <sys/mutex.h>
@@ -31,8 +32,10 @@ enum { MOST = 4, LONGEST = 16 };
 static char texts[MOST][LONGEST];
 
 /* What its threads work on. */
-static unsigned words[2];
-static kmutex_t locks[2];
+static unsigned words[2];	/* by atomic accesses */
+static unsigned plains[2];	/* by plain ones */
+static bool racy;		/* a data race is no fault, and what it decides is an outcome */
+static kmutex_t locks[2], spin;
 static krwlock_t rw;
 static kcondvar_t cv;
 static bool flag, gone;
@@ -41,7 +44,7 @@ static struct psref_class *things;
 static struct psref_target target;
 static struct localcount local;
 static bool drained;
-static void *softint, *own_softints[MOST];
+static void *softint, *plain_softint, *own_softints[MOST];
 static unsigned *blocks[MOST];
 static callout_t callout;
 static char seen[MOST][LONGEST + 1];
@@ -51,6 +54,12 @@ static void see(unsigned thread, unsigned value)
 {
 	if (count[thread] < LONGEST)
 		seen[thread][count[thread]++] = (char)(value == 0 ? '-' : 'a' + (value - 1) % 26);
+}
+
+static void handle_plainly(void *arg)
+{
+	unsigned *counter = arg;
+	(*counter)++;
 }
 
 static void handle(void *arg)
@@ -180,6 +189,22 @@ static void end_target(void)
 	psref_target_destroy(&target, things);
 }
 
+static void store_and_exit(void *arg)
+{
+	(void)arg;
+	atomic_store_relaxed(&words[1], 24);
+	kthread_exit(0);
+}
+
+/* Has a thread that it makes store a word, and waits for its end, or for another word meanwhile. */
+static void make_thread(unsigned thread)
+{
+	lwp_t *made;
+	EXPECT(kthread_create(PRI_NONE, KTHREAD_MUSTJOIN, NULL, store_and_exit, NULL, &made, "worker") == 0);
+	see(thread, atomic_load_relaxed(&words[0]));
+	kthread_join(made);
+}
+
 static void lock_words(unsigned thread, krw_t how, unsigned value)
 {
 	rw_enter(&rw, how);
@@ -225,6 +250,15 @@ static void act(unsigned thread, char letter, unsigned value)
 	case 'f': end_softint(thread, true); break;
 	case 'l': (void)splnet(); break;
 	case 'L': splx(IPL_NONE); break;
+	case 'x': see(thread, plains[0]); break;
+	case 'y': see(thread, plains[1]); break;
+	case 'X': plains[0] = value; break;
+	case 'Y': plains[1] = value; break;
+	case '#': plains[0]++; break;
+	case 'p': softint_schedule(plain_softint); break;
+	case '{': mutex_enter(&spin); break;
+	case '}': mutex_exit(&spin); break;
+	case 'n': make_thread(thread); break;
 	case 'q': count_in(thread); break;
 	case 'Q': drain(); break;
 	default: EXPECT(!"a letter");
@@ -242,6 +276,7 @@ static void run_text(void *arg)
 #define WITH_LOCKS	"()[]twsTSqQ"
 #define WITH_CV		"wsTSqQ"
 #define WITH_SECTIONS	"<>PgDqQ"
+#define PLAINLY		"xyXY#p"
 
 static void begin(void)
 {
@@ -258,8 +293,12 @@ static void begin(void)
 		things = psref_class_create("thing", IPL_SOFTNET);
 		psref_target_init(&target, things);
 	}
+	if (does("{}"))
+		mutex_init(&spin, MUTEX_DEFAULT, IPL_SOFTNET);
 	if (does("i"))
 		softint = softint_establish(SOFTINT_NET | SOFTINT_MPSAFE, handle, NULL);
+	if (does("p"))
+		plain_softint = softint_establish(SOFTINT_NET | SOFTINT_MPSAFE, handle_plainly, &plains[0]);
 	if (does("oO"))
 		callout_init(&callout, 0);
 	if (does("qQ"))
@@ -292,6 +331,8 @@ static void end_locks(void)
 		mutex_destroy(&locks[at]);
 	if (does("rW"))
 		rw_destroy(&rw);
+	if (does("{}"))
+		mutex_destroy(&spin);
 	if (does(WITH_CV))
 		cv_destroy(&cv);
 }
@@ -305,12 +346,16 @@ static void finish(void)
 	/* A soft interrupt of real threads may run later. */
 	if (!does("ioj"))
 		bench_outcome("%u %u", words[0], words[1]);
+	if (!does("p"))
+		bench_outcome(" %u %u", plains[0], plains[1]);
 	if (does("oO")) {
 		(void)callout_halt(&callout, NULL);
 		callout_destroy(&callout);
 	}
 	if (does("i"))
 		softint_disestablish(softint);
+	if (does("p"))
+		softint_disestablish(plain_softint);
 	end_references();
 	end_locks();
 }
@@ -322,7 +367,7 @@ static struct bench_found explore(bool whole)
 {
 	struct bench_found found;
 	const struct bench_options options = {.quiet = true, .whole = whole, .schedules = most_schedules, .finish = finish, .found = &found, .bounded = 1,
-	    .preemptions = 1, .random = 1};
+	    .preemptions = 1, .random = 1, .racy = racy};
 	bench_explore(begin, &options);
 	return found;
 }
@@ -370,13 +415,13 @@ static void print_outcomes(void)
 		printf("%s|%s|%s: LEFT OUT\n", texts[0], texts[1], texts[2]);
 }
 
-/* Compares the two ways of the search for the program that is written. */
+/* Compares the two ways of the search for the program that is written. A processor may change the order of plain accesses. */
 static void compare(void)
 {
-	if (prints) {
+	if (prints && !does(PLAINLY))
 		print_outcomes();
+	if (prints)
 		return;
-	}
 	struct bench_found whole = explore(true);
 	if ((!whole.exhausted && whole.first == 0) || whole.others > 0) {
 		skipped++;
@@ -389,7 +434,7 @@ static void compare(void)
 	reduceds += reduced.schedules + reduced.cut;
 	if (are_same(&whole, &reduced) && (whole.first != 0 || reduced.exhausted))
 		return;
-	printf("different: %s | %s | %s | %s\n", texts[0], texts[1], texts[2], texts[3]);
+	printf("different%s: %s | %s | %s | %s\n", racy ? ", racy" : "", texts[0], texts[1], texts[2], texts[3]);
 	show(&whole, "whole");
 	show(&reduced, "reduced");
 	exit(1);
@@ -405,7 +450,11 @@ static void try(const char *first, const char *second, const char *third)
 	write_text(0, first);
 	write_text(1, second);
 	write_text(2, third);
+	racy = false;
 	compare();
+	racy = does(PLAINLY);
+	if (racy)
+		compare();
 }
 
 /* ---- Random programs: balanced in their locks and sections. ---- */
@@ -429,7 +478,7 @@ static void make_text(char *text, unsigned parts)
 {
 	static const char *const pieces[] = {"a", "b", "A", "B", "+", "(a)", "[A]", "([B])", "t", "<a>", "<ab>", "P", "(A)", "r", "W", "AB", "ba", "s", "w", "g", "i",
 	    "k", "o", "oO", "<iab>", "<iA>", "<ib>", "T", "TS", "S", "j", "je", "jAe", "jf", "lAL", "lAjL", "q",
-	    "q", "(S)", "kA"};
+	    "q", "(S)", "kA", "x", "X", "xy", "Y", "(x)", "(X)", "[Y]", "#", "({#})", "{x}", "<y>", "lXL", "lpyL", "p", "n", "B(t)"};
 	text[0] = '\0';
 	for (unsigned at = 0; at < parts; at++)
 		add(text, pieces[pick(sizeof(pieces) / sizeof(pieces[0]))]);
@@ -444,6 +493,7 @@ static void try_random(uint64_t of)
 		make_text(texts[thread], threads == 2 ? parts + pick(2) : 1 + pick(parts));
 	if (pick(4) == 0)
 		add(texts[threads - 1], pick(2) == 0 ? "D" : "Q");
+	racy = pick(4) > 0;
 	compare();
 }
 
@@ -490,6 +540,16 @@ static void try_written(void)
 	try("TST", "S(A)", "AB");
 	try("s", "TS", "T");
 	try("lAjL", "jf", "");
+	try("#", "#", "");
+	try("xY", "yX", "");
+	try("(X)", "[x]", "");
+	try("(#)", "(#)", "(x)");
+	try("X(A)", "(a)x", "");
+	try("X{a}", "{A}Y", "y");
+	try("{#}", "c{p}", "");
+	try("clpxL", "x", "");
+	try("n", "Ba", "");
+	try("nx", "Xb", "");
 }
 
 static time_t now(void)

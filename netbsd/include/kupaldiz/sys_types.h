@@ -42,6 +42,7 @@ void kupaldiz_point(const volatile void *address, size_t size, unsigned how, con
 #define KUPALDIZ_BARRIER(how)		kupaldiz_point(NULL, 0, how, KUPALDIZ_HERE)
 void kupaldiz_from(const char *place);
 #define KUPALDIZ_FROM(call)		(kupaldiz_from(KUPALDIZ_HERE), (call))
+#include "plain.h"
 #else
 #define KUPALDIZ_POINT(address, how)	((void)0)
 #define KUPALDIZ_BARRIER(how)		((void)0)
