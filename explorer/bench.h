@@ -46,7 +46,7 @@ struct bench_found {
 	uint64_t states;	/* points that were come to by a new way */
 	uint64_t switches;	/* from one thread to another */
 	uint64_t points;
-	uint64_t barred;	/* points at which a thread, after 200 without another one, didn't go on */
+	uint64_t throttled;	/* points at which a thread, after 200 without another one, didn't go on */
 	bool complete;		/* the search through all came to its end */
 	bool exhausted;		/* and left nothing out: every schedule of the points was tried, or is the same as one that was */
 	int bound;		/* every schedule with at most so many preemptions was tried; -1 where none */

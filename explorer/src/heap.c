@@ -19,14 +19,14 @@ enum { PART = 4 * 1024 * 1024, SMALLEST = 16, FENCE = 32, NEW = 0xa5, FREED = 0x
 static size_t used[THREADS];
 static unsigned char *parts;
 static uint32_t *owners;	/* of each sixteen bytes of the parts: the row of their block, counted from 1 */
-struct beside *beside;
+struct scratch *scratch;
 
 void prepare_heap(void)
 {
 	parts = mmap(NULL, (size_t)THREADS * PART, PROT_READ | PROT_WRITE, MAP_PRIVATE | MAP_ANONYMOUS | MAP_NORESERVE, -1, 0);
 	owners = mmap(NULL, (size_t)THREADS * PART / SMALLEST * sizeof(*owners), PROT_READ | PROT_WRITE, MAP_PRIVATE | MAP_ANONYMOUS | MAP_NORESERVE, -1, 0);
-	beside = mmap(NULL, sizeof(*beside), PROT_READ | PROT_WRITE, MAP_PRIVATE | MAP_ANONYMOUS, -1, 0);
-	if (parts == MAP_FAILED || owners == MAP_FAILED || beside == MAP_FAILED)
+	scratch = mmap(NULL, sizeof(*scratch), PROT_READ | PROT_WRITE, MAP_PRIVATE | MAP_ANONYMOUS, -1, 0);
+	if (parts == MAP_FAILED || owners == MAP_FAILED || scratch == MAP_FAILED)
 		refuse("out of memory");
 }
 
@@ -34,7 +34,7 @@ void release_heap(void)
 {
 	munmap(parts, (size_t)THREADS * PART);
 	munmap(owners, (size_t)THREADS * PART / SMALLEST * sizeof(*owners));
-	munmap(beside, sizeof(*beside));
+	munmap(scratch, sizeof(*scratch));
 }
 
 static void forbid(const void *at, size_t size)
@@ -55,7 +55,7 @@ static const char *called(const struct thread *self)
 }
 
 /* Room in the part of the thread that runs. */
-static unsigned char *take_room(unsigned number, size_t size, size_t align)
+static unsigned char *reserve_room(unsigned number, size_t size, size_t align)
 {
 	size_t begin = (used[number] + align - 1) / align * align;
 	if (size > PART || begin + size + FENCE > PART)
@@ -72,9 +72,9 @@ static uint32_t *owner_of(const volatile unsigned char *at)
 /* A block of memory. One that is judged must be given back by the end. */
 void *allocate(size_t size, size_t align, bool judged)
 {
-	unsigned number = run.now_runs == NULL ? 0 : run.now_runs->number;
+	unsigned number = run.current == NULL ? 0 : run.current->number;
 	const struct thread *self = kupaldiz_self;
-	unsigned char *at = take_room(number, size, align < SMALLEST ? SMALLEST : align);
+	unsigned char *at = reserve_room(number, size, align < SMALLEST ? SMALLEST : align);
 	allow(at, size + FENCE);
 	memset(at, NEW, size);
 	memset(at + size, BEHIND, FENCE);
@@ -117,7 +117,7 @@ static const char *at_or_nothing(const char *place, char *text, size_t room)
 	return text;
 }
 
-static void judge_use(const char *what, const char *where, const struct block *block, const volatile unsigned char *at, size_t size)
+static void check_use(const char *what, const char *where, const struct block *block, const volatile unsigned char *at, size_t size)
 {
 	char freed[256];
 	if (!block->live)
@@ -128,24 +128,24 @@ static void judge_use(const char *what, const char *where, const struct block *b
 }
 
 /* Stops where the memory was given back, or lies beyond its block. That it is used comes before or after its end. */
-void want_live(const char *call, const volatile void *at, size_t size)
+void check_live(const char *call, const volatile void *at, size_t size)
 {
 	const struct block *block = block_at(at);
-	const char *where = run.now_runs->place;
+	const char *where = run.current->place;
 	if (block == NULL)
 		return;
 	touch_memory(at, size, 0);
-	judge_use(call, where == NULL ? "" : where, block, at, size);
+	check_use(call, where == NULL ? "" : where, block, at, size);
 }
 
 /* The same of a plain access, which must come after the call that took the memory, too. */
-void want_usable(const struct routine *me, const volatile void *at, size_t size, const struct use *use)
+void check_usable(const struct routine *me, const volatile void *at, size_t size, const struct use *use)
 {
 	const struct block *block = block_at(at);
 	if (block == NULL)
 		return;
 	if (!block->live || (const volatile unsigned char *)at + size > block->at + block->size)
-		judge_use(use->writes ? "plain write" : "plain read", place_of(use->place, use->pc), block, at, size);
+		check_use(use->writes ? "plain write" : "plain read", place_of(use->place, use->pc), block, at, size);
 	if (me->clock[block->by] < block->made_at)
 		fail("data race: thread \"%s\" takes memory by %s at %s, and thread \"%s\" %s it at %s", run.routines[block->by].name, block->call,
 		    place_of(block->place, NULL), me->name, use->verb, place_of(use->place, use->pc));
@@ -160,7 +160,7 @@ static bool is_filled(const unsigned char *at, size_t size, unsigned char byte)
 }
 
 /* Stops where something was written behind a block, or into one that was given back. */
-static void judge_block(const struct block *block)
+static void check_block(const struct block *block)
 {
 	char where[256];
 	allow(block->at, block->size + FENCE);
@@ -178,7 +178,7 @@ static void end_block(struct block *block)
 {
 	const struct thread *self = kupaldiz_self;
 	block->live = false;
-	block->freed_by = run.now_runs->number;
+	block->freed_by = run.current->number;
 	block->freed_call = called(self);
 	block->freed_place = self == NULL ? NULL : self->place;
 }
@@ -190,7 +190,7 @@ void release(void *address)
 		return;
 	if (block == NULL || block->at != address)
 		fail("%s: no block of memory", called(kupaldiz_self));
-	judge_block(block);
+	check_block(block);
 	end_block(block);
 	memset(block->at, FREED, block->size);
 	forbid(block->at, block->size);
@@ -226,14 +226,14 @@ void *resize(void *address, size_t size)
 }
 
 /* Stops where more is left than may be, or something was written where nothing may. */
-void judge_heap(void)
+void check_heap(void)
 {
 	char where[256];
 	unsigned left = 0;
 	const struct block *first = NULL, *rows = rows_of(BLOCKS);
 	for (size_t place = 0; place < run.rows[BLOCKS]; place++) {
 		const struct block *block = &rows[place];
-		judge_block(block);
+		check_block(block);
 		if (!block->live || !block->judged)
 			continue;
 		left++;

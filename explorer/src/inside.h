@@ -37,8 +37,8 @@ enum kind {
 
 enum {
 	WRITES = 1,
-	TAKES = 2,	/* what others gave comes before it */
-	GIVES = 4,
+	ACQUIRES = 2,	/* what others gave comes before it */
+	RELEASES = 4,
 	ORDERS = 8	/* the later step waits for the earlier one */
 };
 
@@ -59,7 +59,7 @@ struct set {
 /* ---- A run: it is begun anew with the program's memory. ---- */
 
 /* What grows with the code: its rows lie in memory that stays, and each run fills it anew. */
-enum table { BLOCKS, GIVEN, PLAIN, MADE, MISSED, RELEASED, TABLES };
+enum table { BLOCKS, SYNCS, PLAIN, MADE, MISSED, RELEASED, TABLES };
 
 struct routine;
 typedef bool guard_fn(const struct routine *routine);
@@ -91,7 +91,7 @@ struct routine {
 	const void *queue;	/* what it waits to be woken for */
 	uint64_t arrived;
 	bool woken;
-	kmutex_t *retake;	/* the lock that it takes when it was woken */
+	kmutex_t *relock;	/* the lock that it takes when it was woken */
 	const void *target;	/* of the call that it is in */
 	int made_at;		/* the step; -1 for none */
 	clocks clock, released, pending;
@@ -102,7 +102,7 @@ enum phase { SETTING_UP, RUNNING, FINISHING };
 struct run {
 	struct routine routines[THREADS];
 	unsigned count;
-	struct routine *now_runs;
+	struct routine *current;
 	enum phase phase;
 	unsigned step;		/* the number of steps begun */
 	unsigned finish;	/* of them, those before all threads had ended */
@@ -140,7 +140,7 @@ struct released {
 
 /* One step of the run, and what is known of the others there. */
 struct step {
-	uint32_t enabled, planned, done, asleep, barred;	/* a bit for each thread */
+	uint32_t enabled, backtrack, explored, sleeping, throttled;	/* a bit for each thread */
 	uint8_t chosen, cpu;
 	bool guarded;		/* its thread waited for something, or had to look whether it waits */
 	uint16_t preemptions;	/* up to it */
@@ -150,11 +150,11 @@ struct step {
 	const void *pc;
 	uint32_t clock[THREADS];
 	struct set set;
-	struct set tried[THREADS];
-	const struct set *slept[THREADS];
+	struct set explored_sets[THREADS];
+	const struct set *sleep_sets[THREADS];
 };
 
-enum way { REDUCED, WHOLE, BOUNDED, RANDOM, REPLAYED };
+enum mode { REDUCED, WHOLE, BOUNDED, RANDOM, REPLAYED };
 enum end { ENDED_WELL, CUT, FAILED, UNFIT, DIED };
 
 /* An instruction, and the text of its place. */
@@ -165,8 +165,8 @@ struct spot {
 
 enum { SPOTS = 256 };
 
-struct board {
-	enum way way;
+struct search {
+	enum mode mode;
 	enum end end;
 	bool over;		/* the child has said all */
 	bool apart;		/* each run has a process of its own */
@@ -189,7 +189,7 @@ struct board {
 	struct step steps[POINTS + 1];
 };
 
-extern struct board *board;
+extern struct search *search;
 extern struct bench_options options;
 enum { MOST_UNSEEN = 8 };
 
@@ -210,7 +210,7 @@ struct block {
 };
 
 /* What was left at a thing. */
-struct given {
+struct sync {
 	uintptr_t of;		/* 0 where the row is free */
 	clocks clock;
 };
@@ -233,7 +233,7 @@ struct plain {
 
 enum { LISTS = 4096 };
 
-struct beside {
+struct scratch {
 	struct {
 		void *rows;
 		size_t room;	/* in rows */
@@ -242,7 +242,7 @@ struct beside {
 	uint32_t lists[LISTS];	/* of uses, by their bytes: the row of the first, counted from 1 */
 };
 
-extern struct beside *beside;
+extern struct scratch *scratch;
 
 /* ---- routine.c ---- */
 
@@ -264,7 +264,7 @@ void touch(enum kind kind, const volatile void *address, unsigned cpu, unsigned 
 void touch_memory(const volatile void *address, size_t size, unsigned how);
 void touch_deadlines(unsigned thread, unsigned how);
 void make_barrier(void);
-void judge_end_of_run(void);
+void find_races_at_end(void);
 void start_routines(void);
 struct routine *here(const char *call);
 bool is_enabled(const struct routine *routine);
@@ -283,11 +283,11 @@ void leaving_cpu(const char *call);
 
 /* ---- made.c: what is initialised and must be ended, and wake-ups that came too early. ---- */
 
-void note_made(const char *call, const void *lock);
-void note_ended(const void *lock);
-void want_none_made(const char *call, const void *from, size_t size);
-void want_none_left(void);
-void note_wake(const char *call, const char *place, const void *cv, bool waited);
+void track_made(const char *call, const void *lock);
+void track_ended(const void *lock);
+void check_none_made(const char *call, const void *from, size_t size);
+void check_none_left(void);
+void track_wake(const char *call, const char *place, const void *cv, bool waited);
 const struct missed *missed_by(const void *cv);
 
 /* ---- What guards are: locks.c. ---- */
@@ -308,17 +308,17 @@ void sleep_until(int64_t time);
 /* ---- commute.c ---- */
 
 bool do_conflict(const struct set *one, const struct set *other);
-void judge_step(unsigned at);
-void judge_disabled(unsigned thread, const struct set *set, unsigned upto);
+void find_races_of_step(unsigned at);
+void find_races_of_disabled(unsigned thread, const struct set *set, unsigned upto);
 
 /* ---- words.c ---- */
 
-void give_clock(enum kind kind, const volatile void *address, unsigned cpu);
-void take_clock(enum kind kind, const volatile void *address, unsigned cpu);
+void release_clock(enum kind kind, const volatile void *address, unsigned cpu);
+void acquire_clock(enum kind kind, const volatile void *address, unsigned cpu);
 void inherit_clock(struct routine *made);
-void take_all_clocks(void);
+void acquire_all_clocks(void);
 
-void meet_atomic(const volatile void *address, size_t size, unsigned how, const char *place, const void *pc);
+void access_atomically(const volatile void *address, size_t size, unsigned how, const char *place, const void *pc);
 
 /* ---- plain.c ---- */
 
@@ -327,7 +327,7 @@ void access_plainly(const volatile void *address, size_t size, bool writes, cons
 
 /* ---- tsan.c ---- */
 
-void want_own_calls(void);
+void check_own_calls(void);
 
 /* ---- places.c ---- */
 
@@ -345,15 +345,15 @@ void release_heap(void);
 bool is_live(const void *at);
 size_t size_of_block(const void *at);
 void *resize(void *block, size_t size);
-void want_live(const char *call, const volatile void *at, size_t size);
-void want_usable(const struct routine *me, const volatile void *at, size_t size, const struct use *use);
+void check_live(const char *call, const volatile void *at, size_t size);
+void check_usable(const struct routine *me, const volatile void *at, size_t size, const struct use *use);
 void *allocate(size_t size, size_t align, bool judged);
 void release(void *block);
-void judge_heap(void);
+void check_heap(void);
 
 /* ---- state.c ---- */
 
-void note_state(void);
+void save_state(void);
 void restore_state(void);
 
 /* ---- locks.c, for the scheduler. ---- */
@@ -362,7 +362,7 @@ int64_t next_time(void);
 
 /* ---- stuck.c ---- */
 
-void tell_stuck(void);
+void report_stuck(void);
 
 /* ---- explore.c, show.c ---- */
 

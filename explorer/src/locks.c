@@ -59,7 +59,7 @@ bool lock_try(uintptr_t *word, struct thread *me)
 	if (*word != 0)
 		return false;
 	*word = (uintptr_t)me;
-	take_clock(ON_LOCK, word, 0);
+	acquire_clock(ON_LOCK, word, 0);
 	return true;
 }
 
@@ -72,26 +72,26 @@ bool is_free(const struct routine *me)
 /* Waits until it is free. Whoever waits for its own CPU doesn't have it, although it has begun to. */
 static void await_lock(uintptr_t *word, const struct thread *me)
 {
-	bool off = run.now_runs->off;
+	bool off = run.current->off;
 	if (me->cpu != NULL && word == &me->cpu->hold)
-		run.now_runs->off = true;
+		run.current->off = true;
 	wait_here(is_free, word);
-	run.now_runs->off = off;
+	run.current->off = off;
 }
 
 void lock_take(uintptr_t *word, struct thread *me, tell_fn *tell)
 {
 	(void)tell;
-	if (run.now_runs->visits || *word != 0)
+	if (run.current->visits || *word != 0)
 		await_lock(word, me);
-	touch(ON_LOCK, word, 0, WRITES | TAKES);
+	touch(ON_LOCK, word, 0, WRITES | ACQUIRES);
 	*word = (uintptr_t)me;
 }
 
 void lock_give(uintptr_t *word, struct thread *me)
 {
 	(void)me;
-	touch(ON_LOCK, word, 0, WRITES | GIVES);
+	touch(ON_LOCK, word, 0, WRITES | RELEASES);
 	*word = 0;
 }
 
@@ -123,7 +123,7 @@ bool was_woken(const struct routine *me)
 {
 	if (!me->woken && !is_late(me))
 		return false;
-	return me->retake == NULL || !is_live(me->retake) || me->retake->mtx_word == 0;
+	return me->relock == NULL || !is_live(me->relock) || me->relock->mtx_word == 0;
 }
 
 static void set_deadline(struct routine *me, int64_t deadline)
@@ -136,9 +136,9 @@ static void set_deadline(struct routine *me, int64_t deadline)
 /* The wake-up alone has enabled it, unless its time is over. */
 static void leave_queue(struct routine *me, const void *of)
 {
-	touch(ON_WAKE, me, 0, WRITES | (is_late(me) ? 0 : TAKES));
+	touch(ON_WAKE, me, 0, WRITES | (is_late(me) ? 0 : ACQUIRES));
 	if (me->woken)
-		take_clock(ON_WAKE, me, 0);
+		acquire_clock(ON_WAKE, me, 0);
 	else
 		touch(ON_CV, of, 0, WRITES);
 }
@@ -146,15 +146,15 @@ static void leave_queue(struct routine *me, const void *of)
 /* Waits to be woken for something, until a time at most. */
 static bool wait_for_wake(const void *of, int64_t deadline)
 {
-	struct routine *me = run.now_runs;
+	struct routine *me = run.current;
 	touch(ON_CV, of, 0, WRITES);
 	me->queue = of;
 	me->woken = false;
 	me->arrived = ++run.arrivals;
 	set_deadline(me, deadline);
 	wait_here(was_woken, of);
-	if (me->retake != NULL)
-		want_live(me->call, me->retake, sizeof(*me->retake));
+	if (me->relock != NULL)
+		check_live(me->call, me->relock, sizeof(*me->relock));
 	leave_queue(me, of);
 	if (deadline != NEVER)
 		touch(ON_TIME, NULL, 0, 0);
@@ -189,7 +189,7 @@ bool bucket_wake(struct bucket *bucket, const void *of)
 	touch(ON_CV, of, 0, WRITES);
 	if (first == NULL)
 		return false;
-	touch(ON_WAKE, first, 0, WRITES | GIVES);
+	touch(ON_WAKE, first, 0, WRITES | RELEASES);
 	first->woken = true;
 	return true;
 }
@@ -255,12 +255,12 @@ static void await_section(struct routine *me, unsigned cpu)
 	me->noted = number;
 	wait_here(has_ended_section, (const void *)(uintptr_t)cpu);
 	touch(ON_END, (const void *)(uintptr_t)(number + 1), cpu, ORDERS | WRITES);
-	take_clock(ON_END, (const void *)(uintptr_t)(number + 1), cpu);
+	acquire_clock(ON_END, (const void *)(uintptr_t)(number + 1), cpu);
 }
 
 bool pause_longer(struct pauses *pauses, const struct registry_stage *met)
 {
-	struct routine *me = run.now_runs;
+	struct routine *me = run.current;
 	(void)pauses;
 	if (met != NULL && met->stage == REGISTRY_GRACE) {
 		await_section(me, (unsigned)met->what);
@@ -289,36 +289,36 @@ uint32_t bench_section_exit(struct registry_cpu *cpu)
 	if (inside || answer != REGISTRY_DONE || registry_inside(cpu, &inside) != REGISTRY_DONE || inside)
 		return answer;
 	run.ends[number]++;
-	touch(ON_SECTION, NULL, number, WRITES | GIVES);
+	touch(ON_SECTION, NULL, number, WRITES | RELEASES);
 	touch(ON_END, (const void *)(uintptr_t)run.ends[number], number, ORDERS | WRITES);
-	give_clock(ON_END, (const void *)(uintptr_t)run.ends[number], number);
+	release_clock(ON_END, (const void *)(uintptr_t)run.ends[number], number);
 	return answer;
 }
 
 /* What the sections that have ended on all CPUs have left comes before a wait that begins now. */
-static void take_sections(void)
+static void acquire_sections(void)
 {
 	for (unsigned cpu = 0; cpu < KUPALDIZ_CPUS; cpu++)
-		take_clock(ON_SECTION, NULL, cpu);
+		acquire_clock(ON_SECTION, NULL, cpu);
 }
 
 uint32_t bench_destroy(struct registry_keeper *keeper, struct registry_cpu *cpu, uint64_t number, struct registry_stage *met)
 {
-	const void *target = run.now_runs->target;
+	const void *target = run.current->target;
 	touch(ON_SECTION, NULL, ANY, 0);
 	touch(ON_REFERENCES, target, ANY, 0);
 	touch(ON_TARGET, target, 0, WRITES);
 	uint32_t answer = registry_destroy(keeper, cpu, number, met);
-	take_sections();
+	acquire_sections();
 	if (answer == REGISTRY_DONE)
-		take_clock(ON_REFERENCES, target, 0);
+		acquire_clock(ON_REFERENCES, target, 0);
 	return answer;
 }
 
 uint32_t bench_perform_begin(struct registry_keeper *keeper, struct registry_cpu *cpu, struct registry_wait *wait)
 {
 	touch(ON_SECTION, NULL, ANY, 0);
-	take_sections();
+	acquire_sections();
 	return registry_perform_begin(keeper, cpu, wait);
 }
 
@@ -361,7 +361,7 @@ int bench_join(pthread_t id)
 {
 	struct routine *joined = &run.routines[id];
 	wait_here(has_ended, joined);
-	touch(ON_THREAD, joined, 0, ORDERS | WRITES | TAKES);
+	touch(ON_THREAD, joined, 0, ORDERS | WRITES | ACQUIRES);
 	return 0;
 }
 
@@ -377,13 +377,13 @@ void bench_mutex_lock(const void *watched)
 	if (watched == NULL)
 		return;
 	touch(ON_LOCK, watched, 0, WRITES);
-	take_clock(ON_LOCK, watched, 0);
+	acquire_clock(ON_LOCK, watched, 0);
 }
 
 void bench_mutex_unlock(const void *watched)
 {
 	if (watched != NULL)
-		give_clock(ON_LOCK, watched, 0);
+		release_clock(ON_LOCK, watched, 0);
 }
 
 int bench_cond_wait(const void *cond, const struct timespec *deadline, const void *watched)
@@ -401,10 +401,10 @@ void bench_cond_broadcast(const void *cond)
 
 void sleep_until(int64_t time)
 {
-	set_deadline(run.now_runs, time);
+	set_deadline(run.current, time);
 	wait_here(is_late, NULL);
 	touch(ON_TIME, NULL, 0, 0);
-	set_deadline(run.now_runs, NEVER);
+	set_deadline(run.current, NEVER);
 }
 
 /* Another thread may go on here. */

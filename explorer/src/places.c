@@ -83,10 +83,10 @@ const char *place_of(const char *place, const void *pc)
 {
 	if (pc == NULL || (place != NULL && !is_header(place)))
 		return place == NULL ? "a place unknown" : place;
-	for (unsigned at = 0; at < SPOTS && at < board->spot_count; at++)
-		if (board->spots[at].pc == pc)
-			return board->spots[at].text;
-	struct spot *spot = &board->spots[board->spot_count++ % SPOTS];
+	for (unsigned at = 0; at < SPOTS && at < search->spot_count; at++)
+		if (search->spots[at].pc == pc)
+			return search->spots[at].text;
+	struct spot *spot = &search->spots[search->spot_count++ % SPOTS];
 	find_place(pc, spot);
 	return spot->text;
 }

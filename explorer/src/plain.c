@@ -13,7 +13,7 @@ enum { GRAIN = 8 };
 
 static uint32_t *list_of(uintptr_t grain)
 {
-	return &beside->lists[(grain / GRAIN * 0x9e3779b97f4a7c15u >> 32) % LISTS];
+	return &scratch->lists[(grain / GRAIN * 0x9e3779b97f4a7c15u >> 32) % LISTS];
 }
 
 static bool is_before(const struct plain *old, const struct routine *me)
@@ -21,7 +21,7 @@ static bool is_before(const struct plain *old, const struct routine *me)
 	return me->clock[old->thread] >= old->at;
 }
 
-static void want_ordered(const struct plain *old, const struct plain *now, const struct routine *me)
+static void check_ordered(const struct plain *old, const struct plain *now, const struct routine *me)
 {
 	if ((old->bytes & now->bytes) == 0 || (!old->use.writes && !now->use.writes) || (old->use.atomic && now->use.atomic) || is_before(old, me))
 		return;
@@ -52,7 +52,7 @@ static void record(const struct routine *me, struct plain now)
 			continue;
 		if (is_again(old, &now))
 			return;
-		want_ordered(old, &now, me);
+		check_ordered(old, &now, me);
 		if (is_before(old, me) && covers(&now, old))
 			row = old;
 	}
@@ -74,37 +74,37 @@ static uint8_t bytes_of(uintptr_t grain, uintptr_t from, uintptr_t to)
 /* What the running thread does with memory. Stops where that is a data race. */
 void use_memory(const volatile void *address, size_t size, const struct use *use)
 {
-	struct routine *me = run.now_runs;
+	struct routine *me = run.current;
 	uintptr_t from = (uintptr_t)address, to = from + size;
 	if (options.racy)
 		return;
 	if (run.rows[PLAIN] == 0)
-		memset(beside->lists, 0, sizeof(beside->lists));
+		memset(scratch->lists, 0, sizeof(scratch->lists));
 	for (uintptr_t grain = from & ~(uintptr_t)(GRAIN - 1); grain < to; grain += GRAIN)
 		record(me, (struct plain){.grain = grain, .at = me->clock[me->number], .thread = (uint8_t)me->number, .bytes = bytes_of(grain, from, to),
 		    .use = *use});
 }
 
 /* With `racy` it is a point, which touches the memory. */
-static void meet_plain(struct routine *me, const volatile void *address, size_t size, const struct use *use)
+static void access_racily(struct routine *me, const volatile void *address, size_t size, const struct use *use)
 {
 	me->pc = use->pc;
 	point(use->writes ? "plain write" : "plain read", NULL, NULL, NULL);
 	me->pc = NULL;
-	want_usable(me, address, size, use);
+	check_usable(me, address, size, use);
 	touch_memory(address, size, use->writes ? WRITES : 0);
 }
 
 void access_plainly(const volatile void *address, size_t size, bool writes, const void *pc)
 {
-	struct routine *me = run.now_runs;
+	struct routine *me = run.current;
 	const struct use use = {.verb = writes ? "writes" : "reads", .pc = pc, .writes = writes};
 	if (me == NULL || size == 0 || is_on_stack(me, address))
 		return;
 	if (options.racy) {
-		meet_plain(me, address, size, &use);
+		access_racily(me, address, size, &use);
 		return;
 	}
-	want_usable(me, address, size, &use);
+	check_usable(me, address, size, &use);
 	use_memory(address, size, &use);
 }

@@ -8,7 +8,7 @@
 static unsigned turns_from(unsigned from)
 {
 	unsigned at = from;
-	while (at < board->length && board->steps[at].chosen == board->steps[from].chosen)
+	while (at < search->length && search->steps[at].chosen == search->steps[from].chosen)
 		at++;
 	return at - from;
 }
@@ -17,8 +17,8 @@ static unsigned turns_from(unsigned from)
 void write_schedule(char *text, size_t room)
 {
 	size_t length = 0;
-	for (unsigned at = 0, turns; at < board->length && length + 8 < room; at += turns) {
-		unsigned thread = board->steps[at].chosen;
+	for (unsigned at = 0, turns; at < search->length && length + 8 < room; at += turns) {
+		unsigned thread = search->steps[at].chosen;
 		turns = turns_from(at);
 		char letter = thread == THREADS - 1 ? '.' : (char)('a' + thread);
 		length += (size_t)snprintf(text + length, room - length, turns == 1 ? "%c" : "%c%u", letter, turns);
@@ -40,13 +40,13 @@ const char *place_of_step(const struct step *step)
 
 static void show_steps(FILE *to)
 {
-	for (unsigned at = 0; at < board->length; at++) {
-		const struct step *step = &board->steps[at];
-		bool changes = at == 0 || board->steps[at - 1].chosen != step->chosen;
+	for (unsigned at = 0; at < search->length; at++) {
+		const struct step *step = &search->steps[at];
+		bool changes = at == 0 || search->steps[at - 1].chosen != step->chosen;
 		char cpu[8] = "";
 		if (step->cpu != NOBODY)
 			snprintf(cpu, sizeof(cpu), "CPU %u", step->cpu);
-		fprintf(to, "  %4u  %-16s %-5s  %-22s %s\n", at + 1, changes ? board->names[step->chosen] : "", cpu, step->call, place_of_step(step));
+		fprintf(to, "  %4u  %-16s %-5s  %-22s %s\n", at + 1, changes ? search->names[step->chosen] : "", cpu, step->call, place_of_step(step));
 	}
 }
 

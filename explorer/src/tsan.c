@@ -98,13 +98,13 @@ static unsigned order_of(int order)
 	return acquires | (order == __ATOMIC_RELEASE || order == __ATOMIC_ACQ_REL || order == __ATOMIC_SEQ_CST ? KUPALDIZ_RELEASES : 0);
 }
 
-static void meet(const volatile void *at, size_t size, unsigned how, const void *pc)
+static void access_by_language(const volatile void *at, size_t size, unsigned how, const void *pc)
 {
-	struct routine *me = run.now_runs;
+	struct routine *me = run.current;
 	if (me == NULL)
 		return;
 	if (me->announced != (at == NULL ? me : at))
-		meet_atomic(at, size, how, NULL, pc);
+		access_atomically(at, size, how, NULL, pc);
 	me->announced = NULL;
 }
 
@@ -112,7 +112,7 @@ static void meet(const volatile void *at, size_t size, unsigned how, const void 
 	uint##bits##_t __tsan_atomic##bits##_##name(volatile uint##bits##_t *at, uint##bits##_t value, int order); \
 	uint##bits##_t __tsan_atomic##bits##_##name(volatile uint##bits##_t *at, uint##bits##_t value, int order) \
 	{ \
-		meet(at, sizeof(*at), KUPALDIZ_LOADS | KUPALDIZ_STORES | order_of(order), PC); \
+		access_by_language(at, sizeof(*at), KUPALDIZ_LOADS | KUPALDIZ_STORES | order_of(order), PC); \
 		return __atomic_##name(at, value, __ATOMIC_SEQ_CST); \
 	}
 
@@ -121,7 +121,7 @@ static void meet(const volatile void *at, size_t size, unsigned how, const void 
 	int __tsan_atomic##bits##_##name(volatile uint##bits##_t *at, uint##bits##_t *expected, uint##bits##_t value, int order, int otherwise) \
 	{ \
 		(void)otherwise; \
-		meet(at, sizeof(*at), KUPALDIZ_LOADS | KUPALDIZ_STORES | order_of(order), PC); \
+		access_by_language(at, sizeof(*at), KUPALDIZ_LOADS | KUPALDIZ_STORES | order_of(order), PC); \
 		return __atomic_compare_exchange_n(at, expected, value, false, __ATOMIC_SEQ_CST, __ATOMIC_SEQ_CST); \
 	}
 
@@ -129,19 +129,19 @@ static void meet(const volatile void *at, size_t size, unsigned how, const void 
 	uint##bits##_t __tsan_atomic##bits##_load(const volatile uint##bits##_t *at, int order); \
 	uint##bits##_t __tsan_atomic##bits##_load(const volatile uint##bits##_t *at, int order) \
 	{ \
-		meet(at, sizeof(*at), KUPALDIZ_LOADS | (order_of(order) & KUPALDIZ_ACQUIRES), PC); \
+		access_by_language(at, sizeof(*at), KUPALDIZ_LOADS | (order_of(order) & KUPALDIZ_ACQUIRES), PC); \
 		return __atomic_load_n(at, __ATOMIC_SEQ_CST); \
 	} \
 	void __tsan_atomic##bits##_store(volatile uint##bits##_t *at, uint##bits##_t value, int order); \
 	void __tsan_atomic##bits##_store(volatile uint##bits##_t *at, uint##bits##_t value, int order) \
 	{ \
-		meet(at, sizeof(*at), KUPALDIZ_STORES | (order_of(order) & KUPALDIZ_RELEASES), PC); \
+		access_by_language(at, sizeof(*at), KUPALDIZ_STORES | (order_of(order) & KUPALDIZ_RELEASES), PC); \
 		__atomic_store_n(at, value, __ATOMIC_SEQ_CST); \
 	} \
 	uint##bits##_t __tsan_atomic##bits##_exchange(volatile uint##bits##_t *at, uint##bits##_t value, int order); \
 	uint##bits##_t __tsan_atomic##bits##_exchange(volatile uint##bits##_t *at, uint##bits##_t value, int order) \
 	{ \
-		meet(at, sizeof(*at), KUPALDIZ_LOADS | KUPALDIZ_STORES | order_of(order), PC); \
+		access_by_language(at, sizeof(*at), KUPALDIZ_LOADS | KUPALDIZ_STORES | order_of(order), PC); \
 		return __atomic_exchange_n(at, value, __ATOMIC_SEQ_CST); \
 	} \
 	CHANGE(bits, fetch_add) \
@@ -158,7 +158,7 @@ static void meet(const volatile void *at, size_t size, unsigned how, const void 
 	    int otherwise) \
 	{ \
 		(void)otherwise; \
-		meet(at, sizeof(*at), KUPALDIZ_LOADS | KUPALDIZ_STORES | order_of(order), PC); \
+		access_by_language(at, sizeof(*at), KUPALDIZ_LOADS | KUPALDIZ_STORES | order_of(order), PC); \
 		__atomic_compare_exchange_n(at, &expected, value, false, __ATOMIC_SEQ_CST, __ATOMIC_SEQ_CST); \
 		return expected; \
 	}
@@ -171,7 +171,7 @@ ATOMICS(64)
 void __tsan_atomic_thread_fence(int order);
 void __tsan_atomic_thread_fence(int order)
 {
-	meet(NULL, 0, order_of(order), PC);
+	access_by_language(NULL, 0, order_of(order), PC);
 }
 
 void __tsan_atomic_signal_fence(int order);
@@ -189,7 +189,7 @@ unsigned unseen_count;
 void *__tsan_create_fiber(unsigned flags) __attribute__((weak));
 
 /* Stops where that library has the compiler's calls. */
-void want_own_calls(void)
+void check_own_calls(void)
 {
 	if (__tsan_create_fiber != NULL)
 		refuse("the program is linked with -fsanitize=thread: compile with it, and link without it");

@@ -235,9 +235,9 @@ static void test_random_spins(void)
 static void test_barred(void)
 {
 	struct bench_found found;
-	const struct bench_options options = {.name = "barred", .found = &found};
+	const struct bench_options options = {.name = "throttled", .found = &found};
 	EXPECT(bench_explore(make_spin_once, &options) == 0);
-	EXPECT(found.barred > 0 && !found.exhausted && found.random == 0);
+	EXPECT(found.throttled > 0 && !found.exhausted && found.random == 0);
 }
 
 /* ---- More of a kind than any table has room for at first. ---- */
