@@ -562,6 +562,7 @@ static time_t now(void)
 static int try_for_a_while(uint64_t first)
 {
 	most_schedules = 400;
+	try_written();
 	for (time_t end = now() + seconds; now() < end; first++)
 		try_random(first);
 	EXPECT(2 * faults < compared);
