@@ -102,19 +102,19 @@ refused_by_linker() {
         grep 'undefined reference to .kupaldiz_registry_for_16_cpus_' "$room/said"
 }
 
-# That of the pages' names shows the calls that its headers declare and no other name. Two of the calls are the bench's.
+# That of the pages' names shows the calls that its headers declare and no other name. Three of the calls are the bench's.
 shows_pages_calls_alone() {
-    diff <(calls_of_pages | grep -vxE 'kupaldiz_(point|from)' | sort) <(shown libkupaldiz_netbsd)
+    diff <(calls_of_pages | grep -vxE 'kupaldiz_(point|from|unseen)' | sort) <(shown libkupaldiz_netbsd)
 }
 
-# That of the bench shows these and its own.
+# That of the bench shows these, its own, and those that the compiler makes with -fsanitize=thread.
 shows_bench_calls_alone() {
-    diff <({ calls_of_pages; packaging/calls-of.sh "$stage$prefix/include/kupaldiz/bench.h"; } | sort) <(shown libkupaldiz_bench)
+    diff <({ calls_of_pages; packaging/calls-of.sh "$stage$prefix/include/kupaldiz/bench.h"; } | sort) <(shown libkupaldiz_bench | grep -v '^__tsan_')
 }
 
 # Other objects see nothing of the static libraries but calls.
 static_shows_calls_alone() {
-    ! nm -g --defined-only "$stage$libdir"/*.a 2>/dev/null | awk 'NF == 3 { print $3 }' | grep -vE '^(registry|kupaldiz|bench)_'
+    ! nm -g --defined-only "$stage$libdir"/*.a 2>/dev/null | awk 'NF == 3 { print $3 }' | grep -vE '^(registry|kupaldiz|bench|__tsan)_'
 }
 
 # An #include of a plain name, as <cpu.h>, finds nothing of these libraries: what the folders for the compiler offer is in folders of its own.
