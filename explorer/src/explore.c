@@ -67,6 +67,7 @@ static void run_setup(void *arg)
 	point("finish", NULL, all_have_ended, NULL);
 	run.finish = run.step - 1;
 	make_barrier();
+	touch(ON_TIME, NULL, 0, 0);
 	acquire_all_clocks();
 	run.phase = FINISHING;
 	if (options.finish != NULL)

@@ -96,7 +96,7 @@ bool all_have_ended(const struct routine *routine)
 		if (other != routine && (other->daemon ? is_enabled(other) : !other->ended))
 			return false;
 	}
-	return !clock_may_jump();
+	return true;
 }
 
 uint32_t enabled_now(void)
@@ -238,7 +238,7 @@ void find_races_at_end(void)
 	if (search->mode != REDUCED)
 		return;
 	find_races_of_step(run.step - 1);
-	find_races_of_all_disabled(run.finish);
+	find_races_of_all_disabled(run.finish + 1);
 }
 
 /* What is tried at a new step, beginning with the thread that runs already. */
