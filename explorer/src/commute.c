@@ -35,24 +35,24 @@ static bool do_clash(const struct access *one, const struct access *other)
 	return one->address == other->address && (one->cpu == other->cpu || one->cpu == ANY || other->cpu == ANY);
 }
 
-/* Whether the second can't come before the first, if its thread isn't enabled there. */
-static bool does_enable(const struct access *first, const struct access *second)
-{
-	return ((first->how | second->how) & ORDERS) != 0 || ((first->how & (ACQUIRES | RELEASES)) == RELEASES && (second->how & ACQUIRES) != 0);
-}
-
 /* How a step is to a later one: they commute; they never change places; it does nothing to the later one but enable it; or they conflict otherwise. */
 enum relation { COMMUTE, ORDERED, ENABLES, CONFLICTS };
+
+static enum relation relation_of_accesses(const struct access *first, const struct access *second)
+{
+	if (!do_clash(first, second))
+		return COMMUTE;
+	if (((first->how | second->how) & ORDERS) != 0)
+		return ORDERED;
+	return (first->how & (ACQUIRES | RELEASES)) == RELEASES && (second->how & ACQUIRES) != 0 ? ENABLES : CONFLICTS;
+}
 
 static enum relation relation_to(const struct access *first, const struct set *second)
 {
 	enum relation found = COMMUTE;
-	for (uint32_t at = 0; at < second->count; at++) {
-		if (!do_clash(first, &second->of[at]))
-			continue;
-		if (!does_enable(first, &second->of[at]))
-			return CONFLICTS;
-		found = ENABLES;
+	for (uint32_t at = 0; at < second->count && found != CONFLICTS; at++) {
+		enum relation relation = relation_of_accesses(first, &second->of[at]);
+		found = relation > found ? relation : found;
 	}
 	return found;
 }

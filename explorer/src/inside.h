@@ -39,7 +39,7 @@ enum {
 	WRITES = 1,
 	ACQUIRES = 2,	/* what others gave comes before it */
 	RELEASES = 4,
-	ORDERS = 8	/* the later step waits for the earlier one */
+	ORDERS = 8	/* the later step waits for the earlier one, so the two never change places */
 };
 
 struct access {
@@ -94,6 +94,7 @@ struct routine {
 	kmutex_t *relock;	/* the lock that it takes when it was woken */
 	const void *target;	/* of the call that it is in */
 	int made_at;		/* the step; -1 for none */
+	uint64_t sections[ALL_CPUS];	/* of each CPU the one that its wait waits for; 0 for none */
 	clocks clock, released, pending;
 };
 
@@ -109,6 +110,7 @@ struct run {
 	int64_t time;
 	unsigned ticks;
 	uint64_t arrivals;
+	bool inside[ALL_CPUS];	/* a section */
 	uint64_t ends[ALL_CPUS];	/* of sections */
 	uint64_t handlers;		/* that have ended */
 	bool own_memory;	/* what is taken now is the layer's own */

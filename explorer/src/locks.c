@@ -255,7 +255,6 @@ static void await_section(struct routine *me, unsigned cpu)
 	me->noted = number;
 	wait_here(has_ended_section, (const void *)(uintptr_t)cpu);
 	touch(ON_END, (const void *)(uintptr_t)(number + 1), cpu, ORDERS | WRITES);
-	acquire_clock(ON_END, (const void *)(uintptr_t)(number + 1), cpu);
 }
 
 bool pause_longer(struct pauses *pauses, const struct registry_stage *met)
@@ -278,6 +277,7 @@ bool pause_longer(struct pauses *pauses, const struct registry_stage *met)
 uint32_t bench_enter(struct registry_cpu *cpu)
 {
 	touch(ON_SECTION, NULL, kupaldiz_self->cpu->info.ci_index, WRITES);
+	run.inside[kupaldiz_self->cpu->info.ci_index] = true;
 	return registry_enter(cpu);
 }
 
@@ -288,6 +288,7 @@ uint32_t bench_section_exit(struct registry_cpu *cpu)
 	bool inside = kupaldiz_self == NULL;
 	if (inside || answer != REGISTRY_DONE || registry_inside(cpu, &inside) != REGISTRY_DONE || inside)
 		return answer;
+	run.inside[number] = false;
 	run.ends[number]++;
 	touch(ON_SECTION, NULL, number, WRITES | RELEASES);
 	touch(ON_END, (const void *)(uintptr_t)run.ends[number], number, ORDERS | WRITES);
@@ -319,7 +320,29 @@ uint32_t bench_perform_begin(struct registry_keeper *keeper, struct registry_cpu
 {
 	touch(ON_SECTION, NULL, ANY, 0);
 	acquire_sections();
+	for (unsigned number = 0; number < KUPALDIZ_CPUS; number++)
+		run.current->sections[number] = run.inside[number] ? run.ends[number] + 1 : 0;
 	return registry_perform_begin(keeper, cpu, wait);
+}
+
+/* Each section that was open as the wait began has ended before this, whichever it was that the last turn met. */
+static void acquire_ended(const struct routine *me)
+{
+	for (unsigned number = 0; number < KUPALDIZ_CPUS; number++) {
+		uint64_t section = me->sections[number];
+		if (section == 0 || run.ends[number] < section)
+			continue;
+		touch(ON_END, (const void *)(uintptr_t)section, number, ORDERS | WRITES);
+		acquire_clock(ON_END, (const void *)(uintptr_t)section, number);
+	}
+}
+
+uint32_t bench_perform_turn(struct registry_keeper *keeper, struct registry_cpu *cpu, struct registry_wait *wait, uint64_t *waited)
+{
+	uint32_t answer = registry_perform_turn(keeper, cpu, wait, waited);
+	if (answer == REGISTRY_DONE)
+		acquire_ended(run.current);
+	return answer;
 }
 
 /* ---- The C library's threads and time. ---- */

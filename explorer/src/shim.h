@@ -69,5 +69,6 @@
 #define registry_exit(cpu)		bench_section_exit(cpu)
 #define registry_destroy(keeper, cpu, number, met)	bench_destroy(keeper, cpu, number, met)
 #define registry_perform_begin(keeper, cpu, wait)	bench_perform_begin(keeper, cpu, wait)
+#define registry_perform_turn(keeper, cpu, wait, waited)	bench_perform_turn(keeper, cpu, wait, waited)
 
 #endif

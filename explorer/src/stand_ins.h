@@ -46,5 +46,6 @@ uint32_t bench_enter(struct registry_cpu *cpu);
 uint32_t bench_section_exit(struct registry_cpu *cpu);
 uint32_t bench_destroy(struct registry_keeper *keeper, struct registry_cpu *cpu, uint64_t number, struct registry_stage *met);
 uint32_t bench_perform_begin(struct registry_keeper *keeper, struct registry_cpu *cpu, struct registry_wait *wait);
+uint32_t bench_perform_turn(struct registry_keeper *keeper, struct registry_cpu *cpu, struct registry_wait *wait, uint64_t *waited);
 
 #endif
