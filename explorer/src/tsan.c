@@ -9,6 +9,11 @@
 
 #define PC	__builtin_return_address(0)
 
+/* With a sanitizer gcc knows these calls itself, by types that say less. */
+#ifndef __clang__
+#pragma GCC diagnostic ignored "-Wbuiltin-declaration-mismatch"
+#endif
+
 void __tsan_init(void);
 void __tsan_init(void)
 {

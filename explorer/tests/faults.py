@@ -139,7 +139,7 @@ def without(text, *places):
 
 FAULTS = [
     Fault("bridge", "bridge", "a perform forgotten", FREED, [(BRIDGE_END, without(BRIDGE_END, 1))]),
-    Fault("bridge", "bridge", "a link cleared before the perform", r"signal 11|status 1", [
+    Fault("bridge", "bridge", "a link cleared before the perform", r"data race", [
         (BRIDGE_END, BRIDGE_END.replace("	PSLIST_ENTRY_DESTROY(bif, bif_next);\n", "").replace(
             "	BRIDGE_PSZ_PERFORM(sc);\n", "	PSLIST_ENTRY_DESTROY(bif, bif_next);\n	BRIDGE_PSZ_PERFORM(sc);\n"))]),
     Fault("bridge", "bridge", "a psref acquired after the section", FREED, [(BRIDGE_ACQUIRE, swapped(BRIDGE_ACQUIRE, 0, 1))]),
@@ -199,7 +199,7 @@ FAULTS = [
     Fault("unload", "unload", "a drain before the unlinking", FREED, [(UNHOOK, UNHOOK.split("\n")[2] + "\n" + without(UNHOOK, 2))]),
     Fault("unload", "unload", "a count acquired after the section", FREED, [(FOUND_HOOK, swapped(FOUND_HOOK, 0, 1))]),
     Fault("unload", "unload", "a broadcast forgotten", r"nobody can go on: .*kthread_join|nobody can go on: .*cv_wait", [(DYING, without(DYING, 2))]),
-    Fault("unload", "unload", "a wake-up that is lost: the flag set without the lock", r"nobody can go on: .*cv_wait", [
+    Fault("unload", "unload", "a wake-up that is lost: the flag set without the lock", r"data race", [
         (DYING, "	sc->sc_dying = true;\n	cv_broadcast(&sc->sc_cv);\n	mutex_enter(&sc->sc_lock);\n")]),
     Fault("unload", "unload", "two locks in two orders", r"deadlock: .*(rw_enter|mutex_enter)", [
         (CALL_HOOK, CALL_HOOK.replace("	*answer", "	mutex_enter(&sc->sc_lock);\n	*answer").replace("	rw_exit", "	mutex_exit(&sc->sc_lock);\n	rw_exit")),
