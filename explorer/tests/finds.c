@@ -584,7 +584,14 @@ static void spins_for_another(void)
 	make_two(spin_for_flag, set_flag);
 }
 
-static void crash(void *arg)
+/* The sanitizers, where the bench is built with them, leave the crash to it. */
+const char *__asan_default_options(void);
+const char *__asan_default_options(void)
+{
+	return "handle_segv=0";
+}
+
+__attribute__((no_sanitize("undefined"))) static void crash(void *arg)
 {
 	(void)arg;
 	if (atomic_load_relaxed(&word) == 1)
