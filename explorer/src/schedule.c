@@ -172,64 +172,26 @@ static void throttle(struct step *step, const struct step *before)
 	search->found.throttled += step->throttled != 0;
 }
 
-/* ---- What a disabled thread waits for, as accesses: a step that touches it may have disabled the thread. ---- */
-
-static void add_lock(struct set *set, const void *lock)
-{
-	add(set, (struct access){.address = (uintptr_t)lock, .size = 1, .kind = ON_LOCK, .how = WRITES});
-}
-
-static void add_pending(struct set *set, const struct cpu *cpu)
-{
-	add(set, (struct access){.size = 1, .kind = ON_PENDING, .cpu = (uint16_t)cpu->info.ci_index, .how = WRITES});
-	add_lock(set, &cpu->hold);
-}
-
-static void add_wake(struct set *set, const struct routine *me)
-{
-	add(set, (struct access){.address = (uintptr_t)me, .size = 1, .kind = ON_WAKE, .how = WRITES});
-	if (me->relock != NULL)
-		add_lock(set, me->relock);
-}
-
-static void add_mutex(struct set *set, const struct routine *me)
-{
-	add_lock(set, me->of);
-	if (me->self->cpu != NULL)
-		add_lock(set, &me->self->cpu->hold);
-}
-
-/* Other guards never become false again. */
-static struct set guard_set(const struct routine *me)
-{
-	struct set set = {0};
-	if (me->guard == can_begin)
-		add_pending(&set, me->of);
-	else if (me->guard == was_woken)
-		add_wake(&set, me);
-	else if (me->guard == can_take)
-		add_mutex(&set, me);
-	else if (me->guard == is_free)
-		add_lock(&set, me->of);
-	if (!has_its_cpu(me))
-		add_lock(&set, &me->self->cpu->hold);
-	return set;
-}
+/* ---- Steps that are never made. ---- */
 
 static const struct set ticking = {.count = 2, .of = {{.size = 1, .kind = ON_TIME, .how = WRITES}, {.size = 1, .kind = ON_DEADLINE, .cpu = ANY}}};
 
-/* The run ends after its first `upto` steps, well or cut short. Those that are disabled then might have gone on before one of them. */
+/*
+ * The run ends after its first `upto` steps, well or cut short. The clock and the soft interrupts that are disabled then might have gone on before one of them
+ *
+ * A thread that waits for a lock, a wake-up or its CPU needs nothing here: it goes on in each run that isn't cut, and its step has its races there.
+ */
 static void find_races_of_all_disabled(unsigned upto)
 {
 	if (!clock_may_jump() && run.ticks < options.ticks)
 		find_races_of_disabled(CLOCK, &ticking, upto);
 	for (unsigned number = 0; number < run.count; number++) {
 		const struct routine *routine = &run.routines[number];
-		if (routine->ended || is_enabled(routine))
+		if (routine->guard != can_begin || is_enabled(routine))
 			continue;
-		const struct set set = guard_set(routine);
-		if (set.count > 0)
-			find_races_of_disabled(number, &set, upto);
+		uint16_t cpu = (uint16_t)routine->self->cpu->info.ci_index;
+		const struct set queue = {.count = 1, .of = {{.size = 1, .kind = ON_PENDING, .cpu = cpu, .how = WRITES}}};
+		find_races_of_disabled(number, &queue, upto);
 	}
 }
 

@@ -258,6 +258,7 @@ UNSEEN static void act(unsigned thread, char letter, unsigned value)
 	case 'W': lock_words(thread, RW_WRITER, value); break;
 	case 'g': refer(thread); break;
 	case 'D': end_target(); break;
+	case 'h': break;
 	case 'i': softint_schedule(softint); break;
 	case 'o': callout_reset(&callout, 1, ring, NULL); break;
 	case 'O': (void)callout_halt(&callout, NULL); break;
@@ -299,6 +300,14 @@ UNSEEN static void run_text(void *arg)
 #define WITH_SECTIONS	"<>PgDqQ"
 #define PLAINLY		"xyXYz#p"
 
+/* A soft interrupt waits on CPU 0 from the beginning, and its thread is made before the others. */
+static void schedule_early(void)
+{
+	kupaldiz_bind(0);
+	softint_schedule(softint);
+	kupaldiz_unbind();
+}
+
 static void begin(void)
 {
 	static const char *const names[] = {"one", "two", "three", "four"};
@@ -316,8 +325,10 @@ static void begin(void)
 	}
 	if (does("{}"))
 		mutex_init(&spin, MUTEX_DEFAULT, IPL_SOFTNET);
-	if (does("i"))
+	if (does("ih"))
 		softint = softint_establish(SOFTINT_NET | SOFTINT_MPSAFE, handle, NULL);
+	if (does("h"))
+		schedule_early();
 	if (does("p"))
 		plain_softint = softint_establish(SOFTINT_NET | SOFTINT_MPSAFE, count_plainly, NULL);
 	if (does("oO"))
@@ -365,13 +376,13 @@ static void finish(void)
 	for (unsigned at = 0; at < MOST; at++)
 		end_softint(at, false);
 	/* A soft interrupt of real threads may run later. */
-	if (!prints || !does("ioj"))
+	if (!prints || !does("iohj"))
 		bench_outcome("%u %u %u %u", words[0], words[1], plains[0], plains[1]);
 	if (does("oO")) {
 		(void)callout_halt(&callout, NULL);
 		callout_destroy(&callout);
 	}
-	if (does("i"))
+	if (does("ih"))
 		softint_disestablish(softint);
 	if (does("p"))
 		softint_disestablish(plain_softint);
@@ -505,7 +516,7 @@ static unsigned points_of(const char *text)
 {
 	unsigned points = 0;
 	for (; *text != '\0'; text++)
-		points += strchr("gqDQ", *text) != NULL ? 6 : strchr("twsTjfeoOrWnp", *text) != NULL ? 3 : *text != 'c';
+		points += strchr("gqDQ", *text) != NULL ? 6 : strchr("twsTjfeoOrWnph", *text) != NULL ? 3 : *text != 'c';
 	return points;
 }
 
@@ -525,10 +536,10 @@ static void try_random(uint64_t of)
 	seed = of * 2654435761u + 7;
 	memset(texts, 0, sizeof(texts));
 	unsigned threads = 2 + pick(2), parts = seconds > 0 ? 1 : 2;
-	bool one_cpu = pick(3) == 0;
+	bool one_cpu = pick(3) == 0, early = pick(3) == 0;
 	for (unsigned thread = 0; thread < threads; thread++) {
 		if (one_cpu)
-			add(texts[thread], "c");
+			add(texts[thread], early && thread == 0 ? "hc" : "c");
 		make_text(texts[thread], threads == 2 ? parts + pick(2) : 1 + pick(parts));
 	}
 	if (pick(4) == 0)
@@ -593,6 +604,11 @@ static void try_written(void)
 	try("nx", "Xb", "");
 	try("A(a)", "ko", "");
 	try("o", "", "");
+	try("z", "y", "");
+	try("Ab", "aB", "ab");
+	try("t", "[A](a)", "");
+	try("hc<b>", "", "");
+	try("T", "oaS", "");
 }
 
 static time_t now(void)
