@@ -5,6 +5,9 @@
  * sys/ and net/ as with kupaldiz_netbsd(7). Each call of the layer, each atomic access and each barrier is a point: the bench may go on with another
  * thread there. bench_explore runs the threads in one order after another, and stops at the first order in which something is wrong.
  *
+ * A file that is compiled with -fsanitize=thread tells its plain accesses. Two to one memory are a data race, which is a fault, where one writes and nothing
+ * orders them: a lock, a wait, an atomic with acquire and release, or a membar call beside relaxed atomics. No program is linked with -fsanitize=thread.
+ *
  * Nothing of the layer is called outside of bench_explore. All threads run in one thread of the process, in a child of it. Before each run the writable
  * memory of the program gets the bytes that it had when bench_explore was called; what the program itself has allocated is left as it is.
  */
@@ -44,7 +47,7 @@ struct bench_found {
 	uint64_t states;	/* points that were come to by a new way */
 	uint64_t switches;	/* from one thread to another */
 	uint64_t points;
-	uint64_t barred;	/* points at which a thread, after 200 without another one, didn't go on */
+	uint64_t throttled;	/* points at which a thread, after 200 without another one, didn't go on */
 	bool complete;		/* the search through all came to its end */
 	bool exhausted;		/* and left nothing out: every schedule of the points was tried, or is the same as one that was */
 	int bound;		/* every schedule with at most so many preemptions was tried; -1 where none */
@@ -75,7 +78,7 @@ struct bench_options {
 	unsigned failures;	/* how many calls may fail, and waits end early, in one run; 1 */
 	bool reliable;		/* none does */
 	bool whole;		/* without the reduction */
-	bool frees;		/* a free commutes with no step: plain accesses that aren't announced are tried before and after it */
+	bool racy;		/* a data race is no fault: each plain access is a point, and what a race decides is tried */
 	bool quiet;		/* prints nothing; else the counts and the fault are printed on standard output */
 	const char *replay;	/* a schedule: this one alone is run */
 	const char *picture;	/* the name of a file that gets the picture of the fault */
@@ -99,17 +102,6 @@ void bench_point(void);
 
 /* bench_outcome - add a text to the outcome of this run. */
 void bench_outcome(const char *format, ...) __attribute__((format(printf, 1, 2)));
-
-/*
- * bench_reads, bench_writes - the caller reads or writes this memory by plain accesses
- *
- * The run is wrong where another thread accesses it without an order, and one of the two writes. Locks, waits, atomics with acquire and release,
- * and membar calls beside relaxed atomics make an order. It is wrong, too, where the memory was given back by kmem_free.
- */
-void bench_reads(const volatile void *at, size_t size, const char *place);
-void bench_writes(const volatile void *at, size_t size, const char *place);
-#define BENCH_READS(lvalue)	bench_reads(&(lvalue), sizeof(lvalue), KUPALDIZ_HERE)
-#define BENCH_WRITES(lvalue)	bench_writes(&(lvalue), sizeof(lvalue), KUPALDIZ_HERE)
 
 #ifdef __cplusplus
 }

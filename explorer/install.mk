@@ -36,7 +36,7 @@ $(BENCH_LAYER:netbsd/src/%.c=$(BENCH_FOLDER)/layer-%.o): $(BENCH_FOLDER)/layer-%
 $(OUT)/libkupaldiz_bench.a: $(BENCH_OBJECTS) explorer/bench.map
 	rm -f $@ $(OUT)/kupaldiz_bench.o
 	$(CC) -r -nostdlib -o $(OUT)/kupaldiz_bench.o $(BENCH_OBJECTS)
-	sed -n 's/^\t\t\([a-z][a-z0-9_]*\*\?\);$$/\1/p' explorer/bench.map >$(BENCH_FOLDER)/shown
+	sed -n 's/^\t\t\([a-z_][a-z0-9_]*\*\?\);$$/\1/p' explorer/bench.map >$(BENCH_FOLDER)/shown
 	$(OBJCOPY) --wildcard --keep-global-symbols=$(BENCH_FOLDER)/shown $(OUT)/kupaldiz_bench.o
 	$(AR) rcsD $@ $(OUT)/kupaldiz_bench.o
 

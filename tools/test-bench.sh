@@ -78,6 +78,28 @@ is_for_one_processor() {
     grep -q 'error.*the bench is for x86-64 alone' <<<"$said"
 }
 
+# plain_program WORD..: compiles and links a program of one thread by these words, and runs it.
+plain_program() {
+    cat >"$room/plain.c" <<'C'
+#include "bench.h"
+static void go(void *arg) { (void)arg; bench_point(); }
+static void begin(void) { bench_thread("one", go, NULL); }
+int main(void) { return bench_explore(begin, NULL); }
+C
+    gcc "$@" -DKUPALDIZ_BENCH -Inetbsd/include -I$folder -Icrates/registry_c/include -o "$room/plain" "$room/plain.c" "$out/plain/libbench.a" \
+        out/libregistry.a -pthread && "$room/plain" 2>&1
+}
+
+names_unseen_file() {
+    plain_program -O1 | grep -xF "bench: plain accesses weren't seen in plain.c: compiled without -fsanitize=thread"
+}
+
+refuses_linked_sanitizer() {
+    local said
+    said=$(plain_program -fsanitize=thread)
+    [ $? -eq 2 ] && grep -F "the program is linked with -fsanitize=thread" <<<"$said"
+}
+
 lints() {
     [ -z "$(mandoc -T lint man/kupaldiz_bench.7 2>&1 | tee /dev/stderr)" ]
 }
@@ -111,6 +133,8 @@ if command -v clang >/dev/null; then
     check "the bench is built by clang, no warning, and counts" with_clang
 fi
 check "another processor is refused at compile time" is_for_one_processor
+check "a file without -fsanitize=thread is named" names_unseen_file
+check "a program that is linked with it is refused" refuses_linked_sanitizer
 check "a picture" is_picture
 check "100,000 switches a second" is_fast
 if command -v valgrind >/dev/null; then

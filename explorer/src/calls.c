@@ -20,7 +20,7 @@ void at_thing(const char *call, enum kind kind, const void *thing, size_t size, 
 {
 	point(call, NULL, NULL, NULL);
 	if (thing != NULL)
-		want_live(call, thing, size);
+		check_live(call, thing, size);
 	touch(kind, thing, 0, how);
 }
 
@@ -32,7 +32,7 @@ void at_cpu(const char *call, unsigned how)
 	bool needs = me->self->holds == 0;
 	point(call, NULL, needs ? is_free : NULL, &cpu_here(me)->hold);
 	if (needs)
-		touch(ON_LOCK, &cpu_here(me)->hold, 0, WRITES | TAKES | how);
+		touch(ON_LOCK, &cpu_here(me)->hold, 0, WRITES | ACQUIRES | how);
 }
 
 /* A call that may give the CPU back. */
@@ -41,7 +41,7 @@ void leaving_cpu(const char *call)
 	struct routine *me = here(call);
 	point(call, NULL, NULL, NULL);
 	if (me->self->holds == 1)
-		touch(ON_LOCK, &cpu_here(me)->hold, 0, WRITES | GIVES);
+		touch(ON_LOCK, &cpu_here(me)->hold, 0, WRITES | RELEASES);
 }
 
 /* ---- mutex(9). ---- */
@@ -80,33 +80,33 @@ static void at_mutex(const char *call, kmutex_t *mutex, guard_fn *guard, unsigne
 {
 	struct routine *me = here(call);
 	point(call, NULL, guard, mutex);
-	want_live(call, mutex, sizeof(*mutex));
-	touch(ON_LOCK, mutex, 0, WRITES | (how == TAKES && steps_off(me, mutex) ? 0 : how));
+	check_live(call, mutex, sizeof(*mutex));
+	touch(ON_LOCK, mutex, 0, WRITES | (how == ACQUIRES && steps_off(me, mutex) ? 0 : how));
 	if (mutex->mtx_spins)
 		touch(ON_LOCK, &cpu_here(me)->hold, 0, WRITES | how);
 }
 
 void mutex_enter(kmutex_t *mutex)
 {
-	at_mutex(__func__, mutex, can_take, TAKES);
+	at_mutex(__func__, mutex, can_take, ACQUIRES);
 	layer_mutex_enter(mutex);
 }
 
 void mutex_spin_enter(kmutex_t *mutex)
 {
-	at_mutex(__func__, mutex, can_take, TAKES);
+	at_mutex(__func__, mutex, can_take, ACQUIRES);
 	layer_mutex_spin_enter(mutex);
 }
 
 void mutex_exit(kmutex_t *mutex)
 {
-	at_mutex(__func__, mutex, NULL, GIVES);
+	at_mutex(__func__, mutex, NULL, RELEASES);
 	layer_mutex_exit(mutex);
 }
 
 void mutex_spin_exit(kmutex_t *mutex)
 {
-	at_mutex(__func__, mutex, NULL, GIVES);
+	at_mutex(__func__, mutex, NULL, RELEASES);
 	layer_mutex_spin_exit(mutex);
 }
 
@@ -115,14 +115,14 @@ int mutex_tryenter(kmutex_t *mutex)
 	at_mutex(__func__, mutex, NULL, 0);
 	int taken = layer_mutex_tryenter(mutex);
 	if (taken)
-		take_clock(ON_LOCK, mutex, 0);
+		acquire_clock(ON_LOCK, mutex, 0);
 	return taken;
 }
 
 void mutex_destroy(kmutex_t *mutex)
 {
 	at_thing(__func__, ON_LOCK, mutex, sizeof(*mutex), WRITES);
-	note_ended(mutex);
+	track_ended(mutex);
 	layer_mutex_destroy(mutex);
 }
 
@@ -155,18 +155,18 @@ static struct routine *begin_cv_wait(const char *call, kcondvar_t *cv, kmutex_t 
 {
 	struct routine *me = here(call);
 	point(call, NULL, NULL, NULL);
-	want_live(call, cv, sizeof(*cv));
-	want_live(call, mutex, sizeof(*mutex));
+	check_live(call, cv, sizeof(*cv));
+	check_live(call, mutex, sizeof(*mutex));
 	touch(ON_CV, cv, 0, WRITES);
-	touch(ON_LOCK, mutex, 0, WRITES | GIVES);
-	me->retake = mutex;
+	touch(ON_LOCK, mutex, 0, WRITES | RELEASES);
+	me->relock = mutex;
 	return me;
 }
 
 static void end_cv_wait(struct routine *me, kmutex_t *mutex)
 {
-	touch(ON_LOCK, mutex, 0, WRITES | TAKES);
-	me->retake = NULL;
+	touch(ON_LOCK, mutex, 0, WRITES | ACQUIRES);
+	me->relock = NULL;
 }
 
 void cv_wait(kcondvar_t *cv, kmutex_t *mutex)
@@ -203,7 +203,7 @@ int cv_timedwait_sig(kcondvar_t *cv, kmutex_t *mutex, int ticks)
 static void at_wake(const char *call, kcondvar_t *cv)
 {
 	at_thing(call, ON_CV, cv, sizeof(*cv), WRITES);
-	note_wake(call, run.now_runs->place, cv, bucket_has(NULL, cv));
+	track_wake(call, run.current->place, cv, bucket_has(NULL, cv));
 }
 
 void cv_signal(kcondvar_t *cv)
@@ -233,7 +233,7 @@ bool cv_is_valid(kcondvar_t *cv)
 void cv_destroy(kcondvar_t *cv)
 {
 	at_thing(__func__, ON_CV, cv, sizeof(*cv), WRITES);
-	note_ended(cv);
+	track_ended(cv);
 	layer_cv_destroy(cv);
 }
 
@@ -253,7 +253,7 @@ void rw_enter(krwlock_t *rw, const krw_t how)
 	at_thing(__func__, ON_LOCK, rw, sizeof(*rw), WRITES);
 	layer_rw_enter(rw, how);
 	touch(ON_LOCK, rw, 0, WRITES);
-	take_clock(ON_LOCK, rw, 0);
+	acquire_clock(ON_LOCK, rw, 0);
 }
 
 int rw_tryenter(krwlock_t *rw, const krw_t how)
@@ -261,34 +261,37 @@ int rw_tryenter(krwlock_t *rw, const krw_t how)
 	at_thing(__func__, ON_LOCK, rw, sizeof(*rw), WRITES);
 	int taken = layer_rw_tryenter(rw, how);
 	if (taken)
-		take_clock(ON_LOCK, rw, 0);
+		acquire_clock(ON_LOCK, rw, 0);
 	return taken;
 }
 
 void rw_exit(krwlock_t *rw)
 {
 	at_thing(__func__, ON_LOCK, rw, sizeof(*rw), WRITES);
-	give_clock(ON_LOCK, rw, 0);
+	release_clock(ON_LOCK, rw, 0);
 	layer_rw_exit(rw);
 }
 
 int rw_tryupgrade(krwlock_t *rw)
 {
 	at_thing(__func__, ON_LOCK, rw, sizeof(*rw), WRITES);
-	return layer_rw_tryupgrade(rw);
+	int upgraded = layer_rw_tryupgrade(rw);
+	if (upgraded)
+		acquire_clock(ON_LOCK, rw, 0);
+	return upgraded;
 }
 
 void rw_downgrade(krwlock_t *rw)
 {
 	at_thing(__func__, ON_LOCK, rw, sizeof(*rw), WRITES);
-	give_clock(ON_LOCK, rw, 0);
+	release_clock(ON_LOCK, rw, 0);
 	layer_rw_downgrade(rw);
 }
 
 void rw_destroy(krwlock_t *rw)
 {
 	at_thing(__func__, ON_LOCK, rw, sizeof(*rw), WRITES);
-	note_ended(rw);
+	track_ended(rw);
 	layer_rw_destroy(rw);
 }
 
@@ -329,8 +332,6 @@ void pserialize_perform(pserialize_t psz)
 	at_thing(__func__, ON_TARGET, psz, 1, 0);
 	layer_pserialize_perform(psz);
 	touch(ON_TARGET, psz, 0, 0);
-	for (unsigned cpu = 0; cpu < KUPALDIZ_CPUS; cpu++)
-		take_clock(ON_SECTION, NULL, cpu);
 }
 
 void pserialize_destroy(pserialize_t psz)
@@ -358,7 +359,7 @@ void psref_class_destroy(struct psref_class *psref_class)
 void psref_target_init(struct psref_target *target, struct psref_class *psref_class)
 {
 	at_thing(__func__, ON_TARGET, target, sizeof(*target), WRITES);
-	want_live(__func__, psref_class, 1);
+	check_live(__func__, psref_class, 1);
 	touch(ON_TARGET, psref_class, 0, 0);
 	layer_psref_target_init(target, psref_class);
 }
@@ -367,21 +368,21 @@ void psref_target_destroy(struct psref_target *target, struct psref_class *psref
 {
 	struct routine *me = here(__func__);
 	at_thing(__func__, ON_TARGET, target, sizeof(*target), WRITES);
-	want_live(__func__, psref_class, 1);
+	check_live(__func__, psref_class, 1);
 	touch(ON_TARGET, psref_class, 0, 0);
 	me->target = target;
 	layer_psref_target_destroy(target, psref_class);
 	me->target = NULL;
 	touch(ON_TARGET, psref_class, 0, 0);
-	take_clock(ON_REFERENCES, target, 0);
+	acquire_clock(ON_REFERENCES, target, 0);
 }
 
 /* A call with a reference of this CPU's to a target. */
 static void at_reference(const char *call, const struct psref_target *target, unsigned how)
 {
 	struct routine *me = here(call);
-	at_cpu(call, GIVES);
-	want_live(call, target, sizeof(*target));
+	at_cpu(call, RELEASES);
+	check_live(call, target, sizeof(*target));
 	touch(ON_REFERENCES, target, cpu_here(me)->info.ci_index, how);
 	touch(ON_TARGET, target, 0, 0);
 }
@@ -395,7 +396,7 @@ void psref_acquire(struct psref *psref, const struct psref_target *target, struc
 void psref_release(struct psref *psref, const struct psref_target *target, struct psref_class *psref_class)
 {
 	at_reference(__func__, target, WRITES);
-	give_clock(ON_REFERENCES, target, 0);
+	release_clock(ON_REFERENCES, target, 0);
 	layer_psref_release(psref, target, psref_class);
 	++*releases_of(target);
 }
@@ -437,21 +438,21 @@ void localcount_drain(struct localcount *lc, kcondvar_t *cv, kmutex_t *interlock
 {
 	struct routine *me = here(__func__);
 	at_thing(__func__, ON_TARGET, lc, sizeof(*lc), WRITES);
-	want_live(__func__, interlock, sizeof(*interlock));
-	touch(ON_LOCK, interlock, 0, WRITES | GIVES);
+	check_live(__func__, interlock, sizeof(*interlock));
+	touch(ON_LOCK, interlock, 0, WRITES | RELEASES);
 	me->target = lc;
-	me->retake = interlock;
+	me->relock = interlock;
 	layer_localcount_drain(lc, cv, interlock);
 	end_cv_wait(me, interlock);
 	me->target = NULL;
-	take_clock(ON_REFERENCES, lc, 0);
+	acquire_clock(ON_REFERENCES, lc, 0);
 }
 
 void localcount_acquire(struct localcount *lc)
 {
 	struct routine *me = here(__func__);
-	at_cpu(__func__, GIVES);
-	want_live(__func__, lc, sizeof(*lc));
+	at_cpu(__func__, RELEASES);
+	check_live(__func__, lc, sizeof(*lc));
 	touch(ON_REFERENCES, lc, cpu_here(me)->info.ci_index, WRITES);
 	touch(ON_TARGET, lc, 0, 0);
 	layer_localcount_acquire(lc);
@@ -460,11 +461,11 @@ void localcount_acquire(struct localcount *lc)
 void localcount_release(struct localcount *lc, kcondvar_t *cv, kmutex_t *interlock)
 {
 	struct routine *me = here(__func__);
-	at_cpu(__func__, GIVES);
-	want_live(__func__, lc, sizeof(*lc));
+	at_cpu(__func__, RELEASES);
+	check_live(__func__, lc, sizeof(*lc));
 	touch(ON_REFERENCES, lc, cpu_here(me)->info.ci_index, WRITES);
 	touch(ON_TARGET, lc, 0, 0);
-	give_clock(ON_REFERENCES, lc, 0);
+	release_clock(ON_REFERENCES, lc, 0);
 	layer_localcount_release(lc, cv, interlock);
 	++*releases_of(lc);
 }

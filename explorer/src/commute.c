@@ -11,6 +11,10 @@
  * step that enables or disables another one conflicts with it. Two conflicting steps of different threads are a race if the later one's thread might
  * have gone on before the earlier step. For each race the search adds a backtrack point: at the earlier step a thread is planned that leads to the later
  * step first.
+ *
+ * A plain access is no access of a step, unless it is a point of its own. Let two steps that commute here have plain accesses to one memory, one of which
+ * writes. Where the two are neighbours nothing orders them, and so the run is wrong by a data race (plain.c), whichever comes first. As long as no run is
+ * wrong, such neighbours leave the same memory in both orders. For this, two steps must conflict here if the one acquires the clock that the other has released.
  */
 #include <string.h>
 
@@ -31,24 +35,24 @@ static bool do_clash(const struct access *one, const struct access *other)
 	return one->address == other->address && (one->cpu == other->cpu || one->cpu == ANY || other->cpu == ANY);
 }
 
-/* Whether the second can't come before the first, if its thread isn't enabled there. */
-static bool does_enable(const struct access *first, const struct access *second)
-{
-	return ((first->how | second->how) & ORDERS) != 0 || ((first->how & (TAKES | GIVES)) == GIVES && (second->how & TAKES) != 0);
-}
-
 /* How a step is to a later one: they commute; they never change places; it does nothing to the later one but enable it; or they conflict otherwise. */
 enum relation { COMMUTE, ORDERED, ENABLES, CONFLICTS };
+
+static enum relation relation_of_accesses(const struct access *first, const struct access *second)
+{
+	if (!do_clash(first, second))
+		return COMMUTE;
+	if (((first->how | second->how) & ORDERS) != 0)
+		return ORDERED;
+	return (first->how & (ACQUIRES | RELEASES)) == RELEASES && (second->how & ACQUIRES) != 0 ? ENABLES : CONFLICTS;
+}
 
 static enum relation relation_to(const struct access *first, const struct set *second)
 {
 	enum relation found = COMMUTE;
-	for (uint32_t at = 0; at < second->count; at++) {
-		if (!do_clash(first, &second->of[at]))
-			continue;
-		if (!does_enable(first, &second->of[at]))
-			return CONFLICTS;
-		found = ENABLES;
+	for (uint32_t at = 0; at < second->count && found != CONFLICTS; at++) {
+		enum relation relation = relation_of_accesses(first, &second->of[at]);
+		found = relation > found ? relation : found;
 	}
 	return found;
 }
@@ -74,7 +78,7 @@ bool do_conflict(const struct set *one, const struct set *other)
 
 static bool comes_after(const uint32_t *clock, unsigned at)
 {
-	return clock[board->steps[at].chosen] >= at + 1;
+	return clock[search->steps[at].chosen] >= at + 1;
 }
 
 static void join(uint32_t *clock, const uint32_t *other)
@@ -87,9 +91,9 @@ static void join(uint32_t *clock, const uint32_t *other)
 /* The last step of this step's thread before it; else the one in which the thread was made; -1 for none. */
 static int step_before(unsigned at)
 {
-	unsigned thread = board->steps[at].chosen;
+	unsigned thread = search->steps[at].chosen;
 	for (int before = (int)at - 1; before >= 0; before--)
-		if (board->steps[before].chosen == thread)
+		if (search->steps[before].chosen == thread)
 			return before;
 	return run.routines[thread].made ? run.routines[thread].made_at : -1;
 }
@@ -100,23 +104,23 @@ static int step_before(unsigned at)
 static bool has_earlier(const unsigned *list, unsigned count, unsigned at)
 {
 	for (unsigned place = 0; place < count; place++)
-		if (comes_after(board->steps[at].clock, list[place]))
+		if (comes_after(search->steps[at].clock, list[place]))
 			return true;
 	return false;
 }
 
 /* The threads that may begin what leads to the later step without the earlier one. */
-static uint32_t beginners(unsigned earlier, unsigned later)
+static uint32_t initials(unsigned earlier, unsigned later)
 {
-	unsigned *list = beside->list;
+	unsigned *list = scratch->list;
 	unsigned count = 0;
 	uint32_t seen = 0, found = 0;
 	for (unsigned at = earlier + 1; at <= later; at++) {
-		const struct step *step = &board->steps[at];
+		const struct step *step = &search->steps[at];
 		if (at < later && comes_after(step->clock, earlier))
 			continue;
 		uint32_t thread = UINT32_C(1) << step->chosen;
-		bool leads = at == later || comes_after(board->steps[later].clock, at);
+		bool leads = at == later || comes_after(search->steps[later].clock, at);
 		if ((seen & thread) == 0 && leads && !has_earlier(list, count, at))
 			found |= thread;
 		seen |= thread;
@@ -130,13 +134,13 @@ static uint32_t beginners(unsigned earlier, unsigned later)
  *
  * One that is asleep there needs none: what begins with it was tried.
  */
-static void plan(unsigned earlier, unsigned later)
+static void add_backtrack_point(unsigned earlier, unsigned later)
 {
-	struct step *step = &board->steps[earlier];
-	uint32_t can = beginners(earlier, later) & step->enabled & ~step->barred, own = UINT32_C(1) << board->steps[later].chosen;
-	if (can == 0 || (can & (step->planned | step->done | step->asleep | UINT32_C(1) << step->chosen)) != 0)
+	struct step *step = &search->steps[earlier];
+	uint32_t can = initials(earlier, later) & step->enabled & ~step->throttled, own = UINT32_C(1) << search->steps[later].chosen;
+	if (can == 0 || (can & (step->backtrack | step->explored | step->sleeping | UINT32_C(1) << step->chosen)) != 0)
 		return;
-	step->planned |= (can & own) != 0 ? own : can & (~can + 1);
+	step->backtrack |= (can & own) != 0 ? own : can & (~can + 1);
 }
 
 /* What is known of an earlier step, where a later one is looked back from. */
@@ -145,10 +149,10 @@ enum then { WAS_DISABLED, WAS_ENABLED, WAS_ELSEWHERE };
 /* Whether the thread of a step, which its step before has left at its guard, was enabled at an earlier step of another thread. */
 static enum then thread_then(unsigned earlier, unsigned later, int before)
 {
-	const struct step *step = &board->steps[later];
+	const struct step *step = &search->steps[later];
 	if ((int)earlier <= before)
 		return step->guarded ? WAS_ELSEWHERE : WAS_ENABLED;
-	return (board->steps[earlier].enabled >> step->chosen & 1) != 0 ? WAS_ENABLED : WAS_DISABLED;
+	return (search->steps[earlier].enabled >> step->chosen & 1) != 0 ? WAS_ENABLED : WAS_DISABLED;
 }
 
 /*
@@ -159,20 +163,20 @@ static enum then thread_then(unsigned earlier, unsigned later, int before)
  */
 static unsigned order_step(unsigned at, unsigned upto, unsigned *races)
 {
-	struct step *step = &board->steps[at];
+	struct step *step = &search->steps[at];
 	clocks base = {0}, covered;
 	unsigned count = 0;
 	int before = step_before(at);
 	if (before >= 0)
-		memcpy(base, board->steps[before].clock, sizeof(base));
+		memcpy(base, search->steps[before].clock, sizeof(base));
 	memcpy(step->clock, base, sizeof(base));
 	memcpy(covered, base, sizeof(base));
 	for (int other = (int)upto - 1; other >= 0; other--) {
-		const struct step *found = &board->steps[other];
+		const struct step *found = &search->steps[other];
 		if (comes_after(base, (unsigned)other) || found->chosen == step->chosen)
 			continue;
 		enum relation relation = relation_of(&found->set, &step->set);
-		if (relation == COMMUTE || (relation == ORDERED && at == board->length))
+		if (relation == COMMUTE || (relation == ORDERED && at == search->length))
 			continue;
 		enum then then = thread_then((unsigned)other, at, before);
 		join(step->clock, found->clock);
@@ -187,22 +191,22 @@ static unsigned order_step(unsigned at, unsigned upto, unsigned *races)
 }
 
 /* Sets a step among the first `upto`, and adds the backtrack points that it asks for. */
-static void judge(unsigned at, unsigned upto)
+static void find_races(unsigned at, unsigned upto)
 {
-	unsigned *races = beside->races, count = order_step(at, upto, races);
+	unsigned *races = scratch->races, count = order_step(at, upto, races);
 	for (unsigned place = 0; place < count; place++)
-		plan(races[place], at);
+		add_backtrack_point(races[place], at);
 }
 
-void judge_step(unsigned at)
+void find_races_of_step(unsigned at)
 {
-	judge(at, at);
+	find_races(at, at);
 }
 
 /* The same of the step that a thread which is disabled after the first `upto` would have made, as far as its guard says: it has these accesses. */
-void judge_disabled(unsigned thread, const struct set *set, unsigned upto)
+void find_races_of_disabled(unsigned thread, const struct set *set, unsigned upto)
 {
-	unsigned at = board->length;
-	board->steps[at] = (struct step){.chosen = (uint8_t)thread, .guarded = true, .set = *set};
-	judge(at, upto);
+	unsigned at = search->length;
+	search->steps[at] = (struct step){.chosen = (uint8_t)thread, .guarded = true, .set = *set};
+	find_races(at, upto);
 }

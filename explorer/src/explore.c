@@ -16,7 +16,7 @@
 
 #include "inside.h"
 
-struct board *board;
+struct search *search;
 struct bench_options options;
 static void (*prepare)(void);
 
@@ -37,21 +37,21 @@ void fail(const char *format, ...)
 {
 	va_list words;
 	va_start(words, format);
-	vsnprintf(board->found.line, sizeof(board->found.line), format, words);
+	vsnprintf(search->found.line, sizeof(search->found.line), format, words);
 	va_end(words);
 	leave_run(FAILED);
 }
 
 /* ---- One run. ---- */
 
-static void judge_end(void)
+static void check_end(void)
 {
 	size_t held = 0;
 	if (live_owner(&held) != NULL)
 		fail(held > 0 ? "a local count with %zu references is left at the end" : "a target or a local count is left at the end", held);
-	judge_heap();
+	check_heap();
 	if (options.finish != NULL)
-		want_none_left();
+		check_none_left();
 }
 
 /* The body of the first thread. */
@@ -67,31 +67,32 @@ static void run_setup(void *arg)
 	point("finish", NULL, all_have_ended, NULL);
 	run.finish = run.step - 1;
 	make_barrier();
-	take_all_clocks();
+	touch(ON_TIME, NULL, 0, 0);
+	acquire_all_clocks();
 	run.phase = FINISHING;
 	if (options.finish != NULL)
 		options.finish();
 	end_of_thread(kupaldiz_self);
-	judge_end();
-	judge_end_of_run();
+	check_end();
+	find_races_at_end();
 	leave_run(ENDED_WELL);
 }
 
 static void keep_names(void)
 {
-	board->ended = 0;
+	search->ended = 0;
 	for (unsigned number = 0; number < run.count; number++) {
 		const struct routine *at = &run.routines[number];
 		const char *name = at->name != NULL ? at->name : at->self != NULL ? at->self->name : "?";
-		snprintf(board->names[number], sizeof(board->names[number]), "%s", name);
-		board->ended |= (uint32_t)at->ended << number;
+		snprintf(search->names[number], sizeof(search->names[number]), "%s", name);
+		search->ended |= (uint32_t)at->ended << number;
 	}
-	snprintf(board->names[THREADS - 1], sizeof(board->names[0]), "clock");
+	snprintf(search->names[THREADS - 1], sizeof(search->names[0]), "clock");
 }
 
 static void keep_outcome(void)
 {
-	struct bench_found *found = &board->found;
+	struct bench_found *found = &search->found;
 	for (unsigned at = 0; at < found->outcomes; at++) {
 		if (strcmp(found->outcome[at].text, run.outcome) == 0) {
 			found->outcome[at].count++;
@@ -113,20 +114,20 @@ static enum end run_here(void)
 	struct thread nobody = {.call = "bench_explore"};
 	restore_state();
 	forget_failures();
-	board->end = DIED;
-	board->length = 0;
-	board->stuck = false;
+	search->end = DIED;
+	search->length = 0;
+	search->stuck = false;
 	run_main(run_setup);
-	board->runs++;
+	search->runs++;
 	keep_names();
 	kupaldiz_self = NULL;
-	if (board->end == ENDED_WELL) {
-		board->found.schedules++;
+	if (search->end == ENDED_WELL) {
+		search->found.schedules++;
 		keep_outcome();
 	}
-	board->found.cut += board->end == CUT;
+	search->found.cut += search->end == CUT;
 	close_banks(&nobody);
-	return board->end;
+	return search->end;
 }
 
 /* Executes one in a process of its own, and ends as that one does where it crashes. */
@@ -149,12 +150,12 @@ static enum end run_apart(void)
 	}
 	if (status != 0)
 		_exit(WIFEXITED(status) ? WEXITSTATUS(status) : 1);
-	return board->end;
+	return search->end;
 }
 
 static enum end run_once(void)
 {
-	return board->apart ? run_apart() : run_here();
+	return search->apart ? run_apart() : run_here();
 }
 
 /* ---- The next schedule. ---- */
@@ -162,35 +163,35 @@ static enum end run_once(void)
 /* The last step at which something else is planned. Whether there is one. */
 static bool next_schedule(void)
 {
-	for (unsigned at = board->length; at-- > 0;) {
-		struct step *step = &board->steps[at];
+	for (unsigned at = search->length; at-- > 0;) {
+		struct step *step = &search->steps[at];
 		uint32_t chosen = UINT32_C(1) << step->chosen;
-		step->done |= chosen;
-		step->tried[step->chosen] = step->set;
-		uint32_t left = step->planned & ~step->done & ~step->asleep;
+		step->explored |= chosen;
+		step->explored_sets[step->chosen] = step->set;
+		uint32_t left = step->backtrack & ~step->explored & ~step->sleeping;
 		if (left == 0)
 			continue;
 		step->chosen = (uint8_t)__builtin_ctz(left);
-		board->prefix = at + 1;
-		board->fresh = at;
+		search->prefix = at + 1;
+		search->fresh = at;
 		return true;
 	}
 	return false;
 }
 
-static void begin_search(enum way way, uint64_t limit, unsigned bound)
+static void begin_search(enum mode mode, uint64_t limit, unsigned bound)
 {
-	board->way = way;
-	board->limit = limit;
-	board->bound = bound;
-	board->most = UINT_MAX;
-	board->prefix = board->fresh = 0;
+	search->mode = mode;
+	search->limit = limit;
+	search->bound = bound;
+	search->most = UINT_MAX;
+	search->prefix = search->fresh = 0;
 }
 
 /* Runs one schedule after another. Whether all were run and none was wrong. */
 static bool run_all(void)
 {
-	for (; board->limit > 0; board->limit--) {
+	for (; search->limit > 0; search->limit--) {
 		enum end end = run_once();
 		if (end == FAILED || end == UNFIT)
 			return false;
@@ -202,93 +203,93 @@ static bool run_all(void)
 
 static bool is_wrong(void)
 {
-	return board->end == FAILED || board->end == UNFIT;
+	return search->end == FAILED || search->end == UNFIT;
 }
 
 static void run_bounded(void)
 {
 	for (unsigned bound = 0; bound <= options.preemptions && !is_wrong(); bound++) {
-		uint64_t barred = board->found.barred;
+		uint64_t throttled = search->found.throttled;
 		begin_search(BOUNDED, options.bounded, bound);
-		if (!run_all() || board->found.barred > barred)
+		if (!run_all() || search->found.throttled > throttled)
 			return;
-		board->found.bound = (int)bound;
+		search->found.bound = (int)bound;
 	}
 }
 
 static uint64_t random_number(void)
 {
-	uint64_t at = board->seed;
+	uint64_t at = search->seed;
 	at ^= at << 13;
 	at ^= at >> 7;
 	at ^= at << 17;
-	return board->seed = at;
+	return search->seed = at;
 }
 
 /* Those that fall do so below all that were drawn. */
 static void draw_priorities(void)
 {
-	board->lowest = POINTS + 16;
+	search->lowest = POINTS + 16;
 	for (unsigned at = 0; at < THREADS; at++)
-		board->priorities[at] = board->lowest + (unsigned)(random_number() >> 33 & 0xffffff);
+		search->priorities[at] = search->lowest + (unsigned)(random_number() >> 33 & 0xffffff);
 }
 
 /* The points at which they fall. */
 static void draw_changes(unsigned length)
 {
-	for (unsigned at = 0; at < sizeof(board->changes) / sizeof(board->changes[0]); at++)
-		board->changes[at] = (unsigned)(random_number() % (length + 1));
+	for (unsigned at = 0; at < sizeof(search->changes) / sizeof(search->changes[0]); at++)
+		search->changes[at] = (unsigned)(random_number() % (length + 1));
 }
 
 static void run_random(void)
 {
-	unsigned length = board->length;
+	unsigned length = search->length;
 	begin_search(RANDOM, options.random, 0);
 	for (uint64_t count = 0; count < options.random && !is_wrong(); count++) {
 		draw_priorities();
 		draw_changes(length);
 		run_once();
-		length = board->length > length ? board->length : length;
-		board->found.random++;
+		length = search->length > length ? search->length : length;
+		search->found.random++;
 	}
 }
 
 /* ---- In the child. ---- */
 
-static bool search_all(void)
+static bool search_orders(void)
 {
 	begin_search(options.whole ? WHOLE : REDUCED, options.schedules, 0);
 	return run_all();
 }
 
 /* First without a failure, and then with each in turn. */
-static void search(void)
+static void search_all(void)
 {
-	board->found.complete = search_all();
-	if (!board->found.complete && !is_wrong() && !options.whole) {
+	search->found.complete = search_orders();
+	if (!search->found.complete && !is_wrong() && !options.whole) {
 		run_bounded();
 		if (!is_wrong())
 			run_random();
 	}
 	while (!is_wrong() && next_failure())
-		board->found.complete &= search_all();
-	board->found.complete &= has_all_failures();
-	board->found.exhausted = board->found.complete && board->found.barred == 0;
+		search->found.complete &= search_orders();
+	search->found.complete &= has_all_failures();
+	search->found.exhausted = search->found.complete && search->found.throttled == 0;
 }
 
 /* Goes on until a run goes wrong by the line that is wanted. */
 static void search_below(void)
 {
-	while (!run_all() && board->limit > 1 && board->end == FAILED && strcmp(board->found.line, board->wanted) != 0 && next_schedule())
-		board->limit--;
+	while (!run_all() && search->limit > 1 && search->end == FAILED && strcmp(search->found.line, search->wanted) != 0 && next_schedule())
+		search->limit--;
 }
 
 /* Does something in a child. How its last run ended. */
 static enum end in_child(void (*body)(void), bool silent)
 {
 	int status;
-	board->over = false;
-	board->end = ENDED_WELL;
+	search->over = false;
+	search->end = ENDED_WELL;
 	fflush(NULL);
 	pid_t child = fork();
 	if (child < 0)
@@ -296,23 +297,23 @@ static enum end in_child(void (*body)(void), bool silent)
 	if (child == 0) {
 		if (silent && freopen("/dev/null", "w", stderr) == NULL)
 			_exit(2);
-		note_state();
+		save_state();
 		body();
-		board->over = true;
+		search->over = true;
 		fflush(NULL);
 		_exit(0);
 	}
 	if (waitpid(child, &status, 0) != child)
 		refuse("the child is gone");
-	if (board->over)
-		return board->end;
+	if (search->over)
+		return search->end;
 	if (WIFEXITED(status) && WEXITSTATUS(status) == 2)
 		_exit(2);
 	if (WIFSIGNALED(status))
-		snprintf(board->found.line, sizeof(board->found.line), "the code ends by signal %d, %s", WTERMSIG(status), strsignal(WTERMSIG(status)));
+		snprintf(search->found.line, sizeof(search->found.line), "the code ends by signal %d, %s", WTERMSIG(status), strsignal(WTERMSIG(status)));
 	else
-		snprintf(board->found.line, sizeof(board->found.line), "the code ends the process with status %d", WEXITSTATUS(status));
-	board->runs++;
+		snprintf(search->found.line, sizeof(search->found.line), "the code ends the process with status %d", WEXITSTATUS(status));
+	search->runs++;
 	return FAILED;
 }
 
@@ -321,9 +322,9 @@ static enum end in_child(void (*body)(void), bool silent)
 /* Writes down the schedule of the last run. */
 static void keep_schedule(struct bench_found *found)
 {
-	const struct step *last = &board->steps[board->length == 0 ? 0 : board->length - 1];
-	found->preemptions = board->length == 0 ? 0 : last->preemptions;
-	found->changes = board->length == 0 ? 0 : last->switches;
+	const struct step *last = &search->steps[search->length == 0 ? 0 : search->length - 1];
+	found->preemptions = search->length == 0 ? 0 : last->preemptions;
+	found->changes = search->length == 0 ? 0 : last->switches;
 	write_schedule(found->schedule, sizeof(found->schedule));
 	write_failures(found->schedule, sizeof(found->schedule));
 	snprintf(found->failed, sizeof(found->failed), "%s", told_failure());
@@ -339,9 +340,9 @@ static void replay_once(void)
 static bool find_shorter(struct bench_found *found, unsigned preemptions, unsigned switches)
 {
 	begin_search(BOUNDED, options.bounded, preemptions);
-	board->most = switches;
-	memcpy(board->wanted, found->line, sizeof(board->wanted));
-	if (in_child(search_below, true) != FAILED || strcmp(board->found.line, found->line) != 0)
+	search->most = switches;
+	memcpy(search->wanted, found->line, sizeof(search->wanted));
+	if (in_child(search_below, true) != FAILED || strcmp(search->found.line, found->line) != 0)
 		return false;
 	keep_schedule(found);
 	return true;
@@ -357,8 +358,8 @@ static void cut_down(struct bench_found *found)
 	for (unsigned most = 0; most < found->changes; most++)
 		if (find_shorter(found, found->preemptions, most))
 			break;
-	board->limit = 1;
-	for (unsigned most = 0; most < found->changes && board->limit > 0; most++)
+	search->limit = 1;
+	for (unsigned most = 0; most < found->changes && search->limit > 0; most++)
 		if (find_shorter(found, UINT_MAX, most))
 			break;
 }
@@ -369,7 +370,7 @@ static unsigned add_turns(unsigned count, unsigned thread, unsigned long turns)
 	if (turns > POINTS - count)
 		refuse("the schedule is too long");
 	for (; turns > 0; turns--)
-		board->steps[count++].chosen = (uint8_t)thread;
+		search->steps[count++].chosen = (uint8_t)thread;
 	return count;
 }
 
@@ -390,15 +391,15 @@ static void read_schedule(const char *text)
 	if (!read_failures(failures == NULL ? "" : failures))
 		refuse("\"%s\" is no schedule: \"!\", a letter for a thread, and which of its calls fails", failures);
 	begin_search(REPLAYED, 1, 0);
-	board->prefix = count;
-	board->fresh = 0;
+	search->prefix = count;
+	search->fresh = 0;
 }
 
 static void replay(struct bench_found *found)
 {
 	read_schedule(options.replay);
 	enum end end = in_child(replay_once, false);
-	*found = board->found;
+	*found = search->found;
 	if (end == UNFIT)
 		refuse("%s", found->line);
 	found->first = end == FAILED;
@@ -407,13 +408,13 @@ static void replay(struct bench_found *found)
 
 static void explore(struct bench_found *found)
 {
-	enum end end = in_child(search, false);
-	*found = board->found;
+	enum end end = in_child(search_all, false);
+	*found = search->found;
 	if (end == UNFIT)
 		refuse("%s", found->line);
 	if (end != FAILED)
 		return;
-	found->first = board->runs;
+	found->first = search->runs;
 	found->complete = found->exhausted = false;
 	keep_schedule(found);
 	cut_down(found);
@@ -437,13 +438,13 @@ static void fill_options(const struct bench_options *given)
 		refuse("at most %d failures in a run", BENCH_FAILURES);
 }
 
-static void make_board(void)
+static void make_search(void)
 {
-	board = mmap(NULL, sizeof(*board), PROT_READ | PROT_WRITE, MAP_SHARED | MAP_ANONYMOUS | MAP_NORESERVE, -1, 0);
-	if (board == MAP_FAILED)
+	search = mmap(NULL, sizeof(*search), PROT_READ | PROT_WRITE, MAP_SHARED | MAP_ANONYMOUS | MAP_NORESERVE, -1, 0);
+	if (search == MAP_FAILED)
 		refuse("out of memory");
-	board->found.bound = -1;
-	board->seed = options.seed * 0x9e3779b97f4a7c15;
+	search->found.bound = -1;
+	search->seed = options.seed * 0x9e3779b97f4a7c15;
 	prepare_stacks();
 	prepare_heap();
 	prepare_failures();
@@ -452,13 +453,14 @@ static void make_board(void)
 int bench_explore(void (*setup)(void), const struct bench_options *given)
 {
 	static struct bench_found found;
-	if (run.now_runs != NULL)
+	if (run.current != NULL)
 		refuse("bench_explore inside of a run");
 	fill_options(given);
+	check_own_calls();
 	if (setup == NULL)
 		refuse("there is no setup");
 	prepare = setup;
-	make_board();
+	make_search();
 	if (options.replay != NULL)
 		replay(&found);
 	else
@@ -469,7 +471,7 @@ int bench_explore(void (*setup)(void), const struct bench_options *given)
 		refuse("%s can't be written", options.picture);
 	if (options.found != NULL)
 		*options.found = found;
-	munmap(board, sizeof(*board));
+	munmap(search, sizeof(*search));
 	release_stacks();
 	release_heap();
 	release_failures();

@@ -69,7 +69,7 @@ bool next_failure(void)
 {
 	if (plans->now + 1 == plans->count)
 		return false;
-	board->found.failures = ++plans->now;
+	search->found.failures = ++plans->now;
 	return true;
 }
 
@@ -106,7 +106,7 @@ static void add_plan(struct chance chance)
 /* Whether this thread's next chance is taken; else the chance is for another plan. */
 static bool takes_chance(void)
 {
-	const struct chance chance = {(uint16_t)run.now_runs->number, threads[run.now_runs->number].chances++};
+	const struct chance chance = {(uint16_t)run.current->number, threads[run.current->number].chances++};
 	if (is_planned(chance))
 		return true;
 	add_plan(chance);
@@ -116,7 +116,7 @@ static bool takes_chance(void)
 /* Tells of a chance that was taken, the call that the thread is in. */
 static void tell_failure(const char *how)
 {
-	const struct routine *me = run.now_runs;
+	const struct routine *me = run.current;
 	const struct thread *self = kupaldiz_self;
 	size_t length = strlen(plans->told);
 	snprintf(plans->told + length, sizeof(plans->told) - length, "%s%s%s%s %s in thread \"%s\"", length > 0 ? "; " : "", self->call,
@@ -130,7 +130,7 @@ const char *told_failure(void)
 
 bool bench_fails(void)
 {
-	if (options.reliable || run.now_runs == NULL || !takes_chance())
+	if (options.reliable || run.current == NULL || !takes_chance())
 		return false;
 	tell_failure("fails");
 	return true;
@@ -140,7 +140,7 @@ bool bench_fails(void)
 
 void bench_may_end_early(bool signals)
 {
-	unsigned number = run.now_runs->number;
+	unsigned number = run.current->number;
 	threads[number].ending = IN_TIME;
 	threads[number].as = IN_TIME;
 	if (options.reliable)
@@ -167,7 +167,7 @@ void note_ending(struct routine *me, bool early)
 
 int bench_last_ending(void)
 {
-	return (int)threads[run.now_runs->number].ending;
+	return (int)threads[run.current->number].ending;
 }
 
 /* ---- Plans in the text of a schedule: "!" before the letter of each chance's thread, and its number from 1 on. ---- */

@@ -14,24 +14,27 @@
 void __asan_poison_memory_region(const volatile void *at, size_t size) __attribute__((weak));
 void __asan_unpoison_memory_region(const volatile void *at, size_t size) __attribute__((weak));
 
-enum { PART = 4 * 1024 * 1024, FENCE = 32, NEW = 0xa5, FREED = 0xdf, BEHIND = 0xfd };
+enum { PART = 4 * 1024 * 1024, SMALLEST = 16, FENCE = 32, NEW = 0xa5, FREED = 0xdf, BEHIND = 0xfd };
 
 static size_t used[THREADS];
 static unsigned char *parts;
-struct beside *beside;
+static uint32_t *owners;	/* of each sixteen bytes of the parts: the row of their block, counted from 1 */
+struct scratch *scratch;
 
 void prepare_heap(void)
 {
 	parts = mmap(NULL, (size_t)THREADS * PART, PROT_READ | PROT_WRITE, MAP_PRIVATE | MAP_ANONYMOUS | MAP_NORESERVE, -1, 0);
-	beside = mmap(NULL, sizeof(*beside), PROT_READ | PROT_WRITE, MAP_PRIVATE | MAP_ANONYMOUS, -1, 0);
-	if (parts == MAP_FAILED || beside == MAP_FAILED)
+	owners = mmap(NULL, (size_t)THREADS * PART / SMALLEST * sizeof(*owners), PROT_READ | PROT_WRITE, MAP_PRIVATE | MAP_ANONYMOUS | MAP_NORESERVE, -1, 0);
+	scratch = mmap(NULL, sizeof(*scratch), PROT_READ | PROT_WRITE, MAP_PRIVATE | MAP_ANONYMOUS, -1, 0);
+	if (parts == MAP_FAILED || owners == MAP_FAILED || scratch == MAP_FAILED)
 		refuse("out of memory");
 }
 
 void release_heap(void)
 {
 	munmap(parts, (size_t)THREADS * PART);
-	munmap(beside, sizeof(*beside));
+	munmap(owners, (size_t)THREADS * PART / SMALLEST * sizeof(*owners));
+	munmap(scratch, sizeof(*scratch));
 }
 
 static void forbid(const void *at, size_t size)
@@ -52,7 +55,7 @@ static const char *called(const struct thread *self)
 }
 
 /* Room in the part of the thread that runs. */
-static unsigned char *take_room(unsigned number, size_t size, size_t align)
+static unsigned char *reserve_room(unsigned number, size_t size, size_t align)
 {
 	size_t begin = (used[number] + align - 1) / align * align;
 	if (size > PART || begin + size + FENCE > PART)
@@ -61,18 +64,25 @@ static unsigned char *take_room(unsigned number, size_t size, size_t align)
 	return parts + (size_t)number * PART + begin;
 }
 
+static uint32_t *owner_of(const volatile unsigned char *at)
+{
+	return &owners[(size_t)(at - parts) / SMALLEST];
+}
+
 /* A block of memory. One that is judged must be given back by the end. */
 void *allocate(size_t size, size_t align, bool judged)
 {
-	unsigned number = run.now_runs == NULL ? 0 : run.now_runs->number;
+	unsigned number = run.current == NULL ? 0 : run.current->number;
 	const struct thread *self = kupaldiz_self;
-	unsigned char *at = take_room(number, size, align < 16 ? 16 : align);
+	unsigned char *at = reserve_room(number, size, align < SMALLEST ? SMALLEST : align);
 	allow(at, size + FENCE);
 	memset(at, NEW, size);
 	memset(at + size, BEHIND, FENCE);
 	forbid(at + size, FENCE);
-	*(struct block *)new_row(BLOCKS) = (struct block){.at = at, .size = size, .live = true, .judged = judged, .by = number, .call = called(self),
-	    .place = self == NULL ? NULL : self->place};
+	*(struct block *)new_row(BLOCKS) = (struct block){.at = at, .size = size, .live = true, .judged = judged, .by = number,
+	    .made_at = run.routines[number].clock[number], .call = called(self), .place = self == NULL ? NULL : self->place};
+	for (size_t from = 0; from < size + FENCE; from += SMALLEST)
+		*owner_of(at + from) = (uint32_t)run.rows[BLOCKS];
 	return at;
 }
 
@@ -80,13 +90,17 @@ void *allocate(size_t size, size_t align, bool judged)
 static struct block *block_at(const volatile void *address)
 {
 	const volatile unsigned char *at = address;
-	if (at < parts || at >= parts + (size_t)THREADS * PART)
+	if (at < parts || at >= parts + (size_t)THREADS * PART || (size_t)(at - parts) % PART >= used[(size_t)(at - parts) / PART])
 		return NULL;
-	struct block *rows = rows_of(BLOCKS);
-	for (size_t place = run.rows[BLOCKS]; place-- > 0;)
-		if (at >= rows[place].at && at < rows[place].at + rows[place].size + FENCE)
-			return &rows[place];
-	return NULL;
+	uint32_t row = *owner_of(at);
+	struct block *block = (struct block *)rows_of(BLOCKS) + row - 1;
+	return row > 0 && row <= run.rows[BLOCKS] && at >= block->at && at < block->at + block->size + FENCE ? block : NULL;
+}
+
+size_t size_of_block(const void *at)
+{
+	const struct block *block = block_at(at);
+	return block == NULL ? 0 : block->size;
 }
 
 bool is_live(const void *at)
@@ -103,20 +117,38 @@ static const char *at_or_nothing(const char *place, char *text, size_t room)
 	return text;
 }
 
-/* Stops where the memory was given back, or lies beyond its block. That it is used comes before or after its end. */
-void want_live(const char *call, const volatile void *at, size_t size)
+static void check_use(const char *what, const char *where, const struct block *block, const volatile unsigned char *at, size_t size)
 {
-	char where[256], here_at[256];
+	char freed[256];
+	if (!block->live)
+		fail("%s%s%s: use of freed memory: thread \"%s\" gave it back by %s%s", what, where[0] == '\0' ? "" : " at ", where,
+		    run.routines[block->freed_by].name, block->freed_call, at_or_nothing(block->freed_place, freed, sizeof(freed)));
+	if (at + size > block->at + block->size)
+		fail("%s%s%s: beyond a block of %zu bytes", what, where[0] == '\0' ? "" : " at ", where, block->size);
+}
+
+/* Stops where the memory was given back, or lies beyond its block. That it is used comes before or after its end. */
+void check_live(const char *call, const volatile void *at, size_t size)
+{
 	const struct block *block = block_at(at);
-	const struct routine *me = run.now_runs;
+	const char *where = run.current->place;
 	if (block == NULL)
 		return;
 	touch_memory(at, size, 0);
-	if (!block->live)
-		fail("%s%s: use of freed memory: thread \"%s\" gave it back by %s%s", call, at_or_nothing(me->place, here_at, sizeof(here_at)),
-		    run.routines[block->freed_by].name, block->freed_call, at_or_nothing(block->freed_place, where, sizeof(where)));
-	if ((const volatile unsigned char *)at + size > block->at + block->size)
-		fail("%s%s: beyond a block of %zu bytes", call, at_or_nothing(me->place, here_at, sizeof(here_at)), block->size);
+	check_use(call, where == NULL ? "" : where, block, at, size);
+}
+
+/* The same of a plain access, which must come after the call that took the memory, too. */
+void check_usable(const struct routine *me, const volatile void *at, size_t size, const struct use *use)
+{
+	const struct block *block = block_at(at);
+	if (block == NULL)
+		return;
+	if (!block->live || (const volatile unsigned char *)at + size > block->at + block->size)
+		check_use(use->writes ? "plain write" : "plain read", place_of(use->place, use->pc), block, at, size);
+	if (me->clock[block->by] < block->made_at)
+		fail("data race: thread \"%s\" takes memory by %s at %s, and thread \"%s\" %s it at %s", run.routines[block->by].name, block->call,
+		    place_of(block->place, NULL), me->name, use->verb, place_of(use->place, use->pc));
 }
 
 static bool is_filled(const unsigned char *at, size_t size, unsigned char byte)
@@ -128,7 +160,7 @@ static bool is_filled(const unsigned char *at, size_t size, unsigned char byte)
 }
 
 /* Stops where something was written behind a block, or into one that was given back. */
-static void judge_block(const struct block *block)
+static void check_block(const struct block *block)
 {
 	char where[256];
 	allow(block->at, block->size + FENCE);
@@ -146,7 +178,7 @@ static void end_block(struct block *block)
 {
 	const struct thread *self = kupaldiz_self;
 	block->live = false;
-	block->freed_by = run.now_runs->number;
+	block->freed_by = run.current->number;
 	block->freed_call = called(self);
 	block->freed_place = self == NULL ? NULL : self->place;
 }
@@ -158,7 +190,7 @@ void release(void *address)
 		return;
 	if (block == NULL || block->at != address)
 		fail("%s: no block of memory", called(kupaldiz_self));
-	judge_block(block);
+	check_block(block);
 	end_block(block);
 	memset(block->at, FREED, block->size);
 	forbid(block->at, block->size);
@@ -194,14 +226,14 @@ void *resize(void *address, size_t size)
 }
 
 /* Stops where more is left than may be, or something was written where nothing may. */
-void judge_heap(void)
+void check_heap(void)
 {
 	char where[256];
 	unsigned left = 0;
 	const struct block *first = NULL, *rows = rows_of(BLOCKS);
 	for (size_t place = 0; place < run.rows[BLOCKS]; place++) {
 		const struct block *block = &rows[place];
-		judge_block(block);
+		check_block(block);
 		if (!block->live || !block->judged)
 			continue;
 		left++;

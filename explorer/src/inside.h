@@ -37,9 +37,9 @@ enum kind {
 
 enum {
 	WRITES = 1,
-	TAKES = 2,	/* what others gave comes before it */
-	GIVES = 4,
-	ORDERS = 8	/* the later step waits for the earlier one */
+	ACQUIRES = 2,	/* what others gave comes before it */
+	RELEASES = 4,
+	ORDERS = 8	/* the later step waits for the earlier one, so the two never change places */
 };
 
 struct access {
@@ -59,7 +59,7 @@ struct set {
 /* ---- A run: it is begun anew with the program's memory. ---- */
 
 /* What grows with the code: its rows lie in memory that stays, and each run fills it anew. */
-enum table { BLOCKS, GIVEN, PLAIN, MADE, MISSED, RELEASED, TABLES };
+enum table { BLOCKS, SYNCS, PLAIN, MADE, MISSED, RELEASED, TABLES };
 
 struct routine;
 typedef bool guard_fn(const struct routine *routine);
@@ -82,6 +82,8 @@ struct routine {
 	struct places places;
 	const char *from;	/* the place of the next point that lies in a header */
 	const char *call, *place;	/* the point where it is */
+	const void *pc;		/* of it, where the compiler's call has made it: no text says the place */
+	const volatile void *announced;	/* the atomic access that comes next and has had its point; the thread itself for a barrier */
 	guard_fn *guard;	/* NULL, or whether it can go on from there */
 	const void *of;		/* what the guard looks at */
 	uint64_t noted;
@@ -89,9 +91,10 @@ struct routine {
 	const void *queue;	/* what it waits to be woken for */
 	uint64_t arrived;
 	bool woken;
-	kmutex_t *retake;	/* the lock that it takes when it was woken */
+	kmutex_t *relock;	/* the lock that it takes when it was woken */
 	const void *target;	/* of the call that it is in */
 	int made_at;		/* the step; -1 for none */
+	uint64_t sections[ALL_CPUS];	/* of each CPU the one that its wait waits for; 0 for none */
 	clocks clock, released, pending;
 };
 
@@ -100,13 +103,14 @@ enum phase { SETTING_UP, RUNNING, FINISHING };
 struct run {
 	struct routine routines[THREADS];
 	unsigned count;
-	struct routine *now_runs;
+	struct routine *current;
 	enum phase phase;
 	unsigned step;		/* the number of steps begun */
 	unsigned finish;	/* of them, those before all threads had ended */
 	int64_t time;
 	unsigned ticks;
 	uint64_t arrivals;
+	bool inside[ALL_CPUS];	/* a section */
 	uint64_t ends[ALL_CPUS];	/* of sections */
 	uint64_t handlers;		/* that have ended */
 	bool own_memory;	/* what is taken now is the layer's own */
@@ -138,24 +142,33 @@ struct released {
 
 /* One step of the run, and what is known of the others there. */
 struct step {
-	uint32_t enabled, planned, done, asleep, barred;	/* a bit for each thread */
+	uint32_t enabled, backtrack, explored, sleeping, throttled;	/* a bit for each thread */
 	uint8_t chosen, cpu;
 	bool guarded;		/* its thread waited for something, or had to look whether it waits */
 	uint16_t preemptions;	/* up to it */
 	uint16_t switches;	/* the same */
 	uint16_t turns;		/* of the thread without another one between */
 	const char *call, *place;
+	const void *pc;
 	uint32_t clock[THREADS];
 	struct set set;
-	struct set tried[THREADS];
-	const struct set *slept[THREADS];
+	struct set explored_sets[THREADS];
+	const struct set *sleep_sets[THREADS];
 };
 
-enum way { REDUCED, WHOLE, BOUNDED, RANDOM, REPLAYED };
+enum mode { REDUCED, WHOLE, BOUNDED, RANDOM, REPLAYED };
 enum end { ENDED_WELL, CUT, FAILED, UNFIT, DIED };
 
-struct board {
-	enum way way;
+/* An instruction, and the text of its place. */
+struct spot {
+	const void *pc;
+	char text[128];
+};
+
+enum { SPOTS = 256 };
+
+struct search {
+	enum mode mode;
 	enum end end;
 	bool over;		/* the child has said all */
 	bool apart;		/* each run has a process of its own */
@@ -173,11 +186,17 @@ struct board {
 	char names[THREADS][32];
 	uint32_t ended;		/* a bit for each thread that has */
 	bool stuck;		/* the others can't go on */
+	struct spot spots[SPOTS];	/* those that were asked for last */
+	unsigned spot_count;
 	struct step steps[POINTS + 1];
 };
 
-extern struct board *board;
+extern struct search *search;
 extern struct bench_options options;
+enum { MOST_UNSEEN = 8 };
+
+extern const char *unseen_files[MOST_UNSEEN];	/* those that are compiled without -fsanitize=thread */
+extern unsigned unseen_count;
 
 /* ---- What a run needs and the next one needn't find empty: it lies in memory of its own. ---- */
 
@@ -188,38 +207,50 @@ struct block {
 	bool live, judged;
 	bool hidden;		/* it was given back to a cache, and stays as it is */
 	unsigned by, freed_by;
+	uint32_t made_at;	/* the clock of its thread then */
 	const char *call, *place, *freed_call, *freed_place;
 };
 
 /* What was left at a thing. */
-struct given {
+struct sync {
 	uintptr_t of;		/* 0 where the row is free */
 	clocks clock;
 };
 
-/* An access to memory. */
-struct plain {
-	uintptr_t from, to;
+/* What a thread does with memory, and where: a text, or an instruction. */
+struct use {
+	const char *verb, *place;
+	const void *pc;
 	bool writes, atomic;
-	unsigned thread;
-	uint32_t at;
-	const char *place;
 };
 
-struct beside {
+/* Its use of some of eight bytes. */
+struct plain {
+	uintptr_t grain;	/* their address */
+	uint32_t next;		/* the row of the next one in its list, counted from 1; 0 for none */
+	uint32_t at;		/* the clock of the thread then */
+	uint8_t thread, bytes;	/* a bit for each byte */
+	struct use use;
+};
+
+enum { LISTS = 4096 };
+
+struct scratch {
 	struct {
 		void *rows;
 		size_t room;	/* in rows */
 	} tables[TABLES];
 	unsigned list[POINTS + 1], races[POINTS + 1];
+	uint32_t lists[LISTS];	/* of uses, by their bytes: the row of the first, counted from 1 */
 };
 
-extern struct beside *beside;
+extern struct scratch *scratch;
 
 /* ---- routine.c ---- */
 
 void prepare_stacks(void);
 void release_stacks(void);
+bool is_on_stack(const struct routine *routine, const volatile void *at);
 struct routine *make_routine(const char *name, void (*body)(void *), void *arg, bool daemon);
 void switch_to(struct routine *routine);
 void first_point(struct routine *me);
@@ -233,10 +264,9 @@ void point(const char *call, const char *place, guard_fn *guard, const void *of)
 void wait_here(guard_fn *guard, const void *of);
 void touch(enum kind kind, const volatile void *address, unsigned cpu, unsigned how);
 void touch_memory(const volatile void *address, size_t size, unsigned how);
-void touch_all(void);
 void touch_deadlines(unsigned thread, unsigned how);
 void make_barrier(void);
-void judge_end_of_run(void);
+void find_races_at_end(void);
 void start_routines(void);
 struct routine *here(const char *call);
 bool is_enabled(const struct routine *routine);
@@ -268,11 +298,11 @@ void forget_failures(void);
 
 /* ---- made.c: what is initialised and must be ended, and wake-ups that came too early. ---- */
 
-void note_made(const char *call, const void *lock);
-void note_ended(const void *lock);
-void want_none_made(const char *call, const void *from, size_t size);
-void want_none_left(void);
-void note_wake(const char *call, const char *place, const void *cv, bool waited);
+void track_made(const char *call, const void *lock);
+void track_ended(const void *lock);
+void check_none_made(const char *call, const void *from, size_t size);
+void check_none_left(void);
+void track_wake(const char *call, const char *place, const void *cv, bool waited);
 const struct missed *missed_by(const void *cv);
 
 /* ---- What guards are: locks.c. ---- */
@@ -293,15 +323,30 @@ void sleep_until(int64_t time);
 /* ---- commute.c ---- */
 
 bool do_conflict(const struct set *one, const struct set *other);
-void judge_step(unsigned at);
-void judge_disabled(unsigned thread, const struct set *set, unsigned upto);
+void find_races_of_step(unsigned at);
+void find_races_of_disabled(unsigned thread, const struct set *set, unsigned upto);
 
 /* ---- words.c ---- */
 
-void give_clock(enum kind kind, const volatile void *address, unsigned cpu);
-void take_clock(enum kind kind, const volatile void *address, unsigned cpu);
+void release_clock(enum kind kind, const volatile void *address, unsigned cpu);
+void acquire_clock(enum kind kind, const volatile void *address, unsigned cpu);
 void inherit_clock(struct routine *made);
-void take_all_clocks(void);
+void acquire_all_clocks(void);
+
+void access_atomically(const volatile void *address, size_t size, unsigned how, const char *place, const void *pc);
+
+/* ---- plain.c ---- */
+
+void use_memory(const volatile void *address, size_t size, const struct use *use);
+void access_plainly(const volatile void *address, size_t size, bool writes, const void *pc);
+
+/* ---- tsan.c ---- */
+
+void check_own_calls(void);
+
+/* ---- places.c ---- */
+
+const char *place_of(const char *place, const void *pc);
 
 /* ---- tables.c ---- */
 
@@ -313,15 +358,17 @@ void *new_row(enum table table);
 void prepare_heap(void);
 void release_heap(void);
 bool is_live(const void *at);
+size_t size_of_block(const void *at);
 void *resize(void *block, size_t size);
-void want_live(const char *call, const volatile void *at, size_t size);
+void check_live(const char *call, const volatile void *at, size_t size);
+void check_usable(const struct routine *me, const volatile void *at, size_t size, const struct use *use);
 void *allocate(size_t size, size_t align, bool judged);
 void release(void *block);
-void judge_heap(void);
+void check_heap(void);
 
 /* ---- state.c ---- */
 
-void note_state(void);
+void save_state(void);
 void restore_state(void);
 
 /* ---- locks.c, for the scheduler. ---- */
@@ -330,7 +377,7 @@ int64_t next_time(void);
 
 /* ---- stuck.c ---- */
 
-void tell_stuck(void);
+void report_stuck(void);
 
 /* ---- explore.c, show.c ---- */
 
@@ -338,6 +385,7 @@ _Noreturn void fail(const char *format, ...) __attribute__((format(printf, 1, 2)
 _Noreturn void refuse(const char *format, ...) __attribute__((format(printf, 1, 2)));
 void write_schedule(char *text, size_t room);
 const char *short_place(const char *place);
+const char *place_of_step(const struct step *step);
 void show(FILE *to, const struct bench_found *found);
 bool draw(const char *name, const struct bench_found *found);
 

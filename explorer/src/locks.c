@@ -59,7 +59,7 @@ bool lock_try(uintptr_t *word, struct thread *me)
 	if (*word != 0)
 		return false;
 	*word = (uintptr_t)me;
-	take_clock(ON_LOCK, word, 0);
+	acquire_clock(ON_LOCK, word, 0);
 	return true;
 }
 
@@ -72,26 +72,26 @@ bool is_free(const struct routine *me)
 /* Waits until it is free. Whoever waits for its own CPU doesn't have it, although it has begun to. */
 static void await_lock(uintptr_t *word, const struct thread *me)
 {
-	bool off = run.now_runs->off;
+	bool off = run.current->off;
 	if (me->cpu != NULL && word == &me->cpu->hold)
-		run.now_runs->off = true;
+		run.current->off = true;
 	wait_here(is_free, word);
-	run.now_runs->off = off;
+	run.current->off = off;
 }
 
 void lock_take(uintptr_t *word, struct thread *me, tell_fn *tell)
 {
 	(void)tell;
-	if (run.now_runs->visits || *word != 0)
+	if (run.current->visits || *word != 0)
 		await_lock(word, me);
-	touch(ON_LOCK, word, 0, WRITES | TAKES);
+	touch(ON_LOCK, word, 0, WRITES | ACQUIRES);
 	*word = (uintptr_t)me;
 }
 
 void lock_give(uintptr_t *word, struct thread *me)
 {
 	(void)me;
-	touch(ON_LOCK, word, 0, WRITES | GIVES);
+	touch(ON_LOCK, word, 0, WRITES | RELEASES);
 	*word = 0;
 }
 
@@ -123,7 +123,7 @@ bool was_woken(const struct routine *me)
 {
 	if (!me->woken && !is_late(me) && !ends_early(me))
 		return false;
-	return me->retake == NULL || !is_live(me->retake) || me->retake->mtx_word == 0;
+	return me->relock == NULL || !is_live(me->relock) || me->relock->mtx_word == 0;
 }
 
 static void set_deadline(struct routine *me, int64_t deadline)
@@ -133,29 +133,27 @@ static void set_deadline(struct routine *me, int64_t deadline)
 	me->deadline = deadline;
 }
 
-/* The wake-up alone has enabled it, unless its time is over or it might end early. */
+/* One whose time is over may have been woken before, or not: another wake-up finds it in the queue, or doesn't. */
 static void leave_queue(struct routine *me, const void *of)
 {
-	touch(ON_WAKE, me, 0, WRITES | (is_late(me) || ends_early(me) ? 0 : TAKES));
+	touch(ON_WAKE, me, 0, WRITES | ACQUIRES);
 	note_ending(me, !me->woken && !is_late(me));
-	if (me->woken)
-		take_clock(ON_WAKE, me, 0);
-	else
+	if (!me->woken)
 		touch(ON_CV, of, 0, WRITES);
 }
 
 /* Waits to be woken for something, until a time at most. */
 static bool wait_for_wake(const void *of, int64_t deadline)
 {
-	struct routine *me = run.now_runs;
+	struct routine *me = run.current;
 	touch(ON_CV, of, 0, WRITES);
 	me->queue = of;
 	me->woken = false;
 	me->arrived = ++run.arrivals;
 	set_deadline(me, deadline);
 	wait_here(was_woken, of);
-	if (me->retake != NULL)
-		want_live(me->call, me->retake, sizeof(*me->retake));
+	if (me->relock != NULL)
+		check_live(me->call, me->relock, sizeof(*me->relock));
 	leave_queue(me, of);
 	if (deadline != NEVER)
 		touch(ON_TIME, NULL, 0, 0);
@@ -190,7 +188,7 @@ bool bucket_wake(struct bucket *bucket, const void *of)
 	touch(ON_CV, of, 0, WRITES);
 	if (first == NULL)
 		return false;
-	touch(ON_WAKE, first, 0, WRITES | GIVES);
+	touch(ON_WAKE, first, 0, WRITES | RELEASES);
 	first->woken = true;
 	return true;
 }
@@ -260,7 +258,7 @@ static void await_section(struct routine *me, unsigned cpu)
 
 bool pause_longer(struct pauses *pauses, const struct registry_stage *met)
 {
-	struct routine *me = run.now_runs;
+	struct routine *me = run.current;
 	(void)pauses;
 	if (met != NULL && met->stage == REGISTRY_GRACE) {
 		await_section(me, (unsigned)met->what);
@@ -278,6 +276,7 @@ bool pause_longer(struct pauses *pauses, const struct registry_stage *met)
 uint32_t bench_enter(struct registry_cpu *cpu)
 {
 	touch(ON_SECTION, NULL, kupaldiz_self->cpu->info.ci_index, WRITES);
+	run.inside[kupaldiz_self->cpu->info.ci_index] = true;
 	return registry_enter(cpu);
 }
 
@@ -288,36 +287,61 @@ uint32_t bench_section_exit(struct registry_cpu *cpu)
 	bool inside = kupaldiz_self == NULL;
 	if (inside || answer != REGISTRY_DONE || registry_inside(cpu, &inside) != REGISTRY_DONE || inside)
 		return answer;
+	run.inside[number] = false;
 	run.ends[number]++;
-	touch(ON_SECTION, NULL, number, WRITES | GIVES);
+	touch(ON_SECTION, NULL, number, WRITES | RELEASES);
 	touch(ON_END, (const void *)(uintptr_t)run.ends[number], number, ORDERS | WRITES);
+	release_clock(ON_END, (const void *)(uintptr_t)run.ends[number], number);
 	return answer;
 }
 
-/* What ended sections and releases on all CPUs have left comes before what a wait has waited for. */
-static void take_sections(void)
+/* What the sections that have ended on all CPUs have left comes before a wait that begins now. */
+static void acquire_sections(void)
 {
 	for (unsigned cpu = 0; cpu < KUPALDIZ_CPUS; cpu++)
-		take_clock(ON_SECTION, NULL, cpu);
+		acquire_clock(ON_SECTION, NULL, cpu);
 }
 
 uint32_t bench_destroy(struct registry_keeper *keeper, struct registry_cpu *cpu, uint64_t number, struct registry_stage *met)
 {
-	const void *target = run.now_runs->target;
+	const void *target = run.current->target;
 	touch(ON_SECTION, NULL, ANY, 0);
 	touch(ON_REFERENCES, target, ANY, 0);
 	touch(ON_TARGET, target, 0, WRITES);
 	uint32_t answer = registry_destroy(keeper, cpu, number, met);
-	take_sections();
+	acquire_sections();
 	if (answer == REGISTRY_DONE)
-		take_clock(ON_REFERENCES, target, 0);
+		acquire_clock(ON_REFERENCES, target, 0);
 	return answer;
 }
 
 uint32_t bench_perform_begin(struct registry_keeper *keeper, struct registry_cpu *cpu, struct registry_wait *wait)
 {
 	touch(ON_SECTION, NULL, ANY, 0);
+	acquire_sections();
+	for (unsigned number = 0; number < KUPALDIZ_CPUS; number++)
+		run.current->sections[number] = run.inside[number] ? run.ends[number] + 1 : 0;
 	return registry_perform_begin(keeper, cpu, wait);
+}
+
+/* Each section that was open as the wait began has ended before this, whichever it was that the last turn met. */
+static void acquire_ended(const struct routine *me)
+{
+	for (unsigned number = 0; number < KUPALDIZ_CPUS; number++) {
+		uint64_t section = me->sections[number];
+		if (section == 0 || run.ends[number] < section)
+			continue;
+		touch(ON_END, (const void *)(uintptr_t)section, number, ORDERS | WRITES);
+		acquire_clock(ON_END, (const void *)(uintptr_t)section, number);
+	}
+}
+
+uint32_t bench_perform_turn(struct registry_keeper *keeper, struct registry_cpu *cpu, struct registry_wait *wait, uint64_t *waited)
+{
+	uint32_t answer = registry_perform_turn(keeper, cpu, wait, waited);
+	if (answer == REGISTRY_DONE)
+		acquire_ended(run.current);
+	return answer;
 }
 
 /* ---- The C library's threads and time. ---- */
@@ -362,7 +386,7 @@ int bench_join(pthread_t id)
 {
 	struct routine *joined = &run.routines[id];
 	wait_here(has_ended, joined);
-	touch(ON_THREAD, joined, 0, ORDERS | WRITES | TAKES);
+	touch(ON_THREAD, joined, 0, ORDERS | WRITES | ACQUIRES);
 	return 0;
 }
 
@@ -375,12 +399,21 @@ void bench_exit(void)
 /* No step ends with one of the layer's own mutexes held, so nobody waits for one. */
 void bench_mutex_lock(const void *watched)
 {
+	if (watched == NULL)
+		return;
+	touch(ON_LOCK, watched, 0, WRITES);
+	acquire_clock(ON_LOCK, watched, 0);
+}
+
+void bench_mutex_unlock(const void *watched)
+{
 	if (watched != NULL)
-		touch(ON_LOCK, watched, 0, WRITES);
+		release_clock(ON_LOCK, watched, 0);
 }
 
 int bench_cond_wait(const void *cond, const struct timespec *deadline, const void *watched)
 {
+	bench_mutex_unlock(watched);
 	bool woken = wait_for_wake(cond, time_of(deadline));
 	bench_mutex_lock(watched);
 	return woken ? 0 : ETIMEDOUT;
@@ -393,10 +426,10 @@ void bench_cond_broadcast(const void *cond)
 
 void sleep_until(int64_t time)
 {
-	set_deadline(run.now_runs, time);
+	set_deadline(run.current, time);
 	wait_here(is_late, NULL);
 	touch(ON_TIME, NULL, 0, 0);
-	set_deadline(run.now_runs, NEVER);
+	set_deadline(run.current, NEVER);
 }
 
 /* Another thread may go on here. */

@@ -18,9 +18,9 @@ static struct made *row_of(const void *lock)
 	return NULL;
 }
 
-void note_made(const char *call, const void *lock)
+void track_made(const char *call, const void *lock)
 {
-	if (run.now_runs == NULL)
+	if (run.current == NULL)
 		return;
 	struct made *row = row_of(lock);
 	if (row == NULL)
@@ -30,7 +30,7 @@ void note_made(const char *call, const void *lock)
 	*row = (struct made){lock, call};
 }
 
-void note_ended(const void *lock)
+void track_ended(const void *lock)
 {
 	struct made *row = row_of(lock);
 	if (row != NULL)
@@ -38,19 +38,19 @@ void note_ended(const void *lock)
 }
 
 /* Stops where a lock lies in memory that is given back. */
-void want_none_made(const char *call, const void *from, size_t size)
+void check_none_made(const char *call, const void *from, size_t size)
 {
 	const struct made *rows = rows_of(MADE);
 	for (size_t at = 0; at < run.rows[MADE]; at++) {
 		const char *lock = rows[at].lock;
 		if (lock != NULL && lock >= (const char *)from && lock < (const char *)from + size)
-			fail("%s%s%s: what %s has made lies in it and was never destroyed", call, run.now_runs->place == NULL ? "" : " at ",
-			    run.now_runs->place == NULL ? "" : run.now_runs->place, rows[at].call);
+			fail("%s%s%s: what %s has made lies in it and was never destroyed", call, run.current->place == NULL ? "" : " at ",
+			    run.current->place == NULL ? "" : run.current->place, rows[at].call);
 	}
 }
 
 /* Stops where a lock was initialised and never destroyed. */
-void want_none_left(void)
+void check_none_left(void)
 {
 	unsigned left = 0;
 	const char *call = NULL;
@@ -67,19 +67,19 @@ void want_none_left(void)
 
 void mutex_init(kmutex_t *mutex, kmutex_type_t type, int level)
 {
-	note_made(__func__, mutex);
+	track_made(__func__, mutex);
 	layer_mutex_init(mutex, type, level);
 }
 
 void cv_init(kcondvar_t *cv, const char *name)
 {
-	note_made(__func__, cv);
+	track_made(__func__, cv);
 	layer_cv_init(cv, name);
 }
 
 void rw_init(krwlock_t *rw)
 {
-	note_made(__func__, rw);
+	track_made(__func__, rw);
 	layer_rw_init(rw);
 }
 
@@ -94,7 +94,7 @@ static struct missed *wakes_of(const void *cv)
 	return NULL;
 }
 
-void note_wake(const char *call, const char *place, const void *cv, bool waited)
+void track_wake(const char *call, const char *place, const void *cv, bool waited)
 {
 	struct missed *row = wakes_of(cv);
 	if (row == NULL)

@@ -29,11 +29,11 @@ static void at_block(const char *call, const void *block, size_t size)
 	point(call, NULL, NULL, NULL);
 	if (block == NULL)
 		return;
-	want_live(call, block, 1);
-	want_none_made(call, block, size);
+	const struct use use = {.verb = "frees", .place = run.current->place, .writes = true};
+	check_live(call, block, 1);
+	check_none_made(call, block, size);
 	touch_memory(block, size, WRITES);
-	if (options.frees)
-		touch_all();
+	use_memory(block, size, &use);
 }
 
 void *kmem_alloc(size_t size, km_flag_t flags)
@@ -68,7 +68,7 @@ char *kmem_strdupsize(const char *text, size_t *size, km_flag_t flags)
 
 void kmem_strfree(char *text)
 {
-	at_block(__func__, text, 1);
+	at_block(__func__, text, size_of_block(text));
 	layer_kmem_strfree(text);
 }
 
@@ -88,7 +88,7 @@ void kmem_intr_free(void *block, size_t size)
 static void at_pool(const char *call, const struct pool *pool, unsigned how)
 {
 	point(call, NULL, NULL, NULL);
-	want_live(call, pool, sizeof(*pool));
+	check_live(call, pool, sizeof(*pool));
 	touch_memory(&pool->pr_out, sizeof(pool->pr_out), how);
 }
 
@@ -106,6 +106,7 @@ void *pool_get(struct pool *pool, int flags)
 void *pool_cache_get(pool_cache_t cache, int flags)
 {
 	at_pool(__func__, pool_of(cache), WRITES);
+	acquire_clock(ON_MEMORY, &pool_of(cache)->pr_out, 0);
 	return layer_pool_cache_get(cache, flags);
 }
 
@@ -132,13 +133,14 @@ void pool_cache_put(pool_cache_t cache, void *object)
 {
 	at_block(__func__, object, pool_of(cache)->pr_size);
 	touch_memory(&pool_of(cache)->pr_out, sizeof(size_t), WRITES);
+	release_clock(ON_MEMORY, &pool_of(cache)->pr_out, 0);
 	layer_pool_cache_put(cache, object);
 }
 
 /* This CPU's part, which is written from here on, or was. */
 static void at_part(const percpu_t *percpu)
 {
-	touch(ON_TARGET, percpu, cpu_here(run.now_runs)->info.ci_index, WRITES);
+	touch(ON_TARGET, percpu, cpu_here(run.current)->info.ci_index, WRITES);
 }
 
 void *percpu_getref(percpu_t *percpu)
@@ -252,13 +254,14 @@ void kpreempt_enable(void)
 /* A new level lets soft interrupts of the CPU go on, or keeps them off. */
 static void at_level(void)
 {
-	touch(ON_LOCK, &cpu_here(run.now_runs)->hold, 0, WRITES);
+	touch(ON_LOCK, &cpu_here(run.current)->hold, 0, WRITES);
 }
 
 int kupaldiz_splraise(int level)
 {
 	at_cpu("splraise", 0);
 	at_level();
+	acquire_clock(ON_LOCK, &cpu_here(run.current)->hold, 0);
 	return layer_kupaldiz_splraise(level);
 }
 
@@ -266,12 +269,13 @@ void splx(int level)
 {
 	leaving_cpu(__func__);
 	at_level();
+	release_clock(ON_LOCK, &cpu_here(run.current)->hold, 0);
 	layer_splx(level);
 }
 
 void softint_schedule(void *cookie)
 {
-	at_cpu(__func__, GIVES);
+	at_cpu(__func__, RELEASES);
 	layer_softint_schedule(cookie);
 }
 
@@ -280,6 +284,8 @@ void softint_disestablish(void *cookie)
 	point(__func__, NULL, NULL, NULL);
 	touch(ON_PENDING, NULL, ANY, WRITES);
 	layer_softint_disestablish(cookie);
+	for (unsigned cpu = 0; cpu < KUPALDIZ_CPUS; cpu++)
+		acquire_clock(ON_PENDING, NULL, cpu);
 }
 
 /* Each CPU is a point of its own. */
@@ -319,13 +325,13 @@ LAYER(int, copyout, (const void *kernel, void *user, size_t length));
 static void at_callout(const char *call, callout_t *callout)
 {
 	point(call, NULL, NULL, NULL);
-	want_live(call, callout, sizeof(*callout));
+	check_live(call, callout, sizeof(*callout));
 }
 
 /* The layer's own soft interrupt for callouts is never ended. */
 void callout_init(callout_t *callout, unsigned flags)
 {
-	note_made(__func__, callout);
+	track_made(__func__, callout);
 	run.own_memory = true;
 	layer_callout_init(callout, flags);
 	run.own_memory = false;
@@ -334,7 +340,7 @@ void callout_init(callout_t *callout, unsigned flags)
 void callout_destroy(callout_t *callout)
 {
 	at_callout(__func__, callout);
-	note_ended(callout);
+	track_ended(callout);
 	layer_callout_destroy(callout);
 }
 

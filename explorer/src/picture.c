@@ -36,7 +36,7 @@ static const struct pair {
 
 static double x_of(unsigned at)
 {
-	return LEFT + (at + 0.5) * (WIDE - LEFT - RIGHT) / (board->length == 0 ? 1 : board->length);
+	return LEFT + (at + 0.5) * (WIDE - LEFT - RIGHT) / (search->length == 0 ? 1 : search->length);
 }
 
 static void escape(FILE *to, const char *text)
@@ -69,8 +69,8 @@ static uintptr_t thing_of(const struct step *step, unsigned kind)
 static unsigned row_of(unsigned thread)
 {
 	uint32_t seen = 0;
-	for (unsigned at = 0; at < board->length; at++)
-		seen |= UINT32_C(1) << board->steps[at].chosen;
+	for (unsigned at = 0; at < search->length; at++)
+		seen |= UINT32_C(1) << search->steps[at].chosen;
 	return (unsigned)__builtin_popcount(seen & ((UINT32_C(1) << thread) - 1));
 }
 
@@ -82,23 +82,23 @@ static unsigned rows(void)
 /* The step that ends what this one begins; the end of the picture where none does. */
 static unsigned end_of(unsigned from, const struct pair *pair)
 {
-	const struct step *first = &board->steps[from];
+	const struct step *first = &search->steps[from];
 	unsigned depth = 1;
-	for (unsigned at = from + 1; at < board->length; at++) {
-		const struct step *step = &board->steps[at];
+	for (unsigned at = from + 1; at < search->length; at++) {
+		const struct step *step = &search->steps[at];
 		if (step->chosen != first->chosen || thing_of(step, pair->thing) != thing_of(first, pair->thing))
 			continue;
 		depth += strcmp(step->call, pair->begins) == 0;
 		if (strcmp(step->call, pair->ends) == 0 && --depth == 0)
 			return at;
 	}
-	return board->length;
+	return search->length;
 }
 
 static void draw_bar(FILE *to, unsigned from, unsigned until, const char *kind, unsigned lane)
 {
-	double top = TOP + row_of(board->steps[from].chosen) * ROW, left = x_of(from);
-	double right = until >= board->length ? WIDE - RIGHT : x_of(until);
+	double top = TOP + row_of(search->steps[from].chosen) * ROW, left = x_of(from);
+	double right = until >= search->length ? WIDE - RIGHT : x_of(until);
 	double high = lane == 0 ? 16 : 4, y = lane == 0 ? top - 8 : top + 6 + 7 * lane;
 	fprintf(to, "<rect class=\"%s\" x=\"%.1f\" y=\"%.1f\" width=\"%.1f\" height=\"%.1f\" rx=\"2\"/>\n", kind, left, y, right - left, high);
 }
@@ -106,26 +106,26 @@ static void draw_bar(FILE *to, unsigned from, unsigned until, const char *kind, 
 static void draw_pairs(FILE *to, unsigned at)
 {
 	for (unsigned place = 0; place < sizeof(pairs) / sizeof(pairs[0]); place++)
-		if (strcmp(board->steps[at].call, pairs[place].begins) == 0)
+		if (strcmp(search->steps[at].call, pairs[place].begins) == 0)
 			draw_bar(to, at, end_of(at, &pairs[place]), pairs[place].kind, pairs[place].lane);
 }
 
 /* A thread that goes on in the call that it was in has waited, and so does one that can't go on at the end. */
 static void draw_wait(FILE *to, unsigned at)
 {
-	const struct step *step = &board->steps[at];
+	const struct step *step = &search->steps[at];
 	unsigned next = at + 1;
-	while (next < board->length && board->steps[next].chosen != step->chosen)
+	while (next < search->length && search->steps[next].chosen != step->chosen)
 		next++;
-	bool stuck = next == board->length && board->stuck && step->chosen != 0 && (board->ended >> step->chosen & 1) == 0;
-	bool waits = next < board->length && next > at + 1 && board->steps[next].call == step->call && board->steps[next].place == step->place;
+	bool stuck = next == search->length && search->stuck && step->chosen != 0 && (search->ended >> step->chosen & 1) == 0;
+	bool waits = next < search->length && next > at + 1 && search->steps[next].call == step->call && search->steps[next].place == step->place;
 	if (stuck || waits)
 		draw_bar(to, at, next, "wait", 0);
 }
 
 static void draw_each(FILE *to, void (*draw_step)(FILE *, unsigned))
 {
-	for (unsigned at = 0; at < board->length; at++)
+	for (unsigned at = 0; at < search->length; at++)
 		draw_step(to, at);
 }
 
@@ -133,13 +133,13 @@ static void draw_rows(FILE *to)
 {
 	uint32_t seen = 0;
 	char cpu[16];
-	for (unsigned at = 0; at < board->length; at++) {
-		unsigned thread = board->steps[at].chosen;
+	for (unsigned at = 0; at < search->length; at++) {
+		unsigned thread = search->steps[at].chosen;
 		double y = TOP + row_of(thread) * ROW;
 		if ((seen & UINT32_C(1) << thread) == 0) {
-			text_at(to, 14, y + 4, "row", board->names[thread]);
-			if (board->steps[at].cpu != NOBODY) {
-				snprintf(cpu, sizeof(cpu), "CPU %u", board->steps[at].cpu);
+			text_at(to, 14, y + 4, "row", search->names[thread]);
+			if (search->steps[at].cpu != NOBODY) {
+				snprintf(cpu, sizeof(cpu), "CPU %u", search->steps[at].cpu);
 				text_at(to, 14, y + 18, "faint", cpu);
 			}
 			fprintf(to, "<line class=\"base\" x1=\"%d\" y1=\"%.1f\" x2=\"%d\" y2=\"%.1f\"/>\n", LEFT, y, WIDE - RIGHT, y);
@@ -151,15 +151,15 @@ static void draw_rows(FILE *to)
 static void draw_steps(FILE *to)
 {
 	char number[16];
-	for (unsigned at = 0; at < board->length; at++) {
-		double x = x_of(at), y = TOP + row_of(board->steps[at].chosen) * ROW;
+	for (unsigned at = 0; at < search->length; at++) {
+		double x = x_of(at), y = TOP + row_of(search->steps[at].chosen) * ROW;
 		fprintf(to, "<circle class=\"step\" cx=\"%.1f\" cy=\"%.1f\" r=\"3\"><title>", x, y);
 		fprintf(to, "%u ", at + 1);
-		escape(to, board->steps[at].call);
+		escape(to, search->steps[at].call);
 		fputc(' ', to);
-		escape(to, short_place(board->steps[at].place));
+		escape(to, place_of_step(&search->steps[at]));
 		fputs("</title></circle>\n", to);
-		if (board->length > 45 && (at + 1) % 5 != 0)
+		if (search->length > 45 && (at + 1) % 5 != 0)
 			continue;
 		snprintf(number, sizeof(number), "%u", at + 1);
 		text_at(to, x - 4, y - 12, "faint", number);
@@ -168,9 +168,9 @@ static void draw_steps(FILE *to)
 
 static void draw_fault(FILE *to)
 {
-	if (board->length == 0)
+	if (search->length == 0)
 		return;
-	double x = x_of(board->length - 1), middle = TOP + row_of(board->steps[board->length - 1].chosen) * ROW;
+	double x = x_of(search->length - 1), middle = TOP + row_of(search->steps[search->length - 1].chosen) * ROW;
 	fprintf(to, "<path class=\"fault\" d=\"M%.1f %.1fl12 12m0 -12l-12 12\"/>\n", x - 6, middle - 6);
 }
 
@@ -178,13 +178,13 @@ static void draw_fault(FILE *to)
 static double list_steps(FILE *to, double y)
 {
 	char line[256];
-	for (unsigned at = 0; at < board->length; at++, y += LINE_HIGH) {
-		const struct step *step = &board->steps[at];
+	for (unsigned at = 0; at < search->length; at++, y += LINE_HIGH) {
+		const struct step *step = &search->steps[at];
 		snprintf(line, sizeof(line), "%3u  ", at + 1);
 		text_at(to, 14, y, "faint", line);
-		text_at(to, 50, y, at == 0 || board->steps[at - 1].chosen != step->chosen ? "" : "faint", board->names[step->chosen]);
+		text_at(to, 50, y, at == 0 || search->steps[at - 1].chosen != step->chosen ? "" : "faint", search->names[step->chosen]);
 		text_at(to, 180, y, "", step->call);
-		text_at(to, 380, y, "", short_place(step->place));
+		text_at(to, 380, y, "", place_of_step(step));
 	}
 	return y;
 }
@@ -227,7 +227,7 @@ static void draw_legend(FILE *to)
 bool draw(const char *name, const struct bench_found *found)
 {
 	FILE *to = fopen(name, "w");
-	double list = TOP + rows() * ROW + 20, high = list + (board->length + 2 + (unsigned)strlen(found->line) / 100) * LINE_HIGH;
+	double list = TOP + rows() * ROW + 20, high = list + (search->length + 2 + (unsigned)strlen(found->line) / 100) * LINE_HIGH;
 	if (to == NULL)
 		return false;
 	fprintf(to, "<svg xmlns=\"http://www.w3.org/2000/svg\" width=\"%d\" height=\"%.0f\" viewBox=\"0 0 %d %.0f\" role=\"img\">\n<title>", WIDE, high,

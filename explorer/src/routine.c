@@ -37,7 +37,7 @@ static char *stack_of(unsigned number)
 }
 
 /* A switch isn't a return to where the last call was made from, so a shadow stack would end the program. This instruction does nothing without one. */
-static void want_no_shadow_stack(void)
+static void check_no_shadow_stack(void)
 {
 	uint64_t top = 0;
 	__asm__ volatile(".byte 0xf3, 0x48, 0x0f, 0x1e, 0xc8" : "+a"(top));	/* rdsspq %rax */
@@ -49,7 +49,7 @@ static void want_no_shadow_stack(void)
 /* A stack for each, with as much room below that nothing may touch. */
 void prepare_stacks(void)
 {
-	want_no_shadow_stack();
+	check_no_shadow_stack();
 	size_t size = (size_t)THREADS * 2 * STACK;
 	stacks = mmap(NULL, size, PROT_READ | PROT_WRITE, MAP_PRIVATE | MAP_ANONYMOUS | MAP_NORESERVE, -1, 0);
 	if (stacks == MAP_FAILED)
@@ -58,6 +58,11 @@ void prepare_stacks(void)
 		mprotect(stack_of(number) - STACK, STACK, PROT_NONE);
 		known[number] = VALGRIND_STACK_REGISTER(stack_of(number), stack_of(number) + STACK);
 	}
+}
+
+bool is_on_stack(const struct routine *routine, const volatile void *at)
+{
+	return (uintptr_t)at - (uintptr_t)stack_of(routine->number) < STACK;
 }
 
 void release_stacks(void)
@@ -123,7 +128,7 @@ static void exchange(struct routine *from, struct routine *to)
 		from->self = kupaldiz_self;
 		from->places = kupaldiz_places;
 	}
-	run.now_runs = to;
+	run.current = to;
 	kupaldiz_self = to == NULL ? NULL : to->self;
 	kupaldiz_places = to == NULL ? (struct places){0} : to->places;
 }
@@ -131,7 +136,7 @@ static void exchange(struct routine *from, struct routine *to)
 /* Goes on with another thread, and returns when this one is gone on with. */
 void switch_to(struct routine *to)
 {
-	struct routine *from = run.now_runs;
+	struct routine *from = run.current;
 	if (from == to)
 		return;
 	exchange(from, to);
@@ -143,7 +148,7 @@ void switch_to(struct routine *to)
 /* Ends the run, and goes on where it was begun. */
 void leave_run(enum end end)
 {
-	board->end = end;
+	search->end = end;
 	exchange(NULL, NULL);
 	leave_stack(NULL, home_bottom, home_size);
 	void *left;
@@ -153,7 +158,7 @@ void leave_run(enum end end)
 
 /* ---- The life of a thread. ---- */
 
-static struct routine *take_starter(void)
+static struct routine *pop_starter(void)
 {
 	struct routine *found = starter;
 	starter = NULL;
@@ -163,7 +168,7 @@ static struct routine *take_starter(void)
 /* The first thing that a new thread does. */
 static void begin_routine(void)
 {
-	struct routine *me = run.now_runs;
+	struct routine *me = run.current;
 	come_to_stack(NULL, me->number == 0 ? &home_bottom : NULL, me->number == 0 ? &home_size : NULL);
 	me->body(me->arg);
 	end_routine();
@@ -201,7 +206,7 @@ void start_routines(void)
 		if (at->begun)
 			continue;
 		struct routine *before = starter;
-		starter = run.now_runs;
+		starter = run.current;
 		switch_to(at);
 		starter = before;
 	}
@@ -210,7 +215,7 @@ void start_routines(void)
 /* Whether this thread has come to its first point: whoever began it goes on, and this one when it is chosen. */
 void first_point(struct routine *me)
 {
-	struct routine *next = take_starter();
+	struct routine *next = pop_starter();
 	me->begun = true;
 	switch_to(next);
 }
@@ -218,8 +223,8 @@ void first_point(struct routine *me)
 /* This thread has ended. Another one goes on. */
 void end_routine(void)
 {
-	struct routine *me = run.now_runs;
-	touch(ON_THREAD, me, 0, WRITES | GIVES);
+	struct routine *me = run.current;
+	touch(ON_THREAD, me, 0, WRITES | RELEASES);
 	me->ended = true;
 	if (!me->begun)
 		first_point(me);

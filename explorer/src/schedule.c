@@ -33,31 +33,24 @@ static void add(struct set *set, struct access access)
 		set->of[set->count++] = access;
 }
 
-static void note(struct access access)
+static void record_access(struct access access)
 {
-	if (run.step > board->fresh && (board->way == REDUCED || board->way == REPLAYED))
-		add(&board->steps[run.step - 1].set, access);
+	if (run.step > search->fresh && (search->mode == REDUCED || search->mode == REPLAYED))
+		add(&search->steps[run.step - 1].set, access);
 }
 
 void touch(enum kind kind, const volatile void *address, unsigned cpu, unsigned how)
 {
-	note((struct access){(uintptr_t)address, 1, (uint16_t)cpu, (uint8_t)kind, (uint8_t)how});
-	if ((how & TAKES) != 0)
-		take_clock(kind, address, cpu);
-	if ((how & GIVES) != 0)
-		give_clock(kind, address, cpu);
+	record_access((struct access){(uintptr_t)address, 1, (uint16_t)cpu, (uint8_t)kind, (uint8_t)how});
+	if ((how & ACQUIRES) != 0)
+		acquire_clock(kind, address, cpu);
+	if ((how & RELEASES) != 0)
+		release_clock(kind, address, cpu);
 }
 
 void touch_memory(const volatile void *address, size_t size, unsigned how)
 {
-	note((struct access){(uintptr_t)address, (uint32_t)size, 0, ON_MEMORY, (uint8_t)how});
-}
-
-/* The step commutes with no other. */
-void touch_all(void)
-{
-	if (run.step > board->fresh && board->way == REDUCED)
-		board->steps[run.step - 1].set.full = true;
+	record_access((struct access){(uintptr_t)address, (uint32_t)size, 0, ON_MEMORY, (uint8_t)how});
 }
 
 /* A thread's deadline, or with ANY all of them. */
@@ -69,8 +62,8 @@ void touch_deadlines(unsigned thread, unsigned how)
 /* All that ran comes before the step, and all that will run after it. */
 void make_barrier(void)
 {
-	if (run.step > board->fresh)
-		board->steps[run.step - 1].set.barrier = true;
+	if (run.step > search->fresh)
+		search->steps[run.step - 1].set.barrier = true;
 }
 
 /* ---- Who can go on. ---- */
@@ -90,7 +83,7 @@ bool is_enabled(const struct routine *routine)
 }
 
 /* Whether time may go on although a thread can. */
-static bool clock_may_hurry(void)
+static bool clock_may_jump(void)
 {
 	return run.ticks < options.ticks && next_time() != NEVER && run.phase == RUNNING;
 }
@@ -103,7 +96,7 @@ bool all_have_ended(const struct routine *routine)
 		if (other != routine && (other->daemon ? is_enabled(other) : !other->ended))
 			return false;
 	}
-	return !clock_may_hurry();
+	return true;
 }
 
 uint32_t enabled_now(void)
@@ -112,7 +105,7 @@ uint32_t enabled_now(void)
 	for (unsigned number = 0; number < run.count; number++)
 		if (is_enabled(&run.routines[number]))
 			enabled |= bit(number);
-	if (clock_may_hurry() || (enabled == 0 && next_time() != NEVER))
+	if (clock_may_jump() || (enabled == 0 && next_time() != NEVER))
 		enabled |= bit(CLOCK);
 	return enabled;
 }
@@ -132,28 +125,28 @@ static unsigned next_after(unsigned number, uint32_t mask)
 }
 
 /* Those of another step that sleep here, too: what they would do commutes with what was done. */
-static void hand_on_sleep(const struct step *before, struct step *step)
+static void inherit_sleep_set(const struct step *before, struct step *step)
 {
-	uint32_t candidates = (before->asleep | before->done) & ~bit(before->chosen);
-	step->asleep = 0;
+	uint32_t candidates = (before->sleeping | before->explored) & ~bit(before->chosen);
+	step->sleeping = 0;
 	for (; candidates != 0; candidates &= candidates - 1) {
 		unsigned number = lowest(candidates);
-		const struct set *set = (before->asleep & bit(number)) != 0 ? before->slept[number] : &before->tried[number];
+		const struct set *set = (before->sleeping & bit(number)) != 0 ? before->sleep_sets[number] : &before->explored_sets[number];
 		if (do_conflict(set, &before->set))
 			continue;
-		step->asleep |= bit(number);
-		step->slept[number] = set;
+		step->sleeping |= bit(number);
+		step->sleep_sets[number] = set;
 	}
 	/* Where no thread is enabled the clock doesn't hurry: that is another step than the one that sleeps. */
 	if (step->enabled == bit(CLOCK))
-		step->asleep = 0;
+		step->sleeping = 0;
 }
 
 static unsigned highest_priority(uint32_t mask)
 {
 	unsigned best = lowest(mask);
 	for (; mask != 0; mask &= mask - 1)
-		if (board->priorities[lowest(mask)] > board->priorities[best])
+		if (search->priorities[lowest(mask)] > search->priorities[best])
 			best = lowest(mask);
 	return best;
 }
@@ -162,9 +155,9 @@ static unsigned highest_priority(uint32_t mask)
 static unsigned choose_random(uint32_t enabled)
 {
 	unsigned best = highest_priority(enabled);
-	for (unsigned at = 0; at < sizeof(board->changes) / sizeof(board->changes[0]); at++) {
-		if (board->changes[at] == run.step) {
-			board->priorities[best] = --board->lowest;
+	for (unsigned at = 0; at < sizeof(search->changes) / sizeof(search->changes[0]); at++) {
+		if (search->changes[at] == run.step) {
+			search->priorities[best] = --search->lowest;
 			best = highest_priority(enabled);
 		}
 	}
@@ -172,120 +165,82 @@ static unsigned choose_random(uint32_t enabled)
 }
 
 /* A thread that may spin doesn't go on where another one can. */
-static void bar(struct step *step, const struct step *before)
+static void throttle(struct step *step, const struct step *before)
 {
 	uint32_t own = before == NULL || before->turns < PATIENCE ? 0 : bit(before->chosen);
-	step->barred = (step->enabled & ~own) != 0 ? own : 0;
-	board->found.barred += step->barred != 0;
+	step->throttled = (step->enabled & ~own) != 0 ? own : 0;
+	search->found.throttled += step->throttled != 0;
 }
 
-/* ---- What a disabled thread waits for, as accesses: a step that touches it may have disabled the thread. ---- */
-
-static void add_lock(struct set *set, const void *lock)
-{
-	add(set, (struct access){.address = (uintptr_t)lock, .size = 1, .kind = ON_LOCK, .how = WRITES});
-}
-
-static void add_pending(struct set *set, const struct cpu *cpu)
-{
-	add(set, (struct access){.size = 1, .kind = ON_PENDING, .cpu = (uint16_t)cpu->info.ci_index, .how = WRITES});
-	add_lock(set, &cpu->hold);
-}
-
-static void add_wake(struct set *set, const struct routine *me)
-{
-	add(set, (struct access){.address = (uintptr_t)me, .size = 1, .kind = ON_WAKE, .how = WRITES});
-	if (me->retake != NULL)
-		add_lock(set, me->retake);
-}
-
-static void add_mutex(struct set *set, const struct routine *me)
-{
-	add_lock(set, me->of);
-	if (me->self->cpu != NULL)
-		add_lock(set, &me->self->cpu->hold);
-}
-
-/* Other guards never become false again. */
-static struct set guard_set(const struct routine *me)
-{
-	struct set set = {0};
-	if (me->guard == can_begin)
-		add_pending(&set, me->of);
-	else if (me->guard == was_woken)
-		add_wake(&set, me);
-	else if (me->guard == can_take)
-		add_mutex(&set, me);
-	else if (me->guard == is_free)
-		add_lock(&set, me->of);
-	if (!has_its_cpu(me))
-		add_lock(&set, &me->self->cpu->hold);
-	return set;
-}
+/* ---- Steps that are never made. ---- */
 
 static const struct set ticking = {.count = 2, .of = {{.size = 1, .kind = ON_TIME, .how = WRITES}, {.size = 1, .kind = ON_DEADLINE, .cpu = ANY}}};
 
-/* The run ends after its first `upto` steps, well or cut short. Those that are disabled then might have gone on before one of them. */
-static void judge_all_disabled(unsigned upto)
+/*
+ * The run ends after its first `upto` steps, well or cut short. The clock and the soft interrupts that are disabled then might have gone on before one of them
+ *
+ * A thread that waits for a lock, a wake-up or its CPU needs nothing here: it goes on in each run that isn't cut, and its step has its races there.
+ */
+static void find_races_of_all_disabled(unsigned upto)
 {
-	if (!clock_may_hurry() && run.ticks < options.ticks)
-		judge_disabled(CLOCK, &ticking, upto);
+	if (!clock_may_jump() && run.ticks < options.ticks)
+		find_races_of_disabled(CLOCK, &ticking, upto);
 	for (unsigned number = 0; number < run.count; number++) {
 		const struct routine *routine = &run.routines[number];
-		if (routine->ended || is_enabled(routine))
+		if (routine->guard != can_begin || is_enabled(routine))
 			continue;
-		const struct set set = guard_set(routine);
-		if (set.count > 0)
-			judge_disabled(number, &set, upto);
+		uint16_t cpu = (uint16_t)routine->self->cpu->info.ci_index;
+		const struct set queue = {.count = 1, .of = {{.size = 1, .kind = ON_PENDING, .cpu = cpu, .how = WRITES}}};
+		find_races_of_disabled(number, &queue, upto);
 	}
 }
 
-void judge_end_of_run(void)
+void find_races_at_end(void)
 {
-	if (board->way != REDUCED)
+	if (search->mode != REDUCED)
 		return;
-	judge_step(run.step - 1);
-	judge_all_disabled(run.finish);
+	find_races_of_step(run.step - 1);
+	find_races_of_all_disabled(run.finish + 1);
 }
 
 /* What is tried at a new step, beginning with the thread that runs already. */
 static unsigned choose_new(struct step *step, const struct step *before)
 {
 	uint32_t enabled = step->enabled, can = enabled;
-	step->done = 0;
-	step->asleep = 0;
-	step->planned = 0;
-	bar(step, before);
-	if (board->way == RANDOM && step->barred != 0)
-		board->priorities[before->chosen] = --board->lowest;
-	if (board->way == RANDOM)
-		return choose_random(enabled & ~step->barred);
-	if (board->way == REDUCED && before != NULL)
-		hand_on_sleep(before, step);
-	can &= ~step->asleep & ~step->barred;
-	if (board->way == BOUNDED && before != NULL && before->switches >= board->most)
+	step->explored = 0;
+	step->sleeping = 0;
+	step->backtrack = 0;
+	throttle(step, before);
+	if (search->mode == RANDOM && step->throttled != 0)
+		search->priorities[before->chosen] = --search->lowest;
+	if (search->mode == RANDOM)
+		return choose_random(enabled & ~step->throttled);
+	if (search->mode == REDUCED && before != NULL)
+		inherit_sleep_set(before, step);
+	can &= ~step->sleeping & ~step->throttled;
+	if (search->mode == BOUNDED && before != NULL && before->switches >= search->most)
 		can &= bit(before->chosen);
 	if (can == 0) {
-		if (board->way == REDUCED)
-			judge_all_disabled(run.step);
+		if (search->mode == REDUCED)
+			find_races_of_all_disabled(run.step);
 		leave_run(CUT);
 	}
 	bool stays = before != NULL && (can & bit(before->chosen)) != 0;
-	if (board->way == BOUNDED && stays && before->preemptions >= board->bound)
+	if (search->mode == BOUNDED && stays && before->preemptions >= search->bound)
 		can = bit(before->chosen);
-	step->planned = board->way == REDUCED ? 0 : can;
-	return stays ? before->chosen : step->barred != 0 ? next_after(before->chosen, can) : lowest(can);
+	step->backtrack = search->mode == REDUCED ? 0 : can;
+	return stays ? before->chosen : step->throttled != 0 ? next_after(before->chosen, can) : lowest(can);
 }
 
-static void judge_given(const struct step *step, uint32_t enabled)
+static void check_replayed(const struct step *step, uint32_t enabled)
 {
 	if ((enabled & bit(step->chosen)) == 0) {
-		snprintf(board->found.line, sizeof(board->found.line), "the schedule doesn't fit: at point %u thread \"%s\" can't go on", run.step,
+		snprintf(search->found.line, sizeof(search->found.line), "the schedule doesn't fit: at point %u thread \"%s\" can't go on", run.step,
 		    step->chosen < run.count && run.routines[step->chosen].name != NULL ? run.routines[step->chosen].name : "?");
 		leave_run(UNFIT);
 	}
-	if (board->way != REPLAYED && enabled != step->enabled) {
-		snprintf(board->found.line, sizeof(board->found.line),
+	if (search->mode != REPLAYED && enabled != step->enabled) {
+		snprintf(search->found.line, sizeof(search->found.line),
 		    "two runs by one schedule differ at point %u: the code depends on something outside of it", run.step);
 		leave_run(UNFIT);
 	}
@@ -294,16 +249,16 @@ static void judge_given(const struct step *step, uint32_t enabled)
 /* Begins a step of the thread that was chosen. */
 static unsigned begin_step(uint32_t enabled)
 {
-	struct step *step = &board->steps[run.step], *before = run.step == 0 ? NULL : step - 1;
+	struct step *step = &search->steps[run.step], *before = run.step == 0 ? NULL : step - 1;
 	unsigned chosen = step->chosen;
-	if (run.step < board->prefix) {
-		judge_given(step, enabled);
+	if (run.step < search->prefix) {
+		check_replayed(step, enabled);
 		step->enabled = enabled;
 	} else {
 		step->enabled = enabled;
-		chosen = board->way == REPLAYED ? before != NULL && (enabled & bit(before->chosen)) != 0 ? before->chosen : lowest(enabled)
+		chosen = search->mode == REPLAYED ? before != NULL && (enabled & bit(before->chosen)) != 0 ? before->chosen : lowest(enabled)
 						: choose_new(step, before);
-		board->found.states++;
+		search->found.states++;
 	}
 	bool changes = before != NULL && before->chosen != chosen;
 	step->chosen = (uint8_t)chosen;
@@ -311,12 +266,12 @@ static unsigned begin_step(uint32_t enabled)
 	step->preemptions = (uint16_t)(before == NULL ? 0 : before->preemptions + preempts);
 	step->switches = (uint16_t)(before == NULL ? 0 : before->switches + changes);
 	step->turns = (uint16_t)(before == NULL || changes ? 0 : before->turns + 1);
-	board->found.switches += changes;
-	board->found.points++;
-	if (run.step >= board->fresh)
+	search->found.switches += changes;
+	search->found.points++;
+	if (run.step >= search->fresh)
 		step->set = (struct set){0};
 	run.step++;
-	board->length = run.step;
+	search->length = run.step;
 	return chosen;
 }
 
@@ -325,13 +280,14 @@ static void name_step(struct step *step, const struct routine *routine)
 	step->guarded = routine == NULL || routine->guard != NULL;
 	step->call = routine == NULL ? "clock" : routine->call;
 	step->place = routine == NULL ? NULL : routine->place;
+	step->pc = routine == NULL ? NULL : routine->pc;
 	step->cpu = routine == NULL || routine->self == NULL || routine->self->cpu == NULL ? NOBODY : (uint8_t)routine->self->cpu->info.ci_index;
 }
 
 static void end_step(void)
 {
-	if (run.step > board->fresh && board->way == REDUCED)
-		judge_step(run.step - 1);
+	if (run.step > search->fresh && search->mode == REDUCED)
+		find_races_of_step(run.step - 1);
 	if (run.step == POINTS)
 		fail("the run doesn't end: it has come to %d points", POINTS);
 }
@@ -356,9 +312,9 @@ static void choose(void)
 		end_step();
 		enabled = enabled_now();
 		if (enabled == 0)
-			tell_stuck();
+			report_stuck();
 		chosen = begin_step(enabled);
-		name_step(&board->steps[run.step - 1], chosen == CLOCK ? NULL : &run.routines[chosen]);
+		name_step(&search->steps[run.step - 1], chosen == CLOCK ? NULL : &run.routines[chosen]);
 		if (chosen == CLOCK)
 			tick(enabled);
 	} while (chosen == CLOCK);
@@ -370,7 +326,7 @@ static void choose(void)
 /* The thread that makes a call. It has a CPU from its first call on. */
 struct routine *here(const char *call)
 {
-	struct routine *me = run.now_runs;
+	struct routine *me = run.current;
 	if (me == NULL)
 		refuse("%s outside of bench_explore", call);
 	struct thread *self = kupaldiz_self;
@@ -389,7 +345,8 @@ void point(const char *call, const char *place, guard_fn *guard, const void *of)
 {
 	struct routine *me = here(call);
 	me->call = call;
-	me->place = place != NULL ? place : me->from != NULL ? me->from
+	me->announced = NULL;
+	me->place = place != NULL || me->pc != NULL ? place : me->from != NULL ? me->from
 	    : kupaldiz_places.count > 0			     ? kupaldiz_places.at[kupaldiz_places.count - 1]
 							     : NULL;
 	me->from = NULL;
@@ -412,7 +369,7 @@ void point(const char *call, const char *place, guard_fn *guard, const void *of)
 /* A wait inside a call. */
 void wait_here(guard_fn *guard, const void *of)
 {
-	struct routine *me = run.now_runs;
+	struct routine *me = run.current;
 	point(me->call != NULL ? me->call : "wait", me->place, guard, of);
 	me->guard = NULL;
 }

@@ -26,7 +26,7 @@
 
 #include "stand_ins.h"
 
-/* A mutex under which steps conflict: that of the list of callouts. What is under the others is told apart by what a call touches. */
+/* A mutex under which steps conflict, and which orders them: that of the list of callouts. What is under the others is told apart by what a call touches. */
 #define WATCHED(mutex)			(__builtin_strstr(__FILE__, "callout.c") != NULL ? (const void *)(mutex) : NULL)
 
 #define malloc(size)			bench_malloc(size)
@@ -47,7 +47,7 @@
 #define pthread_mutex_init(mutex, attributes)	((void)(mutex))
 #define pthread_mutex_destroy(mutex)	((void)(mutex))
 #define pthread_mutex_lock(mutex)	bench_mutex_lock(WATCHED(mutex))
-#define pthread_mutex_unlock(mutex)	((void)(mutex))
+#define pthread_mutex_unlock(mutex)	bench_mutex_unlock(WATCHED(mutex))
 #define pthread_cond_init(cond, attributes)	((void)(cond), (void)(attributes))
 #define pthread_cond_wait(cond, mutex)	bench_cond_wait(cond, NULL, WATCHED(mutex))
 #define pthread_cond_timedwait(cond, mutex, deadline)	bench_cond_wait(cond, deadline, WATCHED(mutex))
@@ -74,5 +74,6 @@
 #define registry_exit(cpu)		bench_section_exit(cpu)
 #define registry_destroy(keeper, cpu, number, met)	bench_destroy(keeper, cpu, number, met)
 #define registry_perform_begin(keeper, cpu, wait)	bench_perform_begin(keeper, cpu, wait)
+#define registry_perform_turn(keeper, cpu, wait, waited)	bench_perform_turn(keeper, cpu, wait, waited)
 
 #endif

@@ -8,7 +8,7 @@
 static unsigned turns_from(unsigned from)
 {
 	unsigned at = from;
-	while (at < board->length && board->steps[at].chosen == board->steps[from].chosen)
+	while (at < search->length && search->steps[at].chosen == search->steps[from].chosen)
 		at++;
 	return at - from;
 }
@@ -17,8 +17,8 @@ static unsigned turns_from(unsigned from)
 void write_schedule(char *text, size_t room)
 {
 	size_t length = 0;
-	for (unsigned at = 0, turns; at < board->length && length + 8 < room; at += turns) {
-		unsigned thread = board->steps[at].chosen;
+	for (unsigned at = 0, turns; at < search->length && length + 8 < room; at += turns) {
+		unsigned thread = search->steps[at].chosen;
 		turns = turns_from(at);
 		char letter = thread == THREADS - 1 ? '.' : (char)('a' + thread);
 		length += (size_t)snprintf(text + length, room - length, turns == 1 ? "%c" : "%c%u", letter, turns);
@@ -33,15 +33,20 @@ const char *short_place(const char *place)
 	return place == NULL ? "" : slash == NULL ? place : slash + 1;
 }
 
+const char *place_of_step(const struct step *step)
+{
+	return step->place == NULL && step->pc == NULL ? "" : short_place(place_of(step->place, step->pc));
+}
+
 static void show_steps(FILE *to)
 {
-	for (unsigned at = 0; at < board->length; at++) {
-		const struct step *step = &board->steps[at];
-		bool changes = at == 0 || board->steps[at - 1].chosen != step->chosen;
+	for (unsigned at = 0; at < search->length; at++) {
+		const struct step *step = &search->steps[at];
+		bool changes = at == 0 || search->steps[at - 1].chosen != step->chosen;
 		char cpu[8] = "";
 		if (step->cpu != NOBODY)
 			snprintf(cpu, sizeof(cpu), "CPU %u", step->cpu);
-		fprintf(to, "  %4u  %-16s %-5s  %-22s %s\n", at + 1, changes ? board->names[step->chosen] : "", cpu, step->call, short_place(step->place));
+		fprintf(to, "  %4u  %-16s %-5s  %-22s %s\n", at + 1, changes ? search->names[step->chosen] : "", cpu, step->call, place_of_step(step));
 	}
 }
 
@@ -68,6 +73,17 @@ static void show_counts(FILE *to, const struct bench_found *found)
 		fprintf(to, "%s: %llu failures were tried in turn\n", options.name, (unsigned long long)found->failures);
 }
 
+/* Which plain accesses weren't seen. */
+static void show_unseen(FILE *to)
+{
+	if (unseen_count > 0)
+		fprintf(to, "%s: plain accesses weren't seen in ", options.name);
+	for (unsigned at = 0; at < unseen_count && at < MOST_UNSEEN; at++)
+		fprintf(to, "%s%s", at > 0 ? ", " : "", short_place(unseen_files[at]));
+	if (unseen_count > 0)
+		fprintf(to, "%s: compiled without -fsanitize=thread\n", unseen_count > MOST_UNSEEN ? ", .." : "");
+}
+
 static void show_outcomes(FILE *to, const struct bench_found *found)
 {
 	for (unsigned at = 0; at < found->outcomes; at++)
@@ -80,6 +96,7 @@ static void show_outcomes(FILE *to, const struct bench_found *found)
 void show(FILE *to, const struct bench_found *found)
 {
 	show_counts(to, found);
+	show_unseen(to);
 	show_outcomes(to, found);
 	if (found->first == 0)
 		return;

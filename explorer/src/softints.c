@@ -51,18 +51,18 @@ static bool can_go_on(const struct routine *me)
 	return may_have(me->self->cpu, me->self->level);
 }
 
-static void take_cpu(struct thread *me)
+static void acquire_cpu(struct thread *me)
 {
 	me->lender = owner_of(me->cpu);
 	me->cpu->hold = (uintptr_t)me;
 	/* Whoever has the CPU needn't have given it. */
 	touch(ON_LOCK, &me->cpu->hold, 0, WRITES);
-	take_clock(ON_LOCK, &me->cpu->hold, 0);
+	acquire_clock(ON_LOCK, &me->cpu->hold, 0);
 }
 
-static void give_cpu(struct thread *me)
+static void release_cpu(struct thread *me)
 {
-	touch(ON_LOCK, &me->cpu->hold, 0, WRITES | GIVES);
+	touch(ON_LOCK, &me->cpu->hold, 0, WRITES | RELEASES);
 	me->cpu->hold = (uintptr_t)me->lender;
 	me->lender = NULL;
 }
@@ -71,16 +71,17 @@ static void give_cpu(struct thread *me)
 static void run_waiting(struct thread *me, unsigned number, int level)
 {
 	touch(ON_PENDING, NULL, number, WRITES);
-	take_clock(ON_PENDING, NULL, number);
-	take_cpu(me);
+	acquire_clock(ON_PENDING, NULL, number);
+	acquire_cpu(me);
 	me->holds = 1;
 	while (!has_higher(me->cpu, level) && run_softint(me, level)) {
 		run.handlers++;
 		touch(ON_PENDING, NULL, number, WRITES);
+		release_clock(ON_PENDING, NULL, number);
 	}
 	me->holds = 0;
 	me->level = IPL_NONE;
-	give_cpu(me);
+	release_cpu(me);
 }
 
 /* Runs the handlers of a CPU's level for ever. */
@@ -88,7 +89,7 @@ static void run_handlers(void *of)
 {
 	const struct queue queue = *(struct queue *)of;
 	struct cpu *cpu = queue.cpu;
-	struct routine *routine = run.now_runs;
+	struct routine *routine = run.current;
 	char *name = names[cpu->info.ci_index];
 	snprintf(name, sizeof(names[0]), "softint/%u", cpu->info.ci_index);
 	struct thread *me = named_thread("softint", name);
@@ -110,7 +111,7 @@ void want_softint_thread(struct thread *me, struct cpu *cpu, int level)
 	struct routine **softint = &softints[cpu->info.ci_index][level];
 	(void)me;
 	/* A soft interrupt is about to wait there, for which a callout's time may have come. */
-	touch(ON_PENDING, NULL, cpu->info.ci_index, WRITES | GIVES);
+	touch(ON_PENDING, NULL, cpu->info.ci_index, WRITES | RELEASES);
 	if (*softint != NULL)
 		return;
 	struct queue *queue = allocate(sizeof(*queue), 16, false);
@@ -128,9 +129,9 @@ void offer_cpu(struct thread *me)
 /* A thread that has its CPU waits for a lock: others get the CPU meanwhile. */
 void step_off(struct thread *me)
 {
-	run.now_runs->off = true;
+	run.current->off = true;
 	if (me->softint)
-		give_cpu(me);
+		release_cpu(me);
 	else
 		lock_give(&me->cpu->hold, me);
 }
@@ -140,9 +141,9 @@ void step_on(struct thread *me)
 {
 	if (me->softint) {
 		wait_here(can_go_on, NULL);
-		take_cpu(me);
+		acquire_cpu(me);
 	} else {
 		lock_take(&me->cpu->hold, me, NULL);
 	}
-	run.now_runs->off = false;
+	run.current->off = false;
 }

@@ -41,6 +41,7 @@ static inline void bench_cancel_state(int state, int *before)
 
 void bench_exit(void) __attribute__((noreturn));
 void bench_mutex_lock(const void *watched);
+void bench_mutex_unlock(const void *watched);
 int bench_cond_wait(const void *cond, const struct timespec *deadline, const void *watched);
 void bench_cond_broadcast(const void *cond);
 int bench_sleep(const struct timespec *time);
@@ -50,5 +51,6 @@ uint32_t bench_enter(struct registry_cpu *cpu);
 uint32_t bench_section_exit(struct registry_cpu *cpu);
 uint32_t bench_destroy(struct registry_keeper *keeper, struct registry_cpu *cpu, uint64_t number, struct registry_stage *met);
 uint32_t bench_perform_begin(struct registry_keeper *keeper, struct registry_cpu *cpu, struct registry_wait *wait);
+uint32_t bench_perform_turn(struct registry_keeper *keeper, struct registry_cpu *cpu, struct registry_wait *wait, uint64_t *waited);
 
 #endif

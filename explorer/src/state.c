@@ -108,7 +108,7 @@ static int look_at(struct dl_phdr_info *object, size_t size, void *first)
 {
 	(void)size;
 	if (*(bool *)first && has_address(object, (uintptr_t)stdout))
-		board->apart = true;
+		search->apart = true;
 	if (*(bool *)first || has_address(object, (uintptr_t)look_at))
 		add_object(object);
 	*(bool *)first = false;
@@ -116,7 +116,7 @@ static int look_at(struct dl_phdr_info *object, size_t size, void *first)
 }
 
 /* Keeps what the memory has now. */
-void note_state(void)
+void save_state(void)
 {
 	bool first = true;
 	count = 0;
@@ -128,7 +128,7 @@ void note_state(void)
 
 void restore_state(void)
 {
-	if (board->apart)
+	if (search->apart)
 		return;
 	for (unsigned at = 0; at < count; at++)
 		copy(parts[at].at, parts[at].kept, parts[at].size);

@@ -57,11 +57,11 @@ static struct waiting waits_for(const struct routine *me)
 	} else if (me->guard == has_ended) {
 		found.on = me->of;
 		snprintf(found.what, sizeof(found.what), "its end");
-	} else if (me->guard == has_ended_handler || (me->guard == was_woken && me->retake == NULL && stuck_softint() != NULL)) {
+	} else if (me->guard == has_ended_handler || (me->guard == was_woken && me->relock == NULL && stuck_softint() != NULL)) {
 		found.on = stuck_softint();
 		snprintf(found.what, sizeof(found.what), "the handler");
 	} else if (me->guard == was_woken && (me->woken || run.time >= me->deadline)) {
-		found.on = routine_of(lock_owner(&me->retake->mtx_word));
+		found.on = routine_of(lock_owner(&me->relock->mtx_word));
 		snprintf(found.what, sizeof(found.what), "the lock");
 	} else if (me->guard == was_woken) {
 		const struct missed *missed = missed_by(me->queue);
@@ -82,7 +82,7 @@ static void append(char *text, size_t room, const char *more)
 }
 
 /* Where a thread waits, and for whom. */
-static const struct routine *tell_wait(const struct routine *me, char *text, size_t room)
+static const struct routine *report_wait(const struct routine *me, char *text, size_t room)
 {
 	char more[512];
 	const struct waiting found = waits_for(me);
@@ -106,17 +106,17 @@ static const struct routine *first_stuck(void)
 }
 
 /* Tells who waits for whom, up to one who waits for nobody, or for one that was told. */
-void tell_stuck(void)
+void report_stuck(void)
 {
 	char text[BENCH_LINE] = "";
 	uint32_t told = 0;
-	board->stuck = true;
+	search->stuck = true;
 	const struct routine *at = first_stuck();
 	while (at != NULL && (told & UINT32_C(1) << at->number) == 0) {
 		told |= UINT32_C(1) << at->number;
 		if (text[0] != '\0')
 			append(text, sizeof(text), "; ");
-		at = tell_wait(at, text, sizeof(text));
+		at = report_wait(at, text, sizeof(text));
 	}
 	fail("%s: %s", at == NULL ? "nobody can go on" : "deadlock", text);
 }

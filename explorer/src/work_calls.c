@@ -10,27 +10,27 @@ LAYER(void, workqueue_destroy, (struct workqueue *queue));
 void workqueue_enqueue(struct workqueue *queue, struct work *work, struct cpu_info *cpu)
 {
 	point(__func__, NULL, NULL, NULL);
-	want_live(__func__, queue, 1);
-	want_live(__func__, work, sizeof(*work));
+	check_live(__func__, queue, 1);
+	check_live(__func__, work, sizeof(*work));
 	layer_workqueue_enqueue(queue, work, cpu);
-	note_made(__func__, work);
+	track_made(__func__, work);
 }
 
 void bench_dequeued(const void *work)
 {
-	note_ended(work);
+	track_ended(work);
 }
 
 void workqueue_wait(struct workqueue *queue, struct work *work)
 {
 	point(__func__, NULL, NULL, NULL);
-	want_live(__func__, queue, 1);
+	check_live(__func__, queue, 1);
 	layer_workqueue_wait(queue, work);
 }
 
 void workqueue_destroy(struct workqueue *queue)
 {
 	point(__func__, NULL, NULL, NULL);
-	want_live(__func__, queue, 1);
+	check_live(__func__, queue, 1);
 	layer_workqueue_destroy(queue);
 }

@@ -57,16 +57,16 @@ static void make_calls(void *arg)
 	(void)named_thread("xcall", "xcall");
 	for (;;) {
 		point("xcall", NULL, is_asked, NULL);
-		touch(ON_XCALL, NULL, 0, WRITES | TAKES);
+		touch(ON_XCALL, NULL, 0, WRITES | ACQUIRES);
 		const struct xcall *xcall = first;
 		first = xcall->next;
 		if (first == NULL)
 			last = &first;
-		run.now_runs->visits = true;
+		run.current->visits = true;
 		make_call(xcall);
-		run.now_runs->visits = false;
+		run.current->visits = false;
 		made++;
-		touch(ON_XCALL, NULL, 0, WRITES | GIVES);
+		touch(ON_XCALL, NULL, 0, WRITES | RELEASES);
 	}
 }
 
@@ -80,7 +80,7 @@ static uint64_t ask(const struct xcall *asked_for)
 	*xcall = *asked_for;
 	*last = xcall;
 	last = &xcall->next;
-	touch(ON_XCALL, NULL, 0, WRITES | GIVES);
+	touch(ON_XCALL, NULL, 0, WRITES | RELEASES);
 	return ++asked;
 }
 
@@ -108,7 +108,7 @@ void xc_wait(uint64_t ticket)
 		stop(self, "no such call");
 	me->noted = ticket;
 	point(__func__, NULL, is_made, NULL);
-	touch(ON_XCALL, NULL, 0, TAKES);
+	touch(ON_XCALL, NULL, 0, ACQUIRES);
 }
 
 /* It goes to each CPU in turn: each is a point of its own. */

@@ -235,9 +235,9 @@ static void test_random_spins(void)
 static void test_barred(void)
 {
 	struct bench_found found;
-	const struct bench_options options = {.name = "barred", .found = &found};
+	const struct bench_options options = {.name = "throttled", .found = &found};
 	EXPECT(bench_explore(make_spin_once, &options) == 0);
-	EXPECT(found.barred > 0 && !found.exhausted && found.random == 0);
+	EXPECT(found.throttled > 0 && !found.exhausted && found.random == 0);
 }
 
 /* ---- More of a kind than any table has room for at first. ---- */
@@ -252,13 +252,13 @@ static void write_many(void *arg)
 {
 	(void)arg;
 	for (unsigned at = 0; at < MANY; at++)
-		BENCH_WRITES(many_words[at]);
+		many_words[at] = 1;
 }
 
 static void write_last(void *arg)
 {
 	(void)arg;
-	BENCH_WRITES(many_words[MANY - 1]);
+	many_words[MANY - 1] = 2;
 }
 
 static void make_writers(void)
@@ -273,7 +273,7 @@ static void release_many(void *arg)
 	(void)arg;
 	for (unsigned at = 0; at < MANY; at++)
 		atomic_store_release(&many_words[at], 1);
-	BENCH_WRITES(word);
+	word = 1;
 	atomic_store_release(&many_words[0], 2);
 }
 
@@ -281,7 +281,7 @@ static void acquire_another(void *arg)
 {
 	(void)arg;
 	if (atomic_load_acquire(&many_words[1]) == 1)
-		BENCH_WRITES(word);
+		word = 1;
 }
 
 static void make_releasers(void)
@@ -313,8 +313,8 @@ static void test_many(void (*setup)(void), void (*finish)(void), const char *lin
 
 static void test_tables(void)
 {
-	test_many(make_writers, NULL, "two accesses to one memory without an order");
-	test_many(make_releasers, NULL, "two accesses to one memory without an order");
+	test_many(make_writers, NULL, "data race: ");
+	test_many(make_releasers, NULL, "data race: ");
 	test_many(make_locks, destroy_all_but_one, "1 locks, condition variables or callouts are left at the end");
 }
 
@@ -370,7 +370,7 @@ static void add_to_parts(void *arg)
 	(void)arg;
 	for (unsigned cpu = 0; cpu < 2; cpu++) {
 		kupaldiz_bind(cpu);
-		*(unsigned *)percpu_getref(parts) += 1;
+		atomic_inc_uint(percpu_getref(parts));
 		percpu_putref(parts);
 		kupaldiz_unbind();
 	}
@@ -380,7 +380,7 @@ static void look_at(void *own, void *arg, struct cpu_info *cpu)
 {
 	(void)arg;
 	if (cpu_index(cpu) < 2)
-		bench_outcome("%u", *(unsigned *)own);
+		bench_outcome("%u", atomic_load_relaxed((unsigned *)own));
 }
 
 static void ask_parts(void *arg)

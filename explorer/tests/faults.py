@@ -27,7 +27,7 @@ class Fault(NamedTuple):
     edits: list     # (before, after) pairs; each `before` is in the driver's file once
 
 
-FREED = r"use of freed memory|written to freed memory|is not live|being destroyed|being drained|ends by signal 11|AddressSanitizer|status 1"
+FREED = r"data race|use of freed memory|written to freed memory|is not live|being destroyed|being drained|ends by signal 11|AddressSanitizer|status 1"
 
 BRIDGE_END = """	PSLIST_WRITER_REMOVE(bif, bif_next);
 	BRIDGE_PSZ_PERFORM(sc);
@@ -139,7 +139,7 @@ def without(text, *places):
 
 FAULTS = [
     Fault("bridge", "bridge", "a perform forgotten", FREED, [(BRIDGE_END, without(BRIDGE_END, 1))]),
-    Fault("bridge", "bridge", "a link cleared before the perform", r"signal 11|status 1", [
+    Fault("bridge", "bridge", "a link cleared before the perform", r"data race", [
         (BRIDGE_END, BRIDGE_END.replace("	PSLIST_ENTRY_DESTROY(bif, bif_next);\n", "").replace(
             "	BRIDGE_PSZ_PERFORM(sc);\n", "	PSLIST_ENTRY_DESTROY(bif, bif_next);\n	BRIDGE_PSZ_PERFORM(sc);\n"))]),
     Fault("bridge", "bridge", "a psref acquired after the section", FREED, [(BRIDGE_ACQUIRE, swapped(BRIDGE_ACQUIRE, 0, 1))]),
@@ -199,7 +199,7 @@ FAULTS = [
     Fault("unload", "unload", "a drain before the unlinking", FREED, [(UNHOOK, UNHOOK.split("\n")[2] + "\n" + without(UNHOOK, 2))]),
     Fault("unload", "unload", "a count acquired after the section", FREED, [(FOUND_HOOK, swapped(FOUND_HOOK, 0, 1))]),
     Fault("unload", "unload", "a broadcast forgotten", r"nobody can go on: .*kthread_join|nobody can go on: .*cv_wait", [(DYING, without(DYING, 2))]),
-    Fault("unload", "unload", "a wake-up that is lost: the flag set without the lock", r"nobody can go on: .*cv_wait", [
+    Fault("unload", "unload", "a wake-up that is lost: the flag set without the lock", r"data race", [
         (DYING, "	sc->sc_dying = true;\n	cv_broadcast(&sc->sc_cv);\n	mutex_enter(&sc->sc_lock);\n")]),
     Fault("unload", "unload", "two locks in two orders", r"deadlock: .*(rw_enter|mutex_enter)", [
         (CALL_HOOK, CALL_HOOK.replace("	*answer", "	mutex_enter(&sc->sc_lock);\n	*answer").replace("	rw_exit", "	mutex_exit(&sc->sc_lock);\n	rw_exit")),
@@ -225,13 +225,13 @@ def plant(fault, folder):
     return file
 
 
-def build(words, file, driver):
-    """Compiles the driver and links the cases with it. The program."""
+def build(words, file, driver, *flags):
+    """Compiles the driver, with these flags, and links the cases with it. The program."""
     program = file.with_suffix("")
     driver_words = [word for word in words if not word.endswith((".o", ".a"))]
     others = [word for word in words if word.endswith((".o", ".a")) and not word.endswith(f"driver-{driver}.o")]
     made = file.with_suffix(".o")
-    subprocess.run([*driver_words, f"-I{EXAMPLES}", "-w", "-c", "-o", made, file], check=True)
+    subprocess.run([*driver_words, *flags, f"-I{EXAMPLES}", "-w", "-c", "-o", made, file], check=True)
     subprocess.run([*driver_words, "-o", program, made, *others, "-pthread"], check=True)
     return program
 
@@ -269,7 +269,7 @@ def main():
         return
     passed = failed = 0
     for fault in chosen():
-        program = build(words, plant(fault, folder), fault.driver)
+        program = build(words, plant(fault, folder), fault.driver, "-fsanitize=thread")
         ran = subprocess.run([program, fault.case], stdout=subprocess.PIPE, stderr=subprocess.DEVNULL, text=True, timeout=120, check=False)
         found, run, switches, line = judge(fault, ran.stdout)
         passed, failed = passed + found, failed + (not found)

@@ -13,6 +13,7 @@
 #include <sys/condvar.h>
 #include <sys/intr.h>
 #include <sys/kmem.h>
+#include <sys/kthread.h>
 #include <sys/localcount.h>
 #include <sys/lwp.h>
 #include <sys/mutex.h>
@@ -31,8 +32,11 @@ enum { MOST = 4, LONGEST = 16 };
 static char texts[MOST][LONGEST];
 
 /* What its threads work on. */
-static unsigned words[2];
-static kmutex_t locks[2];
+static unsigned words[2];	/* by atomic accesses */
+static unsigned plains[2];	/* by plain ones */
+static bool racy;		/* a data race is no fault, and what it decides is an outcome */
+static bool prints;		/* the outcomes, instead of comparing them */
+static kmutex_t locks[2], spin;
 static krwlock_t rw;
 static kcondvar_t cv;
 static bool flag, gone;
@@ -41,16 +45,40 @@ static struct psref_class *things;
 static struct psref_target target;
 static struct localcount local;
 static bool drained;
-static void *softint, *own_softints[MOST];
+static void *softint, *plain_softint, *own_softints[MOST];
 static unsigned *blocks[MOST];
 static callout_t callout;
 static char seen[MOST][LONGEST + 1];
 static unsigned count[MOST];
 
-static void see(unsigned thread, unsigned value)
+/* What a program's own books say is no access of it. */
+#define UNSEEN	__attribute__((no_sanitize("thread")))
+
+UNSEEN static void see(unsigned thread, unsigned value)
 {
 	if (count[thread] < LONGEST)
 		seen[thread][count[thread]++] = (char)(value == 0 ? '-' : 'a' + (value - 1) % 26);
+}
+
+static unsigned load(unsigned at)
+{
+	return plains[at];
+}
+
+static void store(unsigned at, unsigned value)
+{
+	plains[at] = value;
+}
+
+static void store_both(unsigned value)
+{
+	memset(plains, (int)value, sizeof(plains));
+}
+
+static void count_plainly(void *arg)
+{
+	(void)arg;
+	plains[0]++;
 }
 
 static void handle(void *arg)
@@ -65,9 +93,10 @@ static void ring(void *arg)
 	atomic_store_relaxed(&words[0], 25);
 }
 
-static void change_block(void *arg)
+UNSEEN static void change_block(void *arg)
 {
-	atomic_store_relaxed(&words[0], atomic_inc_uint_nv(blocks[(char(*)[LONGEST])arg - texts]) + 20);
+	unsigned thread = (unsigned)((char(*)[LONGEST])arg - texts);
+	atomic_store_relaxed(&words[0], atomic_inc_uint_nv(blocks[thread]) + 4 * thread);
 }
 
 /* Whether the program does one of these things: what it doesn't need isn't made. */
@@ -105,7 +134,7 @@ static void wait_for_a_tick(unsigned thread)
 }
 
 /* Ends the thread's own soft interrupt: with `frees`, what its handler uses is freed first. */
-static void end_softint(unsigned thread, bool frees)
+UNSEEN static void end_softint(unsigned thread, bool frees)
 {
 	if (own_softints[thread] == NULL)
 		return;
@@ -117,7 +146,7 @@ static void end_softint(unsigned thread, bool frees)
 	own_softints[thread] = NULL;
 }
 
-static void schedule_own(unsigned thread)
+UNSEEN static void schedule_own(unsigned thread)
 {
 	if (own_softints[thread] != NULL)
 		softint_schedule(own_softints[thread]);
@@ -180,6 +209,22 @@ static void end_target(void)
 	psref_target_destroy(&target, things);
 }
 
+static void store_and_exit(void *arg)
+{
+	(void)arg;
+	atomic_store_relaxed(&words[1], 24);
+	kthread_exit(0);
+}
+
+/* Has a thread that it makes store a word, and waits for its end, or for another word meanwhile. */
+static void make_thread(unsigned thread)
+{
+	lwp_t *made;
+	EXPECT(kthread_create(PRI_NONE, KTHREAD_MUSTJOIN, NULL, store_and_exit, NULL, &made, "worker") == 0);
+	see(thread, atomic_load_relaxed(&words[0]));
+	kthread_join(made);
+}
+
 static void lock_words(unsigned thread, krw_t how, unsigned value)
 {
 	rw_enter(&rw, how);
@@ -191,7 +236,7 @@ static void lock_words(unsigned thread, krw_t how, unsigned value)
 }
 
 /* Does what a letter says. */
-static void act(unsigned thread, char letter, unsigned value)
+UNSEEN static void act(unsigned thread, char letter, unsigned value)
 {
 	switch (letter) {
 	case 'a': see(thread, atomic_load_relaxed(&words[0])); break;
@@ -213,6 +258,7 @@ static void act(unsigned thread, char letter, unsigned value)
 	case 'W': lock_words(thread, RW_WRITER, value); break;
 	case 'g': refer(thread); break;
 	case 'D': end_target(); break;
+	case 'h': break;
 	case 'i': softint_schedule(softint); break;
 	case 'o': callout_reset(&callout, 1, ring, NULL); break;
 	case 'O': (void)callout_halt(&callout, NULL); break;
@@ -225,13 +271,23 @@ static void act(unsigned thread, char letter, unsigned value)
 	case 'f': end_softint(thread, true); break;
 	case 'l': (void)splnet(); break;
 	case 'L': splx(IPL_NONE); break;
+	case 'x': see(thread, load(0)); break;
+	case 'y': see(thread, load(1)); break;
+	case 'X': store(0, value); break;
+	case 'Y': store(1, value); break;
+	case '#': count_plainly(NULL); break;
+	case 'z': store_both(value); break;
+	case 'p': softint_schedule(plain_softint); break;
+	case '{': mutex_enter(&spin); break;
+	case '}': mutex_exit(&spin); break;
+	case 'n': make_thread(thread); break;
 	case 'q': count_in(thread); break;
 	case 'Q': drain(); break;
 	default: EXPECT(!"a letter");
 	}
 }
 
-static void run_text(void *arg)
+UNSEEN static void run_text(void *arg)
 {
 	const char *text = arg;
 	unsigned thread = (unsigned)((char(*)[LONGEST])arg - texts);
@@ -242,6 +298,15 @@ static void run_text(void *arg)
 #define WITH_LOCKS	"()[]twsTSqQ"
 #define WITH_CV		"wsTSqQ"
 #define WITH_SECTIONS	"<>PgDqQ"
+#define PLAINLY		"xyXYz#p"
+
+/* A soft interrupt waits on CPU 0 from the beginning, and its thread is made before the others. */
+static void schedule_early(void)
+{
+	kupaldiz_bind(0);
+	softint_schedule(softint);
+	kupaldiz_unbind();
+}
 
 static void begin(void)
 {
@@ -258,8 +323,14 @@ static void begin(void)
 		things = psref_class_create("thing", IPL_SOFTNET);
 		psref_target_init(&target, things);
 	}
-	if (does("i"))
+	if (does("{}"))
+		mutex_init(&spin, MUTEX_DEFAULT, IPL_SOFTNET);
+	if (does("ih"))
 		softint = softint_establish(SOFTINT_NET | SOFTINT_MPSAFE, handle, NULL);
+	if (does("h"))
+		schedule_early();
+	if (does("p"))
+		plain_softint = softint_establish(SOFTINT_NET | SOFTINT_MPSAFE, count_plainly, NULL);
 	if (does("oO"))
 		callout_init(&callout, 0);
 	if (does("qQ"))
@@ -292,6 +363,8 @@ static void end_locks(void)
 		mutex_destroy(&locks[at]);
 	if (does("rW"))
 		rw_destroy(&rw);
+	if (does("{}"))
+		mutex_destroy(&spin);
 	if (does(WITH_CV))
 		cv_destroy(&cv);
 }
@@ -303,14 +376,16 @@ static void finish(void)
 	for (unsigned at = 0; at < MOST; at++)
 		end_softint(at, false);
 	/* A soft interrupt of real threads may run later. */
-	if (!does("ioj"))
-		bench_outcome("%u %u", words[0], words[1]);
+	if (!prints || !does("iohj"))
+		bench_outcome("%u %u %u %u", words[0], words[1], plains[0], plains[1]);
 	if (does("oO")) {
 		(void)callout_halt(&callout, NULL);
 		callout_destroy(&callout);
 	}
-	if (does("i"))
+	if (does("ih"))
 		softint_disestablish(softint);
+	if (does("p"))
+		softint_disestablish(plain_softint);
 	end_references();
 	end_locks();
 }
@@ -322,7 +397,7 @@ static struct bench_found explore(bool whole)
 {
 	struct bench_found found;
 	const struct bench_options options = {.quiet = true, .whole = whole, .reliable = true, .schedules = most_schedules, .finish = finish, .found = &found, .bounded = 1,
-	    .preemptions = 1, .random = 1};
+	    .preemptions = 1, .random = 1, .racy = racy};
 	bench_explore(begin, &options);
 	return found;
 }
@@ -358,8 +433,6 @@ static bool are_same(const struct bench_found *whole, const struct bench_found *
 static unsigned long long wholes, reduceds;
 static unsigned compared, faults, skipped;
 
-static bool prints;
-
 static void print_outcomes(void)
 {
 	struct bench_found found = explore(false);
@@ -370,13 +443,13 @@ static void print_outcomes(void)
 		printf("%s|%s|%s: LEFT OUT\n", texts[0], texts[1], texts[2]);
 }
 
-/* Compares the two ways of the search for the program that is written. */
+/* Compares the two ways of the search for the program that is written. A processor may change the order of plain accesses. */
 static void compare(void)
 {
-	if (prints) {
+	if (prints && !does(PLAINLY))
 		print_outcomes();
+	if (prints)
 		return;
-	}
 	struct bench_found whole = explore(true);
 	if ((!whole.exhausted && whole.first == 0) || whole.others > 0) {
 		skipped++;
@@ -389,7 +462,7 @@ static void compare(void)
 	reduceds += reduced.schedules + reduced.cut;
 	if (are_same(&whole, &reduced) && (whole.first != 0 || reduced.exhausted))
 		return;
-	printf("different: %s | %s | %s | %s\n", texts[0], texts[1], texts[2], texts[3]);
+	printf("different%s: %s | %s | %s | %s\n", racy ? ", racy" : "", texts[0], texts[1], texts[2], texts[3]);
 	show(&whole, "whole");
 	show(&reduced, "reduced");
 	exit(1);
@@ -405,7 +478,11 @@ static void try(const char *first, const char *second, const char *third)
 	write_text(0, first);
 	write_text(1, second);
 	write_text(2, third);
+	racy = false;
 	compare();
+	racy = does(PLAINLY);
+	if (racy)
+		compare();
 }
 
 /* ---- Random programs: balanced in their locks and sections. ---- */
@@ -429,10 +506,29 @@ static void make_text(char *text, unsigned parts)
 {
 	static const char *const pieces[] = {"a", "b", "A", "B", "+", "(a)", "[A]", "([B])", "t", "<a>", "<ab>", "P", "(A)", "r", "W", "AB", "ba", "s", "w", "g", "i",
 	    "k", "o", "oO", "<iab>", "<iA>", "<ib>", "T", "TS", "S", "j", "je", "jAe", "jf", "lAL", "lAjL", "q",
-	    "q", "(S)", "kA"};
-	text[0] = '\0';
+	    "q", "(S)", "kA", "x", "X", "xy", "Y", "z", "(x)", "(X)", "[Y]", "#", "({#})", "{x}", "<y>", "lXL", "lpyL", "p", "n", "B(t)"};
 	for (unsigned at = 0; at < parts; at++)
 		add(text, pieces[pick(sizeof(pieces) / sizeof(pieces[0]))]);
+}
+
+/* About how many points a text has. */
+static unsigned points_of(const char *text)
+{
+	unsigned points = 0;
+	for (; *text != '\0'; text++)
+		points += strchr("gqDQ", *text) != NULL ? 6 : strchr("twsTjfeoOrWnph", *text) != NULL ? 3 : *text != 'c';
+	return points;
+}
+
+/* Whether the program of so many threads may have few enough orders: steps of the next thread are put between those of the others. */
+static bool is_short(unsigned threads)
+{
+	double orders = 1;
+	unsigned points = 0;
+	for (unsigned thread = 0; thread < threads; thread++)
+		for (unsigned own = 1, all = points_of(texts[thread]); own <= all; own++)
+			orders = orders * ++points / own;
+	return orders < 4 * (double)most_schedules;
 }
 
 static void try_random(uint64_t of)
@@ -440,11 +536,17 @@ static void try_random(uint64_t of)
 	seed = of * 2654435761u + 7;
 	memset(texts, 0, sizeof(texts));
 	unsigned threads = 2 + pick(2), parts = seconds > 0 ? 1 : 2;
-	for (unsigned thread = 0; thread < threads; thread++)
+	bool one_cpu = pick(3) == 0, early = pick(3) == 0;
+	for (unsigned thread = 0; thread < threads; thread++) {
+		if (one_cpu)
+			add(texts[thread], early && thread == 0 ? "hc" : "c");
 		make_text(texts[thread], threads == 2 ? parts + pick(2) : 1 + pick(parts));
+	}
 	if (pick(4) == 0)
 		add(texts[threads - 1], pick(2) == 0 ? "D" : "Q");
-	compare();
+	racy = pick(4) > 0;
+	if (seconds == 0 || is_short(threads))
+		compare();
 }
 
 /* The programs that are written here. */
@@ -490,6 +592,23 @@ static void try_written(void)
 	try("TST", "S(A)", "AB");
 	try("s", "TS", "T");
 	try("lAjL", "jf", "");
+	try("#", "#", "");
+	try("xY", "yX", "");
+	try("(X)", "[x]", "");
+	try("(#)", "(#)", "(x)");
+	try("X(A)", "(a)x", "");
+	try("X{a}", "{A}Y", "y");
+	try("{#}", "c{p}", "");
+	try("clpxL", "x", "");
+	try("n", "Ba", "");
+	try("nx", "Xb", "");
+	try("A(a)", "ko", "");
+	try("o", "", "");
+	try("z", "y", "");
+	try("Ab", "aB", "ab");
+	try("t", "[A](a)", "");
+	try("hc<b>", "", "");
+	try("T", "oaS", "");
 }
 
 static time_t now(void)
@@ -502,6 +621,7 @@ static time_t now(void)
 static int try_for_a_while(uint64_t first)
 {
 	most_schedules = 400;
+	try_written();
 	for (time_t end = now() + seconds; now() < end; first++)
 		try_random(first);
 	EXPECT(2 * faults < compared);

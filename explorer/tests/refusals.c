@@ -131,11 +131,6 @@ static void atomic_outside(void)
 	atomic_inc_uint(&word);
 }
 
-static void access_outside(void)
-{
-	BENCH_WRITES(word);
-}
-
 static void outcome_outside(void)
 {
 	bench_outcome("%u", word);
@@ -225,7 +220,6 @@ static const struct refusal {
 	{"a thread outside", "bench: bench_thread outside of bench_explore\n", thread_outside},
 	{"a point outside", "bench: bench_point outside of bench_explore\n", point_outside},
 	{"an atomic access outside", "bench: atomic change outside of bench_explore\n", atomic_outside},
-	{"an announced access outside", "bench: plain write outside of bench_explore\n", access_outside},
 	{"an outcome outside", "bench: bench_outcome outside of bench_explore\n", outcome_outside},
 	{"no thread", "bench: setup has made no thread\n", no_thread},
 	{"no setup", "bench: there is no setup\n", no_setup},

@@ -11,6 +11,7 @@
 #include <string.h>
 
 #include "../../c/examples/expect.h"
+#include "places.h"
 
 struct stop_case {
 	void (*body)(void);
@@ -57,21 +58,6 @@ static inline char *find_place(char *text)
 		if (isdigit((unsigned char)colon[3]))
 			return colon + 3;
 	return NULL;
-}
-
-/* Writes PLACE for each place: they move with each change of a test. */
-static inline void hide_places(char *text)
-{
-	char *from, *to;
-	while ((from = to = find_place(text)) != NULL) {
-		while (from > text && from[-1] != ' ' && from[-1] != '\n')
-			from--;
-		while (isdigit((unsigned char)*to))
-			to++;
-		EXPECT(to - from >= 5);
-		memcpy(from, "PLACE", 5);
-		memmove(from + 5, to, strlen(to) + 1);
-	}
 }
 
 /* Whether a case ends rightly. Whoever includes this file to run cases defines it. */

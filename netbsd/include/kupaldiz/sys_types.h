@@ -11,6 +11,7 @@
 #include <stdbool.h>
 #include <stddef.h>
 #include <stdint.h>
+#include <string.h>
 
 #include "names.h"
 
@@ -42,6 +43,30 @@ void kupaldiz_point(const volatile void *address, size_t size, unsigned how, con
 #define KUPALDIZ_BARRIER(how)		kupaldiz_point(NULL, 0, how, KUPALDIZ_HERE)
 void kupaldiz_from(const char *place);
 #define KUPALDIZ_FROM(call)		(kupaldiz_from(KUPALDIZ_HERE), (call))
+
+/* The compiler's calls of -fsanitize=thread tell the bench a file's plain accesses, and these what memcpy and the like access. Without that flag the file
+ * tells its name. */
+#if defined(__has_feature)
+#if __has_feature(thread_sanitizer)
+#define KUPALDIZ_SEEN
+#endif
+#elif defined(__SANITIZE_THREAD__)
+#define KUPALDIZ_SEEN
+#endif
+#ifdef KUPALDIZ_SEEN
+void *__tsan_memcpy(void *to, const void *from, size_t size);
+void *__tsan_memmove(void *to, const void *from, size_t size);
+void *__tsan_memset(void *to, int byte, size_t size);
+#define memcpy	__tsan_memcpy
+#define memmove	__tsan_memmove
+#define memset	__tsan_memset
+#else
+void kupaldiz_unseen(const char *file);
+static void __attribute__((constructor)) kupaldiz_unseen_here(void)
+{
+	kupaldiz_unseen(__BASE_FILE__);
+}
+#endif
 #else
 #define KUPALDIZ_POINT(address, how)	((void)0)
 #define KUPALDIZ_BARRIER(how)		((void)0)

@@ -1,0 +1,110 @@
+/*
+ * plain.c - uses of memory, and data races: two uses of one memory that are unordered, one of which writes, and not both of which are atomic
+ *
+ * The compiler's calls (tsan.c) tell each plain access, and the layer's calls tell what is given back. Whether two uses are ordered is read off the vector
+ * clocks of words.c: Flanagan, Freund, "FastTrack: Efficient and Precise Dynamic Race Detection", PLDI 2009. Of each eight bytes the last uses are kept:
+ * those that no later use of the same bytes stands for.
+ */
+#include <string.h>
+
+#include "inside.h"
+
+enum { GRAIN = 8 };
+
+static uint32_t *list_of(uintptr_t grain)
+{
+	return &scratch->lists[(grain / GRAIN * 0x9e3779b97f4a7c15u >> 32) % LISTS];
+}
+
+static bool is_before(const struct plain *old, const struct routine *me)
+{
+	return me->clock[old->thread] >= old->at;
+}
+
+static void check_ordered(const struct plain *old, const struct plain *now, const struct routine *me)
+{
+	if ((old->bytes & now->bytes) == 0 || (!old->use.writes && !now->use.writes) || (old->use.atomic && now->use.atomic) || is_before(old, me))
+		return;
+	fail("data race: thread \"%s\" %s at %s, and thread \"%s\" %s at %s", run.routines[old->thread].name, old->use.verb,
+	    place_of(old->use.place, old->use.pc), me->name, now->use.verb, place_of(now->use.place, now->use.pc));
+}
+
+/* Whether each use that races with the one races with the other, too, if that is unordered as well. */
+static bool covers(const struct plain *one, const struct plain *other)
+{
+	return (other->bytes & ~one->bytes) == 0 && one->use.writes >= other->use.writes && one->use.atomic <= other->use.atomic;
+}
+
+/* Whether the thread has used the bytes so since others may last have heard of it. */
+static bool is_again(const struct plain *old, const struct plain *now)
+{
+	return old->thread == now->thread && old->at == now->at && covers(old, now);
+}
+
+/* A use of some of eight bytes: it takes the row of one that it stands for from now on. */
+static void record(const struct routine *me, struct plain now)
+{
+	struct plain *rows = rows_of(PLAIN), *row = NULL;
+	uint32_t *list = list_of(now.grain);
+	for (uint32_t at = *list; at != 0; at = rows[at - 1].next) {
+		struct plain *old = &rows[at - 1];
+		if (old->grain != now.grain)
+			continue;
+		if (is_again(old, &now))
+			return;
+		check_ordered(old, &now, me);
+		if (is_before(old, me) && covers(&now, old))
+			row = old;
+	}
+	now.next = row != NULL ? row->next : *list;
+	if (row == NULL) {
+		row = new_row(PLAIN);
+		*list = (uint32_t)run.rows[PLAIN];
+	}
+	*row = now;
+}
+
+/* The bits of the bytes of a grain that lie between two addresses. */
+static uint8_t bytes_of(uintptr_t grain, uintptr_t from, uintptr_t to)
+{
+	unsigned first = from > grain ? (unsigned)(from - grain) : 0, after = to < grain + GRAIN ? (unsigned)(to - grain) : GRAIN;
+	return (uint8_t)((1u << after) - (1u << first));
+}
+
+/* What the running thread does with memory. Stops where that is a data race. */
+void use_memory(const volatile void *address, size_t size, const struct use *use)
+{
+	struct routine *me = run.current;
+	uintptr_t from = (uintptr_t)address, to = from + size;
+	if (options.racy)
+		return;
+	if (run.rows[PLAIN] == 0)
+		memset(scratch->lists, 0, sizeof(scratch->lists));
+	for (uintptr_t grain = from & ~(uintptr_t)(GRAIN - 1); grain < to; grain += GRAIN)
+		record(me, (struct plain){.grain = grain, .at = me->clock[me->number], .thread = (uint8_t)me->number, .bytes = bytes_of(grain, from, to),
+		    .use = *use});
+}
+
+/* With `racy` it is a point, which touches the memory. */
+static void access_racily(struct routine *me, const volatile void *address, size_t size, const struct use *use)
+{
+	me->pc = use->pc;
+	point(use->writes ? "plain write" : "plain read", NULL, NULL, NULL);
+	me->pc = NULL;
+	check_usable(me, address, size, use);
+	touch_memory(address, size, use->writes ? WRITES : 0);
+}
+
+void access_plainly(const volatile void *address, size_t size, bool writes, const void *pc)
+{
+	struct routine *me = run.current;
+	const struct use use = {.verb = writes ? "writes" : "reads", .pc = pc, .writes = writes};
+	if (me == NULL || size == 0 || is_on_stack(me, address))
+		return;
+	if (options.racy) {
+		access_racily(me, address, size, &use);
+		return;
+	}
+	check_usable(me, address, size, &use);
+	use_memory(address, size, &use);
+}
