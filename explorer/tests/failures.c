@@ -297,7 +297,9 @@ static void enqueue(void *work)
 	bench_outcome("%u", count);
 	mutex_exit(&lock);
 	workqueue_wait(queue, work);
-	KASSERT(atomic_load_relaxed(&count) > 0);
+	mutex_enter(&lock);
+	KASSERT(count > 0);
+	mutex_exit(&lock);
 }
 
 static void begin_works(void)
@@ -411,7 +413,7 @@ static const struct fault_case {
 	{"work", begin_work, NULL, 1, true, "kmem_free at PLACE: what workqueue_enqueue has made lies in it and was never destroyed", ""},
 	{"deadlock", begin_deadlock, NULL, 1, true,
 	    "nobody can go on: thread \"wait\" waits in workqueue_wait at PLACE for a wake-up that nobody is left to give", ""},
-	{"hook", begin_early, NULL, 1, true, "atomic load at PLACE: use of freed memory: thread \"free\" gave it back by kmem_free at PLACE", ""},
+	{"hook", begin_early, NULL, 1, true, "data race: thread \"call\" reads at PLACE, and thread \"free\" frees at PLACE", ""},
 };
 
 /* Explores a case. Whether it went wrong. */

@@ -153,16 +153,14 @@ static void destroy_in_section(void)
 	pool_cache_destroy(cache);
 }
 
-static const struct stop_case cases[] = {
-	{set_twice, "module_hook_set: the hook is set already, at PLACE"},
-	{unset_twice, "module_hook_unset: the hook is not set, at PLACE"},
-	{unset_in_section, "module_hook_unset: inside a read section, entered at PLACE, at PLACE"},
-	{destroy_in_section, "pool_cache_destroy: inside a read section, entered at PLACE, at PLACE"},
-};
+STOPS("module_hook_set: the hook is set already, at PLACE", set_twice())
+STOPS("module_hook_unset: the hook is not set, at PLACE", unset_twice())
+STOPS("module_hook_unset: inside a read section, entered at PLACE, at PLACE", unset_in_section())
+STOPS("pool_cache_destroy: inside a read section, entered at PLACE, at PLACE", destroy_in_section())
 
 int main(void)
 {
-	int status = run_cases(begin, cases, sizeof(cases) / sizeof(cases[0]));
+	int status = run_cases(begin);
 	test_calls();
 	test_unset_waits();
 	test_names();

@@ -231,19 +231,17 @@ static void return_at_level(void)
 	run_in_queue(return_raised);
 }
 
-static const struct stop_case cases[] = {
-	{enqueue_twice, "workqueue_enqueue: the work is enqueued already, at PLACE"},
-	{enqueue_on_cpu, "workqueue_enqueue: a CPU is named, and the queue is without WQ_PERCPU, at PLACE"},
-	{enqueue_in_section, "workqueue_enqueue: inside a read section, entered at PLACE, at PLACE"},
-	{wait_in_section, "workqueue_wait: inside a read section, entered at PLACE, at PLACE"},
-	{destroy_busy, "workqueue_destroy: a work is enqueued, at PLACE"},
-	{destroy_in_function, "workqueue_destroy: in a function of the queue, at PLACE"},
-	{return_at_level, "workqueue: the function returned at a raised level"},
-};
+STOPS("workqueue_enqueue: the work is enqueued already, at PLACE", enqueue_twice())
+STOPS("workqueue_enqueue: a CPU is named, and the queue is without WQ_PERCPU, at PLACE", enqueue_on_cpu())
+STOPS("workqueue_enqueue: inside a read section, entered at PLACE, at PLACE", enqueue_in_section())
+STOPS("workqueue_wait: inside a read section, entered at PLACE, at PLACE", wait_in_section())
+STOPS("workqueue_destroy: a work is enqueued, at PLACE", destroy_busy())
+STOPS("workqueue_destroy: in a function of the queue, at PLACE", destroy_in_function())
+STOPS("workqueue: the function returned at a raised level", return_at_level())
 
 int main(void)
 {
-	int status = run_cases(begin, cases, sizeof(cases) / sizeof(cases[0]));
+	int status = run_cases(begin);
 	test_order();
 	test_again();
 	test_wait();
