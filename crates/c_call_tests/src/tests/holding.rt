@@ -14,7 +14,7 @@ fn a_reference_that_was_not_collected_is_released(rt: HostRuntime) -> Result<(),
     attach(&mut all.keeper, &mut all.first, rec)?;
     all.second.enter()?;
     assert!(rt; all.second.inside());
-    let found = all.second.find(rec.kind, &rec.name);
+    let found = all.second.find(rec.kind, rec.name);
     assert!(rt; found.is_some());
     let keeper = Box::new(rt.alloc(), all.keeper)?;
     let cpu = Box::new(rt.alloc(), all.second)?;
