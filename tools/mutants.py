@@ -7,7 +7,8 @@ The code is c/src/waiting.c, what is C of the archive, netbsd/src/*.c and rust/s
 in a copy of the tree, and the tests of the file's own library run until one fails. A body that the compiler makes the same code of isn't run. Those tests
 come first that saw most other wrong bodies of the file, and of these the shortest.
 
-A test that fails runs a second time: one failure on a busy machine kills nothing. It hangs if it takes five times as long as on the tree as it stands,
+A test that fails runs a second time: one failure on a busy machine kills nothing. Then it must pass on the tree as it stands, or the body is left untried,
+as `busy`. It hangs if it takes five times as long as on the tree as it stands,
 and --least seconds (5).
 
 `--only` takes the wrong bodies of a file, or of one line of it. `--sample` takes N of them by the seed (1 where none is given): the same share of
@@ -173,8 +174,9 @@ def run(words, folder, seconds, memory=None):
 class Lane:
     """A copy of the tree, in which one wrong body at a time is tried."""
 
-    def __init__(self, folder, of=ROOT):
-        self.folder = folder
+    def __init__(self, folder, stands=None):
+        self.folder, self.stands = folder, stands
+        of = stands.folder if stands else ROOT
         for name in COPIED:
             if (of / name).is_dir():
                 shutil.copytree(of / name, folder / name, symlinks=True, ignore=shutil.ignore_patterns("target", *(["rust"] if name == "out" else [])))
@@ -213,7 +215,7 @@ class Lane:
             built.add(tuple(test.build))
             outcome = self.fails(test, limits[test.name])
             if outcome:
-                return outcome, test.name
+                return ("busy", "") if self.stands.fails(test, limits[test.name]) else (outcome, test.name)
         return "survived", ""
 
     def try_mutant(self, library, mutant, tests, limits):
@@ -266,11 +268,11 @@ class Tried:
 
 def try_all(tried, jobs, room):
     """Tries each wrong body in a lane that no other one has just now."""
-    first = Lane(room / "lane0")
-    tried.measure(first)
+    stands = Lane(room / "stands")
+    tried.measure(stands)
     free = queue.SimpleQueue()
-    for lane in [first, *(Lane(room / f"lane{number}", first.folder) for number in range(1, min(jobs, len(tried.bodies))))]:
-        free.put(lane)
+    for number in range(min(jobs, len(tried.bodies))):
+        free.put(Lane(room / f"lane{number}", stands))
 
     def one(mutant):
         lane = free.get()
