@@ -30,7 +30,7 @@ macro_rules! has {
     }};
 }
 
-/// For which kinds of `T` a type has a trait, by their letters.
+/// The letters of the kinds of `T` with which a type has a trait.
 macro_rules! kinds {
     ($type:ty, $trait:path) => {
         kinds!($type, $trait, b: u64, y: std::sync::MutexGuard<'static, u8>, s: std::cell::Cell<u8>, n: std::rc::Rc<u8>)
@@ -48,7 +48,7 @@ macro_rules! kinds {
     }};
 }
 
-/// Of each type its name, what the compiler says of it, and what it should say.
+/// The name of each type, what the compiler says of it, and what it should say.
 macro_rules! table {
     ($($name:ident: $type:ty, $send:literal, $sync:literal, $others:literal;)*) => {
         fn table() -> Vec<(&'static str, [String; 3], [&'static str; 3])> {

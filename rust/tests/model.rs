@@ -1,4 +1,4 @@
-//! Random calls beside a plain model: each answer of each call is the one that the model gives.
+//! Random calls beside a plain model: each call returns what the model says.
 //!
 //! The limits are low, so that each refusal comes; every second registry notes places. Two of its CPUs are in a pool.
 
@@ -214,7 +214,7 @@ impl<'cpu> Bench<'cpu> {
         (one.live, one.open) = (false, open);
     }
 
-    /// Whether the answer of a call that may begin a section says that the CPU has begun as many as it may.
+    /// Whether a call that may begin a section has failed because the CPU has begun as many as it may.
     fn is_spent<R>(&mut self, cpu: usize, answer: &Told<R>) -> bool {
         let is_refused = matches!(answer, Err(Refusal::SectionsSpent));
         assert!(!is_refused || !self.is_inside(cpu) && self.begun[cpu] >= self.settings.sections);
@@ -781,7 +781,7 @@ fn numbers(freed: &[Freed<Tracked>]) -> Vec<u64> {
     freed.iter().map(|freed| freed.entry.number).collect()
 }
 
-/// Low limits, of which some are as high as they may be.
+/// Low limits. Some are as high as they may be.
 fn settings(seed: u64) -> Settings {
     let count = |divisor: u64| [1, 2, 3, LIMITS.count][(seed / divisor % 4) as usize];
     let changes = if seed % 5 == 0 { 60 } else { LIMITS.changes };

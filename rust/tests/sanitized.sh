@@ -1,7 +1,7 @@
 #!/bin/sh
-# Runs tests/together.rs under the thread sanitizer: it reports no race; and without either of the two edges of the memory order, of which nobody tells it
-# then, it reports one. So it would see a value that is read before its attach, or after it was freed. The crate has locks
-# of its own then: the sanitizer doesn't see into the standard library's. It wants a nightly rustc, and the archive in the folder that REGISTRY_LIB_DIR names. By hand.
+# Runs tests/together.rs under the thread sanitizer, which reports no race. Without either of the two edges of the memory order it reports one. So it would
+# see a value that is read before its attach, or after it was freed. The crate then has locks of its own: the sanitizer doesn't see into the standard
+# library's. It needs a nightly rustc, and the archive in the folder that REGISTRY_LIB_DIR names. By hand.
 set -u
 cd "$(dirname "$0")/.." || exit
 export REGISTRY_LIB_DIR="${REGISTRY_LIB_DIR:-$PWD/../out}" CARGO_TARGET_DIR="${CARGO_TARGET_DIR:-$PWD/target}/sanitized"

@@ -98,7 +98,7 @@ impl<'all, const CPUS: usize, const OWN: usize> Worker<'all, CPUS, OWN> {
         }
     }
 
-    /// Puts another one in the place of one of its own, if a slot is left.
+    /// Replaces one of its own, if a slot is left.
     fn replace(&mut self, own: usize, place: usize) -> Option<Retired<Tracked>> {
         self.labels += 1;
         let label = self.labels * Self::NAMES as u64 + place as u64;

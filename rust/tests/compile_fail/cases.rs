@@ -1,5 +1,5 @@
-//! What the types of the crate rule out. The compiler takes this file as it stands. With `--cfg` and the name that stands in a line here, which adds what
-//! follows there, it has errors, and each of them begins as the end of that line says.
+//! What the types of the crate rule out. The compiler takes this file as it is. `--cfg` and the name in a line add what follows that line. The compiler then
+//! reports errors. Each of them begins as the end of the line says.
 
 use kupaldiz::{Cpu, CpuPool, Found, Holder, Kind, LocalRef, Mapped, Name, PassiveRc, PassiveRef, Patience, ReadGuard, Refusal, Registry};
 use kupaldiz::{Retired, Settings};
