@@ -297,7 +297,9 @@ static void enqueue(void *work)
 	bench_outcome("%u", count);
 	mutex_exit(&lock);
 	workqueue_wait(queue, work);
-	KASSERT(atomic_load_relaxed(&count) > 0);
+	mutex_enter(&lock);
+	KASSERT(count > 0);
+	mutex_exit(&lock);
 }
 
 static void begin_works(void)
