@@ -71,7 +71,7 @@ RUNS = 2
 TYPES = "compile_fail"
 CARGO_TEST = "env CARGO_PROFILE_DEV_DEBUG=0 CARGO_PROFILE_TEST_DEBUG=0 cargo test --offline -q --manifest-path rust/Cargo.toml".split()
 # The programs of the bench that see the layer, with their words.
-BENCH = {"counts": [], "drivers": [], "finds": [], "refusals": [], "shortest": [], "named": [], "outcomes": ["1", "40"]}
+BENCH = {"counts": [], "drivers": [], "finds": [], "races": [], "refusals": [], "shortest": [], "named": [], "outcomes": ["1", "40"]}
 # A library: the files that are changed, its tests for one of them, and for C what compiles a file: the command and the object that it makes, for how the
 # names of the tests begin that run that code. Tests of another beginning are run where the code of the first differs.
 Library = collections.namedtuple("Library", "files tests compiled")

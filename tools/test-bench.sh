@@ -68,8 +68,8 @@ header_alone() {
 
 # The bench by clang, with what it compiles of the layer, and two of its small programs.
 with_clang() {
-    make -s -C $folder CC=clang OUT="$room/clang" ARCHIVE="$PWD/out/libregistry.a" "$room/clang/plain/counts" "$room/clang/plain/finds" &&
-        "$room/clang/plain/counts" && "$room/clang/plain/finds"
+    make -s -C $folder CC=clang OUT="$room/clang" ARCHIVE="$PWD/out/libregistry.a" "$room/clang/plain/counts" "$room/clang/plain/races" &&
+        "$room/clang/plain/counts" && "$room/clang/plain/races"
 }
 
 # On another processor the compiler says what the bench is for.
@@ -116,6 +116,7 @@ for way in plain sanitized; do
     check "counts, $way" "$out/$way/counts"
     [ "$way" = plain ] || check "the seven drivers in every order, $way" "$out/$way/drivers"
     counted "what it finds, $way" "$out/$way/finds"
+    counted "data races, $way" "$out/$way/races"
     counted "what it refuses, $way" "$out/$way/refusals"
     check "a fault by the fewest switches, $way" "$out/$way/shortest"
     check "each name that a driver may use does what its page says, $way" "$out/$way/named"
