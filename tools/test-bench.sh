@@ -66,9 +66,10 @@ header_alone() {
     fi
 }
 
-# The bench by clang, with what it compiles of the layer, and its small programs.
+# The bench by clang, with what it compiles of the layer, and two of its small programs.
 with_clang() {
-    make -s -C $folder CC=clang OUT="$room/clang" ARCHIVE="$PWD/out/libregistry.a" "$room/clang/plain/counts" && "$room/clang/plain/counts"
+    make -s -C $folder CC=clang OUT="$room/clang" ARCHIVE="$PWD/out/libregistry.a" "$room/clang/plain/counts" "$room/clang/plain/races" &&
+        "$room/clang/plain/counts" && "$room/clang/plain/races"
 }
 
 # On another processor the compiler says what the bench is for.
@@ -117,6 +118,7 @@ for way in plain sanitized; do
     counted "what it finds, $way" "$out/$way/finds"
     counted "failures, works, callouts and hooks, $way" "$out/$way/failures"
     check "four files in the idiom of the kernel's own, $way" "$out/$way/kernel_files"
+    counted "data races, $way" "$out/$way/races"
     counted "what it refuses, $way" "$out/$way/refusals"
     check "a fault by the fewest switches, $way" "$out/$way/shortest"
     check "each name that a driver may use does what its page says, $way" "$out/$way/named"
@@ -126,6 +128,7 @@ check "what it prints" prints_what_was_tried
 check "outcomes with the reduction and without" "$out/plain/outcomes" 1 40
 check "the same of short programs, for a minute" "$out/plain/outcomes" for 60 1
 check "the same with sanitizers" "$out/sanitized/outcomes" 61 4
+counted "faults in the reduction's rules are told by programs that are written there" make -s -C $folder rules EACH=1
 check "the outcomes of real threads are among the bench's" make -s -C $folder beside
 counted "each misuse of the layer's tests by the same line" make -s -C $folder misuses
 counted "faults in the seven drivers, as the README says" faults_as_told

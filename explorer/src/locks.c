@@ -133,12 +133,14 @@ static void set_deadline(struct routine *me, int64_t deadline)
 	me->deadline = deadline;
 }
 
-/* One whose time is over may have been woken before, or not: another wake-up finds it in the queue, or doesn't. */
+/* The wake-up alone has enabled it, unless its time is over or it might end early. */
 static void leave_queue(struct routine *me, const void *of)
 {
-	touch(ON_WAKE, me, 0, WRITES | ACQUIRES);
+	touch(ON_WAKE, me, 0, WRITES | (is_late(me) || ends_early(me) ? 0 : ACQUIRES));
 	note_ending(me, !me->woken && !is_late(me));
-	if (!me->woken)
+	if (me->woken)
+		acquire_clock(ON_WAKE, me, 0);
+	else
 		touch(ON_CV, of, 0, WRITES);
 }
 

@@ -1,0 +1,55 @@
+/* finds.h - cases of what the bench finds: each runs, and its schedule is replayed */
+#ifndef BENCH_FINDS_H
+#define BENCH_FINDS_H
+
+#include <fnmatch.h>
+#include <stdio.h>
+#include <string.h>
+
+#include "../bench.h"
+
+struct find {
+	const char *name, *line;	/* NULL where nothing is wrong */
+	void (*setup)(void), (*finish)(void);
+};
+
+/* Whether a line has a text in it, as fnmatch(3) has it. */
+static inline bool is_line(const char *said, const char *looked_for)
+{
+	char pattern[256];
+	snprintf(pattern, sizeof(pattern), "*%s*", looked_for);
+	return fnmatch(pattern, said, 0) == 0;
+}
+
+/* Whether the bench finds it, and its schedule replays it. */
+static inline bool is_found(const struct find *find)
+{
+	struct bench_found found, again;
+	struct bench_options options = {.quiet = true, .found = &found, .reliable = true, .finish = find->finish};
+	bool wrong = bench_explore(find->setup, &options) != 0;
+	if (find->line == NULL)
+		return !wrong && found.complete;
+	options.found = &again;
+	options.replay = found.schedule;
+	return wrong && is_line(found.line, find->line) && bench_explore(find->setup, &options) == 1 && strcmp(found.line, again.line) == 0;
+}
+
+/* Runs the cases, and shows those that fail, or with `all` each. The last line counts them. */
+static inline int run_finds(const struct find *finds, size_t count, bool all)
+{
+	unsigned passed = 0, failed = 0;
+	for (size_t at = 0; at < count; at++) {
+		bool right = is_found(&finds[at]);
+		passed += right;
+		failed += !right;
+		if (!right || all) {
+			const struct bench_options options = {.name = finds[at].name, .reliable = true, .finish = finds[at].finish};
+			printf("%s %s\n", right ? "ok" : "FAILED", finds[at].name);
+			bench_explore(finds[at].setup, &options);
+		}
+	}
+	printf("%u passed, %u failed\n", passed, failed);
+	return failed != 0;
+}
+
+#endif
