@@ -34,7 +34,7 @@ exit $status
 
 
 def tree():
-    programs = {f"c/tests/{it}.c": QUIET for it in ("deferred", "waits", "forwarder", "device_switch")}
+    programs = {f"c/tests/{it}.c": QUIET for it in ("deferred", "waits", "reclaims", "lent", "interrupted", "together")}
     return {"c/src/waiting.c": WAITING, "c/tests/turns.c": SEES, "Makefile": MAKEFILE, "tries": TRIES, **programs}
 
 
