@@ -71,7 +71,7 @@ int never(int a)
 """
 LAYER_MAKEFILE = """OUT = ../out/netbsd
 list-plain:
-	@echo destroyed drained model
+	@echo drained model
 list-%:
 	@true
 $(OUT)/plain/pause.o $(OUT)/raced/pause.o: src/pause.c
@@ -103,7 +103,7 @@ int main(void)
 LAYER = "netbsd/src/pause.c"
 
 def layer():
-    tests = {"destroyed": SEES_OFTEN, "drained": SEES_OFTEN, "model": SEES_SELDOM}
+    tests = {"drained": SEES_OFTEN, "model": SEES_SELDOM}
     programs = {f"netbsd/tests/{it}.c": text for it, text in tests.items()}
     return {LAYER: PAUSE, "netbsd/Makefile": LAYER_MAKEFILE, "tries": TRIES, **programs}
 
