@@ -307,39 +307,6 @@ static void test_order(unsigned of, unsigned wanted)
 		end_thread(threads[i]);
 }
 
-/* ---- Whom a lock is passed. ---- */
-
-static void *take_twice(void *of)
-{
-	for (unsigned turn = 0; turn < 2; turn++) {
-		mutex_enter(&lock);
-		plain++;
-		mutex_exit(&lock);
-	}
-	return of;
-}
-
-/* A thread that gives a lock back and takes it again at once can't keep it from those that wait. */
-static void test_passed(void)
-{
-	enum { MOST = 100 };
-	pthread_t takers[2];
-	unsigned turns = 0;
-	mutex_enter(&lock);
-	plain = 0;
-	for (unsigned i = 0; i < 2; i++)
-		start_thread(&takers[i], take_twice, NULL);
-	for (; turns < MOST && plain < 4; turns++) {
-		sleep_for(2000);
-		mutex_exit(&lock);
-		mutex_enter(&lock);
-	}
-	EXPECT(turns < MOST);
-	mutex_exit(&lock);
-	for (unsigned i = 0; i < 2; i++)
-		end_thread(takers[i]);
-}
-
 /* ---- Many that wait. ---- */
 
 /* More locks and condition variables than the layer has places to wait in: some share one. */
@@ -418,7 +385,6 @@ int main(void)
 	test_order(1, 231);
 	test_order(2, 132);
 	test_order(3, 123);
-	test_passed();
 	test_crowd();
 	cv_destroy(&cv);
 	EXPECT(!cv_is_valid(&cv));

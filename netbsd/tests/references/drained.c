@@ -142,11 +142,11 @@ static void drain_beside_others(void)
 	end_object(object);
 }
 
-/* Whether the drain waits by its condition variable as it gives its lock up, for so many looks at most. The first time it lets others in at once. */
-static bool is_waiting(struct object *object, unsigned looks)
+/* Whether the drain waits by its condition variable as it gives its lock up, at some looks. The first time it lets others in at once. */
+static bool is_waiting(struct object *object)
 {
 	bool waits = false;
-	for (unsigned look = 0; look < looks && !waits; look++) {
+	for (unsigned look = 0; look < 20 && !waits; look++) {
 		sleep_for(1000);
 		while (!mutex_tryenter(&object->lock))
 			sleep_for(50);
@@ -161,7 +161,7 @@ static void *leave_section(void *of)
 {
 	int s = pserialize_read_enter();
 	atomic_store(&inside, true);
-	EXPECT(!is_waiting(of, 20));
+	EXPECT(!is_waiting(of));
 	pserialize_read_exit(s);
 	return of;
 }
@@ -180,35 +180,12 @@ static void drain_under_section(void)
 	end_object(object);
 }
 
-/* It waits to be woken, and looks again only after a time, which may be long. */
-static void *release_awaited(void *of)
-{
-	struct object *object = of;
-	EXPECT(is_waiting(object, 5000));
-	localcount_release(&object->count, &object->cv, &object->lock);
-	return of;
-}
-
-static void drain_under_reference(void)
-{
-	pthread_t holder;
-	struct object *object = new_object();
-	localcount_acquire(&object->count);
-	mutex_enter(&object->lock);
-	start_thread(&holder, release_awaited, object);
-	localcount_drain(&object->count, &object->cv, &object->lock);
-	mutex_exit(&object->lock);
-	end_thread(holder);
-	end_object(object);
-}
-
 int main(void)
 {
 	pthread_t holders[HOLDERS];
 	time_t begin = time(NULL);
 	psz = pserialize_create();
 	drain_under_section();
-	drain_under_reference();
 	atomic_store(&shown, new_object());
 	for (unsigned i = 0; i < HOLDERS; i++)
 		start_thread(&holders[i], hold_all, NULL);

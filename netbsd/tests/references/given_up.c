@@ -1,7 +1,8 @@
 /*
  * given_up - a drain waits for the last reference, whose count it has collected: the release gives it up, and wakes the drain
  *
- * The release comes once the drain waits by its condition variable, so it always finds its count collected.
+ * The release comes once the drain waits by its condition variable, so it always finds its count collected. Over a layer whose drains look again only after
+ * ten seconds, a drain that nobody wakes is too late.
  */
 #include <sys/condvar.h>
 #include <sys/localcount.h>
@@ -46,10 +47,12 @@ static void give_up_all(unsigned round)
 
 int main(void)
 {
+	time_t begin = time(NULL);
 	mutex_init(&lock, MUTEX_DEFAULT, IPL_NONE);
 	cv_init(&drained, "drained");
 	for (unsigned round = 0; round < ROUNDS; round++)
 		give_up_all(round);
+	EXPECT(time(NULL) - begin < 60);
 	cv_destroy(&drained);
 	mutex_destroy(&lock);
 	printf("%d references were given up to drains that waited for them\n", ROUNDS * HELD);

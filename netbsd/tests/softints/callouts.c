@@ -370,7 +370,7 @@ static void stay_and_set(void *of)
 	}
 }
 
-/* The body ends, and doesn't begin again. */
+/* The body ends, and doesn't begin again. Somebody sets the callout before the halt has the lock again. */
 static void end_late(void)
 {
 	unsigned cpu = atomic_load(&timer.cpu), before = atomic_load(&timer.idle_before);
@@ -378,6 +378,7 @@ static void end_late(void)
 	while (atomic_load(&idle[cpu]) <= before && atomic_load(&timer.runs) == 1)
 		sleep_for(100);
 	EXPECT(atomic_load(&timer.runs) == 1);
+	callout_reset(&timer.callout, 100, note_run, &timer);
 }
 
 /* What a body sets while a halt waits doesn't run, also where its time has come. After that the callouts of its CPU may set themselves. */

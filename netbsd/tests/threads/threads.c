@@ -42,11 +42,24 @@ int __wrap_pthread_cond_wait(pthread_cond_t *cond, pthread_mutex_t *mutex)
 	return __real_pthread_cond_wait(cond, mutex);
 }
 
+/* How often a taker of a lock began to wait for it. Once woken it is held back, without the mutex that it waits with. */
+static _Thread_local bool is_taker;
+static atomic_uint takers_waits;
+static atomic_bool held_back;
+
 int __wrap_pthread_cond_timedwait(pthread_cond_t *cond, pthread_mutex_t *mutex, const struct timespec *end)
 {
 	EXPECT(!goes_on);
 	atomic_store(&waited, true);
-	return __real_pthread_cond_timedwait(cond, mutex, end);
+	atomic_fetch_add(&takers_waits, is_taker);
+	int answer = __real_pthread_cond_timedwait(cond, mutex, end);
+	if (!is_taker || !atomic_load(&held_back))
+		return answer;
+	__real_pthread_mutex_unlock(mutex);
+	while (atomic_load(&held_back))
+		sleep_for(50);
+	pthread_mutex_lock(mutex);
+	return answer;
 }
 
 /* Those that this thread has initialised, and not destroyed yet. */
@@ -380,6 +393,41 @@ static void test_gone(int level)
 	splx(s);
 }
 
+/* ---- A lock that is passed. ---- */
+
+static void *take(void *lock)
+{
+	is_taker = true;
+	mutex_enter(lock);
+	mutex_exit(lock);
+	return lock;
+}
+
+/* A lock is free when it is given back, though another thread waits for it. If others were before that one often enough it is passed to it. */
+static void test_passed(void)
+{
+	enum { MOST = 20 };
+	kmutex_t lock;
+	pthread_t taker;
+	unsigned turns = 0;
+	mutex_init(&lock, MUTEX_DEFAULT, IPL_NONE);
+	mutex_enter(&lock);
+	start_thread(&taker, take, &lock);
+	for (bool is_free = true; is_free && turns < MOST; turns += is_free) {
+		await_least(&takers_waits, turns + 1);
+		atomic_store(&held_back, true);
+		mutex_exit(&lock);
+		EXPECT(!mutex_owned(&lock));
+		is_free = mutex_tryenter(&lock);
+		atomic_store(&held_back, false);
+	}
+	EXPECT(turns >= 2 && turns < MOST);
+	end_thread(taker);
+	EXPECT(mutex_tryenter(&lock) == 1);
+	mutex_exit(&lock);
+	mutex_destroy(&lock);
+}
+
 /* ---- CPUs. ---- */
 
 enum { FREE, KEPT, OVER };
@@ -538,6 +586,7 @@ int main(void)
 	test_joined_early();
 	test_gone(IPL_NONE);
 	test_gone(IPL_VM);
+	test_passed();
 	test_cpus();
 	test_call_after_end();
 	puts("each thread had memory and a CPU of its own");
