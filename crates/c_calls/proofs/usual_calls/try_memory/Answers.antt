@@ -24,7 +24,7 @@ returns-clause-call c =
     record {
       got = Some got;
       gets = subst (λ (o : OnPlainCpu). HasGotByMemory (key_with k (name_in c.args.name)) a.cpu o.cpu (Some got)) (sym c.keep.ensures)
-      (subst (λ (n : Name). HasGotByMemory (key_with k n) a.cpu c.get_by_memory.new.self.cpu (Some got)) c.name_in.ensures c.in-Some.ensures.got);
+          (subst (λ (n : Name). HasGotByMemory (key_with k n) a.cpu c.get_by_memory.new.self.cpu (Some got)) c.name_in.ensures c.in-Some.ensures.got);
       words = ap (λ (o : OnPlainCpu). o.words) c.keep.ensures ∙ c.in-Some.ensures.words;
       so = (c.put_seen.result, refl, c.put_seen.ensures.written);
     }
