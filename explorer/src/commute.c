@@ -14,7 +14,8 @@
  *
  * A plain access is no access of a step, unless it is a point of its own. Let two steps that commute here have plain accesses to one memory, one of which
  * writes. Where the two are neighbours nothing orders them, and so the run is wrong by a data race (plain.c), whichever comes first. As long as no run is
- * wrong, such neighbours leave the same memory in both orders. For this, two steps must conflict here if the one acquires the clock that the other has released.
+ * wrong, such neighbours leave the same memory in both orders. For this, two steps must conflict here if the one acquires the clock that the other
+ * has released.
  */
 #include <string.h>
 

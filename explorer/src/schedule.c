@@ -177,7 +177,7 @@ static void throttle(struct step *step, const struct step *before)
 static const struct set ticking = {.count = 2, .of = {{.size = 1, .kind = ON_TIME, .how = WRITES}, {.size = 1, .kind = ON_DEADLINE, .cpu = ANY}}};
 
 /*
- * The run ends after its first `upto` steps, well or cut short. The clock and the soft interrupts that are disabled then might have gone on before one of them
+ * The run ends after its first `upto` steps, well or cut short: what is disabled then of the clock and the soft interrupts may race with one of them
  *
  * A thread that waits for a lock, a wake-up or its CPU needs nothing here: it goes on in each run that isn't cut, and its step has its races there.
  */

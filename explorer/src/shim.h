@@ -26,7 +26,7 @@
 
 #include "stand_ins.h"
 
-/* A mutex under which steps conflict, and which orders them: that of the list of callouts. What is under the others is told apart by what a call touches. */
+/* A mutex that orders steps, which conflict: that of the list of callouts. What is under the others is told apart by what a call touches. */
 #define WATCHED(mutex)			(__builtin_strstr(__FILE__, "callout.c") != NULL ? (const void *)(mutex) : NULL)
 
 #define malloc(size)			bench_malloc(size)

@@ -313,7 +313,7 @@ static const struct find finds[] = {
 	{"a release", NULL, released, NULL},
 	{"a barrier", NULL, fenced, NULL},
 	{"freed memory by a plain access", "data race: thread \"first\" reads at races.c:*, and thread \"second\" frees at *races.c:", freed_plainly, NULL},
-	{"freed memory by the thread itself", "plain read at races.c:*: use of freed memory: thread \"first\" gave it back by kmem_free at ", freed_by_itself, NULL},
+	{"freed memory by the thread itself", "plain read at races.c:*: use of freed memory: thread \"first\" gave it back ", freed_by_itself, NULL},
 	{"memory that is given without a release", "data race: thread \"first\" takes memory by kmem_zalloc at ", given_relaxed, NULL},
 	{"an access behind a block", "plain write at races.c:*: beyond a block of ", behind_seen, NULL},
 };
