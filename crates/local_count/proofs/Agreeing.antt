@@ -110,7 +110,7 @@ counted_agrees z a t u x c w d o ps ns ms acquired released s n v our is_shown s
     placed = λ k some. let old = our.passive.placed k some in record { entry = old.entry; attached = old.attached; slot = old.slot; number = old.number };
     each = our.passive.each;
   };
-  net = net_set x (record x { acquired = acquired; released = released; met = with_number x.met s n }) ns s n v our.net lt alone refl count most others;
+  net = net_set x _ ns s n v our.net lt alone refl count most others;
   memory = our.memory;
   is_shown = is_shown;
 }

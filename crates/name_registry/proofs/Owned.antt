@@ -43,12 +43,11 @@ by_name false fit room rec f is = by_slot fit room rec f is
 given_refused : (z : Settings) (k : OnKeeper) (rec : Record) (f : Refusal) → given_entry z k rec ≡ Err f → IsGivenRefusal f
 given_refused z k rec f is = by_name (is_taken (key_of_record rec) k.slots) (first_fit k) (room_of z k) rec f is
 
+refusal_is : (f r : Refusal) → f ≡ r → IsAttachRefusal false false r → IsAttachRefusal false false f
+refusal_is f r is refusal = subst (IsAttachRefusal false false) (sym is) refusal
+
 given_refusal : (f : Refusal) → IsGivenRefusal f → IsAttachRefusal false false f
-given_refusal f is = ⊎_elim
-    (λ e. subst (λ (r : Refusal). IsAttachRefusal false false r) (sym e) (refl, refl))
-    (λ or. ⊎_elim
-    (λ e. subst (λ (r : Refusal). IsAttachRefusal false false r) (sym e) (refl, refl))
-    (λ e. subst (λ (r : Refusal). IsAttachRefusal false false r) (sym e) (refl, refl)) or) is
+given_refusal f is = ⊎_elim (λ e. refusal_is f _ e (refl, refl)) (λ or. ⊎_elim (λ e. refusal_is f _ e (refl, refl)) (λ e. refusal_is f _ e (refl, refl)) or) is
 
 entry_refusal : (inside unfit : Bool) (given : Result Entry Refusal) (f : Refusal) → ((r : Refusal) → given ≡ Err r → IsGivenRefusal r) → answers.attach_answer inside unfit given ≡ Err f
     → IsAttachRefusal inside unfit f

@@ -28,11 +28,12 @@ may_load x key from t k p at word = record { search = search_at key from p; unde
 pub at_kind : (x y : CpuView) (key : Key) (from t n : ℕ) → IsUnderWay x key from (AtNumber t) → HasLoadedWord x n y → IsUnderWay y key from (AtKind t n)
 at_kind x y key from t n at had = goes_on x y key from (AtNumber t) (AtKind t n) n n at refl had
 
-pub at_high : (x y : CpuView) (key : Key) (from t n k : ℕ) → IsUnderWay x key from (AtKind t n) → HasLoadedWord x k y → IsUnderWay y key from (AtHigh t n k)
-at_high x y key from t n k at had = goes_on x y key from (AtKind t n) (AtHigh t n k) k k at refl had
+pub at_high : (x y z : CpuView) (key : Key) (from t n k : ℕ) → IsUnderWay x key from (AtNumber t) → HasLoadedWord x n y → HasLoadedWord y k z → IsUnderWay z key from (AtHigh t n k)
+at_high x y z key from t n k at first had = goes_on y z key from (AtKind t n) (AtHigh t n k) k k (at_kind x y key from t n at first) refl had
 
-pub at_low : (x y : CpuView) (key : Key) (from t n k h : ℕ) → IsUnderWay x key from (AtHigh t n k) → HasLoadedWord x h y → IsUnderWay y key from (AtLow t n k h)
-at_low x y key from t n k h at had = goes_on x y key from (AtHigh t n k) (AtLow t n k h) h h at refl had
+pub at_low : (w x y z : CpuView) (key : Key) (from t n k h : ℕ) → IsUnderWay w key from (AtNumber t) → HasLoadedWord w n x → HasLoadedWord x k y → HasLoadedWord y h z
+    → IsUnderWay z key from (AtLow t n k h)
+at_low w x y z key from t n k h at first second had = goes_on y z key from (AtHigh t n k) (AtLow t n k h) h h (at_high w x y key from t n k at first second) refl had
 
 pub may_follow : (x : CpuView) (key : Key) (from t : ℕ) → IsUnderWay x key from (AtNext t) → MayLoadLink x t
 may_follow x key from t at = record { search = search_at key from (AtNext t); under_way = at; place = refl }

@@ -168,5 +168,4 @@ pub less_agrees : (z : TableId) (a : Settings) (t u : TableId) (x y : CpuView) (
     → IsOurCpu z a u y c w d o (set ps s (record { number = (place_at ps s).number; count = (place_at ps s).count - 1 })) ns ms
 less_agrees z a t u x y c w d o ps ns ms e s n our same is_shown at among had =
     subst (λ (v : CpuView). IsOurCpu z a u v c w d o (set ps s (record { number = (place_at ps s).number; count = (place_at ps s).count - 1 })) ns ms) (sym had)
-    (with_references z a t u x c w d o ps (set ps s (record { number = (place_at ps s).number; count = (place_at ps s).count - 1 })) ns ms (without n x.references) our same
-    (subst IsShownCpu had is_shown) (less_passive x ps e s n our.passive at among))
+    (with_references z a t u x c w d o ps _ ns ms (without n x.references) our same (subst IsShownCpu had is_shown) (less_passive x ps e s n our.passive at among))

@@ -200,8 +200,7 @@ put_makes z s r i x e references m event at idle known is others attached made =
     let stands = put_word s.words g x e r.good had known r.words in
     let made' : step g event ≡ Some (record { state = with_lists g l; reply = Word (slice_index s.words (index (passive_of x.id e.slot))) }) =
     made ∙ (λ k. Some (record { state = with_lists g l; reply = Word (sym stands k) })) in
-    let done = cpu_makes z s r i x (index (passive_of x.id e.slot)) m l event (Word (slice_index s.words (index (passive_of x.id e.slot)))) own at made' (put_leaves g x.id e.slot m)
-    (λ k. refl) refl shown words in
+    let done = cpu_makes z s r i x (index (passive_of x.id e.slot)) m l event _ own at made' (put_leaves g x.id e.slot m) (λ k. refl) refl shown words in
     let change : cpu_view (with_lists g l) x.id own ≡ record x { references = references } = ap (λ (v : CpuView). record v { references = references }) (sym had.is) in
     (cpu_view (with_lists g l) x.id own, change, done.0, done.1)
 

@@ -206,7 +206,7 @@ follows z s r i x spot m n q at under found link tells leads at_head above =
     let within : get_or l.seen x.id 0 ≤ size = omega (arith, sees) in
     let shown = shown_on g x l had refl refl refl (had.depth ∙ ap depth_of seen.begin) more within
     (λ e is. found_on g x (get_or l.seen x.id 0) had more within e (found_before (found_at g x.id) m e (sym finds ∙ is))) in
-    let done = cpu_makes z s r i x spot m l (LoadLink x.id) (link_answer m) (own_of x) at made leaves (λ k. refl) refl shown (loaded_words s.words g l spot m found r.words refl refl refl) in
+    let done = cpu_makes z s r i x spot m l (LoadLink x.id) (link_answer m) (own_of x) at made leaves (λ k. refl) refl shown (loaded_words _ _ l _ _ found r.words refl refl refl) in
     let change : y ≡ cpu_after_link x q m y.pass =
     (λ k. record y { search = searches k; found = finds k }) ∙ ap (λ (v : CpuView). record v { pass = y.pass; search = next_search q m; found = next_found v.found m }) (sym had.is)
     ∙ followed_is x q m y.pass in
@@ -298,7 +298,7 @@ begins_search z s r i x spot m kind name at may found =
     let made : step g (Seek x.id kind name) ≡ Some (record { state = with_lists g l; reply = Done }) = rw (idle_of g x seen had may.idle, inside) refl in
     let leaves = same_counts g x.id l refl refl refl refl (λ d ne. refl) (λ d ne. refl) (λ d ne. refl) (λ d ne. refl) (λ d ne. get_or-set_other g.searches x.id d _ None ne) (λ d ne. refl) in
     let shown = shown_on g x l had refl refl refl (had.depth ∙ ap depth_of seen.begin) (omega arith) seen.within (found_on g x (seen_at g x.id) had (omega arith) seen.within) in
-    let done = cpu_makes z s r i x spot m l (Seek x.id kind name) Done (own_of x) at made leaves (λ k. refl) refl shown (loaded_words s.words g l spot m found r.words refl refl refl) in
+    let done = cpu_makes z s r i x spot m l (Seek x.id kind name) Done (own_of x) at made leaves (λ k. refl) refl shown (loaded_words _ _ l _ _ found r.words refl refl refl) in
     let size : length x.pass ≡ seen_at g x.id = ap (λ (p : List Change). length p) seen.pass ∙ length-take-le (seen_at g x.id) g.history seen.within in
     let start : q ≡ search_for key x = λ k. record { key = key; start = sym size k; place = AtHead } in
     let search : y.search ≡ Some (search_for key x) = get_or-set_same g.searches x.id (Some q) None seen.in_searches ∙ ap (λ (o : Search). Some o) start in
@@ -474,7 +474,7 @@ searches_word z s r i x spot m q o at under found makes load worded =
     let shown = shown_on g x l had refl refl refl (had.depth ∙ ap depth_of seen.begin) (omega arith) seen.within
     (λ e is. found_shown (take sees g.history) q (found_at g x.id) o (found_on g x sees had (omega arith) seen.within) holds e (sym finds ∙ is)) in
     let done = cpu_makes z s r i x spot m l (LoadRecord (OfSearch x.id)) (loaded_answer (Some o)) (own_of x) at made leaves (λ k. refl) refl shown
-    (loaded_words s.words g l spot m found r.words refl refl refl) in
+    (loaded_words _ _ l _ _ found r.words refl refl refl) in
     let change : y ≡ cpu_after_record_word x q (Some o) =
     (λ k. record y { search = searches k; found = finds k }) ∙ ap (λ (v : CpuView). record v { search = loaded_search q o; found = loaded_found v.found o }) (sym had.is) ∙ searched_is x q o in
     let on = r.good.holds in

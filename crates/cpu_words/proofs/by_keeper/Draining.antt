@@ -62,9 +62,13 @@ passive_look_may z k t c may s r i at fits =
     ∙ ap (λ (v : KeeperView). record (keeper_after_look v (PassiveLook t c) (Word w)) { marks = with_cell v.marks t c (mark_after_passive_look (mark_at v.marks t c) w) }) (sym had.is) in
     (Keeper (keeper_view (with_keeper g l) own), done.0, (refl, (done.1, change)))
 
+-- the marks once the count word of c is collected
+abbrev marks_collected : State → ℕ → ℕ → List (List Mark)
+marks_collected g t c = with_cell g.marks t c (mark_after_collect (mark_at g.marks t c))
+
 -- the state with a word collected
 abbrev collecting : State → ℕ → ℕ → KeeperLists
-collecting g t c = record (keeper_lists g) { counts = with_cell g.counts t c 0; marks = with_cell g.marks t c (mark_after_collect (mark_at g.marks t c)); due = Adding t (count_at g.counts c t) }
+collecting g t c = record (keeper_lists g) { counts = with_cell g.counts t c 0; marks = marks_collected g t c; due = Adding t (count_at g.counts c t) }
 
 -- the total of the slot, with the word that is collected, and of another slot
 gives_up_collected : (g : State) (t c : ℕ) (given_up : List ℕ) → Good g → Looking g t c → (mark_at g.marks t c).collected ≡ false
@@ -109,19 +113,18 @@ shown_collected g k t c good had here still = record {
   gives_up = λ u e retired. gives_up_collected g t c k.given_up good here still u e retired (had.gives_up u e retired);
   later = had.later;
   beyond = λ d u past. ⊎_elim
-      (λ (at : (u ≡ t) × (d ≡ c) × (cell no_mark (with_cell g.marks t c (mark_after_collect (mark_at g.marks t c))) u d ≡ mark_after_collect (mark_at g.marks t c))). absurd
-      (let e = at.1 in omega (arith, e, past, here.cpu)))
-      (λ (off : cell no_mark (with_cell g.marks t c (mark_after_collect (mark_at g.marks t c))) u d ≡ cell no_mark g.marks u d). ap (λ (x : Mark). x.collected) off ∙ had.beyond d u past)
+      (λ (at : (u ≡ t) × (d ≡ c) × (cell no_mark (marks_collected g t c) u d ≡ mark_after_collect (mark_at g.marks t c))). absurd (let e = at.1 in omega (arith, e, past, here.cpu)))
+      (λ (off : cell no_mark (marks_collected g t c) u d ≡ cell no_mark g.marks u d). ap (λ (x : Mark). x.collected) off ∙ had.beyond d u past)
       (cell_cases no_mark g.marks t c (mark_after_collect (mark_at g.marks t c)) u d);
   honest = had.honest;
   noted_pass = had.noted_pass;
 }
 
 -- what was collected stays so
-still_collected : (g : State) (t c : ℕ) (u d : ℕ) → (mark_at g.marks u d).collected ≡ true → (mark_at (with_cell g.marks t c (mark_after_collect (mark_at g.marks t c))) u d).collected ≡ true
+still_collected : (g : State) (t c : ℕ) (u d : ℕ) → (mark_at g.marks u d).collected ≡ true → (mark_at (marks_collected g t c) u d).collected ≡ true
 still_collected g t c u d is = ⊎_elim
-    (λ (at : (u ≡ t) × (d ≡ c) × (cell no_mark (with_cell g.marks t c (mark_after_collect (mark_at g.marks t c))) u d ≡ mark_after_collect (mark_at g.marks t c))). ap (λ (x : Mark). x.collected) at.2)
-    (λ (off : cell no_mark (with_cell g.marks t c (mark_after_collect (mark_at g.marks t c))) u d ≡ cell no_mark g.marks u d). ap (λ (x : Mark). x.collected) off ∙ is)
+    (λ (at : (u ≡ t) × (d ≡ c) × (cell no_mark (marks_collected g t c) u d ≡ mark_after_collect (mark_at g.marks t c))). ap (λ (x : Mark). x.collected) at.2)
+    (λ (off : cell no_mark (marks_collected g t c) u d ≡ cell no_mark g.marks u d). ap (λ (x : Mark). x.collected) off ∙ is)
     (cell_cases no_mark g.marks t c (mark_after_collect (mark_at g.marks t c)) u d)
 
 -- the words after it
@@ -165,6 +168,6 @@ collect_may z k t c may s r i at fits =
     let done = keeper_makes z s r i k place 0 l (Collect t c) (Word w) own at made (leaves_all g l refl refl refl refl (still_collected g t c)) (λ n. refl) refl shown
     (collect_words s.words g t c r.good here r.words) in
     let change : keeper_view (with_keeper g l) own ≡ record k { marks = with_cell k.marks t c (mark_after_collect (mark_at k.marks t c)); due = Adding t w } =
-    ap (λ n. record (keeper_view g own) { marks = with_cell g.marks t c (mark_after_collect (mark_at g.marks t c)); due = Adding t n }) (sym found)
+    ap (λ n. record (keeper_view g own) { marks = marks_collected g t c; due = Adding t n }) (sym found)
     ∙ ap (λ (v : KeeperView). record v { marks = with_cell v.marks t c (mark_after_collect (mark_at v.marks t c)); due = Adding t w }) (sym had.is) in
     (Keeper (keeper_view (with_keeper g l) own), done.0, (refl, (done.1, change)))

@@ -30,7 +30,7 @@ look_may z k t c may s r i at fits =
     let made : step g (Look (Some t) c) ≡ Some (record { state = with_keeper g l; reply = Word w }) = rw (rest, retired, lt-ltb c g.settings.cpus lt, found) refl in
     let shown : KeeperShown (with_keeper g l) (keeper_view (with_keeper g l) own) = shown_marked g k t c m g.due own r.good had lt refl (due_alike g.due g.due refl) refl refl refl in
     let done = keeper_makes z s r i k (index (section_of c)) w l (Look (Some t) c) (Word w) own at made (leaves_all g l refl refl refl refl (same_collected g t c m refl)) (λ n. refl) refl shown
-    (loads s.words g (with_keeper g l) (index (section_of c)) r.words refl (λ q _. refl)) in
+    (loads _ _ _ _ r.words refl (λ q _. refl)) in
     let change : keeper_view (with_keeper g l) own ≡ record (keeper_after_look k (Look (Some t) c) (Word w)) { marks = with_cell k.marks t c (mark_after_look (mark_at k.marks t c) w) } =
     ap (λ n. record (keeper_view g own) { marks = with_cell g.marks t c (mark_after_look (mark_at g.marks t c) n) }) (sym found)
     ∙ ap (λ (v : KeeperView). record (keeper_after_look v (Look (Some t) c) (Word w)) { marks = with_cell v.marks t c (mark_after_look (mark_at v.marks t c) w) }) (sym had.is) in
@@ -65,7 +65,7 @@ glance_may z k c e may steps s r i at fits =
       noted_pass = had.noted_pass;
     } in
     let done = keeper_makes z s r i k (index (section_of c)) w l e (Word w) own at made (leaves_all g l refl refl refl refl (λ t d is. is)) (λ n. refl) refl shown
-    (loads s.words g (with_keeper g l) (index (section_of c)) r.words refl (λ q _. refl)) in (
+    (loads _ _ _ _ r.words refl (λ q _. refl)) in (
       Keeper (keeper_view (with_keeper g l) own),
       subst (λ (f : Event). GoesOn z s r (did f (Word w)) (stepped s (index (section_of c)) w i [] (Keeper (keeper_view (with_keeper g l) own)) keeps)) steps_here.1 done.0,
       (refl, (done.1, ap (λ (v : KeeperView). keeper_after_look v e (Word w)) (sym had.is))),
@@ -106,7 +106,7 @@ snapshot_may z k t c may s r i at fits =
     let shown : KeeperShown (with_keeper g l) (keeper_view (with_keeper g l) own) =
     shown_marked g k t c m (due_next g.settings t c) own r.good had lt fresh (alike_after g.settings t c g.due due) refl refl refl in
     let done = keeper_makes z s r i k (index (section_of c)) w l (Snapshot (Some t) c) (Word w) own at made (leaves_all g l refl refl refl refl (same_collected g t c m fresh)) (λ n. refl) refl shown
-    (loads s.words g (with_keeper g l) (index (section_of c)) r.words refl (λ q _. refl)) in
+    (loads _ _ _ _ r.words refl (λ q _. refl)) in
     let change : keeper_view (with_keeper g l) own ≡ record k { marks = with_cell k.marks t c (snapshot_mark w); due = due_next k.settings t c } =
     ap (λ n. record (keeper_view g own) { marks = with_cell g.marks t c (snapshot_mark n); due = due_next g.settings t c }) (sym found)
     ∙ ap (λ (v : KeeperView). record v { marks = with_cell v.marks t c (snapshot_mark w); due = due_next v.settings t c }) (sym had.is) in

@@ -34,8 +34,7 @@ stores_of g k t good had may =
 
 link_words : (words : List ℕ) (g : State) (t v : ℕ) → Good g → t < g.settings.slots → Agrees words g
     → Agrees (set words (index (next_of t)) v) (with_keeper g (record (keeper_lists g) { next = set g.next t v }))
-link_words words g t v good slot agrees = agrees_set words g (with_keeper g (record (keeper_lists g) { next = set g.next t v })) (next_of t) v good.holds.fit agrees refl slot
-    (get_or-set_same g.next t v 0 (omega (arith, good.holds.shape.links))) other
+link_words words g t v good slot agrees = agrees_set words g _ (next_of t) v good.holds.fit agrees refl slot (get_or-set_same g.next t v 0 (omega (arith, good.holds.shape.links))) other
   where
     other : (q : Spot) → IsSpot g.settings q → (q ≡ next_of t → ⊥) → word_at (with_keeper g (record (keeper_lists g) { next = set g.next t v })) q ≡ word_at g q
     other (section_of c) here ne = refl

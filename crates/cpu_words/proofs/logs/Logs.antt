@@ -384,13 +384,14 @@ logged_joins z i v o w both ds noted_log teller stands by borders quiet lies joi
     (λ (x : (noted_log ≡ v.noted_log) × (teller ≡ v.teller)). subst (HasComeIf r.run.seat r.run.g.seated r.acts) (sym x.1) (r.tellers i v at))
     (λ (x : (noted_log ≡ w.known_log) × (teller ≡ w.teller)). subst (HasComeIf r.run.seat r.run.g.seated r.acts) (sym x.1) (r.tellers o w was))
     lies in
+    let gone : (u : Logged) → b ≡ u → IsStanding u.view → ⊥ = λ u is standing. subst (λ (y : Logged). IsStanding y.view) (sym is) standing in
     record {
       run = goes.ruled;
       acts = on.acts;
       are = on.are;
       owners = on.owners;
       logs = λ j u now standing. ⊎_elim
-          (λ (x : (j ≡ o) × (b ≡ u)). absurd (subst (λ (y : Logged). IsStanding y.view) (sym x.1) standing))
+          (λ (x : (j ≡ o) × (b ≡ u)). absurd (gone u x.1 standing))
           (λ (x : (j ≢ o) × (get_elem? (set s.views i l) j ≡ some u)). ⊎_elim
           (λ (y : (j ≡ i) × (l ≡ u)). sym (ap (λ (a : Logged). a.log) y.1) ∙ on.mine ∙ ap (λ (m : ℕ). part m on.acts) (sym y.0))
           (λ (y : (j ≢ i) × (get_elem? s.views j ≡ some u)). on.others j u y.0 y.1 standing)
@@ -420,14 +421,14 @@ logged_joins z i v o w both ds noted_log teller stands by borders quiet lies joi
           (at_set s.views i j l u x.1))
           (at_set (set s.views i l) o j b u now);
       sections = λ j u now standing. ⊎_elim
-          (λ (x : (j ≡ o) × (b ≡ u)). absurd (subst (λ (y : Logged). IsStanding y.view) (sym x.1) standing))
+          (λ (x : (j ≡ o) × (b ≡ u)). absurd (gone u x.1 standing))
           (λ (x : (j ≢ o) × (get_elem? (set s.views i l) j ≡ some u)). ⊎_elim
           (λ (y : (j ≡ i) × (l ≡ u)). subst (HasItsSections j) y.1 (subst (λ (k : ℕ). HasItsSections k l) (sym y.0) (sections_more i v l ds refl refl borders (r.sections i v at stands))))
           (λ (y : (j ≢ i) × (get_elem? s.views j ≡ some u)). r.sections j u y.1 standing)
           (at_set s.views i j l u x.1))
           (at_set (set s.views i l) o j b u now);
       heard = λ j u now standing. ⊎_elim
-          (λ (x : (j ≡ o) × (b ≡ u)). absurd (subst (λ (y : Logged). IsStanding y.view) (sym x.1) standing))
+          (λ (x : (j ≡ o) × (b ≡ u)). absurd (gone u x.1 standing))
           (λ (x : (j ≢ o) × (get_elem? (set s.views i l) j ≡ some u)). ⊎_elim
           (λ (y : (j ≡ i) × (l ≡ u)). subst (λ (a : Logged). HasHeardAll j a on.acts) y.1 (subst (λ (k : ℕ). HasHeardAll k l on.acts) (sym y.0)
           (on.own_heard v l at stands ([], append-nil v.known_log) (deaf_with i r.acts ds v.known_log quiet))))

@@ -300,12 +300,13 @@ snapshot_marks : (log : List LogItem) (marks : List (List Mark)) (t c v : ℕ) �
     → AreMarksOf log marks → AreMarksOf (log ++ has_snapped t c v ∷ []) (with_cell marks t c (snapshot_mark v))
 snapshot_marks log marks t c v free there are =
     let l = log ++ has_snapped t c v ∷ [] in
+    let mark = λ (u j : ℕ). mark_at (with_cell marks t c (snapshot_mark v)) u j in
     let here : IsSnapped t c v l = record { before = log; after = []; are = refl; since = tt } in record {
       snapped = λ u j w is. ⊎_elim
-          (λ (p : (u ≡ t) × (j ≡ c) × (mark_at (with_cell marks t c (snapshot_mark v)) u j ≡ snapshot_mark v)).
+          (λ (p : (u ≡ t) × (j ≡ c) × (mark u j ≡ snapshot_mark v)).
           subst (λ (k : ℕ). IsSnapped k j w l) (sym p.0) (subst (λ (k : ℕ). IsSnapped t k w l) (sym p.1)
           (subst (λ (k : ℕ). IsSnapped t c k l) (same_Some v w (sym (ap (λ (m : Mark). m.snapshot) p.2) ∙ is)) here)))
-          (λ (old : mark_at (with_cell marks t c (snapshot_mark v)) u j ≡ mark_at marks u j). snapped_more u j w log (has_snapped t c v) refl
+          (λ (old : mark u j ≡ mark_at marks u j). snapped_more u j w log (has_snapped t c v) refl
           (are.snapped u j w (sym (ap (λ (m : Mark). m.snapshot) old) ∙ is)))
           (cell_cases no_mark marks t c (snapshot_mark v) u j);
       marked = λ u j w is. ⊎_elim
@@ -321,14 +322,14 @@ snapshot_marks log marks t c v free there are =
           (λ (old : (is_detach_from u (has_snapped t c v).event ≡ false) × IsSnapped u j w log).
           let was : (mark_at marks u j).snapshot ≡ Some w = are.marked u j w old.1 in
           ⊎_elim
-          (λ (p : (u ≡ t) × (j ≡ c) × (mark_at (with_cell marks t c (snapshot_mark v)) u j ≡ snapshot_mark v)).
+          (λ (p : (u ≡ t) × (j ≡ c) × (mark u j ≡ snapshot_mark v)).
           absurd (none-some w (sym free ∙ (sym (λ k. (mark_at marks (p.0 k) (p.1 k)).snapshot) ∙ was))))
-          (λ (same : mark_at (with_cell marks t c (snapshot_mark v)) u j ≡ mark_at marks u j). ap (λ (m : Mark). m.snapshot) same ∙ was)
+          (λ (same : mark u j ≡ mark_at marks u j). ap (λ (m : Mark). m.snapshot) same ∙ was)
           (cell_cases no_mark marks t c (snapshot_mark v) u j))
           (unsnapped u j w log (has_snapped t c v) is);
       passed = λ u j is. ⊎_elim
-          (λ (p : (u ≡ t) × (j ≡ c) × (mark_at (with_cell marks t c (snapshot_mark v)) u j ≡ snapshot_mark v)). absurd (let q : false ≡ true = sym (ap (λ (m : Mark). m.passed) p.2) ∙ is in cc))
-          (λ (old : mark_at (with_cell marks t c (snapshot_mark v)) u j ≡ mark_at marks u j). passed_more u j log (has_snapped t c v) refl
+          (λ (p : (u ≡ t) × (j ≡ c) × (mark u j ≡ snapshot_mark v)). absurd (let q : false ≡ true = sym (ap (λ (m : Mark). m.passed) p.2) ∙ is in cc))
+          (λ (old : mark u j ≡ mark_at marks u j). passed_more u j log (has_snapped t c v) refl
           (are.passed u j (sym (ap (λ (m : Mark). m.passed) old) ∙ is)))
           (cell_cases no_mark marks t c (snapshot_mark v) u j);
     }

@@ -72,13 +72,14 @@ look_passive_keeps s t c on may counts =
     let told = may_examine_tells s t c p.0 in
     let place = mark_place s t c told.2.0 on told.2.1 told.1 in
     let passed : (mark_at s.marks t c).passed ≡ true = list_all_within is_passed (get_or s.marks t []) s.settings.cpus c no_mark p.1 told.1 place.1 in
+    let mark : Mark = mark_after_passive_look (mark_at s.marks t c) (passive_at s.passive c t) in
     assumption (
-      cell_sized s.marks t c (mark_after_passive_look (mark_at s.marks t c) (passive_at s.passive c t)) on.shape.marks on.shape.mark_rows,
-      marks_write s.history s.slots s.marks s.section s.begins t c (mark_after_passive_look (mark_at s.marks t c) (passive_at s.passive c t))
+      cell_sized s.marks t c mark on.shape.marks on.shape.mark_rows,
+      marks_write s.history s.slots s.marks s.section s.begins t c mark
           (λ p b e is ends in_ holds. on.grace.passed t p c b e is ends in_ holds) (λ p b w e is ends in_ snap off. on.grace.changed t p c b w e is ends in_ snap off)
           (λ w e is snap. on.grace.older t c w e is snap) (λ b w e is in_ holds snap same. on.grace.left t c b w e is in_ holds snap same) on.grace,
-      snapshots_marked s.settings.cpus s.slots s.marks s.due t c (mark_after_passive_look (mark_at s.marks t c) (passive_at s.passive c t)) refl on.snapshots,
-      passive_marked s.settings.cpus s.settings.passive_limit s.slots s.marks s.passive s.hands t c (mark_after_passive_look (mark_at s.marks t c) (passive_at s.passive c t))
+      snapshots_marked s.settings.cpus s.slots s.marks s.due t c mark refl on.snapshots,
+      passive_marked s.settings.cpus s.settings.passive_limit s.slots s.marks s.passive s.hands t c mark
           (λ e is holds. (
             passed,
             either (or_cases (mark_at s.marks t c).clear (passive_at s.passive c t == 0) holds)
@@ -135,9 +136,10 @@ pub is_drained_tells : (s : State) (t : ℕ) → Holds s → is_drained s t ≡ 
     × ((c : ℕ) → c < s.settings.cpus → (mark_at s.marks t c).collected ≡ true) × (total_at s.totals t ≡ bias)
 is_drained_tells s t on is =
     let row : List Mark = get_or s.marks t [] in
-    let p = and_parts (at_rest s.due) (is_retired (slot_at s.slots t) && (is_drainable s t && (are_collected s.settings.cpus row && total_at s.totals t == bias))) is in
-    let p1 = and_parts (is_retired (slot_at s.slots t)) (is_drainable s t && (are_collected s.settings.cpus row && total_at s.totals t == bias)) p.1 in
-    let p2 = and_parts (is_drainable s t) (are_collected s.settings.cpus row && total_at s.totals t == bias) p1.1 in
+    let settled = are_collected s.settings.cpus row && total_at s.totals t == bias in
+    let p = and_parts (at_rest s.due) (is_retired (slot_at s.slots t) && (is_drainable s t && settled)) is in
+    let p1 = and_parts (is_retired (slot_at s.slots t)) (is_drainable s t && settled) p.1 in
+    let p2 = and_parts (is_drainable s t) settled p1.1 in
     let p3 = and_parts (are_collected s.settings.cpus row) (total_at s.totals t == bias) p2.1 in
     let p4 = and_parts (have_passed s.settings.cpus row) (are_clear s.settings.cpus row) p2.0 in
     let gone : (e : Entry) × (slot_at s.slots t ≡ Retired e) = is_retired_tells (slot_at s.slots t) p1.0 in
@@ -151,9 +153,11 @@ is_drained_tells s t on is =
     )
 
 -- a drained slot becomes vacant; what slots keep and their totals may change beside it
+abbrev vacated : State → ℕ → List ℕ → List (Option ℕ) → State
+vacated s t totals keeps = record s { totals = totals; slots = set s.slots t Vacant; keeps = keeps }
+
 pub vacated_keeps : (s : State) (t : ℕ) (totals : List ℕ) (keeps : List (Option ℕ)) → Holds s → is_drained s t ≡ true → length totals ≡ length s.totals → length keeps ≡ length s.keeps
-    → CountsOf (record s { totals = totals; slots = set s.slots t Vacant; keeps = keeps }) → ReferencesOf (record s { totals = totals; slots = set s.slots t Vacant; keeps = keeps })
-    → DriversOf (record s { totals = totals; slots = set s.slots t Vacant; keeps = keeps }) → Holds (record s { totals = totals; slots = set s.slots t Vacant; keeps = keeps })
+    → CountsOf (vacated s t totals keeps) → ReferencesOf (vacated s t totals keeps) → DriversOf (vacated s t totals keeps) → Holds (vacated s t totals keeps)
 vacated_keeps s t totals keeps on drained total_size keep_size counts references drivers =
     let told = is_drained_tells s t on drained in
     let gone : (e : Entry) × (slot_at s.slots t ≡ Retired e) = told.1 in

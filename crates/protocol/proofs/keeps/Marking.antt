@@ -14,6 +14,9 @@ use Rattle.protocol.proofs.slots.Occupied.{slot_cases, not_vacant}
 use Rattle.protocol.proofs.slots.Cells.{by_cell, cell_here, cell_other, cell_put, get_or_all}
 use Rattle.protocol.proofs.Either.{either}
 
+snapshot_was : (x y : Mark) (w : ℕ) → x ≡ y → x.snapshot ≡ Some w → y.snapshot ≡ Some w
+snapshot_was x y w same is = sym (ap (λ (m : Mark). m.snapshot) same) ∙ is
+
 -- a fresh row of marks
 pub marks_detach : (h : List Change) (slots : List Slot) (marks : List (List Mark)) (section : List ℕ) (begins : List (Option ℕ)) (e : Entry) (n : ℕ) → slot_at slots e.slot ≡ Live e
     → length marks ≡ length slots → SlotsShow h slots
@@ -34,15 +37,13 @@ marks_detach h slots marks section begins e n at size show m =
           m.passed u p c b f off.1 (end_before h slots e f u p show le off.1 ends).1 in_ (sym (ap (λ (x : Mark). x.passed) (kept u c off.0)) ∙ holds));
       changed = λ u p c b w f is ends in_ snap differs. either (gone_before slots e f u lt is)
           (λ same. absurd (let q : ◌≡◌ {A = Option ℕ} None (Some w) = sym (ap (λ (x : Mark). x.snapshot) (fresh u c same.0)) ∙ snap in cc))
-          (λ off.
-          m.changed u p c b w f off.1 (end_before h slots e f u p show le off.1 ends).1 in_ (sym (ap (λ (x : Mark). x.snapshot) (kept u c off.0)) ∙ snap) differs);
+          (λ off. m.changed u p c b w f off.1 (end_before h slots e f u p show le off.1 ends).1 in_ (snapshot_was _ _ w (kept u c off.0) snap) differs);
       older = λ u c w f is snap. either (gone_before slots e f u lt is)
           (λ same. absurd (let q : ◌≡◌ {A = Option ℕ} None (Some w) = sym (ap (λ (x : Mark). x.snapshot) (fresh u c same.0)) ∙ snap in cc))
-          (λ off. m.older u c w f off.1 (sym (ap (λ (x : Mark). x.snapshot) (kept u c off.0)) ∙ snap));
+          (λ off. m.older u c w f off.1 (snapshot_was _ _ w (kept u c off.0) snap));
       left = λ u c b w f is in_ holds snap now. either (gone_before slots e f u lt is)
           (λ same. let q : ◌≡◌ {A = Bool} false true = sym (ap (λ (x : Mark). x.passed) (fresh u c same.0)) ∙ holds in cc)
-          (λ off.
-          m.left u c b w f off.1 in_ (sym (ap (λ (x : Mark). x.passed) (kept u c off.0)) ∙ holds) (sym (ap (λ (x : Mark). x.snapshot) (kept u c off.0)) ∙ snap) now);
+          (λ off. m.left u c b w f off.1 in_ (sym (ap (λ (x : Mark). x.passed) (kept u c off.0)) ∙ holds) (snapshot_was _ _ w (kept u c off.0) snap) now);
     }
 
 -- A mark is written that says no more than is so.

@@ -14,11 +14,15 @@ use Rattle.protocol.proofs.slots.Occupied.{written_cases}
 use Rattle.protocol.proofs.counts.Sums.{none_at, one_at}
 use Rattle.protocol.proofs.Either.{either}
 
+-- where the slot v is vacant, c has no reference in it
+abbrev IsVacantAt : List (List ℕ) → List Hand → ℕ → ℕ → Slot → Type 0
+IsVacantAt passive hands c v x = x ≡ Vacant → passive_at passive c v ≡ trying_at hands c v
+
 pub passive_attach : (cpus limit : ℕ) (slots : List Slot) (marks : List (List Mark)) (passive : List (List ℕ)) (hands : List Hand) (e : Entry) → e.slot < length slots → PassiveShow cpus limit slots marks passive hands
     → PassiveShow cpus limit (set slots e.slot (Live e)) marks passive hands
 passive_attach cpus limit slots marks passive hands e lt p = record {
   counted = p.counted;
-  vacant = λ c u. place_in Vacant slots e.slot (Live e) (λ v x. x ≡ Vacant → passive_at passive c v ≡ trying_at hands c v) u lt (λ is. absurd (let q : Live e ≡ Vacant = is in cc)) (λ off. p.vacant c u);
+  vacant = λ c u. place_in Vacant slots e.slot (Live e) (IsVacantAt passive hands c) u lt (λ is. absurd (let q : Live e ≡ Vacant = is in cc)) (λ off. p.vacant c u);
   clear = λ c u f is. p.clear c u f (retired_before slots e u f lt is);
   collected = λ c u f is. p.collected c u f (retired_before slots e u f lt is);
   beyond = p.beyond;
@@ -36,7 +40,7 @@ passive_detach cpus limit slots marks passive hands e n lt lm p =
     ap (λ (r : List Mark). get_or r c no_mark) (get_or-set_other marks e.slot u (replicate n no_mark) [] off) in
     record {
       counted = p.counted;
-      vacant = λ c u. place_in Vacant slots e.slot (Retired e) (λ v x. x ≡ Vacant → passive_at passive c v ≡ trying_at hands c v) u lt (λ is. absurd (let q : Retired e ≡ Vacant = is in cc)) (λ off. p.vacant c u);
+      vacant = λ c u. place_in Vacant slots e.slot (Retired e) (IsVacantAt passive hands c) u lt (λ is. absurd (let q : Retired e ≡ Vacant = is in cc)) (λ off. p.vacant c u);
       clear = λ c u f is holds. either (gone_before slots e f u lt is)
           (λ same. absurd (let q : ◌≡◌ {A = Bool} false true = sym (ap (λ (x : Mark). x.clear) (fresh u c same.0)) ∙ holds in cc))
           (λ off.
@@ -82,7 +86,7 @@ pub passive_vacate : (cpus limit : ℕ) (slots : List Slot) (marks : List (List 
     → ((c : ℕ) → c < cpus → (mark_at marks t c).clear ≡ true) → PassiveShow cpus limit slots marks passive hands → PassiveShow cpus limit (set slots t Vacant) marks passive hands
 passive_vacate cpus limit slots marks passive hands t e lt at all p = record {
   counted = p.counted;
-  vacant = λ c u. place_in Vacant slots t Vacant (λ v x. x ≡ Vacant → passive_at passive c v ≡ trying_at hands c v) u lt
+  vacant = λ c u. place_in Vacant slots t Vacant (IsVacantAt passive hands c) u lt
       (λ _. either (cases_lt c cpus) (λ in_. (p.clear c t e at (all c in_)).1) (λ out. omega (arith, p.beyond c t out, p.counted c t)))
       (λ off. p.vacant c u);
   clear = λ c u f is. p.clear c u f (sym (vacated_before slots t u f lt (inr is)).1 ∙ is);

@@ -173,8 +173,10 @@ standing_unlifted locals id n d at lifted = let q : Standing n ≡ Lifted d = sy
 lifted_once : (locals : List LocalPlace) (id c d : ℕ) → local_at locals id ≡ Lifted c → (d ≡ c → ⊥) → local_at locals id ≡ Lifted d → ⊥
 lifted_once locals id c d at off lifted = off (let q : Lifted d ≡ Lifted c = sym lifted ∙ at in cc)
 
-free_stands : (slots : List Slot) (n : ℕ) → Free ≡ Standing n → Occupies slots n
-free_stands slots n same = absurd (let q : Free ≡ Standing n = same in cc)
+-- a place becomes free
+free_set : (slots : List Slot) (locals : List LocalPlace) (id : ℕ) → ((j n : ℕ) → local_at locals j ≡ Standing n → Occupies slots n)
+    → (j n : ℕ) → local_at (set locals id Free) j ≡ Standing n → Occupies slots n
+free_set slots locals id = standing_set slots locals id Free (λ n same. absurd (let q : Free ≡ Standing n = same in cc))
 
 lifted_stands : (slots : List Slot) (c n : ℕ) → Lifted c ≡ Standing n → Occupies slots n
 lifted_stands slots c n same = absurd (let q : Lifted c ≡ Standing n = same in cc)
@@ -274,7 +276,7 @@ pub references_count_down : (cpus : ℕ) (slots : List Slot) (hands : List Hand)
     → ReferencesHold cpus slots hands due locals → ReferencesHold cpus slots (set hands c Empty) due (set locals id Free)
 references_count_down cpus slots hands due locals c n id hand refer =
     references_hand cpus slots hands due locals (set locals id Free) c Empty
-    (standing_set slots locals id Free (free_stands slots) refer.standing)
+    (free_set slots locals id refer.standing)
     (set_leaves c locals id Free (λ d off lifted. lifted_once locals id c d (giving_holds cpus slots hands due locals c n id hand refer).1 off lifted))
     tt refer
 
@@ -315,16 +317,14 @@ pub references_join_keeper : (cpus : ℕ) (slots : List Slot) (hands : List Hand
     → slot_at slots t ≡ Retired e
     → ReferencesHold cpus slots hands due locals → ReferencesHold cpus slots hands (Subtracting t) (set locals id Free)
 references_join_keeper cpus slots hands due locals id n t e at retired refer =
-    references_places cpus slots hands due (Subtracting t) locals (set locals id Free)
-    (standing_set slots locals id Free (free_stands slots) refer.standing)
+    references_places cpus slots hands due (Subtracting t) locals (set locals id Free) (free_set slots locals id refer.standing)
     (set_keeps locals id Free (λ d lifted. standing_unlifted locals id n d at lifted))
     (e, retired) refer
 
 pub references_keep : (cpus : ℕ) (slots : List Slot) (hands : List Hand) (due : Due) (locals : List LocalPlace) (id n : ℕ) → local_at locals id ≡ Standing n
     → ReferencesHold cpus slots hands due locals → ReferencesHold cpus slots hands due (set locals id Free)
 references_keep cpus slots hands due locals id n at refer =
-    references_places cpus slots hands due due locals (set locals id Free)
-    (standing_set slots locals id Free (free_stands slots) refer.standing)
+    references_places cpus slots hands due due locals (set locals id Free) (free_set slots locals id refer.standing)
     (set_keeps locals id Free (λ d lifted. standing_unlifted locals id n d at lifted))
     refer.due_at refer
 

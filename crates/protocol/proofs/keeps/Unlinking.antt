@@ -16,21 +16,24 @@ use Rattle.protocol.specs.Types.{Change, Attach, Detach, Entry, Slot, Live, Reti
 use Rattle.protocol.proofs.slots.Occupied.{slot_cases, live_one}
 use Rattle.protocol.proofs.Either.{either}
 
+no_attach : (f : Entry) (n : ℕ) → Attach f ≡ Detach n → ⊥
+no_attach f n is = cc
+
 -- an attach is an older one
 pub attached_before : (h : List Change) (n : ℕ) (f : Entry) → IsAttached (after_change h (Detach n)) f → (f.number ≤ length h) × IsAttached h f
-attached_before h n f x = either (at_cases h (Detach n) f.number (Attach f) x) (λ old. (old.old, old.was)) (λ new. absurd (let q : Attach f ≡ Detach n = new.is in cc))
+attached_before h n f x = either (at_cases h (Detach n) f.number (Attach f) x) (λ old. (old.old, old.was)) (λ new. absurd (no_attach f n new.is))
 
 pub legal_detach : (h : List Change) (e : Entry) → IsLegal h → IsLiveAt h (length h) e → IsLegal (after_change h (Detach e.number))
 legal_detach h e legal live = record {
   numbered = λ k f x. either (at_cases h (Detach e.number) k (Attach f) x)
       (λ old. legal.numbered k f old.was)
-      (λ new. absurd (let q : Attach f ≡ Detach e.number = new.is in cc));
+      (λ new. absurd (no_attach f e.number new.is));
   new_key = λ k f g x lg same. either (at_cases h (Detach e.number) (suc k) (Attach f) x)
       (λ old. legal.new_key k f g old.was (live_was h (Detach e.number) k g (omega (arith, old.old)) lg) same)
-      (λ new. absurd (let q : Attach f ≡ Detach e.number = new.is in cc));
+      (λ new. absurd (no_attach f e.number new.is));
   new_slot = λ k f g x lg same. either (at_cases h (Detach e.number) (suc k) (Attach f) x)
       (λ old. legal.new_slot k f g old.was (live_was h (Detach e.number) k g (omega (arith, old.old)) lg) same)
-      (λ new. absurd (let q : Attach f ≡ Detach e.number = new.is in cc));
+      (λ new. absurd (no_attach f e.number new.is));
   ends_live = λ k n x. either (at_cases h (Detach e.number) (suc k) (Detach n) x)
       (λ old.
       let l : (f : Entry) × IsLiveAt h k f × (f.number ≡ n) = legal.ends_live k n old.was in

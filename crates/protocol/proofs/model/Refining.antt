@@ -128,10 +128,10 @@ keep_makes s t id on =
 
 kept_sub_makes : (s : State) (t : ℕ) → Holds s → Makes ⊥ (picture s) (Events.kept_sub s t)
 kept_sub_makes s t on =
-    makes_some ⊥ (picture s) (kept_at s.keeps t) (λ d. Events.with_some (slot_of s.slots d)
-    (λ u. guard (Events.is_iface_slot (slot_at s.slots t) && Events.is_drained s t) (some_outcome (Events.after_kept_sub s t u) Done)))
-    (λ d kept. makes_some ⊥ (picture s) (slot_of s.slots d) (λ u. guard (Events.is_iface_slot (slot_at s.slots t) && Events.is_drained s t) (some_outcome (Events.after_kept_sub s t u) Done))
-    (λ u of. makes_guard ⊥ (picture s) (Events.is_iface_slot (slot_at s.slots t) && Events.is_drained s t) (some_outcome (Events.after_kept_sub s t u) Done)
+    let may = Events.is_iface_slot (slot_at s.slots t) && Events.is_drained s t in
+    let next = λ (u : ℕ). guard may (some_outcome (Events.after_kept_sub s t u) Done) in
+    makes_some ⊥ (picture s) (kept_at s.keeps t) (λ d. Events.with_some (slot_of s.slots d) next) (λ d kept. makes_some ⊥ (picture s) (slot_of s.slots d) next
+    (λ u of. makes_guard ⊥ (picture s) may (some_outcome (Events.after_kept_sub s t u) Done)
     (λ ok now. kept_sub_refines s t u d on now kept (and_parts (Events.is_iface_slot (slot_at s.slots t)) (Events.is_drained s t) ok).1)))
 
 confirm_makes : (s : State) (c : ℕ) (h : Hand) → Holds s → hand_at s c ≡ h → Makes (Unit {0}) (picture s) (Events.confirm s c h)

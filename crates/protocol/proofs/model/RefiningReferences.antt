@@ -38,15 +38,17 @@ one_slot slots m n t first second =
     let b = slot_has slots m t second in
     sym b.1.2 ∙ (ap (λ (e : Entry). e.number) (one_in b.1.0 a.1.0 (slot_at slots t) a.1.1 b.1.1) ∙ a.1.2)
 
+-- how many passive references a CPU has to an entry
+abbrev passives_of : State → ℕ → ℕ → ℕ
+passives_of s c n = passive_in s.passive s.hands c (slot_of s.slots n)
+
 pub passive_put : (s : State) (c n t v : ℕ) → Holds s → c < s.settings.cpus → slot_of s.slots n ≡ Some t → trying_at s.hands c t ≡ 0
-    → (j m : ℕ) → put (λ k. λ i. passive_in s.passive s.hands k (slot_of s.slots i)) c (put (λ i. passive_in s.passive s.hands c (slot_of s.slots i)) n v) j m
-    ≡ passive_in (with_cell s.passive t c v) s.hands j (slot_of s.slots m)
+    → (j m : ℕ) → put (passives_of s) c (put (passives_of s c) n v) j m ≡ passive_in (with_cell s.passive t c v) s.hands j (slot_of s.slots m)
 passive_put s c n t v on low is untried =
     let tp : t < length s.passive = omega (arith, (slot_has s.slots n t is).0, on.shape.slots, on.shape.passive) in
     let cp : c < length (get_or s.passive t []) = omega (arith, on.shape.passive_rows t tp, low, cpus_fit s.settings on.fit) in
     let here : cell 0 (with_cell s.passive t c v) t c - trying_at s.hands c t ≡ v = omega (arith, cell_here 0 s.passive t c v tp cp, untried) in
-    put_twice (λ k. λ i. passive_in s.passive s.hands k (slot_of s.slots i)) (λ k. λ i. passive_in (with_cell s.passive t c v) s.hands k (slot_of s.slots i)) c n v
-    (sym (ap (passive_in (with_cell s.passive t c v) s.hands c) is ∙ here))
+    put_twice (passives_of s) (λ k. λ i. passive_in (with_cell s.passive t c v) s.hands k (slot_of s.slots i)) c n v (sym (ap (passive_in (with_cell s.passive t c v) s.hands c) is ∙ here))
     (λ m off. passive_beside s.passive s.hands t c v c (slot_of s.slots m) (λ u at same here. off (one_slot s.slots m n t is (at ∙ ap (λ (k : ℕ). Some k) same))))
     (λ j m off. passive_beside s.passive s.hands t c v j (slot_of s.slots m) (λ u at same here. off here))
 
@@ -64,9 +66,8 @@ add_refines s c n t on is ok =
       passes = λ j. refl;
       lookups = λ j. refl;
       found = λ j. refl;
-      passive = λ j i. ap (λ (k : ℕ). put (λ x. λ y. passive_in s.passive s.hands x (slot_of s.slots y)) c
-          (put (λ y. passive_in s.passive s.hands c (slot_of s.slots y)) k (passive_in s.passive s.hands c (slot_of s.slots k) + 1)) j i) same
-          ∙ (ap (λ (v : ℕ). put (λ x. λ y. passive_in s.passive s.hands x (slot_of s.slots y)) c (put (λ y. passive_in s.passive s.hands c (slot_of s.slots y)) n (v + 1)) j i) was
+      passive = λ j i. ap (λ (k : ℕ). put (passives_of s) c (put (passives_of s c) k (passives_of s c k + 1)) j i) same
+          ∙ (ap (λ (v : ℕ). put (passives_of s) c (put (passives_of s c) n (v + 1)) j i) was
           ∙ passive_put s c n t (passive_at s.passive c t + 1) on (idle_tells s c on p.0).0 is untried j i);
       locals = λ i. refl;
       occupants = λ u. refl;
@@ -91,7 +92,7 @@ sub_refines s c n t on is ok =
       passes = λ j. refl;
       lookups = λ j. refl;
       found = λ j. refl;
-      passive = λ j i. ap (λ (v : ℕ). put (λ x. λ y. passive_in s.passive s.hands x (slot_of s.slots y)) c (put (λ y. passive_in s.passive s.hands c (slot_of s.slots y)) n (v - 1)) j i) was
+      passive = λ j i. ap (λ (v : ℕ). put (passives_of s) c (put (passives_of s c) n (v - 1)) j i) was
           ∙ passive_put s c n t (passive_at s.passive c t - 1) on (idle_tells s c on p.0).0 is untried j i;
       locals = λ i. refl;
       occupants = λ u. refl;
@@ -155,9 +156,7 @@ untried_beside s c t n (Some u) lt hand off =
 
 -- what c was trying in t is a reference to n
 pub confirmed : (s : State) (c t n : ℕ) → Holds s → hand_at s c ≡ Trying t n → slot_of s.slots n ≡ Some t
-    → (j m : ℕ) → put (λ k. λ i. passive_in s.passive s.hands k (slot_of s.slots i)) c
-    (put (λ i. passive_in s.passive s.hands c (slot_of s.slots i)) n (passive_in s.passive s.hands c (slot_of s.slots n) + 1)) j m
-    ≡ passive_in s.passive (set s.hands c Empty) j (slot_of s.slots m)
+    → (j m : ℕ) → put (passives_of s) c (put (passives_of s c) n (passives_of s c n + 1)) j m ≡ passive_in s.passive (set s.hands c Empty) j (slot_of s.slots m)
 confirmed s c t n on hand is =
     let told = trying_tells s c t n on hand in
     let lt : c < length s.hands = omega (arith, told.0, on.shape.hands) in
@@ -165,8 +164,7 @@ confirmed s c t n on hand is =
     let none : trying_at (set s.hands c Empty) c t ≡ 0 = ap (trying_of t) (get_or-set_same s.hands c Empty Empty lt) in
     let was : passive_in s.passive s.hands c (slot_of s.slots n) ≡ passive_at s.passive c t - trying_at s.hands c t = ap (passive_in s.passive s.hands c) is in
     let now : passive_in s.passive (set s.hands c Empty) c (slot_of s.slots n) ≡ passive_at s.passive c t - trying_at (set s.hands c Empty) c t = ap (passive_in s.passive (set s.hands c Empty) c) is in
-    put_twice (λ k. λ i. passive_in s.passive s.hands k (slot_of s.slots i)) (λ k. λ i. passive_in s.passive (set s.hands c Empty) k (slot_of s.slots i)) c n
-    (passive_in s.passive s.hands c (slot_of s.slots n) + 1)
+    put_twice (passives_of s) (λ k. λ i. passive_in s.passive (set s.hands c Empty) k (slot_of s.slots i)) c n (passive_in s.passive s.hands c (slot_of s.slots n) + 1)
     (omega (arith, was, now, tries, none, told.2))
     (λ m off. untried_beside s c t n (slot_of s.slots m) lt hand (λ u at same. off (one_slot s.slots m n t is (at ∙ ap (λ (k : ℕ). Some k) same))))
     (λ j m off. passive_tries s.passive s.hands (set s.hands c Empty) j (slot_of s.slots m) (λ u. ap (trying_of u) (get_or-set_other s.hands c j Empty Empty off)))
@@ -210,35 +208,38 @@ waiting_else slots n due next is none = ap (subtractions_due slots n) is ∙ non
 waiting_one : (slots : List Slot) (n t : ℕ) (e : Entry) (due : Due) → slot_at slots t ≡ Retired e → due ≡ Subtracting t → subtractions_due slots n due ≡ one_if (e.number == n)
 waiting_one slots n t e due at is = ap (subtractions_due slots n) is ∙ ap (λ (x : Slot). if has_number n x then 1 else 0) at
 
+abbrev with_places : State → List Hand → Due → List LocalPlace → State
+with_places s hands due locals = record s { hands = hands; due = due; locals = locals }
+
 -- only local references change, and agree
 locals_alike : (s : State) (hands : List Hand) (due : Due) (locals : List LocalPlace) → ((c t : ℕ) → trying_at hands c t ≡ trying_at s.hands c t)
-    → ((n : ℕ) → locals_of s n ≡ locals_of (record s { hands = hands; due = due; locals = locals }) n) → Alike (picture s) (picture (record s { hands = hands; due = due; locals = locals }))
+    → ((n : ℕ) → locals_of s n ≡ locals_of (with_places s hands due locals) n) → Alike (picture s) (picture (with_places s hands due locals))
 locals_alike s hands due locals tries same = assumption (λ (c : ℕ) (n : ℕ). passive_tries s.passive s.hands hands c (slot_of s.slots n) (tries c))
 
 locals_same : (s : State) (hands : List Hand) (due : Due) (locals : List LocalPlace) → ((c t : ℕ) → trying_at hands c t ≡ trying_at s.hands c t)
-    → ((n : ℕ) → locals_of s n ≡ locals_of (record s { hands = hands; due = due; locals = locals }) n) → IsModelRun ⊥ (picture s) (picture (record s { hands = hands; due = due; locals = locals }))
+    → ((n : ℕ) → locals_of s n ≡ locals_of (with_places s hands due locals) n) → IsModelRun ⊥ (picture s) (picture (with_places s hands due locals))
 locals_same s hands due locals tries same = no_step _ _ (locals_alike s hands due locals tries same)
 
 -- one reference more
 locals_more : (s : State) (c : ℕ) (e : Entry) (hands : List Hand) (due : Due) (locals : List LocalPlace) → found_at s c ≡ Some e → ((d t : ℕ) → trying_at hands d t ≡ trying_at s.hands d t)
-    → ((n : ℕ) → locals_of (record s { hands = hands; due = due; locals = locals }) n ≡ locals_of s n + one_if (e.number == n))
-    → IsModelRun ⊥ (picture s) (picture (record s { hands = hands; due = due; locals = locals }))
+    → ((n : ℕ) → locals_of (with_places s hands due locals) n ≡ locals_of s n + one_if (e.number == n))
+    → IsModelRun ⊥ (picture s) (picture (with_places s hands due locals))
 locals_more s c e hands due locals found tries more =
-    one_step (picture s) _ (picture (record s { hands = hands; due = due; locals = locals })) (Model.Counts c e found) (assumption (
+    one_step (picture s) _ (picture (with_places s hands due locals)) (Model.Counts c e found) (assumption (
       λ (d : ℕ) (i : ℕ). passive_tries s.passive s.hands hands d (slot_of s.slots i) (tries d),
-      put_is (λ i. locals_of s i) (λ i. locals_of (record s { hands = hands; due = due; locals = locals }) i) e.number (locals_of s e.number + 1)
+      put_is (λ i. locals_of s i) (λ i. locals_of (with_places s hands due locals) i) e.number (locals_of s e.number + 1)
           (omega (arith, more e.number, one_at e.number e.number refl))
           (λ i off. omega (arith, more i, none_at e.number i (λ same. off (sym same)))),
     ))
 
 -- one reference less
 locals_less : (s : State) (n : ℕ) (hands : List Hand) (due : Due) (locals : List LocalPlace) → ((c t : ℕ) → trying_at hands c t ≡ trying_at s.hands c t)
-    → ((i : ℕ) → locals_of (record s { hands = hands; due = due; locals = locals }) i + one_if (n == i) ≡ locals_of s i)
-    → IsModelRun ⊥ (picture s) (picture (record s { hands = hands; due = due; locals = locals }))
+    → ((i : ℕ) → locals_of (with_places s hands due locals) i + one_if (n == i) ≡ locals_of s i)
+    → IsModelRun ⊥ (picture s) (picture (with_places s hands due locals))
 locals_less s n hands due locals tries less =
-    one_step (picture s) _ (picture (record s { hands = hands; due = due; locals = locals })) (Model.Uncounts n (omega (arith, less n, one_at n n refl))) (assumption (
+    one_step (picture s) _ (picture (with_places s hands due locals)) (Model.Uncounts n (omega (arith, less n, one_at n n refl))) (assumption (
       λ (c : ℕ) (i : ℕ). passive_tries s.passive s.hands hands c (slot_of s.slots i) (tries c),
-      put_is (λ i. locals_of s i) (λ i. locals_of (record s { hands = hands; due = due; locals = locals }) i) n (locals_of s n - 1)
+      put_is (λ i. locals_of s i) (λ i. locals_of (with_places s hands due locals) i) n (locals_of s n - 1)
           (omega (arith, less n, one_at n n refl))
           (λ i off. omega (arith, less i, none_at n i (λ same. off (sym same)))),
     ))
@@ -250,10 +251,14 @@ count_add_refines s c t e on found ok =
     locals_more s c e (set s.hands c (Taking e.number)) s.due s.locals found (trying_stays s.hands c (Taking e.number) (λ u. sym (ap (trying_of u) (idle_tells s c on idle).1)))
     (λ n. omega (arith, hand_changed n s.hands c Empty (Taking e.number) lt (idle_tells s c on idle).1))
 
+-- a hand that tries nothing is emptied
+emptied : (s : State) (c : ℕ) (h : Hand) → hand_at s c ≡ h → ((u : ℕ) → trying_of u h ≡ 0) → (d u : ℕ) → trying_at (set s.hands c Empty) d u ≡ trying_at s.hands d u
+emptied s c h hand none = trying_stays s.hands c Empty (λ u. sym (ap (trying_of u) hand ∙ none u))
+
 pub split_refines : (s : State) (c n : ℕ) → Holds s → hand_at s c ≡ Taking n → IsModelRun ⊥ (picture s) (picture (after_split s c n))
 split_refines s c n on hand =
     let lt : c < length s.hands = (hand_full s c Empty (Taking n) on hand (λ is. let q : Taking n ≡ Empty = is in cc)).0 in
-    locals_same s (set s.hands c Empty) s.due (with_local s.locals (least_id s.locals) (Standing n)) (trying_stays s.hands c Empty (λ u. sym (ap (trying_of u) hand)))
+    locals_same s (set s.hands c Empty) s.due (with_local s.locals (least_id s.locals) (Standing n)) (emptied s c _ hand (λ u. refl))
     (λ i. omega (arith, hand_changed i s.hands c (Taking n) Empty lt hand, local_added i s.locals (Standing n)))
 
 pub join_refines : (s : State) (c n id : ℕ) → Holds s → is_idle s c ≡ true → local_at s.locals id ≡ Standing n → IsModelRun ⊥ (picture s) (picture (after_hand s c (Giving n id) id (Lifted c)))
@@ -266,7 +271,7 @@ pub count_down_refines : (s : State) (c n id t : ℕ) → Holds s → hand_at s 
 count_down_refines s c n id t on hand =
     let lt : c < length s.hands = (hand_full s c Empty (Giving n id) on hand (λ is. let q : Giving n id ≡ Empty = is in cc)).0 in
     let lifted = (giving_holds s.settings.cpus s.slots s.hands s.due s.locals c n id hand on.references).1 in
-    locals_less s n (set s.hands c Empty) s.due (set s.locals id Free) (trying_stays s.hands c Empty (λ u. sym (ap (trying_of u) hand)))
+    locals_less s n (set s.hands c Empty) s.due (set s.locals id Free) (emptied s c _ hand (λ u. refl))
     (λ i. omega (arith, hand_changed i s.hands c (Giving n id) Empty lt hand, local_changed i s.locals id (Lifted c) Free (lifted_within s.locals id c lifted) lifted))
 
 pub collected_refines : (s : State) (c n id : ℕ) → Holds s → hand_at s c ≡ Giving n id → IsModelRun ⊥ (picture s) (picture (after_collected s c n id))
@@ -279,7 +284,7 @@ pub split_back_refines : (s : State) (c n id : ℕ) → Holds s → hand_at s c 
 split_back_refines s c n id on hand =
     let lt : c < length s.hands = (hand_full s c Empty (Back n id) on hand (λ is. let q : Back n id ≡ Empty = is in cc)).0 in
     let lifted = (back_holds s.settings.cpus s.slots s.hands s.due s.locals c n id hand on.references).1 in
-    locals_same s (set s.hands c Empty) s.due (set s.locals id (Standing n)) (trying_stays s.hands c Empty (λ u. sym (ap (trying_of u) hand)))
+    locals_same s (set s.hands c Empty) s.due (set s.locals id (Standing n)) (emptied s c _ hand (λ u. refl))
     (λ i. omega (arith, hand_changed i s.hands c (Back n id) Empty lt hand, local_changed i s.locals id (Lifted c) (Standing n) (lifted_within s.locals id c lifted) lifted))
 
 -- What the keeper does with marks, counts and totals.

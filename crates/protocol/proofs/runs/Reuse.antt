@@ -119,18 +119,20 @@ unfolding Asks
 asked P None asks some = absurd (let q : ◌≡◌ {A = Bool} false true = some in cc)
 asked P (Some o) asks some = asks
 
-writes : (s : State) (t u : ℕ) → Holds s → t ≡ u → may_write s t ≡ true → occupant_of s u ≡ None
-writes s t u on same may = subst (λ (k : ℕ). occupant_of s k ≡ None) same (ap number_in (may_write_tells s t on.shape may).2)
+writes : (s : State) (t u : ℕ) → Holds s → Some t ≡ Some u → may_write s t ≡ true → occupant_of s u ≡ None
+writes s t u on of may = subst (λ (k : ℕ). occupant_of s k ≡ None) (same_Some t u of) (ap number_in (may_write_tells s t on.shape may).2)
+
+writes_and : (s : State) (t u : ℕ) (b : Bool) → Holds s → Some t ≡ Some u → (may_write s t && b) ≡ true → occupant_of s u ≡ None
+writes_and s t u b on of may = writes s t u on of (and_parts (may_write s t) b may).0
 
 given_asks : (s : State) (event : Event) (u : ℕ) → Holds s → given_slot event ≡ Some u → Asks (occupant_of s u ≡ None) (step s event)
 given_asks s (StoreSlot t k v) u on of = asks_if _ (nat_lt k 5) _ _
-    (asks_guard _ (may_write s t) _ (λ may. writes s t u on (same_Some t u of) may))
-    (asks_guard _ (may_write s t && nat_lt (k - 5) s.settings.cpus) _ (λ may. writes s t u on (same_Some t u of) (and_parts (may_write s t) _ may).0))
-given_asks s (StoreNext t v) u on of = asks_guard _ (may_write s t) _ (λ may. writes s t u on (same_Some t u of) may)
-given_asks s (Keep t id) u on of = asks_some _ (Events.number_standing (local_at s.locals id)) _ (λ n at. asks_some _ (slot_of s.slots n) _ (λ v v_of. asks_guard _ (Events.may_keep s t v) _
-    (λ may. writes s t u on (same_Some t u of) (and_parts (may_write s t) _ may).0)))
-given_asks s (Publish t) u on of = asks_some _ (entry_of t (row_at s.rows t)) _ (λ e is. asks_guard _ (may_publish s t e) _
-    (λ may. writes s t u on (same_Some t u of) (and_parts (may_write s t) _ may).0))
+    (asks_guard _ (may_write s t) _ (writes s t u on of))
+    (asks_guard _ (may_write s t && nat_lt (k - 5) s.settings.cpus) _ (writes_and s t u _ on of))
+given_asks s (StoreNext t v) u on of = asks_guard _ (may_write s t) _ (writes s t u on of)
+given_asks s (Keep t id) u on of = asks_some _ (Events.number_standing (local_at s.locals id)) _ (λ n at. asks_some _ (slot_of s.slots n) _
+    (λ v v_of. asks_guard _ (Events.may_keep s t v) _ (writes_and s t u _ on of)))
+given_asks s (Publish t) u on of = asks_some _ (entry_of t (row_at s.rows t)) _ (λ e is. asks_guard _ (may_publish s t e) _ (writes_and s t u _ on of))
 given_asks s _ u on of = absurd (none-some u of)
 
 pub given_vacant : (s : State) (event : Event) (u : ℕ) → Holds s → given_slot event ≡ Some u → IsAllowed s event → occupant_of s u ≡ None

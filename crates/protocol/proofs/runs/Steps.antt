@@ -67,13 +67,29 @@ pub data Sort (s : State) : Event → Option Outcome → Type 0 where
   Gave_up : (t d u : ℕ) → kept_at s.keeps t ≡ Some d → slot_of s.slots d ≡ Some u → is_drained s t ≡ true → Sort s (KeptSub t) (some_outcome (after_kept_sub s t u) Done)
   Vacated : (t : ℕ) → may_vacate s t ≡ true → Sort s (Vacate t) (some_outcome (after_vacate s t) Done)
 
+-- t, with all of them as in s
+abbrev with_kept : State → State → State
+with_kept s t = record t { history = s.history; slots = s.slots; keeps = s.keeps; section = s.section; begins = s.begins; seen = s.seen; searches = s.searches }
+
 -- an event that leaves all of them
-left : (s t : State) (e : Event) (r : Reply) → Leaves s (record { state = t; reply = r }) → Sort s e (some_outcome t r)
-left s t e r same = Left e (record { state = t; reply = r }) same
+left : (s t : State) (e : Event) (r : Reply) → t ≡ with_kept s t → answer_of r ≡ None → Sort s e (some_outcome t r)
+left s t e r same none = Left e (record { state = t; reply = r }) (record {
+  history = ap (λ (x : State). x.history) same;
+  slots = ap (λ (x : State). x.slots) same;
+  keeps = ap (λ (x : State). x.keeps) same;
+  section = ap (λ (x : State). x.section) same;
+  begins = ap (λ (x : State). x.begins) same;
+  seen = ap (λ (x : State). x.seen) same;
+  searches = ap (λ (x : State). x.searches) same;
+  reply = none;
+})
 
 sort_guard : (s : State) (e : Event) (b : Bool) (o : Option Outcome) → (b ≡ true → Sort s e o) → Sort s e (guard b o)
 sort_guard s e true o sort = sort refl
 sort_guard s e false o sort = Refused e
+
+left_if : (s : State) (e : Event) (b : Bool) (t : State) (r : Reply) → t ≡ with_kept s t → answer_of r ≡ None → Sort s e (guard b (some_outcome t r))
+left_if s e b t r same none = sort_guard s e b _ (λ _. left s t e r same none)
 
 sort_some : {X : Type 0} (s : State) (e : Event) (x : Option X) (f : X → Option Outcome) → ((y : X) → x ≡ Some y → Sort s e (f y)) → Sort s e (with_some x f)
 sort_some s e None f sort = Refused e
@@ -113,25 +129,17 @@ outcome_sort s c q (Some (Over e)) is answers = load_sort s _ (LoadRecord (OfSea
 
 record_sort : (s : State) (of : RecordOf) → Holds s → Sort s (LoadRecord of) (Events.load_record s of)
 record_sort s (OfSearch c) on = sort_some s (LoadRecord (OfSearch c)) (search_at s c) _ (λ q is. outcome_sort s c q (loaded_at q q.place (row_of_place s.rows q.place)) is (record_answers s c q on is))
-record_sort s (OfPassive c n k) on = sort_some s (LoadRecord (OfPassive c n k)) (slot_of s.slots n) _
-    (λ t of. sort_guard s (LoadRecord (OfPassive c n k)) _ _ (λ may. left s s (LoadRecord (OfPassive c n k)) _
-    (record { history = refl; slots = refl; keeps = refl; section = refl; begins = refl; seen = refl; searches = refl; reply = refl })))
-record_sort s (OfLocal id k) on = sort_some s (LoadRecord (OfLocal id k)) (Events.number_standing (local_at s.locals id)) _
-    (λ n at. sort_some s (LoadRecord (OfLocal id k)) (slot_of s.slots n) _
-    (λ t of. sort_guard s (LoadRecord (OfLocal id k)) _ _ (λ may. left s s (LoadRecord (OfLocal id k)) _
-    (record { history = refl; slots = refl; keeps = refl; section = refl; begins = refl; seen = refl; searches = refl; reply = refl }))))
+record_sort s (OfPassive c n k) on = sort_some s (LoadRecord (OfPassive c n k)) (slot_of s.slots n) _ (λ t of. left_if s (LoadRecord (OfPassive c n k)) _ s _ refl refl)
+record_sort s (OfLocal id k) on = sort_some s (LoadRecord (OfLocal id k)) (Events.number_standing (local_at s.locals id)) _ (λ n at. sort_some s (LoadRecord (OfLocal id k)) (slot_of s.slots n) _
+    (λ t of. left_if s (LoadRecord (OfLocal id k)) _ s _ refl refl))
 record_sort s (OfCompared c) on = sort_some s (LoadRecord (OfCompared c)) (search_at s c) _
-    (λ q is. sort_some s (LoadRecord (OfCompared c)) (Events.compared_slot q.place) _ (λ t at. left s s (LoadRecord (OfCompared c)) _
-    (record { history = refl; slots = refl; keeps = refl; section = refl; begins = refl; seen = refl; searches = refl; reply = refl })))
+    (λ q is. sort_some s (LoadRecord (OfCompared c)) (Events.compared_slot q.place) _ (λ t at. left s s (LoadRecord (OfCompared c)) _ refl refl))
 
 -- The events that take cases
 
 store_sort : (s : State) (t k v : ℕ) → Sort s (StoreSlot t k v) (Events.store_slot s t k v)
-store_sort s t k v = sort_if s (StoreSlot t k v) (nat_lt k 5) _ _
-    (sort_guard s (StoreSlot t k v) _ _ (λ may. left s _ (StoreSlot t k v) Done
-    (record { history = refl; slots = refl; keeps = refl; section = refl; begins = refl; seen = refl; searches = refl; reply = refl })))
-    (sort_guard s (StoreSlot t k v) _ _ (λ may. left s _ (StoreSlot t k v) Done
-    (record { history = refl; slots = refl; keeps = refl; section = refl; begins = refl; seen = refl; searches = refl; reply = refl })))
+store_sort s t k v = sort_if s (StoreSlot t k v) (nat_lt k 5) _ _ (left_if s (StoreSlot t k v) _ _ Done refl refl)
+    (left_if s (StoreSlot t k v) _ _ Done refl refl)
 
 unlinking_retires : (s : State) (t : ℕ) (e : Entry) (before : Option ℕ) → Retires s t e (with_retired (with_link_past s t before) t e)
 unlinking_retires s t e None = record { history = refl; slots = refl; keeps = refl; section = refl; begins = refl; seen = refl; searches = refl }
@@ -142,50 +150,40 @@ unpublish_sort s t (Live e) is = sort_guard s (Unpublish t) _ _ (λ rest. Unpubl
 unpublish_sort s t _ is = Refused (Unpublish t)
 
 tell_sort : (s : State) (to : Option ℕ) → Sort s (Tell to) (Events.tell s to)
-tell_sort s None =
-    sort_guard s (Tell None) _ _ (λ may. left s s (Tell None) Done (record { history = refl; slots = refl; keeps = refl; section = refl; begins = refl; seen = refl; searches = refl; reply = refl }))
-tell_sort s (Some c) = sort_guard s (Tell (Some c)) _ _ (λ may. left s s (Tell (Some c)) Done
-    (record { history = refl; slots = refl; keeps = refl; section = refl; begins = refl; seen = refl; searches = refl; reply = refl }))
+tell_sort s None = left_if s (Tell None) _ s Done refl refl
+tell_sort s (Some c) = left_if s (Tell (Some c)) _ s Done refl refl
 
 hear_sort : (s : State) (to : Option ℕ) → Sort s (Hear to) (Events.hear s to)
-hear_sort s None =
-    sort_guard s (Hear None) _ _ (λ may. left s s (Hear None) Done (record { history = refl; slots = refl; keeps = refl; section = refl; begins = refl; seen = refl; searches = refl; reply = refl }))
+hear_sort s None = left_if s (Hear None) _ s Done refl refl
 hear_sort s (Some c) = sort_guard s (Hear (Some c)) _ _ (λ may. Heard c may)
 
 snapshot_sort : (s : State) (to : Option ℕ) (c : ℕ) → Sort s (Snapshot to c) (Events.snapshot s to c)
-snapshot_sort s None c = sort_guard s (Snapshot None c) _ _ (λ may. left s s (Snapshot None c) _
-    (record { history = refl; slots = refl; keeps = refl; section = refl; begins = refl; seen = refl; searches = refl; reply = refl }))
-snapshot_sort s (Some t) c = sort_guard s (Snapshot (Some t) c) _ _
-    (λ may. left s _ (Snapshot (Some t) c) _ (record { history = refl; slots = refl; keeps = refl; section = refl; begins = refl; seen = refl; searches = refl; reply = refl }))
+snapshot_sort s None c = left_if s (Snapshot None c) _ s _ refl refl
+snapshot_sort s (Some t) c = left_if s (Snapshot (Some t) c) _ _ _ refl refl
 
 look_sort : (s : State) (to : Option ℕ) (c : ℕ) → Sort s (Look to c) (Events.look s to c)
-look_sort s None c =
-    sort_guard s (Look None c) _ _ (λ may. left s s (Look None c) _ (record { history = refl; slots = refl; keeps = refl; section = refl; begins = refl; seen = refl; searches = refl; reply = refl }))
-look_sort s (Some t) c = sort_guard s (Look (Some t) c) _ _ (λ may. left s _ (Look (Some t) c) _
-    (record { history = refl; slots = refl; keeps = refl; section = refl; begins = refl; seen = refl; searches = refl; reply = refl }))
+look_sort s None c = left_if s (Look None c) _ s _ refl refl
+look_sort s (Some t) c = left_if s (Look (Some t) c) _ _ _ refl refl
 
 split_sort : (s : State) (c : ℕ) (h : Hand) → Sort s (SplitRef c) (Events.split_ref s c h)
-split_sort s c (Taking n) = left s _ (SplitRef c) _ (record { history = refl; slots = refl; keeps = refl; section = refl; begins = refl; seen = refl; searches = refl; reply = refl })
+split_sort s c (Taking n) = left s _ (SplitRef c) _ refl refl
 split_sort s c _ = Refused (SplitRef c)
 
 count_down_sort : (s : State) (c : ℕ) (h : Hand) → Sort s (CountDown c) (Events.count_down s c h)
 count_down_sort s c (Giving n id) = sort_some s (CountDown c) (slot_of s.slots n) _ (λ t of. sort_if s (CountDown c) (count_at s.counts c t == count_at s.nets c t) _ _
-    (left s _ (CountDown c) _ (record { history = refl; slots = refl; keeps = refl; section = refl; begins = refl; seen = refl; searches = refl; reply = refl }))
-    (left s _ (CountDown c) _ (record { history = refl; slots = refl; keeps = refl; section = refl; begins = refl; seen = refl; searches = refl; reply = refl })))
+    (left s _ (CountDown c) _ refl refl) (left s _ (CountDown c) _ refl refl))
 count_down_sort s c _ = Refused (CountDown c)
 
 split_back_sort : (s : State) (c : ℕ) (h : Hand) → Sort s (SplitBack c) (Events.split_back s c h)
-split_back_sort s c (Back n id) = left s _ (SplitBack c) _ (record { history = refl; slots = refl; keeps = refl; section = refl; begins = refl; seen = refl; searches = refl; reply = refl })
+split_back_sort s c (Back n id) = left s _ (SplitBack c) _ refl refl
 split_back_sort s c _ = Refused (SplitBack c)
 
 total_add_sort : (s : State) (t : ℕ) (due : Due) → Sort s (TotalAdd t) (Events.total_add s t due)
-total_add_sort s t (Adding u old) =
-    sort_guard s (TotalAdd t) _ _ (λ may. left s _ (TotalAdd t) Done (record { history = refl; slots = refl; keeps = refl; section = refl; begins = refl; seen = refl; searches = refl; reply = refl }))
+total_add_sort s t (Adding u old) = left_if s (TotalAdd t) _ _ Done refl refl
 total_add_sort s t _ = Refused (TotalAdd t)
 
 total_sub_sort : (s : State) (t : ℕ) (due : Due) → Sort s (TotalSub t) (Events.total_sub s t due)
-total_sub_sort s t (Subtracting u) =
-    sort_guard s (TotalSub t) _ _ (λ may. left s _ (TotalSub t) Done (record { history = refl; slots = refl; keeps = refl; section = refl; begins = refl; seen = refl; searches = refl; reply = refl }))
+total_sub_sort s t (Subtracting u) = left_if s (TotalSub t) _ _ Done refl refl
 total_sub_sort s t _ = Refused (TotalSub t)
 
 confirm_sort : (s : State) (c : ℕ) (h : Hand) → hand_at s c ≡ h → Sort s (Confirm c) (Events.confirm s c h)
@@ -199,57 +197,42 @@ refind_sort s c t n (Live e) =
 refind_sort s c t n _ = Refused (Refind c t n)
 
 show_sort : (s : State) (t : ℕ) (x : Slot) → Sort s (Show t) (Events.show s t x)
-show_sort s t (Live e) =
-    sort_guard s (Show t) _ _ (λ may. left s _ (Show t) Done (record { history = refl; slots = refl; keeps = refl; section = refl; begins = refl; seen = refl; searches = refl; reply = refl }))
+show_sort s t (Live e) = left_if s (Show t) _ _ Done refl refl
 show_sort s t _ = Refused (Show t)
 
 take_back_sort : (s : State) (c : ℕ) (h : Hand) → Sort s (TakeBack c) (Events.take_back s c h)
-take_back_sort s c (Trying t n) = left s _ (TakeBack c) _ (record { history = refl; slots = refl; keeps = refl; section = refl; begins = refl; seen = refl; searches = refl; reply = refl })
+take_back_sort s c (Trying t n) = left s _ (TakeBack c) _ refl refl
 take_back_sort s c _ = Refused (TakeBack c)
 
 -- Each event
 
 pub step_sort : (s : State) (e : Event) → Holds s → Sort s e (step s e)
-step_sort s (Seat c) on =
-    sort_guard s (Seat c) _ _ (λ may. left s _ (Seat c) Done (record { history = refl; slots = refl; keeps = refl; section = refl; begins = refl; seen = refl; searches = refl; reply = refl }))
+step_sort s (Seat c) on = left_if s (Seat c) _ _ Done refl refl
 step_sort s (Enter c) on = sort_guard s (Enter c) _ _ (λ may. Entered c may)
 step_sort s (Exit c) on = sort_guard s (Exit c) _ _ (λ may. Exited c may)
 step_sort s (Seek c kind name) on = sort_guard s (Seek c kind name) _ _ (λ may. Sought c kind name may)
 step_sort s (LoadLink c) on = sort_some s (LoadLink c) (search_at s c) _ (λ q is. followed_sort s c q (Events.link_at s q.place) is (link_answers s c q on is))
 step_sort s (LoadRecord of) on = record_sort s of on
 step_sort s (StoreSlot t k v) on = store_sort s t k v
-step_sort s (StoreNext t v) on = sort_guard s (StoreNext t v) _ _
-    (λ may. left s _ (StoreNext t v) Done (record { history = refl; slots = refl; keeps = refl; section = refl; begins = refl; seen = refl; searches = refl; reply = refl }))
+step_sort s (StoreNext t v) on = left_if s (StoreNext t v) _ _ Done refl refl
 step_sort s (Publish t) on = sort_some s (Publish t) (entry_of t (row_at s.rows t)) _ (λ e is. sort_guard s (Publish t) _ _ (λ may. Published t e is may))
 step_sort s (Unpublish t) on = unpublish_sort s t (slot_at s.slots t) refl
 step_sort s (Tell to) on = tell_sort s to
 step_sort s (Hear to) on = hear_sort s to
 step_sort s (Snapshot to c) on = snapshot_sort s to c
 step_sort s (Look to c) on = look_sort s to c
-step_sort s (PassiveAdd c n) on = sort_some s (PassiveAdd c n) (slot_of s.slots n) _
-    (λ t of. sort_guard s (PassiveAdd c n) _ _ (λ may. left s _ (PassiveAdd c n) _
-    (record { history = refl; slots = refl; keeps = refl; section = refl; begins = refl; seen = refl; searches = refl; reply = refl })))
-step_sort s (PassiveSub c n) on = sort_some s (PassiveSub c n) (slot_of s.slots n) _
-    (λ t of. sort_guard s (PassiveSub c n) _ _ (λ may. left s _ (PassiveSub c n) _
-    (record { history = refl; slots = refl; keeps = refl; section = refl; begins = refl; seen = refl; searches = refl; reply = refl })))
-step_sort s (PassiveLook t c) on = sort_guard s (PassiveLook t c) _ _
-    (λ may. left s _ (PassiveLook t c) _ (record { history = refl; slots = refl; keeps = refl; section = refl; begins = refl; seen = refl; searches = refl; reply = refl }))
-step_sort s (CountAdd c) on = sort_some s (CountAdd c) (found_at s c) _
-    (λ e is. sort_some s (CountAdd c) (slot_of s.slots e.number) _
-    (λ t of. sort_guard s (CountAdd c) _ _ (λ may. left s _ (CountAdd c) _
-    (record { history = refl; slots = refl; keeps = refl; section = refl; begins = refl; seen = refl; searches = refl; reply = refl }))))
+step_sort s (PassiveAdd c n) on = sort_some s (PassiveAdd c n) (slot_of s.slots n) _ (λ t of. left_if s (PassiveAdd c n) _ _ _ refl refl)
+step_sort s (PassiveSub c n) on = sort_some s (PassiveSub c n) (slot_of s.slots n) _ (λ t of. left_if s (PassiveSub c n) _ _ _ refl refl)
+step_sort s (PassiveLook t c) on = left_if s (PassiveLook t c) _ _ _ refl refl
+step_sort s (CountAdd c) on = sort_some s (CountAdd c) (found_at s c) _ (λ e is. sort_some s (CountAdd c) (slot_of s.slots e.number) _ (λ t of. left_if s (CountAdd c) _ _ _ refl refl))
 step_sort s (SplitRef c) on = split_sort s c (hand_at s c)
-step_sort s (JoinRef c id) on = sort_some s (JoinRef c id) (Events.number_standing (local_at s.locals id)) _
-    (λ n at. sort_guard s (JoinRef c id) _ _ (λ may. left s _ (JoinRef c id) Done
-    (record { history = refl; slots = refl; keeps = refl; section = refl; begins = refl; seen = refl; searches = refl; reply = refl })))
+step_sort s (JoinRef c id) on = sort_some s (JoinRef c id) (Events.number_standing (local_at s.locals id)) _ (λ n at. left_if s (JoinRef c id) _ _ Done refl refl)
 step_sort s (CountDown c) on = count_down_sort s c (hand_at s c)
 step_sort s (SplitBack c) on = split_back_sort s c (hand_at s c)
-step_sort s (Collect t c) on =
-    sort_guard s (Collect t c) _ _ (λ may. left s _ (Collect t c) _ (record { history = refl; slots = refl; keeps = refl; section = refl; begins = refl; seen = refl; searches = refl; reply = refl }))
+step_sort s (Collect t c) on = left_if s (Collect t c) _ _ _ refl refl
 step_sort s (TotalAdd t) on = total_add_sort s t s.due
 step_sort s (JoinKeeper id) on = sort_some s (JoinKeeper id) (Events.number_standing (local_at s.locals id)) _
-    (λ n at. sort_some s (JoinKeeper id) (slot_of s.slots n) _ (λ t of. sort_guard s (JoinKeeper id) _ _
-    (λ may. left s _ (JoinKeeper id) Done (record { history = refl; slots = refl; keeps = refl; section = refl; begins = refl; seen = refl; searches = refl; reply = refl }))))
+    (λ n at. sort_some s (JoinKeeper id) (slot_of s.slots n) _ (λ t of. left_if s (JoinKeeper id) _ _ Done refl refl))
 step_sort s (TotalSub t) on = total_sub_sort s t s.due
 step_sort s (Keep t id) on =
     sort_some s (Keep t id) (Events.number_standing (local_at s.locals id)) _ (λ n at. sort_some s (Keep t id) (slot_of s.slots n) _ (λ u of. sort_guard s (Keep t id) _ _ (λ may. Kept t id n u may)))
@@ -257,12 +240,11 @@ step_sort s (KeptSub t) on = sort_some s (KeptSub t) (kept_at s.keeps t) _
     (λ d is. sort_some s (KeptSub t) (slot_of s.slots d) _ (λ u of. sort_guard s (KeptSub t) _ _ (λ may. Gave_up t d u is of (and_parts _ (is_drained s t) may).1)))
 step_sort s (Vacate t) on = sort_guard s (Vacate t) _ _ (λ may. Vacated t may)
 step_sort s (Show t) on = show_sort s t (slot_at s.slots t)
-step_sort s (Hide t) on =
-    sort_guard s (Hide t) _ _ (λ may. left s _ (Hide t) Done (record { history = refl; slots = refl; keeps = refl; section = refl; begins = refl; seen = refl; searches = refl; reply = refl }))
+step_sort s (Hide t) on = left_if s (Hide t) _ _ Done refl refl
 step_sort s (Recall c t) on = sort_guard s (Recall c t) _ _ (λ may. Recalled (Recall c t) c (live_at s.lives t) s.hands s.found (recall_tells s c t may).1)
 step_sort s (RecallHead c) on = sort_guard s (RecallHead c) _ _ (λ may. Recalled (RecallHead c) c s.head s.hands s.found (recall_head_tells s c may).1)
 step_sort s (Refind c t n) on = refind_sort s c t n (slot_at s.slots t)
-step_sort s (Try c t n) on = sort_guard s (Try c t n) _ _ (λ may. left s _ (Try c t n) _ (record { history = refl; slots = refl; keeps = refl; section = refl; begins = refl; seen = refl; searches = refl; reply = refl }))
+step_sort s (Try c t n) on = left_if s (Try c t n) _ _ _ refl refl
 step_sort s (Confirm c) on = confirm_sort s c (hand_at s c) refl
 step_sort s (TakeBack c) on = take_back_sort s c (hand_at s c)
 

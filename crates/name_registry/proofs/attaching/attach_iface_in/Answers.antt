@@ -5,39 +5,39 @@ use Rattle.registry_values.specs.Common.{attach_answer, is_iface, live_count, sl
 use Rattle.passive_list.specs.Common.{OnKeeper, HasAttachedKeeping}
 use Rattle.cpu_words.specs.Common.{Named}
 use Rattle.name_registry.specs.Common.{HasAttachedIfaceFor}
-use Rattle.name_registry.proofs.Attached.{keeping_more, log_told, a_driver, inside_is, taken_tells, attach_met, keeping_told}
+use Rattle.name_registry.proofs.Attached.{MayTake, keeping_more, log_told, a_driver, inside_is, taken_tells, attach_met, keeping_told}
+use Rattle.name_registry.proofs.attaching.attach_iface_in.Goals.{After-hear_cpu}
 use Rattle.name_registry.proofs.attaching.attach_iface_in.Goals as goal
+
+-- the entry that was given still fits once the keeper has heard the CPU
+taken : (c : After-hear_cpu) → MayTake c.args.keeper.now.words.settings c.hear_cpu.new.keeper.keeper c.args.rec c.in-Ok.entry
+taken c =
+    taken_tells c.args.keeper.now.words.settings c.args.keeper.now.keeper c.args.cpu.now.cpu c.hear_cpu.new.keeper.keeper c.args.rec c.in-Ok.entry c.hear_cpu.ensures.keeper
+    (sym c.entry_for-given.ensures.value ∙ c.in-Ok.ensures.fit.2)
 
 pub publish_iface-entry-requires-clause-vacant : goal.publish_iface-entry-requires-clause-vacant
 publish_iface-entry-requires-clause-vacant c =
-    let takes = taken_tells c.args.keeper.now.words.settings c.args.keeper.now.keeper c.args.cpu.now.cpu c.hear_cpu.new.keeper.keeper c.args.rec c.in-Ok.entry c.hear_cpu.ensures.keeper
-    (sym c.entry_for-given.ensures.value ∙ c.in-Ok.ensures.fit.2) in
+    let takes = taken (goal.at.publish_iface-entry-requires-clause-vacant c).After-hear_cpu in
     subst (λ (w : Named). (c.in-Ok.entry.slot < w.settings.slots) × (slot_at c.hear_cpu.new.keeper.keeper.slots c.in-Ok.entry.slot ≡ Vacant)) (sym c.hear_cpu.ensures.words.0)
     (subst (λ (r : Result Entry Refusal). IfOk r (λ e. e.slot < c.args.keeper.now.words.settings.slots)) c.in-Ok.ensures.fit.2 c.entry_for-given.ensures.within, takes.vacant)
 
 pub publish_iface-entry-requires-clause-free : goal.publish_iface-entry-requires-clause-free
-publish_iface-entry-requires-clause-free c =
-    (taken_tells c.args.keeper.now.words.settings c.args.keeper.now.keeper c.args.cpu.now.cpu c.hear_cpu.new.keeper.keeper c.args.rec c.in-Ok.entry c.hear_cpu.ensures.keeper
-    (sym c.entry_for-given.ensures.value ∙ c.in-Ok.ensures.fit.2)).free
+publish_iface-entry-requires-clause-free c = (taken (goal.at.publish_iface-entry-requires-clause-free c).After-hear_cpu).free
 
 pub publish_iface-entry-requires-clause-room : goal.publish_iface-entry-requires-clause-room
 publish_iface-entry-requires-clause-room c =
     subst (λ (w : Named). length c.hear_cpu.new.keeper.keeper.view.history + live_count c.hear_cpu.new.keeper.keeper.slots + 2 ≤ w.settings.change_limit) (sym c.hear_cpu.ensures.words.0)
-    (taken_tells c.args.keeper.now.words.settings c.args.keeper.now.keeper c.args.cpu.now.cpu c.hear_cpu.new.keeper.keeper c.args.rec c.in-Ok.entry c.hear_cpu.ensures.keeper
-    (sym c.entry_for-given.ensures.value ∙ c.in-Ok.ensures.fit.2)).room
+    (taken (goal.at.publish_iface-entry-requires-clause-room c).After-hear_cpu).room
 
 pub publish_iface-entry-requires-clause-nothing : goal.publish_iface-entry-requires-clause-nothing
-publish_iface-entry-requires-clause-nothing c =
-    (taken_tells c.args.keeper.now.words.settings c.args.keeper.now.keeper c.args.cpu.now.cpu c.hear_cpu.new.keeper.keeper c.args.rec c.in-Ok.entry c.hear_cpu.ensures.keeper
-    (sym c.entry_for-given.ensures.value ∙ c.in-Ok.ensures.fit.2)).nothing
+publish_iface-entry-requires-clause-nothing c = (taken (goal.at.publish_iface-entry-requires-clause-nothing c).After-hear_cpu).nothing
 
 pub publish_iface-entry-requires-clause-driver : goal.publish_iface-entry-requires-clause-driver
 publish_iface-entry-requires-clause-driver c = a_driver _ (ap is_iface (sym c.kind.ensures) ∙ (sym c.is_iface.ensures ∙ c.in-Ok.ensures.fit.1))
 
 pub returns-clause-answer : goal.returns-clause-answer
 returns-clause-answer c =
-    let takes = taken_tells c.args.keeper.now.words.settings c.args.keeper.now.keeper c.args.cpu.now.cpu c.hear_cpu.new.keeper.keeper c.args.rec c.in-Ok.entry c.hear_cpu.ensures.keeper
-    (sym c.entry_for-given.ensures.value ∙ c.in-Ok.ensures.fit.2) in
+    let takes = taken (goal.at.returns-clause-answer c).After-hear_cpu in
     let inside = inside_is c.inside.result c.args.cpu.now.cpu.view.begin c.inside.ensures in
     sym (ap (λ (e : Entry). Ok e) (c.publish_iface-entry.ensures.entry ∙ takes.entry)
     ∙ (c.in-Ok.ensures.value ∙ (λ i. attach_answer (inside i) ((c.is_iface.ensures ∙ ap is_iface c.kind.ensures) i) (c.entry_for-given.ensures.value i))))

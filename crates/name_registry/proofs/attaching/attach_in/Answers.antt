@@ -6,37 +6,38 @@ use Rattle.registry_values.proofs.Answers.{handed_on}
 use Rattle.passive_list.specs.Common.{OnKeeper, HasAttached}
 use Rattle.cpu_words.specs.Common.{Named}
 use Rattle.name_registry.specs.Common.{HasAttachedFor}
-use Rattle.name_registry.proofs.Attached.{inside_is, taken_tells, driver_keeps, attach_met, attached_told}
+use Rattle.name_registry.proofs.Attached.{MayTake, inside_is, taken_tells, driver_keeps, attach_met, attached_told}
+use Rattle.name_registry.proofs.attaching.attach_in.Goals.{After-hear_cpu}
 use Rattle.name_registry.proofs.attaching.attach_in.Goals as goal
+
+-- the entry that was given still fits once the keeper has heard the CPU
+taken : (c : After-hear_cpu) → MayTake c.args.keeper.now.words.settings c.hear_cpu.new.keeper.keeper c.args.rec c.in_ok-entry.entry
+taken c =
+    taken_tells c.args.keeper.now.words.settings c.args.keeper.now.keeper c.args.cpu.now.cpu c.hear_cpu.new.keeper.keeper c.args.rec c.in_ok-entry.entry c.hear_cpu.ensures.keeper
+    (sym c.entry_for-given.ensures.value ∙ c.in_ok-entry.ensures.fit.2)
 
 pub publish-entry-requires-clause-vacant : goal.publish-entry-requires-clause-vacant
 publish-entry-requires-clause-vacant c =
-    let takes = taken_tells c.args.keeper.now.words.settings c.args.keeper.now.keeper c.args.cpu.now.cpu c.hear_cpu.new.keeper.keeper c.args.rec c.in_ok-entry.entry c.hear_cpu.ensures.keeper
-    (sym c.entry_for-given.ensures.value ∙ c.in_ok-entry.ensures.fit.2) in
+    let takes = taken (goal.at.publish-entry-requires-clause-vacant c).After-hear_cpu in
     subst (λ (w : Named). (c.in_ok-entry.entry.slot < w.settings.slots) × (slot_at c.hear_cpu.new.keeper.keeper.slots c.in_ok-entry.entry.slot ≡ Vacant)) (sym c.hear_cpu.ensures.words.0)
     (subst (λ (r : Result Entry Refusal). IfOk r (λ e. e.slot < c.args.keeper.now.words.settings.slots)) c.in_ok-entry.ensures.fit.2 c.entry_for-given.ensures.within, takes.vacant)
 
 pub publish-entry-requires-clause-free : goal.publish-entry-requires-clause-free
-publish-entry-requires-clause-free c =
-    (taken_tells c.args.keeper.now.words.settings c.args.keeper.now.keeper c.args.cpu.now.cpu c.hear_cpu.new.keeper.keeper c.args.rec c.in_ok-entry.entry c.hear_cpu.ensures.keeper
-    (sym c.entry_for-given.ensures.value ∙ c.in_ok-entry.ensures.fit.2)).free
+publish-entry-requires-clause-free c = (taken (goal.at.publish-entry-requires-clause-free c).After-hear_cpu).free
 
 pub publish-entry-requires-clause-room : goal.publish-entry-requires-clause-room
 publish-entry-requires-clause-room c =
     subst (λ (w : Named). length c.hear_cpu.new.keeper.keeper.view.history + live_count c.hear_cpu.new.keeper.keeper.slots + 2 ≤ w.settings.change_limit) (sym c.hear_cpu.ensures.words.0)
-    (taken_tells c.args.keeper.now.words.settings c.args.keeper.now.keeper c.args.cpu.now.cpu c.hear_cpu.new.keeper.keeper c.args.rec c.in_ok-entry.entry c.hear_cpu.ensures.keeper
-    (sym c.entry_for-given.ensures.value ∙ c.in_ok-entry.ensures.fit.2)).room
+    (taken (goal.at.publish-entry-requires-clause-room c).After-hear_cpu).room
 
 pub publish-entry-requires-clause-keeps : goal.publish-entry-requires-clause-keeps
 publish-entry-requires-clause-keeps c =
-    let takes = taken_tells c.args.keeper.now.words.settings c.args.keeper.now.keeper c.args.cpu.now.cpu c.hear_cpu.new.keeper.keeper c.args.rec c.in_ok-entry.entry c.hear_cpu.ensures.keeper
-    (sym c.entry_for-given.ensures.value ∙ c.in_ok-entry.ensures.fit.2) in
+    let takes = taken (goal.at.publish-entry-requires-clause-keeps c).After-hear_cpu in
     driver_keeps _ c.args.rec.kind takes.nothing (sym c.is_iface.ensures ∙ c.in_ok-entry.ensures.fit.1)
 
 pub returns-clause-answer : goal.returns-clause-answer
 returns-clause-answer c =
-    let takes = taken_tells c.args.keeper.now.words.settings c.args.keeper.now.keeper c.args.cpu.now.cpu c.hear_cpu.new.keeper.keeper c.args.rec c.in_ok-entry.entry c.hear_cpu.ensures.keeper
-    (sym c.entry_for-given.ensures.value ∙ c.in_ok-entry.ensures.fit.2) in
+    let takes = taken (goal.at.returns-clause-answer c).After-hear_cpu in
     let inside = inside_is c.inside.result c.args.cpu.now.cpu.view.begin c.inside.ensures in
     ap (λ (e : Entry). Ok e) (c.publish-entry.ensures.entry ∙ takes.entry) ∙ (c.in_ok-entry.ensures.value ∙ (λ i. attach_answer (inside i) (c.is_iface.ensures i) (c.entry_for-given.ensures.value i)))
 

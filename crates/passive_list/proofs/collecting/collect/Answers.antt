@@ -1,23 +1,26 @@
 -- `collect`: its clause `change`; what `total_add` requires; the invariant of `keeper`; that nothing overflows; that an index is in range.
 use Rattle.std.proofs.Common.{refl, arith}
 use Rattle.passive_list.proofs.Rows.{keeper_is}
-use Rattle.passive_list.proofs.Collections.{collection_tells, collected_keeper, collected_into}
+use Rattle.passive_list.proofs.Collections.{CollectionTells, collection_tells, collected_keeper, collected_into}
+use Rattle.passive_list.proofs.collecting.collect.Goals.{After-total_or_bias}
 use Rattle.passive_list.proofs.collecting.collect.Goals as goal
 
+-- what the row says of the total and of the word
+tells : (c : After-total_or_bias) → CollectionTells c.collect-word.new.keeper.view c.args.slot c.total_or_bias.result c.collect-word.result
+tells c =
+    collection_tells _ _ _ _ _ _ _ _ _ _ _ c.keeper.invariant (keeper_is c.keeper.view_is) c.total_or_bias.ensures c.requires.retired.1 c.collect-word.ensures.change c.collect-word.ensures.step.event
+
 pub overflow_add-total : goal.overflow_add-total
-overflow_add-total c = let tells = collection_tells _ _ _ _ _ _ _ _ _ _ _ c.keeper.invariant
-    (keeper_is c.keeper.view_is) c.total_or_bias.ensures c.requires.retired.1 c.collect-word.ensures.change c.collect-word.ensures.step.event in omega (arith, tells.fits)
+overflow_add-total c = omega (arith, (tells (goal.at.overflow_add-total c).After-total_or_bias).fits)
 
 pub overflow_sub-total : goal.overflow_sub-total
-overflow_sub-total c = (collection_tells _ _ _ _ _ _ _ _ _ _ _ c.keeper.invariant (keeper_is c.keeper.view_is) c.total_or_bias.ensures c.requires.retired.1 c.collect-word.ensures.change c.collect-word.ensures.step.event).floor
+overflow_sub-total c = (tells (goal.at.overflow_sub-total c).After-total_or_bias).floor
 
 pub total_add-requires-clause-may : goal.total_add-requires-clause-may
-total_add-requires-clause-may c =
-    (collection_tells _ _ _ _ _ _ _ _ _ _ _ c.keeper.invariant (keeper_is c.keeper.view_is) c.total_or_bias.ensures c.requires.retired.1 c.collect-word.ensures.change c.collect-word.ensures.step.event).may
+total_add-requires-clause-may c = (tells (goal.at.total_add-requires-clause-may c).After-total_or_bias).may
 
 pub bounds-keeper-inside-slot-2 : goal.bounds-keeper-inside-slot-2
-bounds-keeper-inside-slot-2 c =
-    (collection_tells _ _ _ _ _ _ _ _ _ _ _ c.keeper.invariant (keeper_is c.keeper.view_is) c.total_or_bias.ensures c.requires.retired.1 c.collect-word.ensures.change c.collect-word.ensures.step.event).place
+bounds-keeper-inside-slot-2 c = (tells (goal.at.bounds-keeper-inside-slot-2 c).After-total_or_bias).place
 
 pub invariant_of-keeper : goal.invariant_of-keeper
 invariant_of-keeper c = collected_keeper _ _ _ _ _ _ _ _ _ _ _ _ _ c.keeper.invariant

@@ -1,12 +1,12 @@
--- `total`: its clauses `value` and `held`; that nothing overflows.
+-- `total`: what it returns; that nothing overflows.
+use Rattle.std.proofs.Common.{rules}
 use Rattle.passive_list.proofs.Collections.{total_tells}
 use Rattle.passive_list.proofs.collecting.total.Goals as goal
 
 pub overflow_sub-result : goal.overflow_sub-result
 overflow_sub-result c = (total_tells _ _ _ _ _ _ _ _ c.keeper.invariant c.keeper.view_is c.total_or_bias.ensures c.requires.retired.1 c.requires.collected).floor
 
-pub returns-clause-value : goal.returns-clause-value
-returns-clause-value c = (total_tells _ _ _ _ _ _ _ _ c.keeper.invariant c.keeper.view_is c.total_or_bias.ensures c.requires.retired.1 c.requires.collected).is
-
-pub returns-clause-held : goal.returns-clause-held
-returns-clause-held c = (total_tells _ _ _ _ _ _ _ _ c.keeper.invariant c.keeper.view_is c.total_or_bias.ensures c.requires.retired.1 c.requires.collected).held
+pub returns : goal.returns
+returns c =
+    let told = total_tells _ _ _ _ _ _ _ _ c.keeper.invariant c.keeper.view_is c.total_or_bias.ensures c.requires.retired.1 c.requires.collected in
+    record { value = told.is; held = told.held; same = search rules }

@@ -12,14 +12,12 @@ load_searched-found-requires-clause-may c =
 
 pub load_searched-high-requires-clause-may : goal.load_searched-high-requires-clause-may
 load_searched-high-requires-clause-may c = may_load _ (key_with c.args.kind c.args.name) _ _ 2 _
-    (at_high _ _ (key_with c.args.kind c.args.name) _ _ _ _ (at_kind _ _ (key_with c.args.kind c.args.name) _ _ _ c.requires.may.1 c.load_searched-number.ensures.change)
-    c.load_searched-found.ensures.change) (refl, refl)
+    (at_high _ _ _ (key_with c.args.kind c.args.name) _ _ _ _ c.requires.may.1 c.load_searched-number.ensures.change c.load_searched-found.ensures.change) (refl, refl)
 
 pub load_searched-low-requires-clause-may : goal.load_searched-low-requires-clause-may
-load_searched-low-requires-clause-may c =
-    let high = at_high _ _ (key_with c.args.kind c.args.name) _ _ _ _
-    (at_kind _ _ (key_with c.args.kind c.args.name) _ _ _ c.requires.may.1 c.load_searched-number.ensures.change) c.load_searched-found.ensures.change in
-    may_load _ (key_with c.args.kind c.args.name) _ _ 3 _ (at_low _ _ (key_with c.args.kind c.args.name) _ _ _ _ _ high c.load_searched-high.ensures.change) (refl, refl)
+load_searched-low-requires-clause-may c = may_load _ (key_with c.args.kind c.args.name) _ _ 3 _
+    (at_low _ _ _ _ (key_with c.args.kind c.args.name) _ _ _ _ _ c.requires.may.1
+    c.load_searched-number.ensures.change c.load_searched-found.ensures.change c.load_searched-high.ensures.change) (refl, refl)
 
 pub returns-clause-change : goal.returns-clause-change
 returns-clause-change c =

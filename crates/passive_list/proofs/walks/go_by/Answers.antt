@@ -15,12 +15,12 @@ load_searched-kind-requires-clause-may c = may_load _ nobody _ _ 1 _ (at_kind _ 
 
 pub load_searched-high-requires-clause-may : goal.load_searched-high-requires-clause-may
 load_searched-high-requires-clause-may c =
-    may_load _ nobody _ _ 2 _ (at_high _ _ nobody _ _ _ _ (at_kind _ _ nobody _ _ _ c.requires.may.under_way c.load_searched-number.ensures.change) c.load_searched-kind.ensures.change) (refl, refl)
+    may_load _ nobody _ _ 2 _ (at_high _ _ _ nobody _ _ _ _ c.requires.may.under_way c.load_searched-number.ensures.change c.load_searched-kind.ensures.change) (refl, refl)
 
 pub load_searched-low-requires-clause-may : goal.load_searched-low-requires-clause-may
 load_searched-low-requires-clause-may c =
-    let high = at_high _ _ nobody _ _ _ _ (at_kind _ _ nobody _ _ _ c.requires.may.under_way c.load_searched-number.ensures.change) c.load_searched-kind.ensures.change in
-    may_load _ nobody _ _ 3 _ (at_low _ _ nobody _ _ _ _ _ high c.load_searched-high.ensures.change) (refl, refl)
+    may_load _ nobody _ _ 3 _ (at_low _ _ _ _ nobody _ _ _ _ _ c.requires.may.under_way
+    c.load_searched-number.ensures.change c.load_searched-kind.ensures.change c.load_searched-high.ensures.change) (refl, refl)
 
 pub load_compared-value-requires-clause-may : goal.load_compared-value-requires-clause-may
 load_compared-value-requires-clause-may c =

@@ -1,5 +1,5 @@
--- `load_passive`: its clauses `word`, `alone` and `name`; what `load` requires.
-use Rattle.std.proofs.Common.{refl, sym, ap}
+-- `load_passive`: what it returns; what `load` requires.
+use Rattle.std.proofs.Common.{refl, sym, ap, rules}
 use Rattle.cpu_words.proofs.by_cpu.Passives.{load_may}
 use Rattle.cpu_words.specs.Common.{the_cpu}
 use Rattle.cpu_words.proofs.steps.passive.load_passive.Goals as goal
@@ -7,14 +7,10 @@ use Rattle.cpu_words.proofs.steps.passive.load_passive.Goals as goal
 pub load-requires-clause-may : goal.load-requires-clause-may
 load-requires-clause-may c = rw c.record_place-word.ensures.place (load_may _ _ _ _ _ _ c.requires.cpu.1 c.requires.place.1 c.requires.may)
 
-pub returns-clause-word : goal.returns-clause-word
-returns-clause-word c = (c.load.ensures.told.2 c.args.cpu c.args.slot c.args.number c.args.k refl c.record_place-word.ensures.place).0
-
-pub returns-clause-alone : goal.returns-clause-alone
-returns-clause-alone c = (c.load.ensures.told.2 c.args.cpu c.args.slot c.args.number c.args.k refl c.record_place-word.ensures.place).1
-
-pub returns-clause-name : goal.returns-clause-name
-returns-clause-name c = (c.load.ensures.told.2 c.args.cpu c.args.slot c.args.number c.args.k refl c.record_place-word.ensures.place).2
+pub returns : goal.returns
+returns c =
+    let told = c.load.ensures.told.2 c.args.cpu c.args.slot c.args.number c.args.k refl c.record_place-word.ensures.place in
+    record { step = search rules; same = search rules; word = told.0; alone = told.1; name = told.2 }
 
 pub load-requires-clause-own : goal.load-requires-clause-own
 load-requires-clause-own c n = (ap the_cpu (sym c.requires.cpu.1), tt)

@@ -10,18 +10,18 @@ use Rattle.name_registry.proofs.registry.Registry.perform.Goals as goal
 
 pub returns-then-inside-clause-made : goal.returns-then-inside-clause-made
 returns-then-inside-clause-made g c =
-    performs_inside g.D.Domain.settings c.args.turns (is_inside c.args.cpu.now) c.args.cpu.now (sym (inside_is c.inside.result c.args.cpu.now.view.begin c.inside.ensures) ∙ c.if-inside.true)
+    performs_inside g.D.Domain.settings c.args.turns (is_inside c.args.cpu.now) c.args.cpu.now (sym (inside_is _ _ c.inside.ensures) ∙ c.if-inside.true)
 
 pub returns-then-inside-clause-learned : goal.returns-then-inside-clause-learned
 returns-then-inside-clause-learned g c = learns_none c.args.cpu.now
 
 pub returns-clause-done : goal.returns-clause-done
-returns-clause-done g c = waited_outside (is_inside c.args.cpu.now) c.waiting_for.result (sym (inside_is c.inside.result c.args.cpu.now.view.begin c.inside.ensures) ∙ c.if-inside.false)
+returns-clause-done g c = waited_outside (is_inside c.args.cpu.now) c.waiting_for.result (sym (inside_is _ _ c.inside.ensures) ∙ c.if-inside.false)
 
 pub returns-clause-refused : goal.returns-clause-refused
 returns-clause-refused g c =
     let z = g.D.Domain.settings in
-    let outside : is_inside c.args.cpu.now ≡ false = sym (inside_is c.inside.result c.args.cpu.now.view.begin c.inside.ensures) ∙ c.if-inside.false in
+    let outside : is_inside c.args.cpu.now ≡ false = sym (inside_is _ _ c.inside.ensures) ∙ c.if-inside.false in
     subst (λ (r : Result (Unit {0}) Refusal). IfErr r (λ f. IsPerformRefusal z (is_inside c.args.cpu.now) f)) (sym c.waiting_for.ensures.value)
     (waiting_refused z (is_inside c.args.cpu.now) c.perform_in_turns.result outside
     (told_small z c.args.turns c.args.cpu.now c.perform_in_turns.new.cpu c.perform_in_turns.result c.perform_in_turns.ensures))
@@ -32,7 +32,7 @@ returns-clause-waited g c =
 
 pub returns-clause-made : goal.returns-clause-made
 returns-clause-made g c =
-    let outside : is_inside c.args.cpu.now ≡ false = sym (inside_is c.inside.result c.args.cpu.now.view.begin c.inside.ensures) ∙ c.if-inside.false in
+    let outside : is_inside c.args.cpu.now ≡ false = sym (inside_is _ _ c.inside.ensures) ∙ c.if-inside.false in
     performs_outside g.D.Domain.settings c.args.turns (is_inside c.args.cpu.now) c.args.cpu.now c.perform_in_turns.new.cpu c.perform_in_turns.result c.waiting_for.result outside
     c.waiting_for.ensures.value c.perform_in_turns.ensures
 
