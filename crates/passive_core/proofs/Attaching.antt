@@ -173,10 +173,11 @@ prepared_links s e on write number lawful free room keeps =
     and_from (get_or (with_prepared s e).next e.slot 0 == s.head) (are_unused (with_prepared s e) e.slot && keeps_rightly (kept_at s.keeps e.slot) e.rec.kind) link
     (and_from (are_unused (with_prepared s e) e.slot) (keeps_rightly (kept_at s.keeps e.slot) e.rec.kind) unused keeps) in
     let name : not (is_taken (key_of e) s.slots) ≡ true = ap not free in
+    let fit = has_room s && is_prepared (with_prepared s e) e.slot e.rec.kind in
     let may : may_publish (with_prepared s e) e.slot e ≡ true =
-    and_from (may_write s e.slot) (e.number == length s.history + 1 && (not (is_taken (key_of e) s.slots) && (has_room s && is_prepared (with_prepared s e) e.slot e.rec.kind))) write
-    (and_from (e.number == length s.history + 1) (not (is_taken (key_of e) s.slots) && (has_room s && is_prepared (with_prepared s e) e.slot e.rec.kind)) numbered
-    (and_from (not (is_taken (key_of e) s.slots)) (has_room s && is_prepared (with_prepared s e) e.slot e.rec.kind) name
+    and_from (may_write s e.slot) (e.number == length s.history + 1 && (not (is_taken (key_of e) s.slots) && fit)) write
+    (and_from (e.number == length s.history + 1) (not (is_taken (key_of e) s.slots) && fit) numbered
+    (and_from (not (is_taken (key_of e) s.slots)) fit name
     (and_from (has_room s) (is_prepared (with_prepared s e) e.slot e.rec.kind) room ready))) in
     links_if (with_prepared s e) e.slot e entry may
   where

@@ -147,12 +147,16 @@ count_cases s c n t on of low =
 
 -- The events of a release by the CPU's own count.
 
-pub joins : (s : State) (c id n : ℕ) → number_standing (local_at s.locals id) ≡ Some n → is_idle s c ≡ true → step s (JoinRef c id) ≡ some_outcome (after_hand s c (Giving n id) id (Lifted c)) Done
+joins : (s : State) (c id n : ℕ) → number_standing (local_at s.locals id) ≡ Some n → is_idle s c ≡ true → step s (JoinRef c id) ≡ some_outcome (after_hand s c (Giving n id) id (Lifted c)) Done
 joins s c id n live idle = rw (live, idle) refl
 
 -- the state once the reference is in the hand
 abbrev pub lifted : State → ℕ → ℕ → ℕ → State
 lifted s c n id = after_hand s c (Giving n id) id (Lifted c)
+
+pub lifts : (s v : State) (c n id : ℕ) (r : Reply) → number_standing (local_at s.locals id) ≡ Some n → is_idle s c ≡ true → step s (JoinRef c id) ≡ Some (record { state = v; reply = r })
+    → v ≡ lifted s c n id
+lifts s v c n id r live idle was = made s (step s (JoinRef c id)) _ v r (joins s c id n live idle) was
 
 abbrev pub exchanged : State → ℕ → ℕ → ℕ → ℕ → Bool → Option Outcome
 exchanged s c n id t counts =

@@ -186,14 +186,13 @@ pub detach_makes : (s u v w n : State) (e : Entry) (c : ℕ) (q r : Reply) → H
 detach_makes s u v w n e c q r on rest idle live is snaps tells hears =
     let cpus : u.settings.cpus ≡ s.settings.cpus = ap (λ (x : State). x.settings.cpus) is ∙ ap (λ (z : Settings). z.cpus) (settings_by (all_seated s) e.slot e (slot_before s.slots s.next e.slot)) in
     let all : Makes u (snapshots_from e.slot 0 s.settings.cpus) v = subst (λ (k : ℕ). Makes u (snapshots_from e.slot 0 k) v) cpus snaps in
-    let end : Makes u (snapshots_from e.slot 0 s.settings.cpus ++ Tell None ∷ Hear (Some c) ∷ []) n =
-    makes_more u v n (snapshots_from e.slot 0 s.settings.cpus) (Tell None ∷ Hear (Some c) ∷ []) all
+    let last : List Event = snapshots_from e.slot 0 s.settings.cpus ++ Tell None ∷ Hear (Some c) ∷ [] in
+    let end : Makes u last n = makes_more u v n (snapshots_from e.slot 0 s.settings.cpus) (Tell None ∷ Hear (Some c) ∷ []) all
     (makes_first v w n (Tell None) q (Hear (Some c) ∷ []) tells (makes_one w n (Hear (Some c)) r hears)) in
     seated_and s (all_seated s) n (detach_events s.settings.cpus c e.slot) on rest refl
-    (makes_first (all_seated s) (all_seated s) n (Tell (Some c)) Done (Hear None ∷ Unpublish e.slot ∷ (snapshots_from e.slot 0 s.settings.cpus ++ Tell None ∷ Hear (Some c) ∷ [])) (rw idle refl)
-    (makes_first (all_seated s) (all_seated s) n (Hear None) Done (Unpublish e.slot ∷ (snapshots_from e.slot 0 s.settings.cpus ++ Tell None ∷ Hear (Some c) ∷ [])) (rw rest refl)
-    (makes_first (all_seated s) (after_unpublish (all_seated s) e.slot e) n (Unpublish e.slot) Done (snapshots_from e.slot 0 s.settings.cpus ++ Tell None ∷ Hear (Some c) ∷ []) (rw (live, rest) refl)
-    (subst (λ (x : State). Makes x (snapshots_from e.slot 0 s.settings.cpus ++ Tell None ∷ Hear (Some c) ∷ []) n) is end))))
+    (makes_first (all_seated s) (all_seated s) n (Tell (Some c)) Done (Hear None ∷ Unpublish e.slot ∷ last) (rw idle refl)
+    (makes_first (all_seated s) (all_seated s) n (Hear None) Done (Unpublish e.slot ∷ last) (rw rest refl)
+    (makes_first (all_seated s) (after_unpublish (all_seated s) e.slot e) n (Unpublish e.slot) Done last (rw (live, rest) refl) (subst (λ (x : State). Makes x last n) is end))))
 
 -- Attaches
 

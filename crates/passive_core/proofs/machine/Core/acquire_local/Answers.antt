@@ -18,7 +18,7 @@ make-requires-clause-allowed c =
     let idle = c.begin.ensures.idle c.args.c (subst (λ (x : State). c.args.c < x.settings.cpus) (sym made) c.requires.known)
     (subst (λ (x : State). may_act x c.args.c ≡ true) (sym made) c.requires.ready) in
     count_allowed s c.begin.new.self c.args.c c.in-Some.found on (sym c.in-Some.ensures.value) (c.begin.ensures.seated ∙ ap all_seated made) idle
-    (c.why_uncounted.ensures.room (none_from c.why_uncounted.result c.in_default-why_uncounted.not-Some))
+    (c.why_uncounted.ensures.room (none_from _ c.in_default-why_uncounted.not-Some))
 
 -- the reference that both events made
 acquired : (c : After-split_in_place) → (t : ℕ) × Acquired c.args.self.now c.split_in_place.new.self c.args.c c.in-Some.found.number t c.split_in_place.result
@@ -28,13 +28,13 @@ acquired c =
     let made = c.in-Ok.ensures.ok in
     let idle = c.begin.ensures.idle c.args.c (subst (λ (x : State). c.args.c < x.settings.cpus) (sym made) c.requires.known)
     (subst (λ (x : State). may_act x c.args.c ≡ true) (sym made) c.requires.ready) in
-    let room = c.why_uncounted.ensures.room (none_from c.why_uncounted.result c.in_default-why_uncounted.not-Some) in
+    let room = c.why_uncounted.ensures.room (none_from _ c.in_default-why_uncounted.not-Some) in
     acquires s c.begin.new.self c.make.new.self c.split_in_place.new.self c.args.c c.split_in_place.result c.in-Some.found _ on (sym c.in-Some.ensures.value) c.requires.known
     (c.begin.ensures.seated ∙ ap all_seated made) idle room c.make.ensures c.split_in_place.ensures
 
 pub returns-clause-answer : goal.returns-clause-answer
 returns-clause-answer c =
-    let room = c.why_uncounted.ensures.room (none_from c.why_uncounted.result c.in_default-why_uncounted.not-Some) in (
+    let room = c.why_uncounted.ensures.room (none_from _ c.in_default-why_uncounted.not-Some) in (
       ap (count_refusal c.args.self.now c.args.c) (sym c.in-Some.ensures.value) ∙ ap (λ (b : Bool). if b then None else Some LocalFull) room,
       (acquired (goal.at.returns-clause-answer c).After-split_in_place).1.least,
     )
@@ -59,7 +59,7 @@ pub returns-clause-made : goal.returns-clause-made
 returns-clause-made c =
     let s = c.args.self.now in
     let on = subst Holds c.self.view_is c.self.invariant in
-    let room = c.why_uncounted.ensures.room (none_from c.why_uncounted.result c.in_default-why_uncounted.not-Some) in
+    let room = c.why_uncounted.ensures.room (none_from _ c.in_default-why_uncounted.not-Some) in
     let all = acquired (goal.at.returns-clause-made c).After-split_in_place in
     acquire_makes s c.split_in_place.new.self c.args.c all.0 c.in-Some.found on c.requires.rest (sym c.in-Some.ensures.value) c.requires.known
     (acting_idle s c.args.c on c.requires.known c.requires.ready) room all.1.slot all.1.state

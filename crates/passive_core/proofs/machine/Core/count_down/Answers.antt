@@ -1,13 +1,13 @@
 -- `Core::count_down`: its clauses `value`, `kept` and `made`; what it returns; what `make` requires.
-use Rattle.std.proofs.Common.{[], ◌∷◌, ◌∙◌, ap, subst, sym}
-use Rattle.protocol.specs.Common.{Holds, step}
-use Rattle.passive_core.specs.Common.{is_counting, with_count_less}
+use Rattle.std.proofs.Common.{◌≡◌, false, [], ◌∷◌, ◌∙◌, ap, subst, sym}
+use Rattle.protocol.specs.Common.{Holds, after_collected}
+use Rattle.passive_core.specs.Common.{is_counting, local_slot, with_count_less}
 use Rattle.passive_core.specs.Types.{JoinRef, CountDown, SplitBack}
 use Rattle.protocol.proofs.keeps.SectionKeeps.{idle_tells}
-use Rattle.passive_core.proofs.Locals.{back_allowed, counted_down, down_allowed, down_fell, down_went, gone_back, joins, live_slot, slot_is}
-use Rattle.passive_core.proofs.Passives.{made}
+use Rattle.passive_core.proofs.Locals.{back_allowed, counted_down, down_allowed, down_fell, down_went, gone_back, lifted, lifts, live_slot, slot_is}
 use Rattle.protocol.proofs.keeps.References.{standing_tells}
 use Rattle.passive_core.proofs.Making.{makes_first, makes_one}
+use Rattle.passive_core.proofs.machine.Core.count_down.Goals.{In-Collected}
 use Rattle.passive_core.proofs.machine.Core.count_down.Goals as goal
 
 pub make-requires-2-clause-allowed : goal.make-requires-2-clause-allowed
@@ -16,41 +16,40 @@ make-requires-2-clause-allowed c =
     let n = c.number-number.result in
     let on = subst Holds c.self.view_is c.self.invariant in
     let t = live_slot s c.args.id n on c.number-number.ensures in
-    let joined = made s (step s (JoinRef c.args.c c.args.id)) _ c.make.new.self _ (joins s c.args.c c.args.id n c.number-number.ensures c.requires.idle) c.make.ensures in
+    let joined = lifts s _ c.args.c n c.args.id _ c.number-number.ensures c.requires.idle c.make.ensures in
     down_allowed s c.make.new.self c.args.c n c.args.id t.0 on t.1 (idle_tells s c.args.c on c.requires.idle).0 joined
+
+-- the count was collected, and the reference is in the hand
+fell : (c : In-Collected) → (is_counting c.args.self.now c.args.c (local_slot c.args.self.now c.args.id) ≡ false)
+    × (c.make-2.new.self ≡ after_collected (lifted c.args.self.now c.args.c c.number-number.result c.args.id) c.args.c c.number-number.result c.args.id)
+fell c =
+    let s = c.args.self.now in
+    let n = c.number-number.result in
+    let on = subst Holds c.self.view_is c.self.invariant in
+    let t = live_slot s c.args.id n on c.number-number.ensures in
+    let joined = lifts s _ c.args.c n c.args.id _ c.number-number.ensures c.requires.idle c.make.ensures in
+    let low = (idle_tells s c.args.c on c.requires.idle).0 in
+    let told = down_fell s c.make.new.self c.make-2.new.self c.args.c n c.args.id t.0 c.make-2.result on t.1 low joined c.make-2.ensures c.in-Collected.is in
+    (ap (is_counting s c.args.c) (slot_is s c.args.id n t.0 c.number-number.ensures t.1) ∙ told.0, told.1)
 
 pub make-requires-in-Collected-clause-allowed : goal.make-requires-in-Collected-clause-allowed
 make-requires-in-Collected-clause-allowed c =
     let s = c.args.self.now in
-    let n = c.number-number.result in
     let on = subst Holds c.self.view_is c.self.invariant in
-    let t = live_slot s c.args.id n on c.number-number.ensures in
-    let told = idle_tells s c.args.c on c.requires.idle in
-    let joined = made s (step s (JoinRef c.args.c c.args.id)) _ c.make.new.self _ (joins s c.args.c c.args.id n c.number-number.ensures c.requires.idle) c.make.ensures in
-    let fell = down_fell s c.make.new.self c.make-2.new.self c.args.c n c.args.id t.0 c.make-2.result on t.1 told.0 joined c.make-2.ensures c.in-Collected.is in
-    back_allowed s c.make-2.new.self c.args.c n c.args.id on told.0 fell.1
+    let told = fell (goal.at.make-requires-in-Collected-clause-allowed c).In-Collected in
+    back_allowed s c.make-2.new.self c.args.c c.number-number.result c.args.id on (idle_tells s c.args.c on c.requires.idle).0 told.1
 
 pub returns-in-Collected-clause-value : goal.returns-in-Collected-clause-value
-returns-in-Collected-clause-value c =
-    let s = c.args.self.now in
-    let n = c.number-number.result in
-    let on = subst Holds c.self.view_is c.self.invariant in
-    let t = live_slot s c.args.id n on c.number-number.ensures in
-    let told = idle_tells s c.args.c on c.requires.idle in
-    let joined = made s (step s (JoinRef c.args.c c.args.id)) _ c.make.new.self _ (joins s c.args.c c.args.id n c.number-number.ensures c.requires.idle) c.make.ensures in
-    let fell = down_fell s c.make.new.self c.make-2.new.self c.args.c n c.args.id t.0 c.make-2.result on t.1 told.0 joined c.make-2.ensures c.in-Collected.is in
-    sym (ap (is_counting s c.args.c) (slot_is s c.args.id n t.0 c.number-number.ensures t.1) ∙ fell.0)
+returns-in-Collected-clause-value c = sym (fell (goal.at.returns-in-Collected-clause-value c).In-Collected).0
 
 pub returns-in-Collected-clause-kept : goal.returns-in-Collected-clause-kept
 returns-in-Collected-clause-kept c = λ _.
     let s = c.args.self.now in
     let n = c.number-number.result in
     let on = subst Holds c.self.view_is c.self.invariant in
-    let t = live_slot s c.args.id n on c.number-number.ensures in
-    let told = idle_tells s c.args.c on c.requires.idle in
-    let joined = made s (step s (JoinRef c.args.c c.args.id)) _ c.make.new.self _ (joins s c.args.c c.args.id n c.number-number.ensures c.requires.idle) c.make.ensures in
-    let fell = down_fell s c.make.new.self c.make-2.new.self c.args.c n c.args.id t.0 c.make-2.result on t.1 told.0 joined c.make-2.ensures c.in-Collected.is in
-    gone_back s c.make-2.new.self c.make-in-Collected.new.self c.args.c n c.args.id _ on told.0 told.1 (standing_tells _ n c.number-number.ensures) fell.1 c.make-in-Collected.ensures
+    let idle = idle_tells s c.args.c on c.requires.idle in
+    let told = fell (goal.at.returns-in-Collected-clause-kept c).In-Collected in
+    gone_back s c.make-2.new.self c.make-in-Collected.new.self c.args.c n c.args.id _ on idle.0 idle.1 (standing_tells _ n c.number-number.ensures) told.1 c.make-in-Collected.ensures
 
 pub returns-in_default : goal.returns-in_default
 returns-in_default c =
@@ -59,7 +58,7 @@ returns-in_default c =
     let on = subst Holds c.self.view_is c.self.invariant in
     let t = live_slot s c.args.id n on c.number-number.ensures in
     let told = idle_tells s c.args.c on c.requires.idle in
-    let joined = made s (step s (JoinRef c.args.c c.args.id)) _ c.make.new.self _ (joins s c.args.c c.args.id n c.number-number.ensures c.requires.idle) c.make.ensures in
+    let joined = lifts s _ c.args.c n c.args.id _ c.number-number.ensures c.requires.idle c.make.ensures in
     let went = down_went s c.make.new.self c.make-2.new.self c.args.c n c.args.id t.0 c.make-2.result on t.1 told.0 joined c.make-2.ensures c.in_default.not-Collected in
     let at = slot_is s c.args.id n t.0 c.number-number.ensures t.1 in
     record {

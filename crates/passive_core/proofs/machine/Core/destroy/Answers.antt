@@ -10,14 +10,12 @@ loop-preserved c =
     let l = c.loop in
     let held = not_freed l.stage c.in_default.not-Freed in
     let answer = c.in_ok-stage-2.ensures.answer ∙ answer_again s l.self c.args.number l.stage held l.invariant.stage l.invariant.after l.invariant.marks in
+    let same = same_Ok c.in_ok-stage-2.stage l.stage (answer ∙ sym l.invariant.stage) in
     record {
       stage = answer;
-      after = advance_again s l.self c.advance-in-loop.new.self c.args.number l.stage c.in_ok-stage-2.stage held l.invariant.after c.in_ok-stage-2.ensures.after
-          (same_Ok c.in_ok-stage-2.stage l.stage (answer ∙ sym l.invariant.stage));
-      marks = marks_again s l.self c.advance-in-loop.new.self c.args.number l.stage c.in_ok-stage-2.stage held l.invariant.after l.invariant.marks c.in_ok-stage-2.ensures.marks
-          (same_Ok c.in_ok-stage-2.stage l.stage (answer ∙ sym l.invariant.stage));
-      made = work_again s l.self c.advance-in-loop.new.self c.args.number l.stage c.in_ok-stage-2.stage held l.invariant.after l.invariant.made c.in_ok-stage-2.ensures.made
-          (same_Ok c.in_ok-stage-2.stage l.stage (answer ∙ sym l.invariant.stage));
+      after = advance_again s l.self c.advance-in-loop.new.self c.args.number l.stage c.in_ok-stage-2.stage held l.invariant.after c.in_ok-stage-2.ensures.after same;
+      marks = marks_again s l.self c.advance-in-loop.new.self c.args.number l.stage c.in_ok-stage-2.stage held l.invariant.after l.invariant.marks c.in_ok-stage-2.ensures.marks same;
+      made = work_again s l.self c.advance-in-loop.new.self c.args.number l.stage c.in_ok-stage-2.stage held l.invariant.after l.invariant.made c.in_ok-stage-2.ensures.made same;
       rest = c.in_ok-stage-2.ensures.rest;
       settings = c.in_ok-stage-2.ensures.settings ∙ l.invariant.settings;
       ready = λ d acts. c.in_ok-stage-2.ensures.ready d (l.invariant.ready d acts);
