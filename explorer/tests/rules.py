@@ -36,7 +36,7 @@ RULES = [
     Rule("schedule", "the clock that is disabled races", "if (!clock_may_jump() && run.ticks < options.ticks)", "if (false)"),
     Rule("schedule", "a soft interrupt waits for its queue", ".kind = ON_PENDING, .cpu = cpu", ".kind = ON_NOTHING, .cpu = cpu"),
     Rule("schedule", "a tick may change places, as long as the clock may jump", "if (run.ticks == options.ticks)\n		make_barrier();", "make_barrier();"),
-    Rule("locks", "a wake-up may come to a waiter whose time is over", "WRITES | (is_late(me) ? 0 : ACQUIRES)", "WRITES | ACQUIRES"),
+    Rule("locks", "a wake-up may come to a waiter whose time is over", "WRITES | (is_late(me) || ends_early(me) ? 0 : ACQUIRES)", "WRITES | ACQUIRES"),
     Rule("locks", "a section of a CPU conflicts with a wait", "	touch(ON_SECTION, NULL, ANY, 0);\n	acquire_sections();\n	for", "	acquire_sections();\n	for"),
     Rule("softints", "an interrupt conflicts with what has the CPU", "	touch(ON_LOCK, &me->cpu->hold, 0, WRITES);\n	acquire_clock", "	acquire_clock"),
     Rule("more_calls", "an end of a soft interrupt conflicts with its queues", "	touch(ON_PENDING, NULL, ANY, WRITES);\n", ""),

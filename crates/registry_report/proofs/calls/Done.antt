@@ -63,8 +63,7 @@ pub enter_does : (s v : SessionState) (k : State) (r : Registry) (c : ℕ) (resu
     → c < s.core.settings.cpus → result ≡ entering.enter_answer s.core c → k ≡ after_enter_command s.core c
     → Does given (command_answer (enter_answer r c)) (with_core s k) (on_ok r (enter_answer r c) (λ done. with_section_entered r c))
 enter_does s v k r c result given view is on told low due left =
-    as_given result given (command_answer (enter_answer r c)) (with_core s k) (on_ok r (enter_answer r c) (λ done. with_section_entered r c)) told
-    (as_left (command_answer result) (command_answer (enter_answer r c)) s k (after_enter_command s.core c) (on_ok r (enter_answer r c) (λ done. with_section_entered r c)) left
+    as_given result given (command_answer (enter_answer r c)) (with_core s k) _ told (as_left (command_answer result) (command_answer (enter_answer r c)) s k (after_enter_command s.core c) _ left
     (enter_done s r c result is.holds (seen s v r view on) low due))
 
 -- a result that is the core's, and a registry that is shown

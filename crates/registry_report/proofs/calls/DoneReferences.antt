@@ -23,9 +23,9 @@ use Rattle.registry_report.proofs.calls.Sessions.{live_place, new_place}
 use Rattle.protocol.proofs.Either.{either}
 
 -- a refusal came back as a hitch
-pub told_err : {X : Type 0} (result : Result X Hitch) (f : Refusal) → IsErr result → IsErrAnd result (λ h. h ≡ Refused f) → result ≡ Err (Refused f)
-told_err (Ok x) f is and = absurd (let q : ◌≡◌ {A = Bool} false true = is in cc)
-told_err (Err h) f is and = ap (λ (g : Hitch). Err g) and
+pub told_err : {X : Type 0} (result : Result X Hitch) (f : Refusal) → IsErr result × IsErrAnd result (λ h. h ≡ Refused f) → result ≡ Err (Refused f)
+told_err (Ok x) f told = absurd (let q : ◌≡◌ {A = Bool} false true = told.0 in cc)
+told_err (Err h) f told = ap (λ (g : Hitch). Err g) told.1
 
 -- a label that is not filled has no reference
 pub unfilled : {X : Type 0} (o : Option X) (h : Hitch) → label_answer o ≡ Err h → o ≡ None
@@ -166,19 +166,22 @@ new_number s k c id e holds found least left =
     ap (λ (x : State). x.locals) left ∙ (ap (λ (o : Option Entry). (after_counting s c o).locals) found ∙ ap (λ (o : Option ℕ). (with_count_more s c e.number o).locals) at.1) in
     ap number_standing (new_place (record { core = s; passives = []; locals = [] }) k id e.number least places)
 
+abbrev with_local_label : SessionState → State → ℕ → Option ℕ → SessionState
+with_local_label s core x id = record { core = core; passives = s.passives; locals = set s.locals x id }
+
 pub count_does : (s v : SessionState) (k : State) (r : Registry) (c x id n : ℕ) → s ≡ v → IsSession s → Shows v r → c < s.core.settings.cpus → x < 26 → get_or s.locals x None ≡ None
     → IsCounted s.core (count_refusal s.core c (found_at s.core c)) (Ok id) → k ≡ after_acquire_local s.core c (Ok id) → number_standing (local_at k.locals id) ≡ Some n
-    → Does (Ok n) (count_answer r c x) (record { core = k; passives = s.passives; locals = set s.locals x (Some id) }) (on_ok r (count_answer r c x) (with_one_counted r c x))
+    → Does (Ok n) (count_answer r c x) (with_local_label s k x (Some id)) (on_ok r (count_answer r c x) (with_one_counted r c x))
 count_does s v k r c x id n view is on low small free due left live =
     let sees = seen s v r view on in
     let counts : Counts s r c x id = acquire_local_shows s r c x id is sees low (omega (arith, is.local_labels)) due in
     let answer : count_answer r c x ≡ Ok counts.entry.number =
     at_free_label (r.local_labels x) (command_answer (count_of_found r c (r.model.found c))) (label_none s r x sees free) ∙ ap command_answer counts.answers in
-    let shows : Shows (record { core = k; passives = s.passives; locals = set s.locals x (Some id) }) (with_one_counted r c x counts.entry.number) =
-    subst (λ (q : State). Shows (record { core = q; passives = s.passives; locals = set s.locals x (Some id) }) (with_one_counted r c x counts.entry.number)) (sym left) counts.shows in
+    let shows : Shows (with_local_label s k x (Some id)) (with_one_counted r c x counts.entry.number) =
+    subst (λ (q : State). Shows (with_local_label s q x (Some id)) (with_one_counted r c x counts.entry.number)) (sym left) counts.shows in
     let same : counts.entry.number ≡ n = same_Some counts.entry.number n (sym (new_number s.core k c id counts.entry is.holds counts.found due.1 left) ∙ live) in (
       answer ∙ ap (λ (m : ℕ). Ok m) same,
-      subst (λ (b : Result ℕ Hitch). Shows (record { core = k; passives = s.passives; locals = set s.locals x (Some id) }) (on_ok r b (with_one_counted r c x))) (sym answer) shows,
+      subst (λ (b : Result ℕ Hitch). Shows (with_local_label s k x (Some id)) (on_ok r b (with_one_counted r c x))) (sym answer) shows,
     )
 
 pub peek_leaves : (s v : SessionState) (k : State) (r : Registry) → s ≡ v → Shows v r → k ≡ all_seated s.core → Shows (with_core s k) r
@@ -190,12 +193,11 @@ uncount_none v r c x given on none = unanswered given (uncount_answer r x) NoLab
 
 pub uncount_leaves : (s v : SessionState) (k : State) (r : Registry) (c x id n : ℕ) → s ≡ v → IsSession s → Shows v r → c < s.core.settings.cpus → x < 26 → get_or s.locals x None ≡ Some id
     → number_standing (local_at s.core.locals id) ≡ Some n
-    → k ≡ after_release_local s.core c id → Shows (record { core = k; passives = s.passives; locals = set s.locals x None }) (on_ok r (uncount_answer r x) (with_one_uncounted r c x))
+    → k ≡ after_release_local s.core c id → Shows (with_local_label s k x None) (on_ok r (uncount_answer r x) (with_one_uncounted r c x))
 uncount_leaves s v k r c x id n view is on low small at live left =
     let sees = seen s v r view on in
-    subst (λ (b : Result ℕ Hitch). Shows (record { core = k; passives = s.passives; locals = set s.locals x None }) (on_ok r b (with_one_uncounted r c x)))
-    (sym (uncount_answers s r x id n sees at live))
-    (subst (λ (q : State). Shows (record { core = q; passives = s.passives; locals = set s.locals x None }) (with_one_uncounted r c x n)) (sym left)
+    subst (λ (b : Result ℕ Hitch). Shows (with_local_label s k x None) (on_ok r b (with_one_uncounted r c x))) (sym (uncount_answers s r x id n sees at live))
+    (subst (λ (q : State). Shows (with_local_label s q x None) (with_one_uncounted r c x n)) (sym left)
     (release_local_shows s r c x id n is sees low (omega (arith, is.local_labels)) at live))
 
 -- Plug
@@ -217,8 +219,8 @@ plug_fails s v k r c x id rec f given view is on small at iface lawful due left 
 
 pub plug_does : (s v : SessionState) (k : State) (r : Registry) (c x id : ℕ) (rec : Record) (e : Entry) → s ≡ v → IsSession s → Shows v r → x < 26 → get_or s.locals x None ≡ Some id
     → is_iface rec.kind ≡ true → IsTrue (is_lawful rec.name) → IsAnswer (attaching.attach_iface_answer s.core c rec id) (Ok e) → k ≡ after_attach_iface s.core c id (Ok e) → Holds k
-    → Does (Ok e) (plug_answer r c rec x) (record { core = k; passives = s.passives; locals = set s.locals x None }) (after_plug r c x (plug_answer r c rec x))
+    → Does (Ok e) (plug_answer r c rec x) (with_local_label s k x None) (after_plug r c x (plug_answer r c rec x))
 plug_does s v k r c x id rec e view is on small at iface lawful due left holds =
     let n = live_number s x id is at in
     let done = plug_done s r c rec x id n.0 (Ok e) is (seen s v r view on) small at n.1 iface lawful due (subst Holds left holds) in
-    subst (λ (q : State). Does (Ok e) (plug_answer r c rec x) (record { core = q; passives = s.passives; locals = set s.locals x None }) (after_plug r c x (plug_answer r c rec x))) (sym left) done
+    subst (λ (q : State). Does (Ok e) (plug_answer r c rec x) (with_local_label s q x None) (after_plug r c x (plug_answer r c rec x))) (sym left) done

@@ -1,6 +1,6 @@
 -- What keeps the labels of a session right.
 use Rattle.std.proofs.Common.{◌≡◌, ℕ, ◌<◌, ◌⊎◌, inl, inr, zero, suc, List, length, replicate, Bool, true, false, Option, Some, None, if◌then◌else◌, refl, sym, ap, ◌∙◌, arith, length-set}
-use Rattle.std.proofs.Common.{get_or-set_same, get_or-set_other, Ok}
+use Rattle.std.proofs.Common.{get_or-set_same, get_or-set_other, Ok, subst}
 use Rattle.std.specs.Prelude.{is_some, slice_index_or, slice_set}
 use Rattle.std.proofs.lemmas.Bool.{cases_eq}
 use Rattle.registry_report.specs.Types.{Entry, LocalPlace, Free, Standing}
@@ -12,6 +12,10 @@ use Rattle.passive_core.proofs.Passives.{found_slot}
 use Rattle.protocol.proofs.keeps.References.{least_free, least_stays, least_within, with_local_same}
 use Rattle.registry_report.specs.Common.{SessionState, IsSession, label_answer}
 use Rattle.protocol.proofs.Either.{either}
+
+-- a CPU that the session's value knows is one of the session's
+pub cpu_known : (s v : SessionState) (c : ℕ) → s ≡ v → c < v.core.settings.cpus → c < s.core.settings.cpus
+cpu_known s v c view lt = subst (λ (x : SessionState). c < x.core.settings.cpus) (sym view) lt
 
 -- What the core's commands leave of the places of local references
 

@@ -263,10 +263,14 @@ found_uncollected s r c t e holds on low found of =
     let some = (holds.balance.counted c t low is.1).1 in
     either (cases_Bool (r.is_collected e.number)) (λ dry. absurd (omega (arith, some, on.tallies.collected t c e is.0 dry))) (λ live. live)
 
+-- the places with one more live reference, to n
+abbrev with_standing : SessionState → ℕ → List LocalPlace
+with_standing s n = with_local s.core.locals (least_id s.core.locals) (Standing n)
+
 -- the sum of the live references with one more
 more_standing : (s : SessionState) (r : Registry) (n : ℕ) → Shows s r → (m : ℕ)
-    → put r.model.locals n (r.model.locals n + 1) m ≡ sum_by (standing_of m) (with_local s.core.locals (least_id s.core.locals) (Standing n))
-more_standing s r n on = put_is r.model.locals (λ m. sum_by (standing_of m) (with_local s.core.locals (least_id s.core.locals) (Standing n))) n (r.model.locals n + 1)
+    → put r.model.locals n (r.model.locals n + 1) m ≡ sum_by (standing_of m) (with_standing s n)
+more_standing s r n on = put_is r.model.locals (λ m. sum_by (standing_of m) (with_standing s n)) n (r.model.locals n + 1)
     (omega (arith, on.model.counted n, local_added n s.core.locals (Standing n), one_at n n refl))
     (λ m off. omega (arith, on.model.counted m, local_added m s.core.locals (Standing n), none_at n m (λ same. off (sym same))))
 
@@ -286,7 +290,7 @@ more_shows s r c x n t session on low within of live =
     let net = net_is s.core c n t r.acquired r.released r.given_up r.is_collected low has on.tallies in
     let word : count_at s.core.counts c t ≡ count_at s.core.nets c t = on.tallies.word t c has.entry has.there low (ap r.is_collected has.numbered ∙ live) in
     changed s r (with_cell s.core.counts t c (count_at s.core.counts c t + 1)) (with_cell s.core.nets t c (count_at s.core.nets c t + 1)) s.core.totals
-    (with_local s.core.locals (least_id s.core.locals) (Standing n)) (set s.locals x (Some (least_id s.core.locals))) n (r.model.locals n + 1)
+    (with_standing s n) (set s.locals x (Some (least_id s.core.locals))) n (r.model.locals n + 1)
     (put_at r.acquired c n (r.acquired c n + 1)) r.released r.given_up (put r.local_labels x (Some n)) on
     (more_standing s r n on)
     (recounted s.core c n t (count_at s.core.counts c t + 1) (count_at s.core.nets c t + 1) r.acquired r.released

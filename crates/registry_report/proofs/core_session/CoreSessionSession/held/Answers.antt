@@ -7,6 +7,5 @@ use Rattle.registry_report.proofs.calls.Sessions.{filled_tells}
 use Rattle.registry_report.proofs.core_session.CoreSessionSession.held.Goals as goal
 
 pub returns-clause-answer : goal.returns-clause-answer
-returns-clause-answer c = λ r on. held_gives (record { core = c.self.inside.core; passives = c.self.inside.passives; locals = c.self.inside.locals }) c.args.self.now r c.args.cpu c.args.label.place
-    c.in_ok-psref.psref c.held.result c.self.view_is on (ap (λ (s : SessionState). slice_index_or s.passives c.args.label.place None) c.self.view_is
-    ∙ filled_tells _ c.in_ok-psref.psref (sym c.in_ok-psref.was ∙ c.passive.ensures)) c.held.ensures
+returns-clause-answer c = λ r on. held_gives _ _ r c.args.cpu c.args.label.place c.in_ok-psref.psref c.held.result c.self.view_is on
+    (ap (λ (s : SessionState). slice_index_or s.passives c.args.label.place None) c.self.view_is ∙ filled_tells _ c.in_ok-psref.psref (sym c.in_ok-psref.was ∙ c.passive.ensures)) c.held.ensures

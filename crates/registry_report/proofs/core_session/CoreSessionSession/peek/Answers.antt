@@ -2,5 +2,4 @@ use Rattle.registry_report.proofs.calls.DoneReferences.{peek_leaves}
 use Rattle.registry_report.proofs.core_session.CoreSessionSession.peek.Goals as goal
 
 pub returns-clause-shows : goal.returns-clause-shows
-returns-clause-shows c = λ r on. peek_leaves (record { core = c.self.inside.core; passives = c.self.inside.passives; locals = c.self.inside.locals }) c.args.self.now c.record-rec.new.self r
-    c.self.view_is on c.record-rec.ensures.after
+returns-clause-shows c = λ r on. peek_leaves _ _ c.record-rec.new.self r c.self.view_is on c.record-rec.ensures.after
