@@ -317,7 +317,8 @@ static void expect_abort(const struct registry_lock *of_mutex, unsigned takes, u
 		_exit(0);
 	}
 	EXPECT(close(ends[1]) == 0 && read(ends[0], said_last, sizeof said_last - 1) > 0 && close(ends[0]) == 0);
-	EXPECT(strcmp(said_last, wanted) == 0);
+	/* An emulator says behind it that the child was aborted. */
+	EXPECT(strncmp(said_last, wanted, strlen(wanted)) == 0);
 	EXPECT(waitpid(child, &status, 0) == child && WIFSIGNALED(status) && WTERMSIG(status) == SIGABRT);
 }
 
