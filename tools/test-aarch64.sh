@@ -113,7 +113,7 @@ test_clients() {
     check "entries" emulated "$out/entries" 50
     check "names and answers as text" emulated "$out/names"
     check "waits" emulated "$out/waits"
-    # turns isn't run: its cases of mutexes that fail wait for ever under qemu-user. On x86-64 it is.
+    check "turns, each step of a wait" emulated "$out/turns" emulated
     check "deferred, beside a model" emulated "$out/deferred" 200 1
     check "forwarder" emulated "$out/forwarder" 200
     check "device_switch" emulated "$out/device_switch" 20
