@@ -127,7 +127,7 @@ fn fit_settings(given: &CSettings) -> Result<Settings, Refusal>
     ensures err { IfErr result (λ refusal. (refusal ≡ Refusal.BadSettings) × (are_fit (settings_in given.now) ≡ false)) }
 {
     let settings = settings_in(given)?;
-    settings.check()?;
+    settings.check_fit()?;
     Ok(settings)
 }
 
@@ -179,7 +179,7 @@ pub fn open(
     ensures cpus { IfOk result (λ made. boxed made.1.items ≡ opened_down made.0.value.words settings.cpus settings.cpus) }
     ensures err { IfErr result (λ refusal. refusal ≡ Refusal.NoMemory) }
 {
-    let Ok((words, keeper, seats)) = Words::new(alloc, settings) else {
+    let Ok((words, keeper, seats)) = Words::opening(alloc, settings) else {
         return Err(Refusal::NoMemory);
     };
     let Ok(words) = Arc::new(alloc, words) else {

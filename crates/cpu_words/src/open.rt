@@ -1,7 +1,7 @@
 //! A new table: its words, the keeper's seat, and a seat for each CPU.
 
 ghost use Rattle.std.specs.Prelude.{◌≡◌, ◌↔◌, ◌≤◌, [], IfOk, IfErr, IsErrOf, IsTrue, false, vec_len, vec_capacity};
-ghost use Rattle.registry_values.specs.Common.{are_fit, IsRefusalOfNew};
+ghost use Rattle.registry_values.specs.Common.{are_fit, are_usual, IsRefusalOfNew};
 ghost use Rattle.cpu_words.specs.Views.{new_keeper};
 ghost use Rattle.cpu_words.specs.Opening.{AreOpening, AreSeats, keeper_with};
 
@@ -17,6 +17,7 @@ impl Words {
     /// The words of a registry with these settings, the keeper's seat, and the seat of each CPU, CPU 0 first. All words are 0 but the
     /// totals, no entry has been attached, and all CPUs are outside.
     /// Refused: `BadSettings` if `Settings::check` refuses them, and `NoMemory`.
+    #[tactic(auto, using(registry_values::proofs::Fit::usual_fits))]
     pub fn new(
         alloc: Global,
         settings: Settings,
@@ -24,7 +25,7 @@ impl Words {
         ensures ok { IfOk result (λ made. IsTrue (are_fit settings) × (made.0.settings ≡ settings)) }
         ensures keeper { IfOk result (λ made. (made.1.table ≡ made.0.table) × (made.1.view ≡ record (new_keeper settings) { seated = settings.cpus })) }
         ensures seats { IfOk result (λ made. AreSeats made.0.table settings settings.cpus made.2.items) }
-        ensures bad { IsErrOf result Refusal.BadSettings ↔ are_fit settings ≡ false }
+        ensures bad { IsErrOf result Refusal.BadSettings ↔ are_usual settings ≡ false }
         ensures err { IfErr result IsRefusalOfNew }
     {
         settings.check()?;
@@ -34,7 +35,8 @@ impl Words {
         }
     }
 
-    fn opening(
+    /// The same for any settings that the library is proved for.
+    pub fn opening(
         alloc: Global,
         settings: Settings,
     ) -> Result<(Words, KeeperSeat, Vec<CpuSeat>), AllocError>

@@ -1,7 +1,7 @@
 //! The words and seats of a registry that isn't named yet.
 
 ghost use Rattle.std.specs.Prelude.{◌≡◌, ◌↔◌, ◌≤◌, [], IfOk, IfErr, IsErrOf, IsTrue, false, vec_len, vec_capacity};
-ghost use Rattle.registry_values.specs.Common.{are_fit, IsRefusalOfNew};
+ghost use Rattle.registry_values.specs.Common.{are_fit, are_usual, IsRefusalOfNew};
 ghost use Rattle.name_registry.specs.Types.{NoMemory};
 ghost use Rattle.cpu_words.specs.Common.{AreSeats};
 ghost use Rattle.name_registry.specs.Opening.{IsBlankOf, AreNewCpus};
@@ -43,7 +43,7 @@ impl Blank {
     /// Refused: `BadSettings` if `Settings::check` refuses them, and `NoMemory`.
     pub fn new(alloc: Global, settings: Settings) -> Result<Blank, Refusal>
         ensures ok { IfOk result (λ blank. blank.settings ≡ settings) }
-        ensures bad { IsErrOf result Refusal.BadSettings ↔ are_fit settings ≡ false }
+        ensures bad { IsErrOf result Refusal.BadSettings ↔ are_usual settings ≡ false }
         ensures err { IfErr result IsRefusalOfNew }
     {
         let (words, keeper, cpus) = Words::new(alloc, settings)?;

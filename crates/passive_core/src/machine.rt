@@ -15,7 +15,7 @@ mod sections;
 mod tries;
 
 ghost use Rattle.std.specs.Prelude.{◌≡◌, ◌↔◌, ◌++◌, ◌∷◌, ◌<◌, ◌≤◌, [], IfOk, IfErr, IsErrOf, IsTrue, OnErr, OnOk, false, replicate, vec_capacity, vec_len};
-ghost use Rattle.registry_values.specs.Common.{are_fit, IsRefusalOfNew};
+ghost use Rattle.registry_values.specs.Common.{are_fit, are_usual, IsRefusalOfNew};
 ghost use Rattle.protocol.specs.Common.{opening};
 ghost use Rattle.passive_core.specs.Commands.{IsQuiet};
 
@@ -78,10 +78,11 @@ impl Model for Core {
 impl Core {
     /// A core with these settings: no history, all slots vacant, all words 0 but the totals, and no CPU seated.
     /// Refused: `BadSettings` if `Settings::check` refuses them, and `NoMemory`.
+    #[tactic(auto, using(registry_values::proofs::Fit::usual_fits))]
     pub fn new(alloc: Global, settings: Settings) -> Result<Core, Refusal>
         ensures ok { IfOk result (λ core. IsTrue (are_fit settings) × (core ≡ opening settings)) }
         ensures quiet { IfOk result (λ core. IsQuiet core) }
-        ensures bad { IsErrOf result Refusal.BadSettings ↔ are_fit settings ≡ false }
+        ensures bad { IsErrOf result Refusal.BadSettings ↔ are_usual settings ≡ false }
         ensures err { IfErr result IsRefusalOfNew }
     {
         settings.check()?;

@@ -4,7 +4,7 @@ use Rattle.std.specs.List.{list_any}
 use Rattle.std.specs.Char.{is_ascii_lowercase}
 use Rattle.std.specs.Str.{bytes_eq}
 use Rattle.registry_values.specs.declared.settings.Settings.{Settings}
-use Rattle.registry_values.specs.Common.{are_fit, name_of_bytes}
+use Rattle.registry_values.specs.Common.{are_usual, name_of_bytes}
 use Rattle.registry_values.specs.declared.entry.Kind.{Kind}
 use Rattle.registry_values.specs.declared.entry.Kind.TheVariants.{Iface, Driver}
 use Rattle.registry_values.specs.declared.name.Name.{Name}
@@ -65,7 +65,7 @@ label_of _ = Err BadLabel
 
 -- settings out of their ranges come after all other causes
 abbrev pub fit_command : Settings → Command → Result Command Cause
-fit_command s command = if are_fit s then Ok command else Err BadSettings
+fit_command s command = if are_usual s then Ok command else Err BadSettings
 
 unfoldable pub domain_of : List (List ℕ) → Result Command Cause
 domain_of (cpus ∷ slots ∷ []) = do

@@ -2,7 +2,7 @@
 use Rattle.std.specs.Prelude.{◌≡◌, ℕ, nat_lt, Bool, true, false, ◌&&◌, ◌||◌, List, [], ◌∷◌, ◌++◌, Option, Some, None, IsTrue}
 use Rattle.std.specs.List.{list_all}
 use Rattle.registry_values.specs.declared.settings.Settings.{Settings}
-use Rattle.registry_values.specs.Common.{are_fit, is_within, is_lawful, is_iface}
+use Rattle.registry_values.specs.Common.{are_usual, is_within, is_lawful, is_iface}
 use Rattle.registry_language.specs.declared.label.Label.{Label}
 use Rattle.registry_language.specs.declared.position.Position.{Position}
 use Rattle.registry_language.specs.declared.position.Position.TheVariants.{First, Second, Later}
@@ -67,12 +67,12 @@ suits s command = suits_cpus s.cpus command
 
 -- domain, with settings that can be used
 abbrev pub begins : Command → Bool
-begins (Domain cpus slots) = are_fit (settings_for cpus slots)
+begins (Domain cpus slots) = are_usual (settings_for cpus slots)
 begins _ = false
 
 -- limits that can be used
 abbrev pub limits_rightly : Settings → Command → Bool
-limits_rightly s (Limits changes sections passive count) = are_fit (with_limits s changes sections passive count)
+limits_rightly s (Limits changes sections passive count) = are_usual (with_limits s changes sections passive count)
 limits_rightly s _ = false
 
 -- a command of the run, neither domain nor limits, that suits the settings
@@ -104,7 +104,7 @@ with_command p None = p
 with_command p (Some command) = record { place = position_after p.place command; commands = p.commands ++ command ∷ [] }
 
 pub record IsProgram (p : Program) : Type 0 where
-  pub fit : IsTrue (are_fit p.settings)
+  pub fit : IsTrue (are_usual p.settings)
   pub suited : IsTrue (list_all (suits p.settings) p.commands)
 
 -- the commands so far are those of a program

@@ -2,7 +2,7 @@
 
 ghost use Rattle.std.specs.Prelude.{◌≡◌, ◌+◌, ◌<◌, ◌≤◌, ◌^◌, IfOk, IfSome, IfErr, OnErr, IsTrue, Some, None, Ok, length, map};
 ghost use Rattle.std.specs.List.{list_all};
-ghost use Rattle.registry_values.specs.Common.{are_fit};
+ghost use Rattle.registry_values.specs.Common.{are_usual};
 ghost use Rattle.registry_language.specs.Program.{Program, ProgramDraft, empty_draft, suits, may_follow, with_command};
 ghost use Rattle.registry_language.specs.Grammar.{line_of, draft_of_lines, program_of_draft, program_of_bytes};
 ghost use Rattle.registry_language.specs.Parsing.{LineTakes, LineGives, ParseGives};
@@ -37,7 +37,7 @@ impl Script {
     /// The settings that the script gives.
     pub fn settings(&self) -> Settings
         ensures value { result ≡ self.now.settings }
-        ensures fit { IsTrue (are_fit self.now.settings) }
+        ensures fit { IsTrue (are_usual self.now.settings) }
     {
         self.settings
     }

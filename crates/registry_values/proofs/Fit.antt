@@ -1,7 +1,8 @@
 -- The ranges of settings that are fit.
-use Rattle.std.proofs.Common.{◌≡◌, ℕ, ◌≤◌, true, ◌&&◌, nat_le, IsTrue, leb-true}
+use Rattle.std.proofs.Common.{◌≡◌, ℕ, ◌≤◌, true, ◌&&◌, nat_le, IsTrue, leb-true, arith}
 use Rattle.std.proofs.lemmas.Bool.{and_parts}
-use Rattle.registry_values.specs.Common.{Settings, MOST_CHANGES, MOST_COUNT, MOST_CPUS, MOST_SECTIONS, MOST_SLOTS, is_within, are_sizes_fit, are_limits_fit, are_fit}
+use Rattle.std.proofs.lemmas.Bool.Decides.{nat_tests}
+use Rattle.registry_values.specs.Common.{Settings, MOST_CHANGES, MOST_COUNT, MOST_CPUS, MOST_SECTIONS, MOST_SLOTS, is_within, are_sizes_fit, are_limits_fit, are_fit, are_usual}
 
 pub record Ranges (z : Settings) : Type 0 where
   pub some_cpu : 1 ≤ z.cpus
@@ -37,3 +38,7 @@ ranges z fit =
       passive = (within 1 MOST_COUNT z.passive_limit first.1).1;
       counts = (within 1 MOST_COUNT z.count_limit limits.1).1;
     }
+
+-- the usual ranges are within the capacity
+pub usual_fits : (z : Settings) → IsTrue (are_usual z) → IsTrue (are_fit z)
+usual_fits z usual = grind (arith, nat_tests, usual)

@@ -20,7 +20,8 @@ pub use answer::{
 pub use balance::{Balance, less_bias, local_of, sum};
 pub use entry::{Change, Entry, Kind, Record, is_iface, kind_word, record_from};
 pub use limits::{
-    BIAS, MOST_CHANGES, MOST_COUNT, MOST_CPUS, MOST_DEPTH, MOST_SECTIONS, MOST_SLOTS, limits_law,
+    BIAS, MOST_CHANGES, MOST_COUNT, MOST_CPUS, MOST_DEPTH, MOST_SECTIONS, MOST_SLOTS, USUAL_CHANGES,
+    USUAL_COUNT, USUAL_CPUS, USUAL_SECTIONS, USUAL_SLOTS, limits_law,
 };
 pub use mark::{
     Mark, NO_MARK, are_clear, are_collected, cleared, collected, first_unseen, have_passed, is_out,

@@ -1,12 +1,15 @@
 //! How large a registry is, and how far its counts may go.
 
 ghost use Rattle.std.specs.Prelude.{◌≡◌, ◌↔◌, IsOk, IfErr, IsTrue};
-ghost use Rattle.registry_values.specs.Limits.{is_within, are_sizes_fit, are_limits_fit, are_fit};
+ghost use Rattle.registry_values.specs.Limits.{is_within, are_sizes_within, are_limits_within, are_fit, are_usual};
 
-use crate::limits::{MOST_CHANGES, MOST_COUNT, MOST_CPUS, MOST_SECTIONS, MOST_SLOTS};
+use crate::limits::{
+    MOST_CHANGES, MOST_COUNT, MOST_CPUS, MOST_SECTIONS, MOST_SLOTS, USUAL_CHANGES, USUAL_COUNT,
+    USUAL_CPUS, USUAL_SECTIONS, USUAL_SLOTS,
+};
 use crate::refusal::Refusal;
 
-/// How large a registry is, and how far its counts may go. `check` tells whether they can be used.
+/// How large a registry is, and how far its counts may go. `check` and `check_fit` say whether they can be used.
 #[derive(Clone, Copy, Debug, PartialEq, Eq)]
 pub struct Settings {
     /// How many CPUs it has, 1 to `MOST_CPUS`.
@@ -24,32 +27,49 @@ pub struct Settings {
 }
 
 impl Settings {
-    /// Whether each setting is in its range. Refused: `BadSettings`, where one isn't.
+    /// Whether each setting is in its usual range: those of a registry of a Rattle program, and of a script.
+    /// Refused: `BadSettings`, where one isn't.
     pub fn check(&self) -> Result<(), Refusal>
-        ensures ok { IsOk result ↔ IsTrue (are_fit self.now) }
+        ensures ok { IsOk result ↔ IsTrue (are_usual self.now) }
         ensures err { IfErr result (λ refusal. refusal ≡ Refusal.BadSettings) }
     {
-        if self.are_sizes_fit() && self.are_limits_fit() {
+        if self.are_sizes_within(USUAL_CPUS, USUAL_SLOTS, USUAL_CHANGES)
+            && self.are_limits_within(USUAL_SECTIONS, USUAL_COUNT)
+        {
             Ok(())
         } else {
             Err(Refusal::BadSettings)
         }
     }
 
-    fn are_sizes_fit(&self) -> bool
-        ensures { result ≡ are_sizes_fit self.now }
+    /// Whether each setting is within the capacity: what a registry of C may have. Refused: `BadSettings`, where one isn't.
+    pub fn check_fit(&self) -> Result<(), Refusal>
+        ensures ok { IsOk result ↔ IsTrue (are_fit self.now) }
+        ensures err { IfErr result (λ refusal. refusal ≡ Refusal.BadSettings) }
     {
-        is_within(1, MOST_CPUS as u64, u64::from(self.cpus))
-            && is_within(1, MOST_SLOTS as u64, u64::from(self.slots))
-            && is_within(1, MOST_CHANGES, self.change_limit)
+        if self.are_sizes_within(MOST_CPUS, MOST_SLOTS, MOST_CHANGES)
+            && self.are_limits_within(MOST_SECTIONS, MOST_COUNT)
+        {
+            Ok(())
+        } else {
+            Err(Refusal::BadSettings)
+        }
     }
 
-    fn are_limits_fit(&self) -> bool
-        ensures { result ≡ are_limits_fit self.now }
+    fn are_sizes_within(&self, cpus: usize, slots: usize, changes: u64) -> bool
+        ensures { result ≡ are_sizes_within cpus slots changes self.now }
     {
-        is_within(1, MOST_SECTIONS, self.section_limit)
-            && is_within(1, MOST_COUNT, self.passive_limit)
-            && is_within(1, MOST_COUNT, self.count_limit)
+        is_within(1, cpus as u64, u64::from(self.cpus))
+            && is_within(1, slots as u64, u64::from(self.slots))
+            && is_within(1, changes, self.change_limit)
+    }
+
+    fn are_limits_within(&self, sections: u64, count: u64) -> bool
+        ensures { result ≡ are_limits_within sections count self.now }
+    {
+        is_within(1, sections, self.section_limit)
+            && is_within(1, count, self.passive_limit)
+            && is_within(1, count, self.count_limit)
     }
 }
 

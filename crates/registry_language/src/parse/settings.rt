@@ -3,13 +3,13 @@
 ghost use Rattle.std.specs.Prelude.{◌≡◌, IfOk, IsTrue, map};
 ghost use Rattle.registry_language.specs.Grammar.{fit_command, domain_of, limits_of, limits_words};
 ghost use Rattle.registry_language.specs.Program.{settings_for, with_limits, may_follow};
-ghost use Rattle.registry_values.specs.Common.{are_fit};
+ghost use Rattle.registry_values.specs.Common.{are_usual};
 
 use crate::command::Command;
 use crate::fault::Cause;
 use crate::position::{Position, settings_for, with_limits};
 use crate::words::number;
-use registry_values::{MOST_CPUS, MOST_SLOTS, Settings};
+use registry_values::{Settings, USUAL_CPUS, USUAL_SLOTS};
 
 /// `domain CPUS SLOTS`.
 /// Refused: `WrongCount` if these aren't two words; `BadNumber` if one isn't a number; `BadSettings` if there is no such registry.
@@ -31,7 +31,7 @@ fn sized(cpus: u64, slots: u64) -> Result<Command, Cause>
     ensures said { result ≡ fit_command (settings_for cpus slots) (Command.Domain cpus slots) }
     ensures follows { IfOk result (λ command. IsTrue (may_follow Position.First command)) }
 {
-    if cpus > MOST_CPUS as u64 || slots > MOST_SLOTS as u64 {
+    if cpus > USUAL_CPUS as u64 || slots > USUAL_SLOTS as u64 {
         return Err(Cause::BadSettings);
     }
     let cpus = cpus as u8;
@@ -42,7 +42,7 @@ fn sized(cpus: u64, slots: u64) -> Result<Command, Cause>
 /// The command, where the settings after it can be used.
 fn fitting(settings: Settings, command: Command) -> Result<Command, Cause>
     ensures said { result ≡ fit_command settings command }
-    ensures fit { IfOk result (λ taken. IsTrue (are_fit settings)) }
+    ensures fit { IfOk result (λ taken. IsTrue (are_usual settings)) }
     ensures same { IfOk result (λ taken. taken ≡ command) }
 {
     match settings.check() {
