@@ -3,12 +3,12 @@
 ghost use Rattle.std.specs.Prelude.{◌≤◌, IfOk};
 
 use crate::failure::Failure;
-use registry_values::{MOST_CPUS, MOST_SLOTS};
+use registry_values::{USUAL_CPUS, USUAL_SLOTS};
 
 /// The most threads, which are the most CPUs.
-pub const MOST_THREADS: u8 = MOST_CPUS as u8;
+pub const MOST_THREADS: u8 = USUAL_CPUS as u8;
 /// The most entries, which are the most slots.
-pub const MOST_ENTRIES: u8 = MOST_SLOTS as u8;
+pub const MOST_ENTRIES: u8 = USUAL_SLOTS as u8;
 /// The most references that are held.
 const MOST_HELD: u32 = 1_000;
 /// The most replacements: each of them is made twice, and is two changes.

@@ -45,7 +45,7 @@ pub fn opened(alloc: Global) -> Result<Bodies, Refusal>
         passive_limit: 10,
         count_limit: 10,
     };
-    settings.check()?;
+    settings.check_fit()?;
     let (keeper, cpus) = open(alloc, settings)?;
     bodies_of(Box::into_inner(keeper), cpus)
 }

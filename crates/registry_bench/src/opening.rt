@@ -7,7 +7,7 @@ use bench_plans::Failure;
 use cpu_words::Domain;
 use name_registry::Registry;
 use passive_list::Cpu;
-use registry_values::{Kind, MOST_CHANGES, MOST_COUNT, MOST_SECTIONS, Name, Record, Settings};
+use registry_values::{Kind, Name, Record, Settings, USUAL_CHANGES, USUAL_COUNT, USUAL_SECTIONS};
 use std::alloc::Global;
 use std::sync::Wait;
 
@@ -16,10 +16,10 @@ pub fn settings_for(cpus: u8, slots: u8) -> Settings {
     Settings {
         cpus,
         slots,
-        change_limit: MOST_CHANGES,
-        section_limit: MOST_SECTIONS,
-        passive_limit: MOST_COUNT,
-        count_limit: MOST_COUNT,
+        change_limit: USUAL_CHANGES,
+        section_limit: USUAL_SECTIONS,
+        passive_limit: USUAL_COUNT,
+        count_limit: USUAL_COUNT,
     }
 }
 

@@ -1,13 +1,13 @@
 //! What all workers of a storm have in common.
 
 ghost use Rattle.std.specs.Prelude.{◌≡◌, ◌↔◌, ◌≤◌, IsTrue, [], ◌∷◌, Some, Ok};
-ghost use Rattle.name_registry.specs.Types.{MOST_CPUS};
+ghost use Rattle.registry_values.specs.declared.limits.TheConstants.{USUAL_CPUS};
 ghost use Rattle.registry_values.specs.Common.{is_lawful, name_of_bytes};
 ghost use Rattle.registry_storm.specs.Judging.{driver_entry, driver_record, iface_record, IsIfaceOf};
 ghost use Rattle.registry_storm.specs.Storms.{settings_of};
 
 use registry_values::{
-    Entry, Kind, MOST_CHANGES, MOST_COUNT, MOST_SECTIONS, Name, Record, Refusal, Settings,
+    Entry, Kind, Name, Record, Refusal, Settings, USUAL_CHANGES, USUAL_COUNT, USUAL_SECTIONS,
 };
 
 /// How many slots the registry of a storm has.
@@ -19,7 +19,7 @@ pub const DRIVER_VALUE: u64 = 7;
 /// How many CPUs and turns a storm has, and the names of its entries.
 #[derive(Clone, Copy)]
 pub struct Plan {
-    /// From 1 to `MOST_CPUS`, each with a worker.
+    /// From 1 to `USUAL_CPUS`, each with a worker.
     pub cpus: u8,
     /// The turns of each worker, from 1.
     pub turns: u32,
@@ -27,7 +27,7 @@ pub struct Plan {
     pub driver: Name,
     /// The name of each interface in turn.
     pub iface: Name,
-    ghost some: { (1 ≤ cpus) × (cpus ≤ MOST_CPUS) × (1 ≤ turns) × (turns ≤ 100000) },
+    ghost some: { (1 ≤ cpus) × (cpus ≤ USUAL_CPUS) × (1 ≤ turns) × (turns ≤ 100000) },
     ghost names: { (name_of_bytes (100 ∷ 114 ∷ 118 ∷ []) ≡ Ok driver) × (name_of_bytes (119 ∷ 109 ∷ 48 ∷ []) ≡ Ok iface) },
     ghost lawful: { IsTrue (is_lawful driver) × IsTrue (is_lawful iface) },
 }
@@ -35,7 +35,7 @@ pub struct Plan {
 impl Plan {
     /// The plan of a storm over the driver `drv` and the interface `wm0`.
     pub fn new(cpus: u8, turns: u32) -> Plan
-        requires { (1 ≤ cpus) × (cpus ≤ MOST_CPUS) × (1 ≤ turns) × (turns ≤ 100000) }
+        requires { (1 ≤ cpus) × (cpus ≤ USUAL_CPUS) × (1 ≤ turns) × (turns ≤ 100000) }
         ensures { (result.cpus ≡ cpus) × (result.turns ≡ turns) }
     {
         let (Ok(driver), Ok(iface)) = (Name::parse(b"drv"), Name::parse(b"wm0")) else {
@@ -123,9 +123,9 @@ pub fn settings_of(cpus: u8) -> Settings
     Settings {
         cpus,
         slots: SLOTS,
-        change_limit: MOST_CHANGES,
-        section_limit: MOST_SECTIONS,
+        change_limit: USUAL_CHANGES,
+        section_limit: USUAL_SECTIONS,
         passive_limit: 4,
-        count_limit: MOST_COUNT,
+        count_limit: USUAL_COUNT,
     }
 }

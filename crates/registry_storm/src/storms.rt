@@ -16,7 +16,7 @@ use cpu_words::Domain;
 use name_registry::{Blank, Registry};
 use passive_list::Cpu;
 use registry_language::RunFault;
-use registry_values::MOST_CPUS;
+use registry_values::USUAL_CPUS;
 use std::alloc::Global;
 use std::marker::Brand;
 use std::sync::Wait;
@@ -40,7 +40,7 @@ pub struct StormRun {
 ///
 /// CPU 0 also attaches or detaches the interface, and works on detached ones. In the end all is released and destroyed.
 ///
-/// Condition: 1 to `MOST_CPUS` CPUs, and 1 to 100,000 turns.
+/// Condition: 1 to `USUAL_CPUS` CPUs, and 1 to 100,000 turns.
 /// Refused: `Memory`; `NoThread` if a worker couldn't be started.
 pub fn storm<R: Threads + Wait + Sync, G: Gate + Sync>(
     rt: &R,
@@ -49,7 +49,7 @@ pub fn storm<R: Threads + Wait + Sync, G: Gate + Sync>(
     turns: u32,
     gate: &G,
 ) -> Result<StormSum, RunFault>
-    requires cpus { (1 ≤ cpus) × (cpus ≤ MOST_CPUS) }
+    requires cpus { (1 ≤ cpus) × (cpus ≤ USUAL_CPUS) }
     requires turns { (1 ≤ turns) × (turns ≤ 100000) }
     ensures ok { IfOk result (λ sum. IsSumOf cpus turns sum) }
     ensures err { IfErr result IsOfStorm }
@@ -70,7 +70,7 @@ pub fn storm_run<R: Threads + Wait + Sync, G: Gate + Sync>(
     value: u64,
     gate: &G,
 ) -> Result<StormRun, RunFault>
-    requires cpus { (1 ≤ cpus) × (cpus ≤ MOST_CPUS) }
+    requires cpus { (1 ≤ cpus) × (cpus ≤ USUAL_CPUS) }
     requires turns { (1 ≤ turns) × (turns ≤ 100000) }
     ensures ok { IfOk result (λ run. IsSumOf cpus turns run.sum) }
     ensures err { IfErr result IsOfStorm }

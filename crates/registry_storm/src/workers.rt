@@ -10,7 +10,7 @@ use crate::worker::{Done, Shared};
 use cpu_words::Domain;
 use passive_list::Cpu;
 use registry_language::RunFault;
-use registry_values::MOST_CPUS;
+use registry_values::USUAL_CPUS;
 use std::alloc::Global;
 use std::sync::Wait;
 use std::thread;
@@ -79,7 +79,7 @@ fn join_all<R: Threads>(
     counts: &mut Counts,
 )
     requires started { All (λ h. h.promise ≡ turns) started.items }
-    requires few { (vec_len started < MOST_CPUS) × (turns.0 ≤ 100000) }
+    requires few { (vec_len started < USUAL_CPUS) × (turns.0 ≤ 100000) }
     requires first { counts.old.lookups ≡ 2 * turns.0 }
     ensures { counts.new.lookups ≡ 2 * turns.0 + 2 * turns.0 * vec_len started }
 {

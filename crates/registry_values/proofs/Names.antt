@@ -143,12 +143,14 @@ halves xs size h =
     let back : length (drop 8 xs) ≡ 8 = omega (arith, length-drop 8 xs) in
     ap₂ (λ (a b : List ℕ). a ++ b) (half (take 8 xs) front (small_take 8 xs h)) (half (drop 8 xs) back (small_drop 8 xs h)) ∙ take-append-drop 8 xs
 
+-- a name's words have its bytes
+pub bytes_back : (bytes : List ℕ) → is_name bytes ≡ true → bytes_of (high_word bytes) (low_word bytes) ≡ padded_bytes bytes
+bytes_back bytes h = halves (padded_bytes bytes) (padded_length bytes h) (small_padded (padded_bytes bytes) (name_padded bytes h))
+
 -- a name's words are lawful
 pub lawful_words : (bytes : List ℕ) → is_name bytes ≡ true → are_name_words (high_word bytes) (low_word bytes) ≡ true
 unfolding are_name_words
-lawful_words bytes h =
-    let good = name_padded bytes h in
-    ap is_padded (halves (padded_bytes bytes) (padded_length bytes h) (small_padded (padded_bytes bytes) good)) ∙ good
+lawful_words bytes h = ap is_padded (bytes_back bytes h) ∙ name_padded bytes h
 
 pub round_trip : RoundTrip
 round_trip bytes h = rw (lawful_words bytes h) refl

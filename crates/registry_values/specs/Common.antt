@@ -8,14 +8,15 @@ pub use Rattle.registry_values.specs.declared.name.Name.{Name}
 pub use Rattle.registry_values.specs.declared.refusal.Refusal.{Refusal}
 pub use Rattle.registry_values.specs.declared.refusal.Refusal.TheVariants.{HistoryFull, Inside, LocalFull, NameTaken, NeedsDriver, NoSlot}
 pub use Rattle.registry_values.specs.declared.settings.Settings.{Settings}
-pub use Rattle.registry_values.specs.declared.limits.TheConstants.{MOST_CHANGES, MOST_COUNT, MOST_CPUS, MOST_SECTIONS, MOST_SLOTS, USUAL_CHANGES, USUAL_COUNT, USUAL_CPUS, USUAL_SECTIONS, USUAL_SLOTS}
+pub use Rattle.registry_values.specs.declared.limits.TheConstants.{MOST_CHANGES, MOST_COUNT, MOST_CPUS, MOST_SECTIONS, MOST_SLOTS}
 pub use Rattle.registry_values.specs.declared.slot.Key.{Key}
 pub use Rattle.registry_values.specs.declared.slot.Slot.{Slot}
 pub use Rattle.registry_values.specs.declared.slot.Slot.TheVariants.{Live, Retired, Vacant}
 pub use Rattle.registry_values.specs.Answers.{attach_answer, detach_answer, enter_answer, entry_in, found_answer, given_entry, has_room, next_entry, unless, wait_answer, why_full, why_uncounted}
 pub use Rattle.registry_values.specs.Answers.{why_unusable}
 pub use Rattle.registry_values.specs.Balances.{Tally, bias, less_bias, local_of, sum_of, tally_shown}
-pub use Rattle.registry_values.specs.Limits.{are_fit, are_limits_fit, are_limits_within, are_sizes_fit, are_sizes_within, are_usual, is_within}
+pub use Rattle.registry_values.specs.Ids.{IdsComeBack, NamesComeBack, digit_byte, digit_value, digits, id_bytes, id_of_bytes, is_same, said_by, value_of}
+pub use Rattle.registry_values.specs.Limits.{are_fit, are_limits_fit, are_sizes_fit, are_usual, is_within}
 pub use Rattle.registry_values.specs.Marks.{Grows, are_clear, are_collected, has_changed, have_passed, is_clear, is_collected, is_even, is_out, is_passed, is_some_collected, least_below}
 pub use Rattle.registry_values.specs.Marks.{mark_after_collect, mark_after_look, mark_after_passive_look, no_mark, or_next}
 pub use Rattle.registry_values.specs.Names.{IsWritten, RoundTrip, are_zeros, bad_place, bytes_of, high_word, is_allowed, is_lawful, is_name, is_padded, is_rest, low_word, name_of, name_of_bytes}

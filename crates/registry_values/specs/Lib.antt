@@ -1,6 +1,7 @@
 pub mod Answers
 pub mod Balances
 pub mod Common
+pub mod Ids
 pub mod Limits
 pub mod Marks
 pub mod Names

@@ -5,6 +5,7 @@
 mod answer;
 mod balance;
 mod entry;
+mod id;
 mod limits;
 mod mark;
 mod name;
@@ -19,9 +20,10 @@ pub use answer::{
 };
 pub use balance::{Balance, less_bias, local_of, sum};
 pub use entry::{Change, Entry, Kind, Record, is_iface, kind_word, record_from};
+pub use id::{id_laws, id_of_name, name_of_id};
 pub use limits::{
-    BIAS, MOST_CHANGES, MOST_COUNT, MOST_CPUS, MOST_DEPTH, MOST_SECTIONS, MOST_SLOTS, USUAL_CHANGES,
-    USUAL_COUNT, USUAL_CPUS, USUAL_SECTIONS, USUAL_SLOTS, limits_law,
+    BIAS, MOST_CHANGES, MOST_COUNT, MOST_CPUS, MOST_DEPTH, MOST_SECTIONS, MOST_SLOTS,
+    USUAL_CHANGES, USUAL_COUNT, USUAL_CPUS, USUAL_SECTIONS, USUAL_SLOTS, limits_law,
 };
 pub use mark::{
     Mark, NO_MARK, are_clear, are_collected, cleared, collected, first_unseen, have_passed, is_out,

@@ -71,7 +71,7 @@ impl Name {
         Name { high, low }
     }
 
-    fn from_bytes(text: &[u8]) -> Name
+    pub(crate) fn from_bytes(text: &[u8]) -> Name
         requires { IsTrue (is_name text.now) }
         ensures value { result ≡ name_of text.now }
         ensures lawful { IsTrue (is_lawful result) }
@@ -143,7 +143,7 @@ fn is_padded(bytes: &[u8]) -> bool
 }
 
 /// The bytes of the two words, the high ones first.
-fn bytes_of(high: u64, low: u64) -> [u8; 16]
+pub(crate) fn bytes_of(high: u64, low: u64) -> [u8; 16]
     ensures { result ≡ bytes_of high low }
 {
     let h = high.to_be_bytes();

@@ -6,7 +6,7 @@ use Rattle.registry_script.specs.declared.engine.Engine.{Engine}
 use Rattle.registry_script.specs.declared.engine.Engine.TheVariants.{Core, Live}
 use Rattle.run_tasks.specs.declared.task.Task.{Task}
 use Rattle.run_tasks.specs.declared.task.Task.TheVariants.{Script, Storm}
-use Rattle.registry_values.specs.declared.limits.TheConstants.{MOST_CPUS}
+use Rattle.registry_values.specs.declared.limits.TheConstants.{USUAL_CPUS}
 
 -- the engine that a word names
 abbrev pub engine_named : List ℕ → Option Engine
@@ -22,7 +22,7 @@ storm_of (Some cpus) (Some turns) = Some (Storm (record { cpus = cpus; turns = t
 storm_of _ _ = None
 
 abbrev pub storm_asked : List ℕ → List ℕ → List ℕ → Option Task
-storm_asked word cpus turns = if bytes_eq word (codes "storm") then storm_of (within_one_to MOST_CPUS (number_of cpus)) (within_one_to 100000 (number_of turns)) else None
+storm_asked word cpus turns = if bytes_eq word (codes "storm") then storm_of (within_one_to USUAL_CPUS (number_of cpus)) (within_one_to 100000 (number_of turns)) else None
 
 abbrev pub script_of : Option Engine → Option Task
 script_of None = None

@@ -11,7 +11,7 @@ use Rattle.registry_storm.specs.declared.sum.StormSum.{StormSum}
 use Rattle.run_tasks.specs.declared.task.StormSize.{StormSize}
 use Rattle.run_tasks.specs.declared.task.Task.{Task}
 use Rattle.run_tasks.specs.declared.task.Task.TheVariants.{Script, Storm}
-use Rattle.registry_values.specs.declared.limits.TheConstants.{MOST_CPUS}
+use Rattle.registry_values.specs.declared.limits.TheConstants.{USUAL_CPUS}
 
 -- a line: a name, its numbers, each after a space, and the end; then what follows
 abbrev pub line : List ℕ → List (List ℕ) → List ℕ → List ℕ
@@ -34,7 +34,7 @@ storm_text sum =
 
 -- there is such a storm
 abbrev pub IsStorm : StormSize → Type 0
-IsStorm size = (1 ≤ size.cpus) × (size.cpus ≤ MOST_CPUS) × (1 ≤ size.turns) × (size.turns ≤ 100000)
+IsStorm size = (1 ≤ size.cpus) × (size.cpus ≤ USUAL_CPUS) × (1 ≤ size.turns) × (size.turns ≤ 100000)
 
 abbrev pub IsPossible : Task → Type 0
 IsPossible (Script engine) = ⊤

@@ -56,7 +56,7 @@ impl Storms for OurStorms {
 
 /// Runs the script that is read, or makes a storm, which reads nothing, and writes its report or what it found. A storm is made once, and what is
 /// written is of that one.
-/// Condition: a storm has 1 to `MOST_CPUS` CPUs and 1 to 100,000 turns.
+/// Condition: a storm has 1 to `USUAL_CPUS` CPUs and 1 to 100,000 turns.
 /// Refused: of a script as `run` says; of a storm `Memory` and `NoThread`, and nothing was written, and `Write`, and a front was written.
 pub fn carry_out<H: Threads + Wait + Sync, S: Storms, R: Read, W: Write>(
     rt: &H,

@@ -6,7 +6,7 @@ ghost use Rattle.run_tasks.specs.Asking.{task_of, engine_named, storm_asked, wit
 ghost use Rattle.run_tasks.specs.Doing.{IsPossible};
 
 use registry_script::{Engine, parse_number};
-use registry_values::MOST_CPUS;
+use registry_values::USUAL_CPUS;
 
 /// The most turns of a storm.
 const MOST_TURNS: u64 = 100_000;
@@ -23,7 +23,7 @@ pub enum Task {
 /// How large a storm is.
 #[derive(Clone, Copy, Debug, PartialEq, Eq)]
 pub struct StormSize {
-    /// 1 to `MOST_CPUS`.
+    /// 1 to `USUAL_CPUS`.
     pub cpus: u8,
     /// 1 to 100,000.
     pub turns: u32,
@@ -64,7 +64,7 @@ fn storm(word: &[u8], cpus: &[u8], turns: &[u8]) -> Option<Task>
     if word != b"storm".as_slice() {
         return None;
     }
-    let cpus = parse_within(cpus, MOST_CPUS as u64)? as u8;
+    let cpus = parse_within(cpus, USUAL_CPUS as u64)? as u8;
     let turns = parse_within(turns, MOST_TURNS)? as u32;
     Some(Task::Storm(StormSize { cpus, turns }))
 }

@@ -8,7 +8,7 @@ use super::words::{
 };
 use rand_core::{Rng, SeedableRng};
 use rand_xoshiro::Xoshiro256PlusPlus;
-use registry_values::MOST_SLOTS;
+use registry_values::USUAL_SLOTS;
 use std::alloc::{AllocError, Global};
 
 /// The lines of a script after those of the settings.
@@ -69,7 +69,7 @@ impl Scripts for Seeds {
     // Which script comes of a seed is tested.
     ghost made = { λ _ _ _. Unit {0} };
 
-    /// A script of 1 to `MOST_CPUS` CPUs, most of whose lines the registry carries out. One script in nine has a fault.
+    /// A script of 1 to `USUAL_CPUS` CPUs, most of whose lines the registry carries out. One script in nine has a fault.
     fn script(&self, seed: u64) -> Result<Vec<u8>, AllocError> {
         Maker::new(self.alloc, seed).script()
     }
@@ -134,7 +134,7 @@ impl Maker {
         let cpus = self.choose(CPUS);
         let (slots, names) = match size {
             Size::Usual => (self.choose(SLOTS), FEW_NAMES),
-            _ => (MOST_SLOTS, NAMES),
+            _ => (USUAL_SLOTS, NAMES),
         };
         self.sketch = Sketch::new(cpus, slots, names);
         let line = self.sketch.any_line(0);
@@ -157,7 +157,7 @@ impl Maker {
 
     /// Attaches drivers until few slots are vacant, or none.
     fn crowd(&mut self, text: &mut Vec<u8>) -> Result<(), AllocError> {
-        for _ in 0..MOST_SLOTS.saturating_sub(self.pick(VACANT)) {
+        for _ in 0..USUAL_SLOTS.saturating_sub(self.pick(VACANT)) {
             self.add_fit(text, CROWD)?;
         }
         Ok(())

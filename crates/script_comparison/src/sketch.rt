@@ -1,7 +1,7 @@
 //! What the lines of a script so far leave: enough to choose lines that the registry can carry out. Where it is wrong, a line is refused, and
 //! nothing else comes of it.
 
-use registry_values::{MOST_CPUS, MOST_SLOTS};
+use registry_values::{USUAL_CPUS, USUAL_SLOTS};
 
 /// What a command leaves.
 #[derive(Clone, Copy, PartialEq)]
@@ -112,11 +112,11 @@ pub struct Sketch {
     /// How many of the names the script has.
     names: usize,
     changes: usize,
-    depth: [u8; MOST_CPUS],
+    depth: [u8; USUAL_CPUS],
     /// How many changes there were when the section began.
-    entered: [usize; MOST_CPUS],
-    found: [usize; MOST_CPUS],
-    rows: [Row; MOST_SLOTS],
+    entered: [usize; USUAL_CPUS],
+    found: [usize; USUAL_CPUS],
+    rows: [Row; USUAL_SLOTS],
     held: [Hold; 3],
     counted: [usize; 3],
 }
@@ -151,16 +151,16 @@ impl Sketch {
             slots,
             names,
             changes: 0,
-            depth: [0; MOST_CPUS],
-            entered: [0; MOST_CPUS],
-            found: [0; MOST_CPUS],
-            rows: [Row::VACANT; MOST_SLOTS],
+            depth: [0; USUAL_CPUS],
+            entered: [0; USUAL_CPUS],
+            found: [0; USUAL_CPUS],
+            rows: [Row::VACANT; USUAL_SLOTS],
             held: [Hold::NONE; 3],
             counted: [0; 3],
         }
     }
 
-    /// How many CPUs the script has, 1 to `MOST_CPUS`.
+    /// How many CPUs the script has, 1 to `USUAL_CPUS`.
     pub fn cpus(&self) -> usize {
         self.cpus
     }
@@ -215,7 +215,7 @@ impl Sketch {
         Some(())
     }
 
-    fn cpu_among(&self, flags: [bool; MOST_CPUS], start: usize) -> Option<usize> {
+    fn cpu_among(&self, flags: [bool; USUAL_CPUS], start: usize) -> Option<usize> {
         place_with(flags.get(..self.cpus)?, start)
     }
 

@@ -8,7 +8,7 @@ use super::records::{Wanted, record};
 use cpu_words::Domain;
 use name_registry::{Blank, Registry};
 use passive_list::Cpu;
-use registry_values::{MOST_SECTIONS, Refusal, Settings};
+use registry_values::{Refusal, Settings, USUAL_SECTIONS};
 use std::alloc::Global;
 use std::process::Abort;
 use std::sync::Wait;
@@ -20,7 +20,7 @@ pub(crate) fn blank(alloc: Global, slots: u8, change_limit: u64) -> Result<Blank
         cpus: 3,
         slots,
         change_limit,
-        section_limit: MOST_SECTIONS,
+        section_limit: USUAL_SECTIONS,
         passive_limit: 100,
         count_limit: 100,
     };

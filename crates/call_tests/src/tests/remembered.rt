@@ -16,7 +16,7 @@ use super::walks::{change_until, filled, nth};
 use cpu_words::{Domain, Words};
 use name_registry::{Blank, Registry};
 use passive_list::Cpu;
-use registry_values::{Kind, MOST_CHANGES, Refusal};
+use registry_values::{Kind, Refusal, USUAL_CHANGES};
 use std::alloc::Global;
 use std::marker::Brand;
 use std::process::Abort;
@@ -255,7 +255,7 @@ fn meanwhile<R: Threads + Wait + Abort + Sync>(
     alloc: Global,
     call: Reader,
 ) -> Result<(), Fail> {
-    beside::<Brand, _>(rt, alloc, blank(alloc, SLOTS, MOST_CHANGES)?, call)
+    beside::<Brand, _>(rt, alloc, blank(alloc, SLOTS, USUAL_CHANGES)?, call)
 }
 
 /// The driver wm stays. The other thread attaches the driver vga and takes it out again, until this one has met it without a section, and has missed it

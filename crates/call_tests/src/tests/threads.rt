@@ -10,7 +10,7 @@ use super::table::{Seats, Table, opened};
 use cpu_words::{Domain, Words};
 use local_count::{LocalRef, acquire_local, collect, collected, total, try_release};
 use passive_list::{Cpu, Keeper, Note, SlotState, enter, exit, find, hear, tell, tell_keeper};
-use registry_values::{Kind, MOST_SECTIONS, Name, Record, Refusal};
+use registry_values::{Kind, Name, Record, Refusal, USUAL_SECTIONS};
 use std::marker::{Brand, PhantomData};
 use std::process::Abort;
 use std::sync::atomic::{AtomicBool, Ordering};
@@ -32,7 +32,7 @@ fn number_found<D: Domain>(words: &Words, cpu: &mut Cpu<D>, name: &Name) -> Opti
 
 #[test]
 fn a_lookup_finds_what_another_thread_publishes(rt: HostRuntime) -> Result<(), Fail> {
-    one_lookup::<Brand, _>(&rt, opened(rt.alloc(), MOST_SECTIONS)?);
+    one_lookup::<Brand, _>(&rt, opened(rt.alloc(), USUAL_SECTIONS)?);
     Ok(())
 }
 
@@ -127,7 +127,7 @@ fn was_set(flag: &AtomicBool) -> bool {
 
 #[test]
 fn a_note_tells_another_thread_what_was_published(rt: HostRuntime) -> Result<(), Fail> {
-    told_twice::<Brand, _>(&rt, opened(rt.alloc(), MOST_SECTIONS)?)
+    told_twice::<Brand, _>(&rt, opened(rt.alloc(), USUAL_SECTIONS)?)
 }
 
 /// Both sections begin before the driver is published. One CPU hears of it from the keeper, the other from that CPU.

@@ -14,7 +14,7 @@ use super::records::{VGA, WM, record};
 use cpu_words::{Domain, Words};
 use name_registry::{Blank, Registry};
 use passive_list::{Cpu, enter, exit};
-use registry_values::{Entry, Kind, MOST_CHANGES, Name, Record};
+use registry_values::{Entry, Kind, Name, Record, USUAL_CHANGES};
 use std::alloc::Global;
 use std::marker::Brand;
 use std::process::Abort;
@@ -102,7 +102,7 @@ fn walked_inside<D: Domain, R: Abort>(
 
 #[test]
 fn another_thread_attaches_and_detaches(rt: HostRuntime) -> Result<(), Fail> {
-    beside::<Brand, _>(&rt, rt.alloc(), blank(rt.alloc(), SLOTS, MOST_CHANGES)?)
+    beside::<Brand, _>(&rt, rt.alloc(), blank(rt.alloc(), SLOTS, USUAL_CHANGES)?)
 }
 
 /// The driver wm stays. The other thread attaches the driver vga and takes it out again, until this one has met it and has missed it since.

@@ -2,7 +2,7 @@
 
 use cpu_words::Words;
 use registry_values::{
-    MOST_CHANGES, MOST_COUNT, MOST_CPUS, MOST_SECTIONS, MOST_SLOTS, Refusal, Settings,
+    Refusal, Settings, USUAL_CHANGES, USUAL_COUNT, USUAL_CPUS, USUAL_SECTIONS, USUAL_SLOTS,
 };
 use std::test::Fail;
 
@@ -16,12 +16,12 @@ const LEAST: Settings = Settings {
 };
 
 const MOST: Settings = Settings {
-    cpus: MOST_CPUS as u8,
-    slots: MOST_SLOTS as u8,
-    change_limit: MOST_CHANGES,
-    section_limit: MOST_SECTIONS,
-    passive_limit: MOST_COUNT,
-    count_limit: MOST_COUNT,
+    cpus: USUAL_CPUS as u8,
+    slots: USUAL_SLOTS as u8,
+    change_limit: USUAL_CHANGES,
+    section_limit: USUAL_SECTIONS,
+    passive_limit: USUAL_COUNT,
+    count_limit: USUAL_COUNT,
 };
 
 #[test]

@@ -7,7 +7,8 @@ use protocol::{
 };
 use registry_values::{
     Kind, MOST_CHANGES, MOST_COUNT, MOST_CPUS, MOST_SECTIONS, MOST_SLOTS, Name, NameFault, Record,
-    Refusal, Settings, Stage, name_laws, record_from,
+    Refusal, Settings, Stage, USUAL_CHANGES, USUAL_COUNT, USUAL_CPUS, USUAL_SECTIONS, USUAL_SLOTS,
+    name_laws, record_from,
 };
 use std::test::Fail;
 
@@ -73,13 +74,22 @@ fn records_of_their_words(rt: HostRuntime) -> Result<(), Fail> {
     Ok(())
 }
 
-const LEAST: Settings = Settings {
-    cpus: 1,
-    slots: 1,
-    change_limit: 1,
-    section_limit: 1,
-    passive_limit: 1,
-    count_limit: 1,
+const NONE: Settings = Settings {
+    cpus: 0,
+    slots: 0,
+    change_limit: 0,
+    section_limit: 0,
+    passive_limit: 0,
+    count_limit: 0,
+};
+
+const USUALLY_MOST: Settings = Settings {
+    cpus: USUAL_CPUS as u8,
+    slots: USUAL_SLOTS as u8,
+    change_limit: USUAL_CHANGES,
+    section_limit: USUAL_SECTIONS,
+    passive_limit: USUAL_COUNT,
+    count_limit: USUAL_COUNT,
 };
 
 const MOST: Settings = Settings {
@@ -91,8 +101,23 @@ const MOST: Settings = Settings {
     count_limit: MOST_COUNT,
 };
 
-fn with_each(base: Settings, sizes: (u8, u8, u64), sections: u64, count: u64) -> [Settings; 6] {
-    let (cpus, slots, change_limit) = sizes;
+/// Each setting one more.
+fn one_more(than: Settings) -> Settings {
+    Settings {
+        cpus: than.cpus.saturating_add(1),
+        slots: than.slots.saturating_add(1),
+        change_limit: than.change_limit.saturating_add(1),
+        section_limit: than.section_limit.saturating_add(1),
+        passive_limit: than.passive_limit.saturating_add(1),
+        count_limit: than.count_limit.saturating_add(1),
+    }
+}
+
+/// The settings of `base`, with each in turn as `other` has it.
+fn with_each(base: Settings, other: Settings) -> [Settings; 6] {
+    let (cpus, slots, change_limit) = (other.cpus, other.slots, other.change_limit);
+    let (section_limit, passive_limit) = (other.section_limit, other.passive_limit);
+    let count_limit = other.count_limit;
     [
         Settings { cpus, ..base },
         Settings { slots, ..base },
@@ -101,15 +126,15 @@ fn with_each(base: Settings, sizes: (u8, u8, u64), sections: u64, count: u64) ->
             ..base
         },
         Settings {
-            section_limit: sections,
+            section_limit,
             ..base
         },
         Settings {
-            passive_limit: count,
+            passive_limit,
             ..base
         },
         Settings {
-            count_limit: count,
+            count_limit,
             ..base
         },
     ]
@@ -117,17 +142,29 @@ fn with_each(base: Settings, sizes: (u8, u8, u64), sections: u64, count: u64) ->
 
 #[test]
 fn settings_have_ranges(rt: HostRuntime) {
-    assert_eq!(rt; LEAST.check(), Ok(()));
-    assert_eq!(rt; MOST.check(), Ok(()));
-    let below = with_each(MOST, (0, 0, 0), 0, 0);
-    let sizes = (MOST.cpus + 1, MOST.slots + 1, MOST_CHANGES + 1);
-    let above = with_each(LEAST, sizes, MOST_SECTIONS + 1, MOST_COUNT + 1);
+    let least = one_more(NONE);
+    assert_eq!(rt; least.check(), Ok(()));
+    assert_eq!(rt; USUALLY_MOST.check(), Ok(()));
+    let below = with_each(USUALLY_MOST, NONE);
+    let above = with_each(least, one_more(USUALLY_MOST));
     for settings in below.iter().chain(&above) {
         assert_eq!(rt; settings.check(), Err(Refusal::BadSettings));
         let made = Core::new(rt.alloc(), *settings);
         assert!(rt; matches!(made, Err(Refusal::BadSettings)), "{settings:?}");
     }
-    assert!(rt; Core::new(rt.alloc(), MOST).is_ok());
+    assert!(rt; Core::new(rt.alloc(), USUALLY_MOST).is_ok());
+}
+
+#[test]
+fn settings_fit_the_capacity(rt: HostRuntime) {
+    let least = one_more(NONE);
+    assert_eq!(rt; least.check_fit(), Ok(()));
+    assert_eq!(rt; MOST.check_fit(), Ok(()));
+    let below = with_each(MOST, NONE);
+    let above = with_each(least, one_more(MOST));
+    for settings in below.iter().chain(&above) {
+        assert_eq!(rt; settings.check_fit(), Err(Refusal::BadSettings));
+    }
 }
 
 /// The refusals in the order of their numbers, and what each says.

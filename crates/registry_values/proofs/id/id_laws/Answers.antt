@@ -1,0 +1,8 @@
+use Rattle.registry_values.proofs.Ids.{ids_come_back, names_come_back}
+use Rattle.registry_values.proofs.id.id_laws.Goals as goal
+
+pub returns-clause-back : goal.returns-clause-back
+returns-clause-back c = ids_come_back
+
+pub returns-clause-names : goal.returns-clause-names
+returns-clause-names c = names_come_back
