@@ -2,10 +2,11 @@
 use Rattle.std.specs.Prelude.{◌≡◌, ◌≢◌, ◌⊎◌, ℕ, suc, ◌-◌, ◌<◌, ◌≤◌, List, [], length, get_or, Option, Some, None, Result, Ok, Err}
 use Rattle.c_values.specs.Types.{Name, NameFault, Empty, TooLong, BadByte}
 use Rattle.registry_values.specs.Common.{name_of_bytes}
-use Rattle.c_values.specs.declared.values.TheConstants.{DONE, NAME_EMPTY, NAME_TOO_LONG, NAME_BAD_BYTE, NULL}
+use Rattle.registry_values.specs.Ids.{id_of_name}
+use Rattle.c_values.specs.declared.values.TheConstants.{BAD_NAME, DONE, NAME_EMPTY, NAME_TOO_LONG, NAME_BAD_BYTE, NULL}
 use Rattle.c_values.specs.declared.values.CName.{CName}
 use Rattle.c_values.specs.Places.{put}
-use Rattle.c_values.specs.Values.{name_out}
+use Rattle.c_values.specs.Values.{name_in, name_out}
 
 -- what is answered and written of a name, or of the first fault
 abbrev pub WritesName : Result Name NameFault → ℕ → Option CName → Option CName → Option ℕ → Option ℕ → Type 0
@@ -24,6 +25,16 @@ pub record Parses (bytes : List ℕ) (n : ℕ) (old new : Option CName) (place p
 abbrev pub ParsesGiven : ℕ → Option (List ℕ) → ℕ → Option CName → Option CName → Option ℕ → Option ℕ → Type 0
 ParsesGiven length None n old new place place' = (length ≢ 0 → (n ≡ NULL) × (new ≡ old) × (place' ≡ place)) × (length ≡ 0 → Parses [] n old new place place')
 ParsesGiven length (Some bytes) n old new place place' = Parses bytes n old new place place'
+
+-- what is answered and written of the id that a name has
+abbrev pub WritesId : Option ℕ → ℕ → Option ℕ → Option ℕ → Type 0
+WritesId None n id id' = (n ≡ BAD_NAME) × (id' ≡ id)
+WritesId (Some found) n id id' = (n ≡ DONE) × (id' ≡ put id found)
+
+-- of a name that was given: at null there is none
+abbrev pub TellsId : Option CName → ℕ → Option ℕ → Option ℕ → Type 0
+TellsId None n id id' = (n ≡ NULL) × (id' ≡ id)
+TellsId (Some name) n id id' = WritesId (id_of_name (name_in name)) n id id'
 
 -- some call returns it
 abbrev pub IsAnswer : ℕ → Type 0

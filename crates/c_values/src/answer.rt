@@ -63,6 +63,35 @@ impl Model for EntryAnswer {
     ghost also_owns = { λ a. lends_entry a.place.at a.place.value };
 }
 
+/// A call's number, and the place again.
+#[repr(C)]
+pub struct NameAnswer {
+    pub number: u32,
+    pub ghost place: { NamePlace },
+}
+
+impl Model for NameAnswer {
+    ghost use Rattle.c_values.specs.Lent.{lends_name};
+
+    ghost also_owns = { λ a. lends_name a.place.at a.place.value };
+}
+
+/// A call's number, the place of a number again, and the name that was given.
+#[repr(C)]
+pub struct IdAnswer {
+    pub number: u32,
+    pub ghost place: { NumberPlace },
+    pub ghost name: { GivenName } by { the_row.coded },
+}
+
+impl Model for IdAnswer {
+    ghost use base.Fml.{fsep};
+    ghost use Rattle.c_values.specs.Given.{gives_name};
+    ghost use Rattle.c_values.specs.Lent.{lends_number};
+
+    ghost also_owns = { λ a. fsep (lends_number a.place.at a.place.value) (gives_name a.name.share a.name.at a.name.name) };
+}
+
 /// A call's number, the place again, and the name that was given.
 #[repr(C)]
 pub struct NamedAnswer {
@@ -233,6 +262,15 @@ impl EntryAnswer {
 }
 
 impl NumberAnswer {
+    /// Gives a name back, too.
+    pub fn with_given(self, name: GivenName) -> IdAnswer
+        ensures { result ≡ record { number = self.number; place = self.place; name = name } }
+    {
+        let NumberAnswer { number } = self;
+        let GivenName { at: _ } = name;
+        IdAnswer { number }
+    }
+
     /// Gives a name's place back, too.
     pub fn with_name(self, name: NamePlace) -> ParsedAnswer
         ensures { result ≡ record { number = self.number; place = self.place; name = name } }

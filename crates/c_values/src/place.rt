@@ -8,7 +8,7 @@ ghost use Rattle.c_values.specs.declared.values.CStage.{CStage};
 ghost use Rattle.c_values.specs.declared.wait.CWait.{CWait};
 
 use crate::answer::{
-    EntryAnswer, FlagAnswer, NumberAnswer, SettingsAnswer, StageAnswer, WaitAnswer,
+    EntryAnswer, FlagAnswer, NameAnswer, NumberAnswer, SettingsAnswer, StageAnswer, WaitAnswer,
 };
 use crate::values::{CEntry, CName, CSettings, CStage};
 use crate::wait::CWait;
@@ -291,6 +291,13 @@ impl NamePlace {
         if let Some(place) = self.value_mut() {
             *place = name;
         }
+    }
+    /// Gives it back with a call's number.
+    pub fn answer(self, number: u32) -> NameAnswer
+        ensures { result ≡ record { number = number; place = self } }
+    {
+        let NamePlace { at: _ } = self;
+        NameAnswer { number }
     }
 }
 

@@ -1,14 +1,17 @@
-//! Names from bytes, and what an answer says: calls that need no handle.
+//! Names from bytes and from ids, and what an answer says: calls that need no handle.
 
 ghost use Rattle.std.specs.Prelude.{◌≡◌, ◌-◌, ◌<◌, ◌≤◌, length, take, Some};
 ghost use Rattle.held.specs.Rows.{IsLong, IsThere};
-ghost use Rattle.c_values.specs.Texts.{IsAnswer, IsWritten, Parses, ParsesGiven, TellsBy};
+ghost use Rattle.registry_values.specs.Ids.{name_of_id};
+ghost use Rattle.c_values.specs.Places.{put};
+ghost use Rattle.c_values.specs.Texts.{IsAnswer, IsWritten, Parses, ParsesGiven, TellsBy, TellsId};
+ghost use Rattle.c_values.specs.Values.{name_out};
 
-use crate::answer::{BytesAnswer, TextAnswer};
-use crate::given::GivenBytes;
+use crate::answer::{BytesAnswer, IdAnswer, NameAnswer, TextAnswer};
+use crate::given::{GivenBytes, GivenName};
 use crate::place::{NamePlace, NumberPlace};
 use crate::rows::TextPlace;
-use crate::values::{DONE, NULL, faulty, name_out};
+use crate::values::{BAD_NAME, DONE, NULL, faulty, name_in, name_out};
 use registry_values::{Name, NameFault};
 
 /// Writes the name that the bytes are, if there are any or needn't be, or where the bad byte stands: `registry_name_parse` of the header.
@@ -81,6 +84,44 @@ fn parse(bytes: &[u8], name: &mut NamePlace, place: &mut NumberPlace) -> u32
             faulty(NameFault::BadByte(at))
         }
         Err(fault) => faulty(fault),
+    }
+}
+
+/// Writes the name of an id, if there is a place for it: `registry_name_of_id` of the header.
+pub fn name_of_id(id: u64, mut name: NamePlace) -> NameAnswer
+    ensures number { result.number ≡ DONE }
+    ensures place { result.place.at ≡ name.at }
+    ensures call { result.place.value ≡ put name.value (name_out (name_of_id id)) }
+{
+    name.put(name_out(registry_values::name_of_id(id)));
+    name.answer(DONE)
+}
+
+/// Writes the id that has the name, if there is one and a place for it: `registry_id_of_name` of the header.
+pub fn id_of_name(mut name: GivenName, mut id: NumberPlace) -> IdAnswer
+    ensures given { result.name ≡ name }
+    ensures place { result.place.at ≡ id.at }
+    ensures call { TellsId name.name result.number id.value result.place.value }
+{
+    let answer = read_id(&mut name, &mut id);
+    id.answer(answer).with_given(name)
+}
+
+/// Writes the id that has the name.
+fn read_id(name: &mut GivenName, id: &mut NumberPlace) -> u32
+    ensures given { name.new ≡ name.old }
+    ensures place { id.new.at ≡ id.old.at }
+    ensures call { TellsId name.old.name result id.old.value id.new.value }
+{
+    let Some(name) = name.name() else {
+        return NULL;
+    };
+    match registry_values::id_of_name(name_in(&name)) {
+        Some(found) => {
+            id.put(found);
+            DONE
+        }
+        None => BAD_NAME,
     }
 }
 
@@ -159,7 +200,7 @@ fn own_text(answer: u32) -> &'static [u8]
         65 => b"a handle is empty",
         66 => b"a handle isn't empty",
         68 => b"neither an interface nor a driver",
-        69 => b"no name has these two words",
+        69 => b"these two words aren't a name, or aren't the name of an id",
         70 => b"a name has at least one byte",
         71 => b"a name has at most 15 bytes",
         72 => b"a byte of the name may not stand there",

@@ -2,10 +2,14 @@
 
 ghost use Rattle.std.specs.Prelude.{◌≡◌};
 ghost use Rattle.held.specs.Rows.{IsLong};
-ghost use Rattle.c_values.specs.Texts.{ParsesGiven, TellsBy};
+ghost use Rattle.registry_values.specs.Ids.{name_of_id};
+ghost use Rattle.c_values.specs.Places.{put};
+ghost use Rattle.c_values.specs.Texts.{ParsesGiven, TellsBy, TellsId};
+ghost use Rattle.c_values.specs.Values.{name_out};
+ghost use Rattle.c_values.specs.declared.values.TheConstants.{DONE};
 
-use c_values::answer::{BytesAnswer, TextAnswer};
-use c_values::given::GivenBytes;
+use c_values::answer::{BytesAnswer, IdAnswer, NameAnswer, TextAnswer};
+use c_values::given::{GivenBytes, GivenName};
 use c_values::place::{NamePlace, NumberPlace};
 use c_values::rows::TextPlace;
 use c_values::texts;
@@ -24,6 +28,26 @@ pub extern "C" fn registry_name_parse(
     ensures call { ParsesGiven length bytes.bytes result.number name.value result.name.value place.value result.place.value }
 {
     texts::parse_name(bytes, length, name, place)
+}
+
+/// `registry_name_of_id` of the header.
+#[unsafe(no_mangle)]
+pub extern "C" fn registry_name_of_id(id: u64, name: NamePlace) -> NameAnswer
+    ensures number { result.number ≡ DONE }
+    ensures place { result.place.at ≡ name.at }
+    ensures call { result.place.value ≡ put name.value (name_out (name_of_id id)) }
+{
+    texts::name_of_id(id, name)
+}
+
+/// `registry_id_of_name` of the header.
+#[unsafe(no_mangle)]
+pub extern "C" fn registry_id_of_name(name: GivenName, id: NumberPlace) -> IdAnswer
+    ensures given { result.name ≡ name }
+    ensures place { result.place.at ≡ id.at }
+    ensures call { TellsId name.name result.number id.value result.place.value }
+{
+    texts::id_of_name(name, id)
 }
 
 /// `registry_text` of the header.
