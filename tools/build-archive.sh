@@ -7,9 +7,9 @@
 #     tools/build-archive.sh                  proves and builds the library first: out/libregistry.a
 #     tools/build-archive.sh LIBRARY LOG      takes libregistry_c.a as tools/archive-beside.py has proved and built it, and what the proof said
 #     tools/build-archive.sh --for PROCESSOR [LIBRARY LOG]     the same for that processor: out/PROCESSOR/libregistry.a
-#     tools/build-archive.sh --wide [..]      with 64 CPUs, 128 slots, 2^40 changes and 2^62 sections: out/wide/libregistry.a
-#     tools/build-archive.sh [--cpus N] [--slots N] [--changes N] [--sections N] [..]     with these limits, a number in digits or as 2^40:
-#                                             out/NAME/libregistry.a, where NAME says them, as cpus-16-slots-64
+#     tools/build-archive.sh --wide [..]      with 64 CPUs and 128 slots: out/wide/libregistry.a
+#     tools/build-archive.sh [--cpus N] [--slots N] [..]      with so many of them, in digits or as 2^5: out/NAME/libregistry.a, where NAME says
+#                                             them, as cpus-16-slots-64
 #
 # With other limits than the default's, all crates of the library are proved in a copy. A number out of its range ends in one line, and nothing is built.
 set -euo pipefail
@@ -31,10 +31,10 @@ while [[ ${1-} = --* ]]; do
     --wide)
         chosen+=("$1")
         shift ;;
-    --cpus | --slots | --changes | --sections)
+    --cpus | --slots)
         chosen+=("${@:1:2}")
         shift $(($# > 1 ? 2 : 1)) ;;
-    *) refuse "it takes no $1: --for PROCESSOR, --wide, --cpus N, --slots N, --changes N, --sections N" ;;
+    *) refuse "it takes no $1: --for PROCESSOR, --wide, --cpus N, --slots N" ;;
     esac
 done
 case $# in

@@ -11,7 +11,7 @@ import sys
 sys.dont_write_bytecode = True
 
 from counts import ended
-from limits import DEFAULTS, LIMITS, ROOT, limits, number
+from limits import DEFAULTS, LIMITS, RANGES, ROOT, limits, number
 
 # The header with all limits, and the tool that makes it.
 HEADER = "crates/registry_c/include/registry_limits.h"
@@ -48,7 +48,7 @@ def faults():
     for name, path, pattern in PLACES:
         found = said(path, pattern)
         yield "" if of[name] is not None and found == of[name] else f"{path}: {name} is {found} there, and {of[name]} in {LIMITS}"
-    for name, wanted in DEFAULTS.items():
+    for name, wanted in {**DEFAULTS, **RANGES}.items():
         yield "" if of[name] == wanted else f"{LIMITS}: {name} is {of[name]}, and {wanted} in the default build"
 
 

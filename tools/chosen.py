@@ -5,8 +5,8 @@
                                    line where there is none
     tools/chosen.py file WORD..    prints crates/registry_values/src/limits.rt with these limits
 
-WORD.. is --wide, or some of --cpus, --slots, --changes and --sections, each with a number in digits or as 2^40. A limit that isn't given is that of
-the file. The ranges are read from `LimitsLeaveRoom`, which each build proves. Words that aren't right end in one line and status 2.
+WORD.. is --wide, or --cpus or --slots or both, each with a number in digits or as 2^5. A limit that isn't given is that of the file. From where to where
+it may go is read from `LimitsLeaveRoom`, which each build proves. Words that aren't right end in one line and status 2.
 """
 import re
 import sys
@@ -17,8 +17,8 @@ from limits import LIMITS, ROOT, limits
 
 RANGES = "crates/registry_values/specs/Limits.antt"
 # The limits that a build may choose, by their words.
-CHOSEN = {"cpus": "MOST_CPUS", "slots": "MOST_SLOTS", "changes": "MOST_CHANGES", "sections": "MOST_SECTIONS"}
-WIDE = {"MOST_CPUS": 64, "MOST_SLOTS": 128, "MOST_CHANGES": 1 << 40, "MOST_SECTIONS": 1 << 62}
+CHOSEN = {"cpus": "MOST_CPUS", "slots": "MOST_SLOTS"}
+WIDE = {"MOST_CPUS": 64, "MOST_SLOTS": 128}
 
 
 class Fault(Exception):
@@ -31,21 +31,16 @@ def number(text):
     return found and int(found[1]) ** int(found[2] or 1)
 
 
-def short(it, power):
-    """The number in digits, or after the words of a power of two where it is a large one."""
-    return f"{power}{it.bit_length() - 1}" if it > 1 << 16 and it & (it - 1) == 0 else str(it)
-
-
 def within(word, text):
     """The number of that limit, if it is in its range."""
     constant = CHOSEN[word]
-    found = re.search(rf"\((.*) ≤ {constant}\) × \({constant} ≤ (.*)\)", (ROOT / RANGES).read_text())
+    found = re.search(rf"\((\w+) ≤ {constant}\) × \({constant} ≤ (.*)\)", (ROOT / RANGES).read_text())
     if not found:
         raise Fault(f"{RANGES} says no range of {constant}")
-    least, most = number(found[1]), number(found[2])
+    least, most = limits()[found[1]], number(found[2])
     it = number(text)
     if it is None or not least <= it <= most:
-        raise Fault(f"--{word} may be {least} to {short(most, '2^')}, in digits or as 2^5; it is {text}")
+        raise Fault(f"--{word} may be {least} to {most}, in digits or as 2^5; it is {text}")
     return it
 
 
@@ -73,7 +68,7 @@ def said(path=ROOT / LIMITS):
 
 def words_of(of):
     """The words that ask for these limits."""
-    return [word for flag, it in CHOSEN.items() for word in (f"--{flag}", short(of[it], "2^"))]
+    return [word for flag, it in CHOSEN.items() for word in (f"--{flag}", str(of[it]))]
 
 
 def name(of):
@@ -91,7 +86,7 @@ def file(of):
         if has[constant] is None:
             raise Fault(f"{LIMITS} says no {constant}")
         if it != has[constant]:
-            text = re.sub(rf"^(pub const {constant}: \w+ = ).*;", rf"\g<1>{short(it, '1 << ')};", text, flags=re.M)
+            text = re.sub(rf"^(pub const {constant}: \w+ = ).*;", rf"\g<1>{it};", text, flags=re.M)
     return text
 
 

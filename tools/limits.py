@@ -7,8 +7,10 @@ LIMITS = "crates/registry_values/src/limits.rt"
 # The header that has the version.
 HEADER = "crates/registry_c/include/registry.h"
 
-# The default build has these, and keeps them.
-DEFAULTS = {"MOST_CPUS": 8, "MOST_SLOTS": 32, "MOST_CHANGES": 1_000_000, "MOST_SECTIONS": 1 << 40, "MOST_COUNT": 1 << 40, "MOST_DEPTH": 255}
+# The default build has this capacity, and keeps it.
+DEFAULTS = {"MOST_CPUS": 8, "MOST_SLOTS": 32, "MOST_CHANGES": 1 << 40, "MOST_SECTIONS": 1 << 62, "MOST_COUNT": 1 << 40, "MOST_DEPTH": 255}
+# Each build has these ranges for Rattle programs and scripts.
+RANGES = {"USUAL_CPUS": 8, "USUAL_SLOTS": 32, "USUAL_CHANGES": 1_000_000, "USUAL_SECTIONS": 1 << 40, "USUAL_COUNT": 1 << 40}
 
 
 def number(word):
@@ -24,9 +26,9 @@ def limit(text, name):
 
 
 def limits(path=ROOT / LIMITS):
-    """Each limit by its name. One that the file doesn't say is None."""
+    """Each limit and range by its name. One that the file doesn't say is None."""
     text = pathlib.Path(path).read_text()
-    return {name: limit(text, name) for name in DEFAULTS}
+    return {name: limit(text, name) for name in (*DEFAULTS, *RANGES)}
 
 
 def version():

@@ -180,6 +180,7 @@ static void read_and_refer(void)
 	size_t count;
 	bool flag;
 	PLAIN(REGISTRY_DONE, registry_name_parse("wm", 2, &wm, &number));
+	PLAIN(REGISTRY_BAD_NAME, registry_id_of_name(&wm, &number));
 	PLAIN(REGISTRY_DONE, registry_attach(&keeper, &cpus[0], &wm, 7, &entry));
 	PLAIN(REGISTRY_NAME_TAKEN, registry_attach(&keeper, &cpus[0], &wm, 7, &entry));
 	PLAIN(REGISTRY_DONE, registry_look_up(&cpus[0], REGISTRY_DRIVER, &wm, &entry));

@@ -3,9 +3,8 @@
  *
  *     history [CHANGES [SEED]]
  *
- * The largest registry goes through CHANGES changes, by default as many as there may be, or five million where there may be more; smaller ones meet each
- * limit. However many calls were made, a registry that is closed has no block of memory any more: the linker leads malloc, realloc and free here (--wrap),
- * except in the brief program.
+ * The largest registry has room for CHANGES changes, by default a million, and goes through them; smaller ones meet each limit. However many calls were
+ * made, a registry that is closed has no block of memory any more: the linker leads malloc, realloc and free here (--wrap), except in the brief program.
  * The last line says how many calls were compared, of how many changes.
  */
 #include <inttypes.h>
@@ -47,7 +46,7 @@ void __wrap_free(void *block)
 }
 #endif
 
-enum { NAMES = SLOTS * 3 / 4, HANDLES = 3 * SLOTS + CPUS, LONGEST = 5 * 1000 * 1000 };
+enum { NAMES = SLOTS * 3 / 4, HANDLES = 3 * SLOTS + CPUS, LONGEST = 1000 * 1000 };
 
 struct held {
 	struct registry_local handle;
@@ -516,13 +515,12 @@ static void spend(struct world *world, unsigned cpu)
 }
 
 /*
- * All CPUs come to the end of their sections: as many as the build has, or SECTIONS of them where it has more. Then no call enters on any. What needs no
- * section is done: a reference is read and released, an entry is attached, detached and freed, a wait ends.
+ * All CPUs come to the end of their sections. Then no call enters on any. What needs no section is done: a reference is read and released, an entry is
+ * attached, detached and freed, a wait ends.
  */
 static void spend_all_sections(void)
 {
-	const uint64_t most = REGISTRY_MOST_SECTIONS < SECTIONS ? REGISTRY_MOST_SECTIONS : SECTIONS;
-	const struct registry_settings settings = {CPUS, SLOTS, 10, most, 3, 3};
+	const struct registry_settings settings = {CPUS, SLOTS, 10, SECTIONS, 3, 3};
 	struct world *world = opened(&settings, 1);
 	struct registry_entry entry = {0}, wanted = {0};
 	DONE(same_entry(registry_attach(&world->keeper, &world->cpus[0], &names[0], 7, &entry), &entry,
@@ -601,10 +599,9 @@ static void refer_often(void)
 
 int main(int argc, char **argv)
 {
-	uint64_t most = REGISTRY_MOST_CHANGES < LONGEST ? REGISTRY_MOST_CHANGES : LONGEST;
-	uint64_t changes = argc > 1 ? strtoull(argv[1], NULL, 10) : most;
+	uint64_t changes = argc > 1 ? strtoull(argv[1], NULL, 10) : LONGEST;
 	uint64_t seed = argc > 2 ? strtoull(argv[2], NULL, 10) : 1;
-	const struct registry_settings largest = {CPUS, SLOTS, REGISTRY_MOST_CHANGES, REGISTRY_MOST_SECTIONS, REGISTRY_MOST_COUNT, REGISTRY_MOST_COUNT};
+	const struct registry_settings largest = {CPUS, SLOTS, changes, REGISTRY_MOST_SECTIONS, REGISTRY_MOST_COUNT, REGISTRY_MOST_COUNT};
 	for (unsigned i = 0; i < NAMES; i++) {
 		char text[8];
 		snprintf(text, sizeof text, "n%u", i);
@@ -612,8 +609,7 @@ int main(int argc, char **argv)
 	}
 	spend_sections();
 	spend_all_sections();
-	if (REGISTRY_MOST_SECTIONS > MANY)
-		refer_often();
+	refer_often();
 	run_small(seed);
 	changes = run(&largest, changes, seed);
 	printf("history: %" PRIu64 " calls compared, %" PRIu64 " changes\n", compared, changes);

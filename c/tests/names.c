@@ -1,5 +1,5 @@
 /*
- * names - registry_name_format beside registry_name_parse, and registry_strerror beside registry_text
+ * names - registry_name_format beside registry_name_parse, names of ids, and registry_strerror beside registry_text
  */
 #include "client.h"
 
@@ -82,6 +82,55 @@ static void misuse_names(void)
 	EXPECT(format(&full, ROOM) == REGISTRY_BAD_NAME && format(&gap, ROOM) == REGISTRY_BAD_NAME && wrote(0));
 }
 
+/* The name of an id has these bytes, and gives the id back; the names of larger ids come behind it. */
+static void check_id(uint64_t id)
+{
+	static const char digits[] = "0123456789abcdefghijklmnopqrstuv";
+	char bytes[] = "a000000000000";
+	struct registry_name name, parsed, next;
+	uint64_t again = ~id;
+	bytes[0] = (char)('a' + (int)(id >> 60));
+	for (size_t place = sizeof bytes - 2; place > 0; place--)
+		bytes[place] = digits[id >> 5 * (sizeof bytes - 2 - place) & 31];
+	DONE(registry_name_of_id(id, &name));
+	DONE(registry_name_parse(bytes, sizeof bytes - 1, &parsed, NULL));
+	EXPECT(memcmp(&name, &parsed, sizeof name) == 0);
+	EXPECT(registry_id_of_name(&name, &again) == REGISTRY_DONE && again == id);
+	if (id == UINT64_MAX)
+		return;
+	DONE(registry_name_of_id(id + 1, &next));
+	EXPECT(next.high > name.high || (next.high == name.high && next.low > name.low));
+}
+
+/* These words aren't the name of an id. */
+static void check_no_id(struct registry_name name)
+{
+	uint64_t id = 99;
+	EXPECT(registry_id_of_name(&name, &id) == REGISTRY_BAD_NAME && registry_id_of_name(&name, NULL) == REGISTRY_BAD_NAME && id == 99);
+}
+
+/* Ids of each length, and names that are near one's: only the bytes of digits are an id's. */
+static void check_ids(void)
+{
+	static const char *const none[] = {"wm0", "a00000000000", "a0000000000000", "a00000000000w", "aw00000000000", "q000000000000"};
+	struct registry_name name = name_of("a000000000000");
+	uint64_t id = 99;
+	for (uint64_t low = 0; low < 2000; low++)
+		check_id(low);
+	for (unsigned bit = 0; bit < 64; bit++) {
+		check_id((UINT64_C(1) << bit) - 1);
+		check_id(UINT64_C(0x0123456789abcdef) << bit | bit);
+		check_id(UINT64_MAX >> bit);
+	}
+	for (size_t i = 0; i < sizeof none / sizeof *none; i++)
+		check_no_id(name_of(none[i]));
+	for (unsigned bit = 0; bit < 24; bit++)
+		check_no_id((struct registry_name){name.high, name.low | UINT64_C(1) << bit});
+	check_no_id((struct registry_name){0, 0});
+	EXPECT(registry_id_of_name(NULL, &id) == REGISTRY_NULL && registry_id_of_name(NULL, NULL) == REGISTRY_NULL && id == 99);
+	EXPECT(registry_id_of_name(&name, NULL) == REGISTRY_DONE && registry_name_of_id(7, NULL) == REGISTRY_DONE);
+}
+
 /* What registry_strerror says of a number if registry_text writes nothing for it. */
 static const char *string_alone(registry_answer answer)
 {
@@ -107,9 +156,10 @@ int main(void)
 	for (unsigned place = 0; place < REGISTRY_NAME_ROOM; place++)
 		check_bytes(place);
 	misuse_names();
+	check_ids();
 	for (registry_answer answer = 0; answer < NUMBERS; answer++)
 		check_string(answer);
 	check_string(UINT32_MAX);
-	puts("names and answers come back as text");
+	puts("names, ids and answers come back");
 	return 0;
 }

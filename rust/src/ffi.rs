@@ -31,6 +31,8 @@ pub const TOO_DEEP: u32 = 18;
 pub const NEEDS_DRIVER: u32 = 19;
 pub const OTHER_LIMITS: u32 = 78;
 #[cfg(test)]
+pub const BAD_NAME: u32 = 69;
+#[cfg(test)]
 pub const NAME_EMPTY: u32 = 70;
 #[cfg(test)]
 pub const NAME_TOO_LONG: u32 = 71;
@@ -192,6 +194,10 @@ pub unsafe fn string(at: *const c_char) -> &'static str {
 extern "C" {
     #[cfg(test)]
     pub fn registry_name_parse(bytes: *const u8, length: usize, name: *mut Name, place: *mut u64) -> u32;
+    #[cfg(test)]
+    pub fn registry_name_of_id(id: u64, name: *mut Name) -> u32;
+    #[cfg(test)]
+    pub fn registry_id_of_name(name: *const Name, id: *mut u64) -> u32;
     pub fn registry_strerror(answer: u32) -> *const c_char;
     pub fn registry_version() -> *const c_char;
     pub fn registry_limits(limits: *mut Limits);

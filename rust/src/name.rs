@@ -29,6 +29,9 @@ pub struct Name {
 /// The bytes of the two words of C. A text has one less at most.
 const ROOM: usize = 16;
 
+/// The bytes of an id's name.
+const ID_BYTES: usize = 13;
+
 impl Name {
     /// The name with this text.
     ///
@@ -61,11 +64,16 @@ impl Name {
             bytes[place] = byte;
             place += 1;
         }
+        Ok(Name::of_text(bytes))
+    }
+
+    /// The name with this text, and zeros after it.
+    const fn of_text(bytes: [u8; ROOM]) -> Name {
         let words = ffi::Name {
             high: word(&bytes, 0),
             low: word(&bytes, 8),
         };
-        Ok(Name { words, bytes })
+        Name { words, bytes }
     }
 
     /// The name with this text, for a constant. In a constant, a text that is no name is a compile error.
@@ -85,43 +93,33 @@ impl Name {
         }
     }
 
-    /// The name of a number: `n`, and the number in digits of base 36. [`id`](Name::id) is the way back.
+    /// The name of a number: a letter for its four highest bits, and twelve digits to the base 32. Names order as their numbers do.
+    /// [`id`](Name::id) is the way back.
     ///
     /// ```
     /// use kupaldiz::Name;
     ///
     /// const SESSION: Name = Name::from_id(1_000);
-    /// assert_eq!((SESSION.as_str(), SESSION.id()), ("nrs", Some(1_000)));
+    /// assert_eq!((SESSION.as_str(), SESSION.id()), ("a0000000000v8", Some(1_000)));
     /// ```
     #[must_use]
     pub const fn from_id(id: u64) -> Name {
-        let mut digits = [0; ROOM];
-        let (mut left, mut count) = (id, 0);
-        while left > 0 || count == 0 {
-            let digit = (left % 36) as u8;
-            digits[count] = if digit < 10 { b'0' + digit } else { b'a' + digit - 10 };
-            left /= 36;
-            count += 1;
-        }
         let mut bytes = [0; ROOM];
-        bytes[0] = b'n';
-        let mut place = 0;
-        while place < count {
-            bytes[1 + place] = digits[count - 1 - place];
+        bytes[0] = b'a' + (id >> 60) as u8;
+        let mut place = 1;
+        while place < ID_BYTES {
+            let digit = (id >> (5 * (ID_BYTES - 1 - place)) & 31) as u8;
+            bytes[place] = if digit < 10 { b'0' + digit } else { b'a' + digit - 10 };
             place += 1;
         }
-        let words = ffi::Name {
-            high: word(&bytes, 0),
-            low: word(&bytes, 8),
-        };
-        Name { words, bytes }
+        Name::of_text(bytes)
     }
 
     /// The number whose name this is, if it is what [`from_id`](Name::from_id) makes.
     #[must_use]
     pub fn id(&self) -> Option<u64> {
-        let digits = self.as_str().strip_prefix('n')?;
-        let id = u64::from_str_radix(digits, 36).ok()?;
+        let digits = u64::from_str_radix(self.as_str().get(1..)?, 32).ok()?;
+        let id = u64::from(self.bytes[0] - b'a') << 60 | digits;
         (Name::from_id(id) == *self).then_some(id)
     }
 
@@ -247,15 +245,37 @@ mod tests {
         }
     }
 
-    #[test]
-    fn each_number_has_a_name_of_its_own() {
-        for id in (0..2_000).chain([35, 36, 36 * 36 - 1, 36 * 36, u64::MAX - 1, u64::MAX]) {
-            let name = Name::from_id(id);
-            assert_eq!((Name::parse(name.as_str()), name.id()), (Ok(name), Some(id)));
+    /// The name that the archive makes of an id, and the id that it reads from a name.
+    fn by_archive(id: u64, name: &Name) -> (ffi::Name, Option<u64>) {
+        let (mut words, mut read) = (ffi::Name::default(), 0);
+        // SAFETY: each of the three places is a value of its own.
+        let answers = unsafe { (ffi::registry_name_of_id(id, &mut words), ffi::registry_id_of_name(&name.words, &mut read)) };
+        match answers {
+            (ffi::DONE, ffi::DONE) => (words, Some(read)),
+            (ffi::DONE, ffi::BAD_NAME) => (words, None),
+            other => panic!("{other:?}"),
         }
-        assert_eq!(Name::from_id(u64::MAX).as_str(), "n3w5e11264sgsf");
-        for other in ["n", "wm0", "n00", "n01", "nzzzzzzzzzzzzzz"] {
-            assert_eq!(Name::parse(other).unwrap().id(), None, "{other}");
+    }
+
+    #[test]
+    fn the_name_of_an_id_is_that_of_the_archive() {
+        let mut ids: Vec<u64> = (0..2_000).chain([u64::MAX - 1, u64::MAX]).collect();
+        ids.extend((0..64).flat_map(|bit| [1 << bit, (1 << bit) - 1, u64::MAX >> bit, 0x0123_4567_89ab_cdef_u64.rotate_left(bit)]));
+        ids.sort_unstable();
+        ids.dedup();
+        let names: Vec<Name> = ids.iter().map(|id| Name::from_id(*id)).collect();
+        for (id, name) in ids.iter().zip(&names) {
+            assert_eq!(by_archive(*id, name), (name.words, Some(*id)));
+            assert_eq!((Name::parse(name.as_str()), name.id()), (Ok(*name), Some(*id)));
+        }
+        assert!(names.windows(2).all(|pair| pair[0] < pair[1]));
+    }
+
+    #[test]
+    fn other_names_are_no_ids() {
+        for other in ["a", "wm0", "q000000000000", "a00000000000", "a0000000000000", "a00000000000w", "p000000000z00", "zzzzzzzzzzzzzzz"] {
+            let name = Name::parse(other).unwrap();
+            assert_eq!((name.id(), by_archive(0, &name).1), (None, None), "{other}");
         }
     }
 }

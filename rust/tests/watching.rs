@@ -17,7 +17,8 @@ fn calls(text: &str, before: &str) -> BTreeSet<String> {
 #[test]
 fn each_call_with_a_handle_is_watched() {
     let mut made = calls(include_str!("../src/ffi.rs"), "pub fn ");
-    for without in ["registry_name_parse", "registry_strerror", "registry_version", "registry_limits", "registry_open"] {
+    let names = ["registry_name_parse", "registry_name_of_id", "registry_id_of_name"];
+    for without in names.into_iter().chain(["registry_strerror", "registry_version", "registry_limits", "registry_open"]) {
         assert!(made.remove(without), "{without}");
     }
     made.retain(|call| call.starts_with("registry_"));

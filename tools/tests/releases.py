@@ -120,7 +120,7 @@ def making():
         Fault("no record", "there is no out/libregistry.proved: tools/build-archive.sh", command=shell("rm out/libregistry.proved")),
         Fault("a record without a verdict", "has no line 'verdict: ..'", command=shell("sed -i '/^verdict/d' out/libregistry.proved")),
         Fault("a record with other limits", "has other limits than the sources as they stand", command=shell("sed -i 's/--cpus 8/--cpus 16/' out/libregistry.proved")),
-        Fault("a record with limits that are none", "--cpus may be 1 to 128", command=shell("sed -i 's/--cpus 8/--cpus 800/' out/libregistry.proved")),
+        Fault("a record with limits that are none", "--cpus may be 8 to 128", command=shell("sed -i 's/--cpus 8/--cpus 800/' out/libregistry.proved")),
         Fault("another archive", "isn't the archive that", command=shell("echo other >registry.o; ar r out/libregistry.a registry.o; rm registry.o")),
         Fault("no archive of objects", "has no object registry.o", command=shell("echo none >out/libregistry.a")),
         Fault("other sources", "was made from other sources", command=shell("echo more >>crates/low/src/lib.rt; git -c user.name=a -c user.email=a@b commit -qam more")),
@@ -177,30 +177,30 @@ PATH=$PWD/bin:$PATH tools/proof-record.py check out/libregistry.a
 """,
     # An archive with other limits: proved in a copy that has them, with its header and its record.
     "try-other": """#!/bin/sh
-PATH=$PWD/bin:$PATH tools/build-archive.sh --cpus 16 --sections 2^50 >said 2>&1 || { cat said; exit 2; }
-out=out/cpus-16-sections-1125899906842624
-grep -q 'MOST_CPUS: usize = 16;' said && grep -q 'MOST_SECTIONS: u64 = 1 << 50;' said && grep -q 'MOST_SLOTS: usize = 32;' said || { echo "other limits were proved"; exit 1; }
+PATH=$PWD/bin:$PATH tools/build-archive.sh --cpus 16 --slots 2^6 >said 2>&1 || { cat said; exit 2; }
+out=out/cpus-16-slots-64
+grep -q 'MOST_CPUS: usize = 16;' said && grep -q 'MOST_SLOTS: usize = 64;' said && grep -q 'MOST_SECTIONS: u64 = 1 << 62;' said || { echo "other limits were proved"; exit 1; }
 grep -q 'MOST_CPUS[^0-9]*16$' $out/registry_limits.h || { echo "the header has other limits"; exit 1; }
-grep -qx 'limits: --cpus 16 --slots 32 --changes 1000000 --sections 2^50' $out/libregistry.proved || { echo "the record has other limits"; exit 1; }
+grep -qx 'limits: --cpus 16 --slots 64' $out/libregistry.proved || { echo "the record has other limits"; exit 1; }
 [ ! -e out/libregistry.a ] || { echo "the default's archive was built"; exit 1; }
 grep -q 'MOST_CPUS: usize = 8;' crates/registry_values/src/limits.rt || { echo "the tree has other limits now"; exit 1; }
 "$@"
 PATH=$PWD/bin:$PATH tools/proof-record.py check $out/libregistry.a
 """,
 }
-OTHER_RECORD = "out/cpus-16-sections-1125899906842624/libregistry.proved"
+OTHER_RECORD = "out/cpus-16-slots-64/libregistry.proved"
 BUILD_TOOLS = ["build-archive.sh", "limits-header.py", *RECORDS]
 # What is asked for, and what is said of it.
 BAD_LIMITS = {
-    "--cpus 0": "--cpus may be 1 to 128, in digits or as 2^5; it is 0",
-    "--cpus 129": "--cpus may be 1 to 128, in digits or as 2^5; it is 129",
-    "--slots 2^8": "--slots may be 1 to 255, in digits or as 2^5; it is 2^8",
-    "--changes 2^41": "--changes may be 1 to 2^40, in digits or as 2^5; it is 2^41",
-    "--changes 2^40000": "--changes may be 1 to 2^40, in digits or as 2^5; it is 2^40000",
-    "--sections 4611686018427387905": "--sections may be 1 to 2^62, in digits or as 2^5; it is 4611686018427387905",
-    "--slots many": "--slots may be 1 to 255, in digits or as 2^5; it is many",
+    "--cpus 7": "--cpus may be 8 to 128, in digits or as 2^5; it is 7",
+    "--cpus 129": "--cpus may be 8 to 128, in digits or as 2^5; it is 129",
+    "--slots 31": "--slots may be 32 to 255, in digits or as 2^5; it is 31",
+    "--slots 2^8": "--slots may be 32 to 255, in digits or as 2^5; it is 2^8",
+    "--slots 2^40000": "--slots may be 32 to 255, in digits or as 2^5; it is 2^40000",
+    "--slots many": "--slots may be 32 to 255, in digits or as 2^5; it is many",
+    "--changes 5": "it takes no --changes",
     "--slots": "--slots has no number",
-    "--cpus 4 --cpus 5": "--cpus is given twice",
+    "--cpus 9 --cpus 10": "--cpus is given twice",
     "--wide --cpus 4": "--wide is no limit: it is --wide alone, or --cpus",
     "--cpus 4 --wide": "--wide is no limit: it is --wide alone, or --cpus",
     "--count 4": "it takes no --count",
@@ -228,11 +228,11 @@ def building_other():
     faults = (
         Fault("a proof that fails", "has no line that begins 'logic=proved'", (("bin/rt", "echo logic=proved functions=1", "echo logic=not-proved"),)),
         Fault("a file of limits without one", "says no MOST_CPUS", ((source, "pub const MOST_CPUS", "const MOST_CPUS"),)),
-        Fault("a range that isn't said", "says no range of MOST_CPUS", (("crates/registry_values/specs/Limits.antt", "(1 ≤ MOST_CPUS) ×", ""),)),
+        Fault("a range that isn't said", "says no range of MOST_CPUS", (("crates/registry_values/specs/Limits.antt", "(USUAL_CPUS ≤ MOST_CPUS) ×", ""),)),
         Fault("other sources since", "was made from other sources", command=["./try-other", "sh", "-c", "echo more >>crates/low/src/lib.rt"]),
         Fault("another bias since", "was made from other sources", command=["./try-other", "sed", "-i", "s/1 << 48/1 << 49/", source]),
         Fault("a record of yet other limits", "has other limits than the sources", command=["./try-other", "sed", "-i", "s/--cpus 16/--cpus 17/", OTHER_RECORD]),
-        Fault("no archive any more", "tools/build-archive.sh --cpus 16 --sections 1125899906842624 proves",
+        Fault("no archive any more", "tools/build-archive.sh --cpus 16 --slots 64 proves",
               command=["./try-other", "rm", OTHER_RECORD.replace(".proved", ".a")]),
     )
     return Case("build-archive, other limits", BUILD_TOOLS, BUILDS, ["./try-other"], faults, counts=False)

@@ -13,7 +13,7 @@ VERSION = "crates/registry_c/include/registry.h"
 # The header of all limits, and what it says of each.
 HEADER = "crates/registry_c/include/registry_limits.h"
 COPIES = ("rust/registry_limits.h", "netbsd/include/kupaldiz/registry_limits.h")
-SAID = ("MOST_CPUS\t8", "MOST_SLOTS\t32", "MOST_CHANGES\tUINT64_C(1000000)", "MOST_SECTIONS\t(UINT64_C(1) << 40)", "MOST_COUNT\t(UINT64_C(1) << 40)",
+SAID = ("MOST_CPUS\t8", "MOST_SLOTS\t32", "MOST_CHANGES\t(UINT64_C(1) << 40)", "MOST_SECTIONS\t(UINT64_C(1) << 62)", "MOST_COUNT\t(UINT64_C(1) << 40)",
         "MOST_DEPTH\t255", "BUILT_FOR\tregistry_for_8_cpus_32_slots_v0_1", 'BUILD\t""')
 
 
@@ -23,13 +23,15 @@ def check_limits():
     faults += [Fault(f"no number: {path}, {name}", f"{path}: {name} is None", ((path, old, "gone"),)) for path, old, name in PLACES]
     faults += [Fault(f"another header: {old}", f"{HEADER} isn't what", ((HEADER, f"REGISTRY_{old}", "REGISTRY_OTHER 7"),)) for old in SAID]
     faults += [Fault(f"another copy: {path}", f"{path} isn't what", ((path, "MOST_CPUS\t8", "MOST_CPUS\t9"),)) for path in COPIES]
-    faults.append(Fault("a comparison that isn't counted", "11 passed, 1 failed", ((COPIES[0], "MOST_CPUS\t8", "MOST_CPUS\t9"),)))
+    faults.append(Fault("a comparison that isn't counted", "16 passed, 1 failed", ((COPIES[0], "MOST_CPUS\t8", "MOST_CPUS\t9"),)))
     faults.append(Fault("a limit that Rattle doesn't say", "MOST_DEPTH is None", ((LIMITS, "const MOST_DEPTH", "const DEPTH"),)))
     faults += [Fault(f"another {name} in Rattle", f"{name} is", ((LIMITS, f"const {name}: {kind} = {number};", f"const {name}: {kind} = 7;"),))
-               for name, kind, number in (("MOST_CPUS", "usize", "8"), ("MOST_SLOTS", "usize", "32"), ("MOST_CHANGES", "u64", "1_000_000"),
-                                          ("MOST_SECTIONS", "u64", "1 << 40"), ("MOST_COUNT", "u64", "1 << 40"), ("MOST_DEPTH", "u8", "255"))]
-    everywhere = f"sed -i s/1_000_000/7/ {LIMITS}; for it in {HEADER} {' '.join(COPIES)}; do tools/limits-header.py >$it; done; exec tools/check-limits.py"
-    faults.append(Fault("another default, in all headers, too", "MOST_CHANGES is 7, and 1000000 in the default build", command=["sh", "-c", everywhere]))
+               for name, kind, number in (("MOST_CPUS", "usize", "8"), ("MOST_SLOTS", "usize", "32"), ("MOST_CHANGES", "u64", "1 << 40"),
+                                          ("MOST_SECTIONS", "u64", "1 << 62"), ("MOST_COUNT", "u64", "1 << 40"), ("MOST_DEPTH", "u8", "255"),
+                                          ("USUAL_CPUS", "usize", "8"), ("USUAL_SLOTS", "usize", "32"), ("USUAL_CHANGES", "u64", "1_000_000"),
+                                          ("USUAL_SECTIONS", "u64", "1 << 40"), ("USUAL_COUNT", "u64", "1 << 40"))]
+    everywhere = f"sed -i 's/1 << 62/7/' {LIMITS}; for it in {HEADER} {' '.join(COPIES)}; do tools/limits-header.py >$it; done; exec tools/check-limits.py"
+    faults.append(Fault("another default, in all headers, too", "MOST_SECTIONS is 7, and 4611686018427387904 in the default build", command=["sh", "-c", everywhere]))
     tree = real(LIMITS, VERSION, HEADER, *COPIES, *{path for path, _, _ in PLACES})
     return Case("check-limits", ["check-limits.py", "counts.py", "limits-header.py", "limits.py"], tree, ["tools/check-limits.py"], faults)
 
@@ -37,13 +39,13 @@ def check_limits():
 # The header of the default limits and that of others, which two names tell apart; each is C and C++.
 MAKES = f"""#!/bin/sh
 set -e
-sed -e 's/MOST_CPUS: usize = 8/MOST_CPUS: usize = 64/' -e 's/MOST_SLOTS: usize = 32/MOST_SLOTS: usize = 128/' -e 's/= 1_000_000/= 1 << 62/' {LIMITS} >wide.rt
+sed -e 's/MOST_CPUS: usize = 8/MOST_CPUS: usize = 64/' -e 's/MOST_SLOTS: usize = 32/MOST_SLOTS: usize = 128/' -e 's/MOST_CHANGES: u64 = .*;/MOST_CHANGES: u64 = 1_000_000;/' {LIMITS} >wide.rt
 tools/limits-header.py >default.h
 tools/limits-header.py wide.rt >wide.h
 grep -q 'registry_for_8_cpus_32_slots_v0_1$' default.h && grep -q 'REGISTRY_BUILD	""$' default.h
 grep -q 'registry_for_64_cpus_128_slots_v0_1$' wide.h && grep -q 'REGISTRY_BUILD	"-64x128"$' wide.h
 for header in default.h wide.h; do
-    echo 'extern char all[REGISTRY_MOST_SECTIONS == UINT64_C(1) << 40 && REGISTRY_MOST_CHANGES > 999999 && REGISTRY_MOST_DEPTH == 255 ? 1 : -1];' >text
+    echo 'extern char all[REGISTRY_MOST_SECTIONS == UINT64_C(1) << 62 && REGISTRY_MOST_CHANGES > 999999 && REGISTRY_MOST_DEPTH == 255 ? 1 : -1];' >text
     for language in c c++; do
         cc -Wall -Wextra -Wpedantic -Werror -include ./$header -fsyntax-only -x$language text
     done

@@ -203,7 +203,7 @@ enum {
 	REGISTRY_EMPTY_HANDLE = 65,	/* a handle is empty that must not be. */
 	REGISTRY_FULL_HANDLE = 66,	/* a handle isn't empty that must be. */
 	REGISTRY_BAD_KIND = 68,		/* neither an interface nor a driver. */
-	REGISTRY_BAD_NAME = 69,		/* `name` isn't what registry_name_parse makes. */
+	REGISTRY_BAD_NAME = 69,		/* `name` isn't what registry_name_parse makes; of registry_id_of_name: isn't an id's. */
 	REGISTRY_NAME_EMPTY = 70,	/* a name has at least one byte. */
 	REGISTRY_NAME_TOO_LONG = 71,	/* a name has at most 15 bytes. */
 	REGISTRY_NAME_BAD_BYTE = 72,	/* a byte isn't allowed in its position. */
@@ -235,7 +235,7 @@ struct registry_keeper { void *at; };
 struct registry_cpu { void *at; };
 struct registry_local { void *at; };
 
-/* A name: its bytes and then zeros up to 16. The first byte is the highest byte of `high`. registry_name_parse makes it. */
+/* A name: its bytes and then zeros up to 16. The first byte is the highest byte of `high`. registry_name_parse and registry_name_of_id make it. */
 struct registry_name {
 	uint64_t high;
 	uint64_t low;
@@ -330,6 +330,22 @@ REGISTRY_WORDS(struct registry_limits, 6);
  * Returns REGISTRY_NULL if `bytes` is NULL and `length` isn't 0, REGISTRY_NAME_EMPTY, REGISTRY_NAME_TOO_LONG, REGISTRY_NAME_BAD_BYTE.
  */
 registry_answer registry_name_parse(const char *bytes, size_t length, struct registry_name *name, uint64_t *place) REGISTRY_CHECKED;
+
+/*
+ * registry_name_of_id - make the name of an id: of any number, such as an index, an address or a hash
+ *
+ * A name of 13 bytes: a letter, a to p, for the four highest bits, then twelve digits to the base 32, 0 to 9 and a to v. Names order as the ids do. `name`
+ * may be NULL. It always returns REGISTRY_DONE.
+ */
+registry_answer registry_name_of_id(uint64_t id, struct registry_name *name);
+
+/*
+ * registry_id_of_name - write the id whose name it is to `id`
+ *
+ * `id` may be NULL: the name is checked all the same.
+ * Returns REGISTRY_NULL, REGISTRY_BAD_NAME if registry_name_of_id doesn't make `name` of any id.
+ */
+registry_answer registry_id_of_name(const struct registry_name *name, uint64_t *id) REGISTRY_CHECKED;
 
 /*
  * registry_text - the English text of a result

@@ -15,10 +15,10 @@
 #define REGISTRY_MOST_SLOTS	32
 
 /* Attaches and detaches of a registry together, at most. */
-#define REGISTRY_MOST_CHANGES	UINT64_C(1000000)
+#define REGISTRY_MOST_CHANGES	(UINT64_C(1) << 40)
 
 /* Outermost sections of a CPU, at most. */
-#define REGISTRY_MOST_SECTIONS	(UINT64_C(1) << 40)
+#define REGISTRY_MOST_SECTIONS	(UINT64_C(1) << 62)
 
 /* Passive references of a CPU to an entry, at most, and how far from 0 its net count of local references may be. */
 #define REGISTRY_MOST_COUNT	(UINT64_C(1) << 40)

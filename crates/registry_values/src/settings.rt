@@ -33,13 +33,8 @@ impl Settings {
         ensures ok { IsOk result ↔ IsTrue (are_usual self.now) }
         ensures err { IfErr result (λ refusal. refusal ≡ Refusal.BadSettings) }
     {
-        if self.are_sizes_within(USUAL_CPUS, USUAL_SLOTS, USUAL_CHANGES)
-            && self.are_limits_within(USUAL_SECTIONS, USUAL_COUNT)
-        {
-            Ok(())
-        } else {
-            Err(Refusal::BadSettings)
-        }
+        let sizes = self.are_sizes_within(USUAL_CPUS, USUAL_SLOTS, USUAL_CHANGES);
+        checked(sizes && self.are_limits_within(USUAL_SECTIONS, USUAL_COUNT))
     }
 
     /// Whether each setting is within the capacity: what a registry of C may have. Refused: `BadSettings`, where one isn't.
@@ -47,13 +42,8 @@ impl Settings {
         ensures ok { IsOk result ↔ IsTrue (are_fit self.now) }
         ensures err { IfErr result (λ refusal. refusal ≡ Refusal.BadSettings) }
     {
-        if self.are_sizes_within(MOST_CPUS, MOST_SLOTS, MOST_CHANGES)
-            && self.are_limits_within(MOST_SECTIONS, MOST_COUNT)
-        {
-            Ok(())
-        } else {
-            Err(Refusal::BadSettings)
-        }
+        let sizes = self.are_sizes_within(MOST_CPUS, MOST_SLOTS, MOST_CHANGES);
+        checked(sizes && self.are_limits_within(MOST_SECTIONS, MOST_COUNT))
     }
 
     fn are_sizes_within(&self, cpus: usize, slots: usize, changes: u64) -> bool
@@ -70,6 +60,18 @@ impl Settings {
         is_within(1, sections, self.section_limit)
             && is_within(1, count, self.passive_limit)
             && is_within(1, count, self.count_limit)
+    }
+}
+
+/// Refused: `BadSettings`, where they aren't right.
+fn checked(right: bool) -> Result<(), Refusal>
+    ensures ok { IsOk result ↔ IsTrue right }
+    ensures err { IfErr result (λ refusal. refusal ≡ Refusal.BadSettings) }
+{
+    if right {
+        Ok(())
+    } else {
+        Err(Refusal::BadSettings)
     }
 }
 

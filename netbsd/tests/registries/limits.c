@@ -13,10 +13,7 @@
 
 #include "test.h"
 
-enum { MOST_LIVE = 300, READERS = 4, MANY = 300000, REFERENCES = 3501 };	/* no multiple of 7 */
-
-/* More changes than a registry takes; where it takes more than a test can make, five million. */
-#define MANY_CHANGES	(REGISTRY_MOST_CHANGES < 4900000 ? (unsigned)REGISTRY_MOST_CHANGES + 100000 : 5000000)
+enum { MOST_LIVE = 300, READERS = 4, MANY = 300000, MANY_CHANGES = 1100000, REFERENCES = 3501 };	/* no multiple of 7 */
 
 static struct psref_class *things;
 static pserialize_t psz;
