@@ -201,8 +201,8 @@ BAD_LIMITS = {
     "--changes 5": "it takes no --changes",
     "--slots": "--slots has no number",
     "--cpus 9 --cpus 10": "--cpus is given twice",
-    "--wide --cpus 4": "--wide is no limit: it is --wide alone, or --cpus",
-    "--cpus 4 --wide": "--wide is no limit: it is --wide alone, or --cpus",
+    "--wide --cpus 9": "--wide is no limit: it is --wide alone, or --cpus",
+    "--cpus 9 --wide": "--wide is no limit: it is --wide alone, or --cpus",
     "--count 4": "it takes no --count",
 }
 
