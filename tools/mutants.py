@@ -66,7 +66,7 @@ OVER_WAITING = {"turns": [], "reclaims": [], "lent": [], "deferred": [], "waits"
 # What is C of the archive, and the programs that see each part, with their words.
 PARTS = {
     "heap": {"allocs": [], "refuse": [], "blocks": [], "misuse": []},
-    "composed": {"entries": ["1000"], "sanitized-entries": ["300"]},
+    "composed": {"entries": ["1000"], "history": ["3000"], "misuse": [], "sanitized-entries": ["300"]},
     "strings": {"names": [], "sanitized-names": []},
 }
 CARGO = "cargo test --offline -q --manifest-path rust/Cargo.toml"

@@ -2,7 +2,7 @@
  * entries CHANGES - the calls that acquire the entry they are given, and registry_close: each answer, and what each leaves; and on four threads
  *
  * What a call has left is asked after each: how deep the CPU is inside, what it found last, what holds the entry. Then three threads go over the
- * entries, acquire what they met and use its object of the heap past the section. A fourth replaces one driver after the other.
+ * entries and look drivers up, acquire them and use their objects of the heap past the section. A fourth replaces one driver after the other.
  */
 #include <pthread.h>
 #include <stdatomic.h>
@@ -394,11 +394,32 @@ static void use_one(struct registry_cpu *cpu, unsigned which)
 		use_object(cpu, &met);
 }
 
+/* Looks a driver up, and uses it in a section or by a reference. Of a look-up it uses nothing but the copy. */
+static void use_found(struct registry_cpu *cpu, const struct registry_name *name)
+{
+	struct registry_entry found;
+	registry_answer answer = registry_look_up(cpu, REGISTRY_DRIVER, name, &found);
+	EXPECT(answer == REGISTRY_NOT_FOUND || (answer == REGISTRY_DONE && memcmp(&found.name, name, sizeof *name) == 0));
+	answer = registry_get(cpu, REGISTRY_DRIVER, name, &found);
+	EXPECT(answer == REGISTRY_NOT_FOUND || answer == REGISTRY_DONE);
+	if (answer == REGISTRY_DONE)
+		use_object(cpu, &found);
+	answer = registry_enter_find(cpu, REGISTRY_DRIVER, name, &found);
+	EXPECT(answer == REGISTRY_NOT_FOUND || answer == REGISTRY_DONE);
+	if (answer != REGISTRY_DONE)
+		return;
+	DONE(registry_acquire_entry(cpu, &found));
+	use_object(cpu, &found);
+	DONE(registry_exit(cpu));
+}
+
 static void *use_all(void *cpu)
 {
 	do {
 		use_one(cpu, 0);
 		use_one(cpu, 1);
+		use_found(cpu, &names[0]);
+		use_found(cpu, &names[1]);
 	} while (!atomic_load(&over));
 	return NULL;
 }

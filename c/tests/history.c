@@ -521,13 +521,17 @@ static uint64_t run(const struct registry_settings *settings, uint64_t changes, 
 	return changes;
 }
 
-/* The registry's answers where sections, references and counts come to their limits: each registry is small, so that they come often. */
+/*
+ * The registry's answers where sections, references and counts come to their limits: each registry is small, so that they come often. The sections of
+ * each CPU are counted so: what the CPU remembers begins none.
+ */
 static void run_small(uint64_t seed)
 {
 	struct registry_settings settings = {1, 1, 400, REGISTRY_MOST_SECTIONS, 3, 3};
 	for (uint64_t i = 0; i < SMALL; i++) {
 		settings.cpus = 1 + i % CPUS;
 		settings.slots = 1 + i % SLOTS;
+		settings.section_limit = i % 2 == 0 ? REGISTRY_MOST_SECTIONS : 5 + i % 97;
 		run(&settings, 300, seed + i);
 	}
 }

@@ -184,6 +184,9 @@ static void misuse_sections(struct registry_cpu *cpu)
 	for (unsigned i = 0; i < REGISTRY_MOST_DEPTH; i++)
 		DONE(registry_enter(cpu));
 	REFUSED(registry_enter(cpu), REGISTRY_TOO_DEEP);
+	REFUSED(registry_look_up(cpu, 9, NULL, &out.entry), REGISTRY_TOO_DEEP);
+	REFUSED(registry_get(cpu, 9, NULL, &out.entry), REGISTRY_TOO_DEEP);
+	REFUSED(registry_enter_find(cpu, 9, NULL, &out.entry), REGISTRY_TOO_DEEP);
 	EXPECT(registry_depth(cpu, &depth) == REGISTRY_DONE && depth == REGISTRY_MOST_DEPTH);
 	REFUSED(registry_find(cpu, REGISTRY_DRIVER, &BAD, &out.entry), REGISTRY_NOT_FOUND);
 	EXPECT(registry_close_cpu(cpu) == REGISTRY_INSIDE);
@@ -253,6 +256,44 @@ static void check_nulls(struct bench *bench)
 	EXPECT(out.entry.number == 1 && out.entry.value == 7);
 	DONE(registry_release(cpu, 1));
 	REFUSED(registry_release(cpu, 1), REGISTRY_NOT_HELD);
+}
+
+typedef registry_answer usual_call(struct registry_cpu *cpu, uint64_t kind, const struct registry_name *name, struct registry_entry *found);
+
+/* What a look-up, a get and an enter_find are refused for, in a section and outside, one wrong thing before the next. The CPU stays as deep inside. */
+static void misuse_usual(struct registry_cpu *cpu, usual_call *call)
+{
+	uint64_t depth, after;
+	DONE(registry_depth(cpu, &depth));
+	REFUSED(call(&no_cpu, 9, NULL, &out.entry), REGISTRY_EMPTY_HANDLE);
+	REFUSED(call(cpu, 9, NULL, &out.entry), REGISTRY_NULL);
+	REFUSED(call(cpu, 9, &BAD, &out.entry), REGISTRY_BAD_KIND);
+	REFUSED(call(cpu, 0, &wm, NULL), REGISTRY_BAD_KIND);
+	REFUSED(call(cpu, REGISTRY_DRIVER, &BAD, &out.entry), REGISTRY_NOT_FOUND);
+	REFUSED(call(cpu, REGISTRY_INTERFACE, &wm, NULL), REGISTRY_NOT_FOUND);
+	EXPECT(registry_depth(cpu, &after) == REGISTRY_DONE && after == depth);
+}
+
+/* In a section a lookup that is refused for its name or its kind leaves the last found entry. Nothing is written where nothing is wanted. */
+static void check_usual(struct registry_cpu *cpu)
+{
+	usual_call *const calls[] = {registry_look_up, registry_get, registry_enter_find};
+	for (unsigned i = 0; i < sizeof calls / sizeof *calls; i++) {
+		misuse_usual(cpu, calls[i]);
+		DONE(registry_enter_find(cpu, REGISTRY_DRIVER, &wm, NULL));
+		REFUSED(calls[i](cpu, REGISTRY_DRIVER, NULL, NULL), REGISTRY_NULL);
+		DONE(registry_acquire(cpu, NULL));
+		misuse_usual(cpu, calls[i]);
+		REFUSED(registry_acquire(cpu, NULL), REGISTRY_NOTHING_FOUND);
+		REFUSED(calls[i](cpu, REGISTRY_DRIVER, &wm, NULL), REGISTRY_DONE);
+		DONE(registry_acquire(cpu, NULL));
+		if (calls[i] == registry_enter_find)
+			DONE(registry_exit(cpu));
+		DONE(registry_exit(cpu));
+		for (unsigned held = calls[i] == registry_get ? 3 : 2; held > 0; held--)
+			DONE(registry_release(cpu, 1));
+		REFUSED(registry_release(cpu, 1), REGISTRY_NOT_HELD);
+	}
 }
 
 /* A name is parsed into nothing. */
@@ -737,6 +778,7 @@ int main(void)
 	misuse_empty_cpu(&bench);
 	misuse_empty_keeper(&bench);
 	misuse_sections(&bench.cpus[1]);
+	check_usual(&bench.cpus[0]);
 	check_nulls(&bench);
 	check_null_names();
 	check_keeper_nulls();
