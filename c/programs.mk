@@ -11,7 +11,7 @@ vpath %.c c/examples c/tests
 
 PROGRAMS = smallest row packet shared storm misuse refuse blocks allocs changes built $(OVER_WAITING) turns history planted walk entries names crowd forwarder device_switch $(PROGRAMS_$(PROCESSOR)) $(BENCHED)
 # Tests of waiting.h: each is compiled with it.
-OVER_WAITING = waits deferred together interrupted reclaims lent
+OVER_WAITING = deferred together interrupted reclaims lent
 # They read registers of x86-64.
 PROGRAMS_x86_64 = recalls
 # A release's source has no bench.
@@ -45,8 +45,6 @@ $(OUT)/reclaims: c/tests/reclaims.c
 $(OUT)/lent $(OUT)/sanitized-lent: LINK = -Wl,--wrap=malloc,--wrap=pthread_condattr_init,--wrap=pthread_cond_init,--wrap=pthread_key_create,--wrap=pthread_setspecific
 $(OUT)/lent: c/tests/lent.c
 $(OVER_WAITING:%=$(OUT)/%): c/src/waiting.c c/include/waiting.h
-$(OUT)/waits: c/tests/waits.c
-$(OUT)/waits: LINK = -Wl,--wrap=nanosleep,--wrap=sched_yield
 $(OUT)/turns: c/tests/turns.c c/src/waiting.c c/include/waiting.h c/tests/pauses.h
 $(OUT)/turns: CFLAGS += -include c/tests/pauses.h
 $(OUT)/turns: LINK = -Wl,--wrap=registry_destroy,--wrap=registry_perform_begin,--wrap=registry_perform_turn,--wrap=clock_gettime,--wrap=nanosleep,--wrap=sched_yield \

@@ -110,7 +110,6 @@ test_clients() {
     check "walk" emulated "$out/walk" 200
     check "entries" emulated "$out/entries" 50
     check "names and answers as text" emulated "$out/names"
-    check "waits" emulated "$out/waits"
     check "turns, each step of a wait" emulated "$out/turns" emulated
     check "deferred, beside a model" emulated "$out/deferred" 200 1
     check "forwarder" emulated "$out/forwarder" 200

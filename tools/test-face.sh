@@ -196,7 +196,7 @@ test_c() {
     cpus=$(most_cpus)
     check "C: smallest" smallest_says "$out/smallest"
     check "C: row" row_says "$out/row"
-    for each in packet 'shared 2000' misuse refuse allocs blocks built waits turns deferred together interrupted reclaims lent history planted 'walk 5000' 'entries 1000' names \
+    for each in packet 'shared 2000' misuse refuse allocs blocks built turns deferred together interrupted reclaims lent history planted 'walk 5000' 'entries 1000' names \
         recalls 'crowd 2000' forwarder device_switch 'speed 2 8 1000' 'changes 20' "changes 20 $cpus"; do
         # shellcheck disable=SC2086
         check "C: $each" "$out"/$each
@@ -221,7 +221,7 @@ test_watched() {
     check "C: smallest under valgrind" smallest_says guarded "$out/smallest"
     check "C: row under valgrind" row_says guarded "$out/row"
     check "C: storm 4 100 under valgrind" storm_says 4 100 guarded "$out/storm"
-    for each in packet 'shared 20' misuse built waits 'together 5' interrupted reclaims lent 'walk 50' 'entries 50' names 'crowd 20' refuse; do
+    for each in packet 'shared 20' misuse built 'together 5' interrupted reclaims lent 'walk 50' 'entries 50' names 'crowd 20' refuse; do
         # shellcheck disable=SC2086
         check "C: $each under valgrind" guarded "$out"/$each
     done
