@@ -4,14 +4,14 @@
 INCLUDES = -Ic/include -Ic/examples -Ic/tests -I$(HEADER)
 WRAP = -Wl,--wrap=malloc,--wrap=realloc,--wrap=free
 # What planted.c spoils of history, and the main of history.
-PLANTED = main $(addprefix registry_,open attach attach_iface detach advance destroy audit acquire get copy release local_acquire local_release)
+PLANTED = main $(addprefix registry_,open attach attach_iface detach replace replace_iface advance destroy audit acquire get copy release local_acquire local_release)
 
 # Where the programs lie.
 vpath %.c c/examples c/tests
 
-PROGRAMS = smallest row packet shared storm misuse refuse blocks allocs changes built layout $(OVER_WAITING) turns history planted walk usual entries names crowd forwarder device_switch $(PROGRAMS_$(PROCESSOR)) $(BENCHED)
+PROGRAMS = smallest row packet shared storm misuse refuse blocks allocs changes built $(OVER_WAITING) turns history planted walk entries names crowd forwarder device_switch $(PROGRAMS_$(PROCESSOR)) $(BENCHED)
 # Tests of waiting.h: each is compiled with it.
-OVER_WAITING = waits deferred together interrupted reclaims lent
+OVER_WAITING = deferred together interrupted reclaims lent
 # They read registers of x86-64.
 PROGRAMS_x86_64 = recalls
 # A release's source has no bench.
@@ -30,12 +30,10 @@ $(OUT)/shared: c/examples/shared.c c/src/waiting.c c/include/waiting.h
 $(OUT)/storm: c/examples/storm.c c/examples/basket.h
 $(OUT)/misuse: c/tests/misuse.c
 $(OUT)/built: c/tests/built.c
-$(OUT)/layout: c/tests/layout.c
 $(OUT)/recalls: c/tests/recalls.c c/tests/wrapped_heap.h
 $(OUT)/recalls: STRICT = -std=c11 -D_GNU_SOURCE -mno-red-zone $(WARNINGS)
 $(OUT)/recalls: LINK = -Wl,--wrap=malloc
 $(OUT)/walk: c/examples/walk.c
-$(OUT)/usual: c/tests/usual.c
 $(OUT)/entries: c/tests/entries.c
 $(OUT)/names: c/tests/names.c
 $(OUT)/crowd: c/tests/crowd.c c/examples/basket.h
@@ -47,8 +45,6 @@ $(OUT)/reclaims: c/tests/reclaims.c
 $(OUT)/lent $(OUT)/sanitized-lent: LINK = -Wl,--wrap=malloc,--wrap=pthread_condattr_init,--wrap=pthread_cond_init,--wrap=pthread_key_create,--wrap=pthread_setspecific
 $(OUT)/lent: c/tests/lent.c
 $(OVER_WAITING:%=$(OUT)/%): c/src/waiting.c c/include/waiting.h
-$(OUT)/waits: c/tests/waits.c
-$(OUT)/waits: LINK = -Wl,--wrap=nanosleep,--wrap=sched_yield
 $(OUT)/turns: c/tests/turns.c c/src/waiting.c c/include/waiting.h c/tests/pauses.h
 $(OUT)/turns: CFLAGS += -include c/tests/pauses.h
 $(OUT)/turns: LINK = -Wl,--wrap=registry_destroy,--wrap=registry_perform_begin,--wrap=registry_perform_turn,--wrap=clock_gettime,--wrap=nanosleep,--wrap=sched_yield \
@@ -74,7 +70,7 @@ $(PROGRAMS:%=$(OUT)/%): c/examples/client.h c/examples/expect.h c/examples/edges
 	$(CC) $(STRICT) $(CPPFLAGS) $(CFLAGS) $(INCLUDES) $(LDFLAGS) -o $@ $(filter %.c,$^) $(ARCHIVE) -pthread $(LINK)
 
 # refuse has an allocator of its own, which the sanitizers' would fight.
-SANITIZED = smallest row packet shared storm misuse built walk usual entries names crowd forwarder device_switch $(WAITING_SANITIZED)
+SANITIZED = smallest row packet shared storm misuse built walk entries names crowd forwarder device_switch $(WAITING_SANITIZED)
 # The address sanitizer takes the stack of a cancelled thread for one in use.
 WAITING_SANITIZED = together reclaims lent
 
@@ -113,7 +109,7 @@ $(STRESSES): c/tests/heap_stress.c c/examples/edges.h c/examples/client.h c/exam
 	$(CC) $(STRICT) -O1 -g $(checker_$(word 2,$(subst -, ,$@))) $(when_$(word 3,$(subst -, ,$@))) $(INCLUDES) $(LDFLAGS) -o $@ $< $(ARCHIVE) -pthread
 
 # Tests of one thread, of which each access to a registry's table is looked at: for aarch64 alone.
-ORDERED = layout misuse history
+ORDERED = misuse history
 
 ordered: $(ORDERED:%=$(OUT)/ordered-%)
 
@@ -124,10 +120,10 @@ $(ORDERED:%=$(OUT)/ordered-%): $(OUT)/ordered-%: %.c c/tests/ordered.c c/example
 	    -Wl,--wrap=malloc,--wrap=free,--wrap=registry_open
 
 # What ends with status 0 where it finds nothing wrong, with the words that make it brief; and the names of the pages, plain.
-CHECKED = smallest packet shared misuse refuse built layout turns $(OVER_WAITING) history walk usual crowd forwarder device_switch
+CHECKED = smallest packet shared misuse refuse built turns $(OVER_WAITING) history walk entries crowd forwarder device_switch
 words_together = 20
 words_walk = 200
-words_usual = 50
+words_entries = 50
 words_crowd = 50
 words_forwarder = 200
 words_device_switch = 20

@@ -128,7 +128,7 @@ install: library pages
 	$(filled) packaging/kupaldizConfigVersion.cmake.in >$(DESTDIR)$(CMAKEDIR)/kupaldizConfigVersion.cmake
 	$(foreach page,$(PAGES),$(call install_page,$(page),$(call named_by,$(page))))
 	$(foreach page,$(NETBSD_PAGES),$(call install_page,$(page),$(call netbsd_named_by,$(page))))
-	$(INSTALL) -m 644 man/kupaldiz_netbsd.7 $(DESTDIR)$(MANDIR)/man7/kupaldiz_netbsd.7
+	$(INSTALL) -m 644 man/registry.7 man/kupaldiz_netbsd.7 $(DESTDIR)$(MANDIR)/man7/
 	$(INSTALL) -m 644 packaging/CHANGELOG.md packaging/VERSIONS.md $(DESTDIR)$(DOCDIR)/
 
 # In a .pc file a blank is written as in a shell, and sed takes a \ of its own. Whatever umask there is, everyone may read what is installed.
@@ -166,7 +166,7 @@ uninstall: pages
 	rm -f $(addprefix $(DESTDIR)$(INCLUDEDIR)/kupaldiz/,registry.h registry_limits.h registry_waiting.h)
 	rm -f $(addprefix $(DESTDIR)$(MANDIR)/man3/,$(foreach page,$(PAGES),$(page).3 $(addsuffix .3$(MANSUFFIX),$(call named_by,$(page)))))
 	rm -f $(addprefix $(DESTDIR)$(MANDIR)/man3/,$(foreach page,$(NETBSD_PAGES),$(page).3 $(addsuffix .3$(MANSUFFIX),$(call netbsd_named_by,$(page)))))
-	rm -f $(DESTDIR)$(MANDIR)/man7/kupaldiz_netbsd.7
+	rm -f $(addprefix $(DESTDIR)$(MANDIR)/man7/,registry.7 kupaldiz_netbsd.7)
 	rm -f $(addprefix $(DESTDIR)$(DOCDIR)/,CHANGELOG.md VERSIONS.md)
 	-rmdir $(NETBSD_FOLDERS:%=$(DESTDIR)$(INCLUDEDIR)/kupaldiz/netbsd/%) $(DESTDIR)$(INCLUDEDIR)/kupaldiz/netbsd $(DESTDIR)$(INCLUDEDIR)/kupaldiz \
 	    $(DESTDIR)$(CMAKEDIR) $(DESTDIR)$(DOCDIR)

@@ -49,7 +49,7 @@ row_says() {
 }
 
 smallest_says() {
-    echo 'eth0 has value 1500' >"$log.wanted"
+    echo 'wm0 has value 1500' >"$log.wanted"
     says "$log.wanted" "$@"
 }
 

@@ -8,7 +8,6 @@ A page's frame, PAGE.3.in, is mdoc with lines that stand for parts of the header
 
     @names              .Nm of each call
     @synopsis           each call as it is declared, by group
-    @section TITLE      the paragraphs under this title, in capitals, in the header's first comment
     @calls              each group, and what its comments say of its calls
     @types NAME..       these structs, with what their comments say of their members
     @constants NAME..   from the enum that begins with NAME: what the comments say of each
@@ -174,10 +173,6 @@ def only(form, text):
     return found
 
 
-def section(header, title):
-    return paragraphs(uncommented(only(rf"^ \* {title}\n \*\n(.*?)(?=^ \* [A-Z ]+\n \*\n|^ \*/)", header)[1]))
-
-
 def members(body):
     """The members of a struct or an enum, each with its comment: the one after it, or the line of comment before it."""
     for before, member, after in re.findall(r"(?:/\* (.*?) \*/\n\s*)?^\s*(\w[^;\n]*?)[;,]?\s*(?:/\* (.*?) \*/)?$", body, re.M):
@@ -215,7 +210,7 @@ def part(header, line):
     """What a line of the frame stands for."""
     word, *rest = line[1:].split()
     try:
-        return section(header, " ".join(rest)) if word == "section" else PARTS[word](header, *rest)
+        return PARTS[word](header, *rest)
     except (KeyError, LookupError, OSError, TypeError):
         sys.exit(f"header-pages: '{line}' of the frame names nothing")
 

@@ -62,11 +62,11 @@ BENCH = {"counts": [], "drivers": [], "finds": [], "races": [], "refusals": [], 
 WATCHED = {"drained": [], "model": ["1", "300"]}
 VALGRIND = "valgrind -q --fair-sched=try --error-exitcode=99 --leak-check=full --show-leak-kinds=definite --errors-for-leak-kinds=definite".split()
 # The tests of waiting.c, with their words.
-OVER_WAITING = {"turns": [], "reclaims": [], "lent": [], "deferred": [], "waits": [], "interrupted": [], "together": ["20"]}
+OVER_WAITING = {"turns": [], "reclaims": [], "lent": [], "deferred": [], "interrupted": [], "together": ["20"]}
 # What is C of the archive, and the programs that see each part, with their words.
 PARTS = {
     "heap": {"allocs": [], "refuse": [], "blocks": [], "misuse": []},
-    "composed": {"entries": ["1000"], "sanitized-entries": ["300"]},
+    "composed": {"entries": ["1000"], "history": ["3000"], "misuse": [], "sanitized-entries": ["300"]},
     "strings": {"names": [], "sanitized-names": []},
 }
 CARGO = "cargo test --offline -q --manifest-path rust/Cargo.toml"

@@ -25,7 +25,7 @@ built() {
 
 # runs COMMAND..: the smallest program, and threads that wait together, built by this command.
 runs() {
-    built smallest "$@" && "$room/smallest" | grep -x 'eth0 has value 1500' && built together "$@" && "$room/together" 2
+    built smallest "$@" && "$room/smallest" | grep -x 'wm0 has value 1500' && built together "$@" && "$room/together" 2
 }
 
 # The same over musl, and waits that are interrupted, of which deadlines and cancellations are the C library's.

@@ -196,7 +196,7 @@ test_c() {
     cpus=$(most_cpus)
     check "C: smallest" smallest_says "$out/smallest"
     check "C: row" row_says "$out/row"
-    for each in packet 'shared 2000' misuse refuse allocs blocks built layout waits turns deferred together interrupted reclaims lent history planted 'walk 5000' 'entries 1000' names 'usual 1000' \
+    for each in packet 'shared 2000' misuse refuse allocs blocks built turns deferred together interrupted reclaims lent history planted 'walk 5000' 'entries 1000' names \
         recalls 'crowd 2000' forwarder device_switch 'speed 2 8 1000' 'changes 20' "changes 20 $cpus"; do
         # shellcheck disable=SC2086
         check "C: $each" "$out"/$each
@@ -221,14 +221,14 @@ test_watched() {
     check "C: smallest under valgrind" smallest_says guarded "$out/smallest"
     check "C: row under valgrind" row_says guarded "$out/row"
     check "C: storm 4 100 under valgrind" storm_says 4 100 guarded "$out/storm"
-    for each in packet 'shared 20' misuse built layout waits 'together 5' interrupted reclaims lent 'walk 50' 'entries 50' names 'usual 50' 'crowd 20' refuse; do
+    for each in packet 'shared 20' misuse built 'together 5' interrupted reclaims lent 'walk 50' 'entries 50' names 'crowd 20' refuse; do
         # shellcheck disable=SC2086
         check "C: $each under valgrind" guarded "$out"/$each
     done
     check "C: smallest with sanitizers" smallest_says "$out/sanitized-smallest"
     check "C: row with sanitizers" row_says "$out/sanitized-row"
     check "C: storm $cpus $((8000 / cpus)) with sanitizers" storm_says "$cpus" $((8000 / cpus)) "$out/sanitized-storm"
-    for each in misuse packet 'shared 500' built 'together 50' reclaims lent 'walk 1000' 'entries 300' names 'usual 300' 'crowd 300' forwarder device_switch; do
+    for each in misuse packet 'shared 500' built 'together 50' reclaims lent 'walk 1000' 'entries 300' names 'crowd 300' forwarder device_switch; do
         # shellcheck disable=SC2086
         check "C: $each with sanitizers" "$out"/sanitized-$each
     done

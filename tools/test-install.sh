@@ -186,7 +186,7 @@ holds_files() {
 # The manual pages, and the names at the head of each of section 3, which lead to it.
 wanted_pages() {
     local page name
-    for page in "$top"/man/{registry,registry_waiting}.3 "$top"/man/kupaldiz_*.[37]; do
+    for page in "$top"/man/registry{.3,_waiting.3,.7} "$top"/man/kupaldiz_*.[37]; do
         echo "${page##*/}"
         [ "${page%.3}" != "$page" ] || continue
         for name in $(sed -nE '/^\.Sh NAME/,/^\.Nd/s/^\.Nm ([A-Za-z_0-9]+).*/\1/p' "$page"); do

@@ -62,7 +62,7 @@ static uint32_t open_file(struct registry_cpu *cpu, struct registry_local *file)
 	DONE(registry_enter(cpu));
 	uint32_t answer = registry_find(cpu, REGISTRY_DRIVER, &disk, &found);
 	if (answer == REGISTRY_DONE)
-		answer = registry_local_acquire(cpu, file);
+		answer = registry_local_acquire_entry(cpu, &found, file);
 	DONE(registry_exit(cpu));
 	return answer;
 }

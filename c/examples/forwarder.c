@@ -63,9 +63,9 @@ static void put_packet(struct port *port, struct worker *self)
 }
 
 /* Forwards a packet in the section that found the port, or beyond it. Either ends the section. */
-static void forward(struct registry_cpu *cpu, struct port *port, struct worker *self)
+static void forward(struct registry_cpu *cpu, const struct registry_entry *found, struct worker *self)
 {
-	uint64_t number;
+	struct port *port = (struct port *)(uintptr_t)found->value;
 	bool waits = self->tally.done % 16 == 0;
 	if (!waits) {
 		put_packet(port, self);
@@ -73,12 +73,12 @@ static void forward(struct registry_cpu *cpu, struct port *port, struct worker *
 		DONE(registry_exit(cpu));
 		return;
 	}
-	DONE(registry_acquire(cpu, &number));
+	DONE(registry_acquire_entry(cpu, found));
 	DONE(registry_exit(cpu));
 	sched_yield();	/* the port may be detached here, and stays */
 	put_packet(port, self);
 	BEFORE_LETTING_GO(port);
-	DONE(registry_release(cpu, number));
+	DONE(registry_release(cpu, found->number));
 }
 
 static void *forward_all(void *arg)
@@ -96,7 +96,7 @@ static void *forward_all(void *arg)
 			continue;
 		}
 		AFTER_FIND((struct port *)(uintptr_t)found.value);
-		forward(cpu, (struct port *)(uintptr_t)found.value, self);
+		forward(cpu, &found, self);
 	}
 	return NULL;
 }
@@ -107,7 +107,7 @@ static void refer_to_driver(struct registry_cpu *cpu, struct registry_local *loc
 	struct registry_entry found;
 	DONE(registry_enter(cpu));
 	DONE(registry_find(cpu, REGISTRY_DRIVER, &driver, &found));
-	DONE(registry_local_acquire(cpu, local));
+	DONE(registry_local_acquire_entry(cpu, &found, local));
 	DONE(registry_exit(cpu));
 }
 

@@ -32,19 +32,18 @@ static void send_packet(const struct registry_entry *iface)
 static registry_answer send_by(struct registry_cpu *cpu, const struct registry_name *name)
 {
 	struct registry_entry found;
-	uint64_t number;
 
 	registry_answer answer = registry_enter(cpu);
 	if (answer != REGISTRY_DONE)
 		return answer;
 	answer = registry_find(cpu, REGISTRY_INTERFACE, name, &found);
 	if (answer == REGISTRY_DONE)
-		answer = registry_acquire(cpu, &number);
+		answer = registry_acquire_entry(cpu, &found);
 	registry_exit(cpu);
 	if (answer != REGISTRY_DONE)
 		return answer;
 	send_packet(&found);	/* may sleep */
-	return registry_release(cpu, number);
+	return registry_release(cpu, found.number);
 }
 
 /* The same, with one call for the first four. */
@@ -97,7 +96,7 @@ static void attach_both(struct registry_cpu *cpu)
 	DONE(registry_attach(&keeper, cpu, &wm, 7, &entry));
 	DONE(registry_enter(cpu));
 	DONE(registry_find(cpu, REGISTRY_DRIVER, &wm, &entry));
-	DONE(registry_local_acquire(cpu, &driver));
+	DONE(registry_local_acquire_entry(cpu, &entry, &driver));
 	DONE(registry_exit(cpu));
 	DONE(registry_attach_iface(&keeper, cpu, &driver, &wm0, 1500, &entry));
 }

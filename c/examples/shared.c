@@ -23,7 +23,7 @@ struct shared_cpu {
 static struct shared_cpu shared[CPUS];
 static struct registry_keeper keeper;
 static pthread_mutex_t interlock = PTHREAD_MUTEX_INITIALIZER;
-static struct registry_name eth0;
+static struct registry_name wm0;
 static atomic_bool over;
 static atomic_uint_fast64_t used;
 
@@ -83,7 +83,7 @@ static registry_answer use_entry(unsigned thread)
 	struct registry_entry found;
 	struct shared_cpu *on = lock_cpu(thread);
 
-	registry_answer answer = registry_get(&on->cpu, REGISTRY_DRIVER, &eth0, &found);
+	registry_answer answer = registry_get(&on->cpu, REGISTRY_DRIVER, &wm0, &found);
 	unlock_cpu(on);
 	if (answer != REGISTRY_DONE)
 		return answer;
@@ -125,7 +125,7 @@ static struct port *put_in(struct shared_cpu *on)
 	EXPECT(port != NULL);
 	port->mtu = 1500;
 	lock_both(on);
-	DONE(registry_attach(&keeper, &on->cpu, &eth0, (uint64_t)(uintptr_t)port, NULL));
+	DONE(registry_attach(&keeper, &on->cpu, &wm0, (uint64_t)(uintptr_t)port, NULL));
 	unlock_both(on);
 	return port;
 }
@@ -138,7 +138,7 @@ static registry_answer take_out(struct shared_cpu *on)
 	struct timespec deadline;
 
 	lock_both(on);
-	registry_answer answer = registry_detach(&keeper, &on->cpu, REGISTRY_DRIVER, &eth0, &retired);
+	registry_answer answer = registry_detach(&keeper, &on->cpu, REGISTRY_DRIVER, &wm0, &retired);
 	unlock_both(on);
 	if (answer != REGISTRY_DONE)
 		return answer;
@@ -179,7 +179,7 @@ int main(int argc, char **argv)
 	pthread_t threads[THREADS];
 
 	EXPECT(argc <= 2 && changes > 0 && changes <= REGISTRY_MOST_CHANGES / 2);
-	eth0 = name_of("eth0");
+	wm0 = name_of("wm0");
 	open_registry(changes);
 	for (unsigned i = 0; i < THREADS; i++)
 		EXPECT(pthread_create(&threads[i], NULL, use_all, (void *)(uintptr_t)i) == 0);

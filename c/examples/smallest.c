@@ -33,12 +33,12 @@ int main(void)
 	struct registry_entry found;
 
 	check("open", registry_open(&settings, &keeper, cpus, 2));
-	check("name", registry_name_parse("eth0", strlen("eth0"), &name, NULL));
+	check("name", registry_name_parse("wm0", strlen("wm0"), &name, NULL));
 	check("attach", registry_attach(&keeper, &cpus[1], &name, 1500, NULL));
 
 	/* Between these two calls the thread may sleep. If the value is a pointer, its memory may be used there. */
 	check("get", registry_get(&cpus[0], REGISTRY_DRIVER, &name, &found));
-	printf("eth0 has value %" PRIu64 "\n", found.value);
+	printf("wm0 has value %" PRIu64 "\n", found.value);
 	check("release", registry_release(&cpus[0], found.number));
 
 	/* One call does, since nothing holds the entry. Beside other threads, call it again while it returns REGISTRY_STILL_HELD. */

@@ -75,7 +75,7 @@ static bool refer_to_driver(struct registry_local *reference, struct counts *cou
 	struct registry_entry found;
 	judge(counts, registry_enter(&cpus[0]) == REGISTRY_DONE);
 	judge(counts, registry_find(&cpus[0], REGISTRY_DRIVER, &drv, &found) == REGISTRY_DONE && is_driver(&found));
-	bool acquired = registry_local_acquire(&cpus[0], reference) == REGISTRY_DONE;
+	bool acquired = registry_local_acquire_entry(&cpus[0], &found, reference) == REGISTRY_DONE;
 	judge(counts, acquired);
 	judge(counts, registry_exit(&cpus[0]) == REGISTRY_DONE);
 	return acquired;
@@ -146,8 +146,9 @@ static bool refer(struct registry_cpu *cpu, uint64_t *passive, struct registry_l
 	answer = registry_find(cpu, REGISTRY_DRIVER, &drv, &found);
 	judge(counts, answer == REGISTRY_DONE && is_driver(&found));
 	counts->lookups += 2;
-	judge(counts, registry_acquire(cpu, passive) == REGISTRY_DONE);
-	bool acquired = registry_local_acquire(cpu, local) == REGISTRY_DONE;
+	judge(counts, registry_acquire_entry(cpu, &found) == REGISTRY_DONE);
+	*passive = found.number;
+	bool acquired = registry_local_acquire_entry(cpu, &found, local) == REGISTRY_DONE;
 	judge(counts, acquired);
 	return acquired;
 }

@@ -31,24 +31,25 @@ static atomic_bool over;
 /* Adds up what all interfaces carried, in one section. */
 static uint64_t bytes_of_all(struct registry_cpu *cpu)
 {
-	struct registry_entry row[REGISTRY_MOST_SLOTS];
+	struct registry_cursor cursor;
+	struct registry_entry entry;
 	uint64_t bytes = 0, last = UINT64_MAX;
 	unsigned staying = 0;
-	size_t count;
 
 	DONE(registry_enter(cpu));
-	DONE(registry_walk(cpu, row, REGISTRY_MOST_SLOTS, &count));
-	for (size_t i = 0; i < count; i++) {
-		EXPECT(row[i].number < last);
-		last = row[i].number;
-		if (row[i].kind != REGISTRY_INTERFACE)
+	registry_answer answer = registry_first(cpu, &cursor, &entry);
+	for (; answer == REGISTRY_DONE; answer = registry_next(cpu, &cursor, &entry)) {
+		EXPECT(entry.number < last);
+		last = entry.number;
+		if (entry.kind != REGISTRY_INTERFACE)
 			continue;
-		const struct port *port = (const struct port *)(uintptr_t)row[i].value;
+		const struct port *port = (const struct port *)(uintptr_t)entry.value;
 		rest();
 		EXPECT(port->alive == ALIVE);
 		bytes += port->bytes;
 		staying += port->stays ? 1 : 0;
 	}
+	EXPECT(answer == REGISTRY_NO_MORE);
 	DONE(registry_exit(cpu));
 	EXPECT(staying == 2);
 	return bytes;
@@ -70,7 +71,7 @@ static void hold_driver(void)
 	struct registry_entry found;
 	DONE(registry_enter(&cpus[CHANGER]));
 	DONE(registry_find(&cpus[CHANGER], REGISTRY_DRIVER, &name, &found));
-	DONE(registry_local_acquire(&cpus[CHANGER], &driver));
+	DONE(registry_local_acquire_entry(&cpus[CHANGER], &found, &driver));
 	DONE(registry_exit(&cpus[CHANGER]));
 }
 

@@ -39,6 +39,7 @@ static const char *const TEXTS[] = {
 	[REGISTRY_NULL] = "a pointer is null to something that the call needs",
 	[REGISTRY_OTHER_LIMITS] = "the program was compiled for other limits than the library has",
 	[REGISTRY_NO_CPU] = "every CPU is another thread's",
+	[REGISTRY_NO_MORE] = "the cursor has passed the last entry",
 };
 
 const char *registry_strerror(registry_answer answer)

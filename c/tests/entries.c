@@ -1,8 +1,8 @@
 /*
- * entries CHANGES - registry_acquire_entry and registry_close: each answer, what each leaves, and registry_acquire_entry on four threads
+ * entries CHANGES - the calls that acquire the entry they are given, and registry_close: each answer, and what each leaves; and on four threads
  *
- * What a call has left is asked after each: how deep the CPU is inside, what it found last, what holds the entry. Then three threads walk, acquire what
- * they met and use its object of the heap past the section, while a fourth replaces one driver after the other by another of the same name.
+ * What a call has left is asked after each: how deep the CPU is inside, what it found last, what holds the entry. Then three threads go over the
+ * entries and look drivers up, acquire them and use their objects of the heap past the section. A fourth replaces one driver after the other.
  */
 #include <pthread.h>
 #include <stdatomic.h>
@@ -11,7 +11,7 @@
 
 #include "client.h"
 
-enum { USERS = 3, CPUS = USERS + 1, CHANGER = USERS, DRIVERS = 2, MOST_PASSIVES = 2 };
+enum { USERS = 3, CPUS = USERS + 1, CHANGER = USERS, DRIVERS = 2, MOST_PASSIVES = 2, MOST_LOCALS = 10 };
 
 static struct registry_keeper keeper;
 static struct registry_cpu cpus[CPUS];
@@ -20,7 +20,7 @@ static struct registry_name names[DRIVERS];
 
 static void open_registry(uint64_t passive_limit)
 {
-	const struct registry_settings settings = {CPUS, 4, REGISTRY_MOST_CHANGES, REGISTRY_MOST_SECTIONS, passive_limit, 10};
+	const struct registry_settings settings = {CPUS, 4, REGISTRY_MOST_CHANGES, REGISTRY_MOST_SECTIONS, passive_limit, MOST_LOCALS};
 	DONE(registry_open(&settings, &keeper, cpus, CPUS));
 }
 
@@ -148,17 +148,86 @@ static void check_held(struct registry_cpu *cpu, const struct registry_entry *dr
 	EXPECT(turn(driver->number) == REGISTRY_FREED);
 }
 
-/* A driver that was met is detached, and then another has its name: neither is acquired, and nothing but the section holds the first. */
+typedef registry_answer helper(struct registry_cpu *cpu, uint64_t kind, const struct registry_name *name, struct registry_entry *found);
+
+/* A function that looks the other driver up, such as one that a section calls. Afterwards that one is the last found entry. */
+static uint64_t look_elsewhere(struct registry_cpu *cpu, helper *call)
+{
+	struct registry_entry other;
+	DONE(call(cpu, REGISTRY_DRIVER, &names[1], &other));
+	if (call == registry_get)
+		DONE(registry_release(cpu, other.number));
+	if (call == registry_enter_find)
+		DONE(registry_exit(cpu));
+	EXPECT(last_found(cpu) == other.number);
+	return other.number;
+}
+
+/* Whatever a helper looks up in between, the entry that is meant is acquired, by either reference, and no other. */
+static void check_redirected(struct registry_cpu *cpu, const struct registry_name *name)
+{
+	helper *const helpers[] = {registry_find, registry_look_up, registry_get, registry_enter_find};
+	struct registry_entry found, read;
+	struct registry_local local = {0};
+	DONE(registry_enter_find(cpu, REGISTRY_DRIVER, name, &found));
+	for (unsigned i = 0; i < sizeof helpers / sizeof *helpers; i++) {
+		uint64_t other = look_elsewhere(cpu, helpers[i]);
+		DONE(registry_acquire_entry(cpu, &found));
+		EXPECT(holds(cpu, found.number) && !holds(cpu, other) && last_found(cpu) == found.number && is_at_depth(cpu, 1));
+		DONE(registry_release(cpu, found.number));
+		look_elsewhere(cpu, helpers[i]);
+		DONE(registry_local_acquire_entry(cpu, &found, &local));
+		EXPECT(registry_local_read(&local, &read) == REGISTRY_DONE && read.number == found.number && last_found(cpu) == found.number);
+		DONE(registry_local_release(cpu, &local));
+	}
+	DONE(registry_exit(cpu));
+}
+
+/* The refusals of a local reference to an entry that is given, one wrong thing before the next. */
+static void check_local(struct registry_cpu *cpu, const struct registry_entry *driver)
+{
+	struct registry_local full = {0}, locals[MOST_LOCALS] = {{0}};
+	struct registry_cpu none = {0};
+	struct registry_entry bad = *driver;
+	bad.kind = 9;
+	EXPECT(registry_local_acquire_entry(&none, NULL, &full) == REGISTRY_EMPTY_HANDLE);
+	EXPECT(registry_local_acquire_entry(cpu, NULL, &full) == REGISTRY_NULL && registry_local_acquire_entry(cpu, &bad, &full) == REGISTRY_OUTSIDE);
+	DONE(registry_enter(cpu));
+	EXPECT(registry_local_acquire_entry(cpu, NULL, &full) == REGISTRY_NULL && registry_local_acquire_entry(cpu, &bad, &full) == REGISTRY_BAD_KIND);
+	DONE(registry_local_acquire_entry(cpu, driver, &locals[0]));
+	EXPECT(registry_local_acquire_entry(cpu, NULL, &locals[0]) == REGISTRY_FULL_HANDLE);
+	for (unsigned i = 1; i < MOST_LOCALS; i++)
+		DONE(registry_local_acquire_entry(cpu, driver, &locals[i]));
+	EXPECT(registry_local_acquire_entry(cpu, driver, &full) == REGISTRY_LOCAL_FULL && full.at == NULL && is_at_depth(cpu, 1));
+	DONE(registry_exit(cpu));
+	EXPECT(registry_local_acquire_entry(cpu, NULL, &locals[0]) == REGISTRY_FULL_HANDLE);
+	EXPECT(registry_local_acquire_entry(&none, NULL, &locals[0]) == REGISTRY_EMPTY_HANDLE);
+	for (unsigned i = 0; i < MOST_LOCALS; i++)
+		DONE(registry_local_release(cpu, &locals[i]));
+}
+
+/*
+ * A driver that was met is detached. As the last found one it is acquired still: the section holds it. Once something else was looked up it isn't, and
+ * neither is another of its name.
+ */
 static void check_superseded(struct registry_cpu *cpu, const struct registry_name *name)
 {
 	struct registry_entry met = attach(name, 1), found;
+	struct registry_local local = {0};
 	DONE(registry_enter(cpu));
 	DONE(registry_find(cpu, REGISTRY_DRIVER, name, &found));
 	EXPECT(found.number == met.number && detach(name).number == met.number && last_found(cpu) == met.number);
+	DONE(registry_acquire_entry(cpu, &found));
+	DONE(registry_release(cpu, found.number));
+	DONE(registry_local_acquire_entry(cpu, &found, &local));
+	DONE(registry_local_release(cpu, &local));
+	uint64_t looked_up = look_elsewhere(cpu, registry_look_up);
+	EXPECT(registry_local_acquire_entry(cpu, &found, &local) == REGISTRY_NOT_FOUND && local.at == NULL);
 	expect_refused(cpu, &found, REGISTRY_NOT_FOUND);
-	EXPECT(last_found(cpu) == 0);
+	EXPECT(last_found(cpu) == 0 && !holds(cpu, looked_up));
 	struct registry_entry other = attach(name, 2);
 	expect_refused(cpu, &found, REGISTRY_NOT_FOUND);
+	EXPECT(registry_local_acquire_entry(cpu, &found, &local) == REGISTRY_NOT_FOUND && local.at == NULL);
 	EXPECT(last_found(cpu) == 0 && !holds(cpu, other.number) && turn(met.number) == REGISTRY_GRACE);
 	DONE(registry_exit(cpu));
 	EXPECT(turn(met.number) == REGISTRY_FREED);
@@ -176,11 +245,13 @@ static void check_answers(void)
 	open_registry(MOST_PASSIVES + 1);
 	struct registry_entry first = attach(&names[0], 1);
 	check_misuse(cpu, &first);
+	check_local(cpu, &first);
 	DONE(registry_close(cpus, CPUS, &keeper));
 	open_registry(MOST_PASSIVES);
 	first = attach(&names[0], 1);
 	attach(&names[1], 2);
 	check_acquired(cpu);
+	check_redirected(cpu, &names[0]);
 	check_held(cpu, &first);
 	check_superseded(cpu, &names[0]);
 	DONE(registry_close(cpus, CPUS, &keeper));
@@ -264,12 +335,23 @@ static const uint64_t ALIVE = 0x616c69766561;
 static atomic_bool over;
 static atomic_uint_fast64_t uses, misses;
 
-static void attach_object(const struct registry_name *name)
+/* A new object, as a driver's value. */
+static uint64_t made_object(void)
 {
 	struct object *object = malloc(sizeof *object);
 	EXPECT(object != NULL);
 	object->alive = ALIVE;
-	attach(name, (uint64_t)(uintptr_t)object);
+	return (uint64_t)(uintptr_t)object;
+}
+
+static struct registry_entry replace(const struct registry_name *name, uint64_t value)
+{
+	struct registry_entry gone, made;
+	pthread_mutex_lock(&interlock);
+	DONE(registry_replace(&keeper, &cpus[CHANGER], name, value, &gone, &made));
+	pthread_mutex_unlock(&interlock);
+	EXPECT(made.number > gone.number && made.value == value);
+	return gone;
 }
 
 /* Takes a driver out, and frees its object as soon as nobody holds it. */
@@ -293,22 +375,42 @@ static void use_object(struct registry_cpu *cpu, const struct registry_entry *dr
 	atomic_fetch_add(&uses, 1);
 }
 
-/* Walks, lets others on, and acquires what it met, unless it is gone by then. */
+/* Goes over all entries up to this one, lets others on, and acquires it, unless it is gone by then. */
 static void use_one(struct registry_cpu *cpu, unsigned which)
 {
-	struct registry_entry row[DRIVERS];
-	size_t count;
+	struct registry_cursor cursor;
+	struct registry_entry met;
 	DONE(registry_enter(cpu));
-	DONE(registry_walk(cpu, row, DRIVERS, &count));
+	registry_answer answer = registry_first(cpu, &cursor, &met);
+	for (unsigned i = 0; i < which && answer == REGISTRY_DONE; i++)
+		answer = registry_next(cpu, &cursor, &met);
 	rest();
-	registry_answer answer = which < count ? registry_acquire_entry(cpu, &row[which]) : REGISTRY_NOT_FOUND;
+	if (answer == REGISTRY_DONE)
+		answer = registry_acquire_entry(cpu, &met);
 	DONE(registry_exit(cpu));
-	if (answer == REGISTRY_NOT_FOUND) {
-		atomic_fetch_add(&misses, which < count);
+	EXPECT(answer == REGISTRY_DONE || answer == REGISTRY_NOT_FOUND || answer == REGISTRY_NO_MORE);
+	atomic_fetch_add(&misses, answer == REGISTRY_NOT_FOUND);
+	if (answer == REGISTRY_DONE)
+		use_object(cpu, &met);
+}
+
+/* Looks a driver up, and uses it in a section or by a reference. Of a look-up it uses nothing but the copy. */
+static void use_found(struct registry_cpu *cpu, const struct registry_name *name)
+{
+	struct registry_entry found;
+	registry_answer answer = registry_look_up(cpu, REGISTRY_DRIVER, name, &found);
+	EXPECT(answer == REGISTRY_NOT_FOUND || (answer == REGISTRY_DONE && memcmp(&found.name, name, sizeof *name) == 0));
+	answer = registry_get(cpu, REGISTRY_DRIVER, name, &found);
+	EXPECT(answer == REGISTRY_NOT_FOUND || answer == REGISTRY_DONE);
+	if (answer == REGISTRY_DONE)
+		use_object(cpu, &found);
+	answer = registry_enter_find(cpu, REGISTRY_DRIVER, name, &found);
+	EXPECT(answer == REGISTRY_NOT_FOUND || answer == REGISTRY_DONE);
+	if (answer != REGISTRY_DONE)
 		return;
-	}
-	DONE(answer);
-	use_object(cpu, &row[which]);
+	DONE(registry_acquire_entry(cpu, &found));
+	use_object(cpu, &found);
+	DONE(registry_exit(cpu));
 }
 
 static void *use_all(void *cpu)
@@ -316,6 +418,8 @@ static void *use_all(void *cpu)
 	do {
 		use_one(cpu, 0);
 		use_one(cpu, 1);
+		use_found(cpu, &names[0]);
+		use_found(cpu, &names[1]);
 	} while (!atomic_load(&over));
 	return NULL;
 }
@@ -325,8 +429,7 @@ static void replace_drivers(unsigned long changes)
 {
 	for (unsigned long made = 0; made < changes || atomic_load(&uses) == 0 || atomic_load(&misses) == 0; made++) {
 		const struct registry_name *name = &names[made % DRIVERS];
-		struct registry_entry gone = detach(name);
-		attach_object(name);
+		struct registry_entry gone = replace(name, made_object());
 		rest();
 		free_object(&gone);
 	}
@@ -336,8 +439,8 @@ static void run_threads(unsigned long changes)
 {
 	pthread_t threads[USERS];
 	open_registry(REGISTRY_MOST_COUNT);
-	attach_object(&names[0]);
-	attach_object(&names[1]);
+	attach(&names[0], made_object());
+	attach(&names[1], made_object());
 	for (unsigned i = 0; i < USERS; i++)
 		EXPECT(pthread_create(&threads[i], NULL, use_all, &cpus[i]) == 0);
 	replace_drivers(changes);

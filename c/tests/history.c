@@ -176,6 +176,42 @@ static void walk(struct world *world)
 	EXPECT(count == length && memcmp(row, wanted, sizeof row) == 0);
 }
 
+/* All entries by a cursor are those of a walk. Behind the last one there is none, however often it is asked for. */
+static void go_over(struct world *world)
+{
+	struct registry_entry entry = {0}, row[SLOTS] = {0};
+	static struct registry_cursor cursor;
+	size_t length = 0;
+	unsigned cpu = any_cpu(world);
+	uint32_t wanted = model_walk(&world->model, cpu, row, SLOTS, &length), answer = registry_first(&world->cpus[cpu], &cursor, &entry);
+	if (wanted != REGISTRY_DONE) {
+		same(answer, wanted);
+		same(registry_next(&world->cpus[cpu], &cursor, &entry), wanted);
+		return;
+	}
+	for (size_t i = 0; i < length; i++, answer = registry_next(&world->cpus[cpu], &cursor, &entry))
+		DONE(same_entry(answer, &entry, REGISTRY_DONE, &row[i]));
+	same(answer, REGISTRY_NO_MORE);
+	same(registry_next(&world->cpus[cpu], &cursor, &entry), REGISTRY_NO_MORE);
+	EXPECT(length == 0 || memcmp(&entry, &row[length - 1], sizeof entry) == 0);
+}
+
+/* An entry that some slot has or had last, or one that none ever had. */
+static struct registry_entry any_entry(struct world *world)
+{
+	struct registry_entry entry = world->model.slots[below(world, world->model.settings.slots)].entry;
+	entry.number += below(world, 16) == 0;
+	entry.kind = entry.kind == 0 ? REGISTRY_DRIVER : entry.kind;
+	return entry;
+}
+
+static void acquire_entry(struct world *world)
+{
+	unsigned cpu = any_cpu(world);
+	const struct registry_entry entry = any_entry(world);
+	same(registry_acquire_entry(&world->cpus[cpu], &entry), model_acquire_entry(&world->model, cpu, &entry));
+}
+
 static void acquire(struct world *world)
 {
 	uint64_t number = 0, wanted = 0;
@@ -223,6 +259,20 @@ static void acquire_local(struct world *world)
 	world->held++;
 }
 
+static void acquire_entry_local(struct world *world)
+{
+	unsigned cpu = any_cpu(world);
+	const struct registry_entry entry = any_entry(world);
+	if (world->held == HANDLES)
+		return;
+	struct held *held = &world->locals[world->held];
+	uint32_t answer = registry_local_acquire_entry(&world->cpus[cpu], &entry, &held->handle);
+	if (same(answer, model_local_acquire_entry(&world->model, cpu, &entry)) != REGISTRY_DONE)
+		return;
+	held->number = entry.number;
+	world->held++;
+}
+
 /* Takes the handle out of the row: it is empty. */
 static void forget_local(struct world *world, struct held *held)
 {
@@ -264,6 +314,7 @@ static void attach(struct world *world)
 	unsigned cpu = any_cpu(world);
 	const struct registry_name *name = any_name(world);
 	uint64_t value = below(world, UINT64_MAX);
+	same(registry_room(&world->keeper), model_room(&world->model));
 	uint32_t answer = registry_attach(&world->keeper, &world->cpus[cpu], name, value, &made);
 	same_entry(answer, &made, model_attach(&world->model, cpu, 0, name, value, &wanted), &wanted);
 }
@@ -280,6 +331,22 @@ static void attach_iface(struct world *world)
 	uint32_t answer = registry_attach_iface(&world->keeper, &world->cpus[cpu], &held->handle, name, value, &made);
 	same_entry(answer, &made, model_attach(&world->model, cpu, held->number, name, value, &wanted), &wanted);
 	if (answer == REGISTRY_DONE)
+		forget_local(world, held);
+}
+
+/* An entry in another's place. What is refused writes neither. */
+static void replace(struct world *world)
+{
+	struct registry_entry made[2] = {0}, wanted[2] = {0};
+	unsigned cpu = any_cpu(world);
+	const struct registry_name *name = any_name(world);
+	uint64_t value = below(world, UINT64_MAX);
+	struct held *held = world->held > 0 && below(world, 2) ? &world->locals[below(world, world->held)] : NULL;
+	uint32_t answer = held == NULL ? registry_replace(&world->keeper, &world->cpus[cpu], name, value, &made[0], &made[1])
+	    : registry_replace_iface(&world->keeper, &world->cpus[cpu], &held->handle, name, value, &made[0], &made[1]);
+	same(answer, model_replace(&world->model, cpu, held == NULL ? 0 : held->number, name, value, &wanted[0], &wanted[1]));
+	EXPECT(memcmp(made, wanted, sizeof made) == 0);
+	if (held != NULL && answer == REGISTRY_DONE)
 		forget_local(world, held);
 }
 
@@ -376,9 +443,9 @@ static const struct {
 	unsigned often;
 	void (*act)(struct world *);
 } deeds[] = {
-	{8, enter}, {11, leave}, {6, find}, {4, look_up}, {2, enter_find}, {3, get}, {1, walk}, {4, acquire}, {2, copy}, {2, read_held}, {9, release}, {3, acquire_local},
-	{4, release_local}, {1, give_up_local}, {10, attach}, {5, attach_iface}, {10, detach}, {8, advance}, {3, destroy}, {1, begin_wait}, {2, turn_wait},
-	{1, audit},
+	{8, enter}, {10, leave}, {6, find}, {4, look_up}, {2, enter_find}, {3, get}, {1, walk}, {1, go_over}, {3, acquire}, {2, acquire_entry}, {2, copy}, {2, read_held},
+	{9, release}, {2, acquire_local}, {1, acquire_entry_local}, {4, release_local}, {1, give_up_local}, {8, attach}, {5, attach_iface}, {2, replace}, {10, detach},
+	{8, advance}, {2, destroy}, {1, begin_wait}, {2, turn_wait}, {1, audit},
 };
 
 static void act(struct world *world)
@@ -453,13 +520,17 @@ static uint64_t run(const struct registry_settings *settings, uint64_t changes, 
 	return changes;
 }
 
-/* The registry's answers where sections, references and counts come to their limits: each registry is small, so that they come often. */
+/*
+ * The registry's answers where sections, references and counts come to their limits: each registry is small, so that they come often. The sections of
+ * each CPU are counted so: what the CPU remembers begins none.
+ */
 static void run_small(uint64_t seed)
 {
 	struct registry_settings settings = {1, 1, 400, REGISTRY_MOST_SECTIONS, 3, 3};
 	for (uint64_t i = 0; i < SMALL; i++) {
 		settings.cpus = 1 + i % CPUS;
 		settings.slots = 1 + i % SLOTS;
+		settings.section_limit = i % 2 == 0 ? REGISTRY_MOST_SECTIONS : 5 + i % 97;
 		run(&settings, 300, seed + i);
 	}
 }

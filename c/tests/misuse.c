@@ -127,6 +127,8 @@ static void misuse_empty_cpu(struct bench *bench)
 	REFUSED(registry_depth(&no_cpu, &out.number), REGISTRY_EMPTY_HANDLE);
 	REFUSED(registry_find(&no_cpu, 9, &wm, &out.entry), REGISTRY_EMPTY_HANDLE);
 	REFUSED(registry_walk(&no_cpu, &out.entry, 1, &out.count), REGISTRY_EMPTY_HANDLE);
+	REFUSED(registry_first(&no_cpu, NULL, &out.entry), REGISTRY_EMPTY_HANDLE);
+	REFUSED(registry_next(&no_cpu, NULL, &out.entry), REGISTRY_EMPTY_HANDLE);
 	REFUSED(registry_acquire(&no_cpu, &out.number), REGISTRY_EMPTY_HANDLE);
 	REFUSED(registry_copy(&no_cpu, 1), REGISTRY_EMPTY_HANDLE);
 	REFUSED(registry_held(&no_cpu, 1, &out.yes), REGISTRY_EMPTY_HANDLE);
@@ -140,6 +142,8 @@ static void misuse_empty_cpu(struct bench *bench)
 	REFUSED(registry_local_forget(&no_local), REGISTRY_EMPTY_HANDLE);
 	REFUSED(registry_attach(&bench->keeper, &no_cpu, &BAD, 7, &out.entry), REGISTRY_EMPTY_HANDLE);
 	REFUSED(registry_attach_iface(&bench->keeper, &bench->cpus[0], &no_local, &BAD, 7, &out.entry), REGISTRY_EMPTY_HANDLE);
+	REFUSED(registry_replace(&bench->keeper, &no_cpu, NULL, 7, NULL, &out.entry), REGISTRY_EMPTY_HANDLE);
+	REFUSED(registry_replace_iface(&bench->keeper, &bench->cpus[0], &no_local, NULL, 7, NULL, &out.entry), REGISTRY_EMPTY_HANDLE);
 	REFUSED(registry_detach(&bench->keeper, &no_cpu, 9, &BAD, &out.entry), REGISTRY_EMPTY_HANDLE);
 	REFUSED(registry_destroy(&bench->keeper, &no_cpu, 1, &out.met), REGISTRY_EMPTY_HANDLE);
 	REFUSED(registry_perform_begin(&bench->keeper, &no_cpu, &wait), REGISTRY_EMPTY_HANDLE);
@@ -154,6 +158,9 @@ static void misuse_empty_keeper(struct bench *bench)
 	size_t length;
 	REFUSED(registry_settings_of(&no_keeper, &settings), REGISTRY_EMPTY_HANDLE);
 	REFUSED(registry_attach(&no_keeper, &bench->cpus[0], &wm0, 7, &out.entry), REGISTRY_EMPTY_HANDLE);
+	REFUSED(registry_room(&no_keeper), REGISTRY_EMPTY_HANDLE);
+	REFUSED(registry_replace(&no_keeper, &bench->cpus[0], NULL, 7, NULL, &out.entry), REGISTRY_EMPTY_HANDLE);
+	REFUSED(registry_replace_iface(&no_keeper, &bench->cpus[0], &no_local, NULL, 7, NULL, &out.entry), REGISTRY_EMPTY_HANDLE);
 	REFUSED(registry_detach(&no_keeper, &bench->cpus[0], REGISTRY_DRIVER, &wm, &out.entry), REGISTRY_EMPTY_HANDLE);
 	REFUSED(registry_advance(&no_keeper, 1, &out.met), REGISTRY_EMPTY_HANDLE);
 	REFUSED(registry_destroy(&no_keeper, &bench->cpus[0], 1, &out.met), REGISTRY_EMPTY_HANDLE);
@@ -177,6 +184,9 @@ static void misuse_sections(struct registry_cpu *cpu)
 	for (unsigned i = 0; i < REGISTRY_MOST_DEPTH; i++)
 		DONE(registry_enter(cpu));
 	REFUSED(registry_enter(cpu), REGISTRY_TOO_DEEP);
+	REFUSED(registry_look_up(cpu, 9, NULL, &out.entry), REGISTRY_TOO_DEEP);
+	REFUSED(registry_get(cpu, 9, NULL, &out.entry), REGISTRY_TOO_DEEP);
+	REFUSED(registry_enter_find(cpu, 9, NULL, &out.entry), REGISTRY_TOO_DEEP);
 	EXPECT(registry_depth(cpu, &depth) == REGISTRY_DONE && depth == REGISTRY_MOST_DEPTH);
 	REFUSED(registry_find(cpu, REGISTRY_DRIVER, &BAD, &out.entry), REGISTRY_NOT_FOUND);
 	EXPECT(registry_close_cpu(cpu) == REGISTRY_INSIDE);
@@ -246,6 +256,44 @@ static void check_nulls(struct bench *bench)
 	EXPECT(out.entry.number == 1 && out.entry.value == 7);
 	DONE(registry_release(cpu, 1));
 	REFUSED(registry_release(cpu, 1), REGISTRY_NOT_HELD);
+}
+
+typedef registry_answer usual_call(struct registry_cpu *cpu, uint64_t kind, const struct registry_name *name, struct registry_entry *found);
+
+/* What a look-up, a get and an enter_find are refused for, in a section and outside, one wrong thing before the next. The CPU stays as deep inside. */
+static void misuse_usual(struct registry_cpu *cpu, usual_call *call)
+{
+	uint64_t depth, after;
+	DONE(registry_depth(cpu, &depth));
+	REFUSED(call(&no_cpu, 9, NULL, &out.entry), REGISTRY_EMPTY_HANDLE);
+	REFUSED(call(cpu, 9, NULL, &out.entry), REGISTRY_NULL);
+	REFUSED(call(cpu, 9, &BAD, &out.entry), REGISTRY_BAD_KIND);
+	REFUSED(call(cpu, 0, &wm, NULL), REGISTRY_BAD_KIND);
+	REFUSED(call(cpu, REGISTRY_DRIVER, &BAD, &out.entry), REGISTRY_NOT_FOUND);
+	REFUSED(call(cpu, REGISTRY_INTERFACE, &wm, NULL), REGISTRY_NOT_FOUND);
+	EXPECT(registry_depth(cpu, &after) == REGISTRY_DONE && after == depth);
+}
+
+/* In a section a lookup that is refused for its name or its kind leaves the last found entry. Nothing is written where nothing is wanted. */
+static void check_usual(struct registry_cpu *cpu)
+{
+	usual_call *const calls[] = {registry_look_up, registry_get, registry_enter_find};
+	for (unsigned i = 0; i < sizeof calls / sizeof *calls; i++) {
+		misuse_usual(cpu, calls[i]);
+		DONE(registry_enter_find(cpu, REGISTRY_DRIVER, &wm, NULL));
+		REFUSED(calls[i](cpu, REGISTRY_DRIVER, NULL, NULL), REGISTRY_NULL);
+		DONE(registry_acquire(cpu, NULL));
+		misuse_usual(cpu, calls[i]);
+		REFUSED(registry_acquire(cpu, NULL), REGISTRY_NOTHING_FOUND);
+		REFUSED(calls[i](cpu, REGISTRY_DRIVER, &wm, NULL), REGISTRY_DONE);
+		DONE(registry_acquire(cpu, NULL));
+		if (calls[i] == registry_enter_find)
+			DONE(registry_exit(cpu));
+		DONE(registry_exit(cpu));
+		for (unsigned held = calls[i] == registry_get ? 3 : 2; held > 0; held--)
+			DONE(registry_release(cpu, 1));
+		REFUSED(registry_release(cpu, 1), REGISTRY_NOT_HELD);
+	}
 }
 
 /* A name is parsed into nothing. */
@@ -393,6 +441,26 @@ static void check_null_rows(struct bench *bench)
 	DONE(registry_exit(cpu));
 }
 
+/* A cursor that is NULL, and one that was never begun; no place for the entries, of which there are two. */
+static void check_cursors(struct bench *bench)
+{
+	struct registry_cpu *cpu = &bench->cpus[0];
+	struct registry_cursor cursor = {0};
+	REFUSED(registry_first(cpu, NULL, &out.entry), REGISTRY_NULL);
+	REFUSED(registry_next(cpu, NULL, &out.entry), REGISTRY_NULL);
+	REFUSED(registry_first(cpu, &cursor, &out.entry), REGISTRY_OUTSIDE);
+	REFUSED(registry_next(cpu, &cursor, &out.entry), REGISTRY_OUTSIDE);
+	DONE(registry_enter(cpu));
+	REFUSED(registry_first(cpu, NULL, &out.entry), REGISTRY_NULL);
+	REFUSED(registry_next(cpu, NULL, &out.entry), REGISTRY_NULL);
+	REFUSED(registry_next(cpu, &cursor, &out.entry), REGISTRY_NO_MORE);
+	DONE(registry_first(cpu, &cursor, NULL));
+	DONE(registry_next(cpu, &cursor, NULL));
+	REFUSED(registry_next(cpu, &cursor, NULL), REGISTRY_NO_MORE);
+	DONE(registry_exit(cpu));
+	REFUSED(registry_next(cpu, &cursor, &out.entry), REGISTRY_OUTSIDE);
+}
+
 /* The same of the list and the CPUs of an audit. */
 static void check_null_lists(struct bench *bench)
 {
@@ -453,6 +521,7 @@ static void check_keeper_nulls(void)
 	check_null_waits(&bench);
 	check_null_counts(&bench);
 	check_null_rows(&bench);
+	check_cursors(&bench);
 	check_null_lists(&bench);
 	check_null_settings(&bench);
 	close_bench(&bench);
@@ -517,6 +586,53 @@ static void misuse_changes(struct bench *bench)
 	REFUSED(registry_destroy(&bench->keeper, cpu, 1, &out.met), REGISTRY_INSIDE);
 	REFUSED(registry_perform_begin(&bench->keeper, cpu, &wait), REGISTRY_INSIDE);
 	DONE(registry_exit(cpu));
+}
+
+/* A replacement is refused for a reason of its own before there is no room, and changes nothing. */
+static void expect_not_replaced(struct bench *bench, struct registry_local *on_driver, registry_answer room)
+{
+	struct registry_cpu *cpu = &bench->cpus[0];
+	REFUSED(registry_replace(&bench->keeper, cpu, NULL, 8, &out.entry, NULL), REGISTRY_NULL);
+	REFUSED(registry_replace(&bench->keeper, cpu, &BAD, 8, &out.entry, NULL), REGISTRY_BAD_NAME);
+	REFUSED(registry_replace(&bench->keeper, cpu, &wm0, 8, &out.entry, NULL), REGISTRY_NOT_FOUND);
+	REFUSED(registry_replace_iface(&bench->keeper, cpu, on_driver, NULL, 8, NULL, &out.entry), REGISTRY_NULL);
+	REFUSED(registry_replace_iface(&bench->keeper, cpu, on_driver, &BAD, 8, NULL, &out.entry), REGISTRY_BAD_NAME);
+	REFUSED(registry_replace_iface(&bench->keeper, cpu, on_driver, &wm, 8, NULL, &out.entry), REGISTRY_NOT_FOUND);
+	DONE(registry_enter(cpu));
+	REFUSED(registry_replace(&bench->keeper, cpu, &wm0, 8, &out.entry, NULL), REGISTRY_INSIDE);
+	REFUSED(registry_replace_iface(&bench->keeper, cpu, on_driver, &wm, 8, NULL, &out.entry), REGISTRY_INSIDE);
+	DONE(registry_exit(cpu));
+	EXPECT(registry_room(&bench->keeper) == room);
+	if (room != REGISTRY_DONE) {
+		REFUSED(registry_replace(&bench->keeper, cpu, &wm, 8, &out.entry, NULL), room);
+		REFUSED(registry_replace_iface(&bench->keeper, cpu, on_driver, &wm0, 8, NULL, &out.entry), room);
+	}
+	DONE(registry_local_read(on_driver, NULL));
+}
+
+/* The driver `wm` and the interface `wm0` on it are replaced while there is room, without any place for what is gone or made. */
+static void check_replaced(struct registry_settings settings, registry_answer end)
+{
+	struct bench bench = {0};
+	struct registry_local first = {0}, local = {0}, on_iface = {0};
+	DONE(registry_open(&settings, &bench.keeper, bench.cpus, 2));
+	DONE(registry_attach(&bench.keeper, &bench.cpus[0], &wm, 7, NULL));
+	acquire_wm(&bench, &first);
+	acquire_wm(&bench, &local);
+	DONE(registry_attach_iface(&bench.keeper, &bench.cpus[0], &first, &wm0, 9, NULL));
+	expect_not_replaced(&bench, &local, REGISTRY_DONE);
+	DONE(registry_enter_find(&bench.cpus[1], REGISTRY_INTERFACE, &wm0, &out.entry));
+	DONE(registry_local_acquire_entry(&bench.cpus[1], &out.entry, &on_iface));
+	DONE(registry_exit(&bench.cpus[1]));
+	REFUSED(registry_replace_iface(&bench.keeper, &bench.cpus[0], &on_iface, &BAD, 8, NULL, &out.entry), REGISTRY_BAD_NAME);
+	REFUSED(registry_replace_iface(&bench.keeper, &bench.cpus[0], &on_iface, &wm, 8, NULL, &out.entry), REGISTRY_NEEDS_DRIVER);
+	DONE(registry_local_release(&bench.cpus[1], &on_iface));
+	expect_live(&bench, REGISTRY_INTERFACE, &wm0, 2, 9);
+	DONE(registry_replace(&bench.keeper, &bench.cpus[0], &wm, 8, NULL, NULL));
+	expect_live(&bench, REGISTRY_DRIVER, &wm, 4, 8);
+	expect_not_replaced(&bench, &local, end);
+	DONE(registry_local_release(&bench.cpus[0], &local));
+	close_bench(&bench);
 }
 
 /* The wait is refused as one that was never begun, and stays as it was. */
@@ -662,12 +778,15 @@ int main(void)
 	misuse_empty_cpu(&bench);
 	misuse_empty_keeper(&bench);
 	misuse_sections(&bench.cpus[1]);
+	check_usual(&bench.cpus[0]);
 	check_nulls(&bench);
 	check_null_names();
 	check_keeper_nulls();
 	misuse_passives(&bench);
 	misuse_locals(&bench);
 	misuse_changes(&bench);
+	check_replaced((struct registry_settings){2, 3, 100, 100, 10, 10}, REGISTRY_NO_SLOT);
+	check_replaced((struct registry_settings){2, 4, 6, 100, 10, 10}, REGISTRY_HISTORY_FULL);
 	misuse_waits(&bench);
 	misuse_audit(&bench);
 	check_forgotten();

@@ -262,6 +262,37 @@ uint32_t model_copy(struct model *model, unsigned cpu, uint64_t number)
 	return REGISTRY_DONE;
 }
 
+/* Whether it is the last found one. No entry has the number 0. */
+static bool is_last(const struct model *model, unsigned cpu, const struct registry_entry *entry)
+{
+	return entry->number != 0 && entry->number == model->cpus[cpu].found;
+}
+
+/* Makes the entry the last found one, if it is live. */
+static uint32_t find_again(struct model *model, unsigned cpu, const struct registry_entry *entry)
+{
+	struct registry_entry found;
+	uint32_t answer = model_find(model, cpu, entry->kind, &entry->name, &found);
+	if (answer == REGISTRY_DONE && found.number != entry->number) {
+		model->cpus[cpu].found = 0;
+		return REGISTRY_NOT_FOUND;
+	}
+	return answer;
+}
+
+uint32_t model_acquire_entry(struct model *model, unsigned cpu, const struct registry_entry *entry)
+{
+	uint64_t number;
+	if (!is_inside(model, cpu))
+		return REGISTRY_OUTSIDE;
+	if (is_last(model, cpu, entry))
+		return model_acquire(model, cpu, &number);
+	if (held_slot(model, cpu, entry->number) != NULL)
+		return model_copy(model, cpu, entry->number);
+	uint32_t answer = find_again(model, cpu, entry);
+	return answer == REGISTRY_DONE ? model_acquire(model, cpu, &number) : answer;
+}
+
 uint32_t model_read(struct model *model, unsigned cpu, uint64_t number, struct registry_entry *entry)
 {
 	const struct model_slot *slot = held_slot(model, cpu, number);
@@ -291,6 +322,17 @@ uint32_t model_local_acquire(struct model *model, unsigned cpu, uint64_t *number
 	slot->locals++;
 	*number = slot->entry.number;
 	return REGISTRY_DONE;
+}
+
+uint32_t model_local_acquire_entry(struct model *model, unsigned cpu, const struct registry_entry *entry)
+{
+	uint64_t number;
+	if (!is_inside(model, cpu))
+		return REGISTRY_OUTSIDE;
+	if (is_last(model, cpu, entry) && model_local_acquire(model, cpu, &number) == REGISTRY_DONE)
+		return REGISTRY_DONE;
+	uint32_t answer = find_again(model, cpu, entry);
+	return answer == REGISTRY_DONE ? model_local_acquire(model, cpu, &number) : answer;
 }
 
 uint32_t model_local_release(struct model *model, unsigned cpu, uint64_t number)
@@ -329,20 +371,38 @@ static struct model_slot *first_vacant(struct model *model)
 	return s < model->settings.slots ? &model->slots[s] : NULL;
 }
 
-uint32_t model_attach(struct model *model, unsigned cpu, uint64_t driver, const struct registry_name *name, uint64_t value, struct registry_entry *made)
+uint32_t model_room(struct model *model)
 {
-	const uint64_t kind = driver == 0 ? REGISTRY_DRIVER : REGISTRY_INTERFACE;
+	if (first_vacant(model) == NULL)
+		return REGISTRY_NO_SLOT;
+	return model->changes + 2 + count_of(model, LIVE) > model->settings.change_limit ? REGISTRY_HISTORY_FULL : REGISTRY_DONE;
+}
+
+static uint64_t kind_on(uint64_t driver)
+{
+	return driver == 0 ? REGISTRY_DRIVER : REGISTRY_INTERFACE;
+}
+
+/* Why no such entry may be attached, whatever room there is. */
+static uint32_t unfit(struct model *model, unsigned cpu, uint64_t driver)
+{
 	if (is_inside(model, cpu))
 		return REGISTRY_INSIDE;
-	if (driver != 0 && model_slot_of(model, driver)->entry.kind != REGISTRY_DRIVER)
-		return REGISTRY_NEEDS_DRIVER;
+	bool on_iface = driver != 0 && model_slot_of(model, driver)->entry.kind != REGISTRY_DRIVER;
+	return on_iface ? REGISTRY_NEEDS_DRIVER : REGISTRY_DONE;
+}
+
+uint32_t model_attach(struct model *model, unsigned cpu, uint64_t driver, const struct registry_name *name, uint64_t value, struct registry_entry *made)
+{
+	const uint64_t kind = kind_on(driver);
+	uint32_t answer = unfit(model, cpu, driver);
+	if (answer != REGISTRY_DONE)
+		return answer;
 	if (live_slot(model, kind, name) != NULL)
 		return REGISTRY_NAME_TAKEN;
+	if ((answer = model_room(model)) != REGISTRY_DONE)
+		return answer;
 	struct model_slot *slot = first_vacant(model);
-	if (slot == NULL)
-		return REGISTRY_NO_SLOT;
-	if (model->changes + 2 + count_of(model, LIVE) > model->settings.change_limit)
-		return REGISTRY_HISTORY_FULL;
 	*slot = (struct model_slot){.state = LIVE, .driver = driver};
 	slot->entry = (struct registry_entry){++model->changes, (uint64_t)(slot - model->slots), kind, *name, value};
 	*made = slot->entry;
@@ -362,6 +422,20 @@ uint32_t model_detach(struct model *model, unsigned cpu, uint64_t kind, const st
 		slot->open[c] = is_inside(model, c);
 	*gone = slot->entry;
 	return REGISTRY_DONE;
+}
+
+uint32_t model_replace(struct model *model, unsigned cpu, uint64_t driver, const struct registry_name *name, uint64_t value, struct registry_entry *gone,
+    struct registry_entry *made)
+{
+	uint32_t answer = unfit(model, cpu, driver);
+	if (answer == REGISTRY_DONE && live_slot(model, kind_on(driver), name) == NULL)
+		answer = REGISTRY_NOT_FOUND;
+	if (answer == REGISTRY_DONE)
+		answer = model_room(model);
+	if (answer != REGISTRY_DONE)
+		return answer;
+	model_detach(model, cpu, kind_on(driver), name, gone);
+	return model_attach(model, cpu, driver, name, value, made);
 }
 
 /* Collects the counts of a slot that nobody holds but by local references. */

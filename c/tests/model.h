@@ -55,15 +55,21 @@ uint32_t model_enter_find(struct model *model, unsigned cpu, uint64_t kind, cons
 uint32_t model_get(struct model *model, unsigned cpu, uint64_t kind, const struct registry_name *name, struct registry_entry *found);
 uint32_t model_walk(struct model *model, unsigned cpu, struct registry_entry *row, size_t room, size_t *count);
 uint32_t model_acquire(struct model *model, unsigned cpu, uint64_t *number);
+uint32_t model_acquire_entry(struct model *model, unsigned cpu, const struct registry_entry *entry);
 uint32_t model_copy(struct model *model, unsigned cpu, uint64_t number);
 uint32_t model_read(struct model *model, unsigned cpu, uint64_t number, struct registry_entry *entry);
 uint32_t model_release(struct model *model, unsigned cpu, uint64_t number);
 uint32_t model_local_acquire(struct model *model, unsigned cpu, uint64_t *number);
+uint32_t model_local_acquire_entry(struct model *model, unsigned cpu, const struct registry_entry *entry);
 uint32_t model_local_release(struct model *model, unsigned cpu, uint64_t number);
 uint32_t model_local_give_up(struct model *model, uint64_t number);
 /* A driver is attached with `driver` 0, an interface with the number of the entry that its local reference is to. */
 uint32_t model_attach(struct model *model, unsigned cpu, uint64_t driver, const struct registry_name *name, uint64_t value, struct registry_entry *made);
 uint32_t model_detach(struct model *model, unsigned cpu, uint64_t kind, const struct registry_name *name, struct registry_entry *gone);
+/* As an attach, with the old entry of its kind and name. */
+uint32_t model_replace(struct model *model, unsigned cpu, uint64_t driver, const struct registry_name *name, uint64_t value, struct registry_entry *gone,
+    struct registry_entry *made);
+uint32_t model_room(struct model *model);
 uint32_t model_advance(struct model *model, uint64_t number, struct registry_stage *met);
 uint32_t model_destroy(struct model *model, unsigned cpu, uint64_t number, struct registry_stage *met);
 uint32_t model_perform_begin(struct model *model, unsigned cpu);

@@ -136,6 +136,8 @@ static const char *string_alone(registry_answer answer)
 {
 	if (answer == REGISTRY_NO_CPU)
 		return "every CPU is another thread's";
+	if (answer == REGISTRY_NO_MORE)
+		return "the cursor has passed the last entry";
 	return answer == REGISTRY_OTHER_LIMITS ? "the program was compiled for other limits than the library has" : "no call returns this";
 }
 

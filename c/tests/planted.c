@@ -40,6 +40,8 @@ WRAPPED(registry_open);
 WRAPPED(registry_attach);
 WRAPPED(registry_attach_iface);
 WRAPPED(registry_detach);
+WRAPPED(registry_replace);
+WRAPPED(registry_replace_iface);
 WRAPPED(registry_advance);
 WRAPPED(registry_destroy);
 WRAPPED(registry_audit);
@@ -100,6 +102,25 @@ registry_answer __wrap_registry_detach(struct registry_keeper *keeper, struct re
 	changes += answer == REGISTRY_DONE;
 	retired += answer == REGISTRY_DONE;
 	return answer;
+}
+
+static registry_answer replaced(registry_answer answer)
+{
+	changes += answer == REGISTRY_DONE;
+	retired += answer == REGISTRY_DONE;
+	return attached(answer);
+}
+
+registry_answer __wrap_registry_replace(struct registry_keeper *keeper, struct registry_cpu *cpu, const struct registry_name *name, uint64_t value,
+    struct registry_entry *gone, struct registry_entry *made)
+{
+	return replaced(__real_registry_replace(keeper, cpu, name, value, gone, made));
+}
+
+registry_answer __wrap_registry_replace_iface(struct registry_keeper *keeper, struct registry_cpu *cpu, struct registry_local *driver,
+    const struct registry_name *name, uint64_t value, struct registry_entry *gone, struct registry_entry *made)
+{
+	return replaced(__real_registry_replace_iface(keeper, cpu, driver, name, value, gone, made));
 }
 
 static uint64_t cut(uint64_t number)

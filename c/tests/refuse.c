@@ -5,8 +5,7 @@
  * the call says so, has kept no memory and changed nothing, and is done when it is made again. At the end of a journey every block is free
  * again. Then all memory is refused once the registry is open: the calls that take none go on.
  *
- * A CPU keeps the block of one local reference that was released there. What is asked for is counted: the first acquire of a CPU takes a block,
- * the one after a release takes none and can't be refused one; two references never share a block; what a CPU keeps goes as it is closed.
+ * An acquire that finds nothing keeps the block that it took. What else a CPU keeps, blocks.c counts.
  *
  * The program is linked with --wrap for malloc, realloc and free, so that the archive's allocations come by here.
  */
@@ -65,7 +64,7 @@ static const struct registry_settings SETTINGS = {2, 4, 100, 100, 10, 10};
 
 static struct registry_keeper keeper;
 static struct registry_cpu cpus[2];
-static struct registry_local locals[3];
+static struct registry_local locals[2];
 static struct registry_entry entry;
 
 /* All handles of the registry are empty. */
@@ -144,6 +143,7 @@ static void journey_without_memory(const struct registry_name *wm)
 	DONE(registry_attach(&keeper, &cpus[0], wm, 7, &entry));
 	find_driver(wm);
 	EXPECT(registry_local_acquire(&cpus[0], &locals[0]) == REGISTRY_NO_MEMORY);
+	EXPECT(registry_local_acquire_entry(&cpus[0], &entry, &locals[0]) == REGISTRY_NO_MEMORY && is_none(&locals[0]));
 	DONE(registry_acquire(&cpus[0], &number));
 	DONE(registry_exit(&cpus[0]));
 	DONE(registry_audit(&keeper, cpus, 2, list, 4, &length));
@@ -162,63 +162,10 @@ static bool are_asked(uint64_t allocations, uint64_t kept)
 	return asked == allocations && blocks == opened_with + kept;
 }
 
-static void expect_driver(struct registry_local *local)
-{
-	DONE(registry_local_read(local, &entry));
-	EXPECT(entry.number == 1 && entry.value == 7 && entry.slot == 0);
-}
-
-/* Two references at once on CPU 0, where no memory can be had after the second: one block is kept there, and serves one of them again. */
-static void acquire_again(void)
-{
-	DONE(registry_local_acquire(&cpus[0], &locals[0]));
-	DONE(registry_local_acquire(&cpus[0], &locals[1]));
-	EXPECT(are_asked(2, 2));
-	refuse_from = 3;
-	refuse_to = UINT64_MAX;
-	for (int turn = 0; turn < 3; turn++) {
-		DONE(registry_local_release(&cpus[0], &locals[0]));
-		EXPECT(are_asked(2, 2));
-		DONE(registry_local_acquire(&cpus[0], &locals[0]));
-		EXPECT(are_asked(2, 2));
-	}
-	EXPECT(locals[0].at != locals[1].at);
-	expect_driver(&locals[0]);
-	expect_driver(&locals[1]);
-	EXPECT(registry_local_acquire(&cpus[0], &locals[2]) == REGISTRY_NO_MEMORY);
-	EXPECT(are_asked(3, 2));
-	refuse_from = 0;
-}
-
-/* CPU 1 keeps the block of one that it releases, CPU 0 keeps one of two, and each gives out what it keeps. */
-static void release_elsewhere(void)
-{
-	DONE(registry_local_acquire(&cpus[0], &locals[2]));
-	EXPECT(are_asked(4, 3));
-	DONE(registry_local_release(&cpus[1], &locals[0]));
-	EXPECT(are_asked(4, 3));
-	DONE(registry_local_release(&cpus[0], &locals[1]));
-	EXPECT(are_asked(4, 3));
-	DONE(registry_local_release(&cpus[0], &locals[2]));
-	EXPECT(are_asked(4, 2));
-	EXPECT(registry_local_acquire(&cpus[1], &locals[0]) == REGISTRY_NOTHING_FOUND);
-	DONE(registry_local_acquire(&cpus[0], &locals[0]));
-	EXPECT(are_asked(4, 2));
-}
-
-/* An interface's attach keeps the block of the reference that it spends; a refused acquire keeps the one that it had. */
-static void attach_on(const struct registry_name *wm0)
-{
-	DONE(registry_exit(&cpus[0]));
-	DONE(registry_attach_iface(&keeper, &cpus[0], &locals[0], wm0, 1500, &entry));
-	EXPECT(are_asked(4, 2));
-	EXPECT(registry_local_acquire(&cpus[0], &locals[0]) == REGISTRY_NOTHING_FOUND);
-	EXPECT(are_asked(4, 2));
-}
-
 /* A refused acquire on a CPU that keeps no block takes one, if there is memory, and no other: the next acquire uses it. */
 static void keep_of_refused(const struct registry_name *wm)
 {
+	refuse_from = 0;
 	DONE(registry_open(&SETTINGS, &keeper, cpus, 2));
 	DONE(registry_attach(&keeper, &cpus[0], wm, 7, &entry));
 	asked = 0;
@@ -241,24 +188,6 @@ static void keep_of_refused(const struct registry_name *wm)
 	refuse_from = 0;
 }
 
-/* What a CPU keeps serves its next acquire, and goes as the CPU is closed, the keeper before it or after it. */
-static void keep_blocks(const struct registry_name *wm, const struct registry_name *wm0)
-{
-	refuse_from = 0;
-	DONE(registry_open(&SETTINGS, &keeper, cpus, 2));
-	DONE(registry_attach(&keeper, &cpus[0], wm, 7, &entry));
-	find_driver(wm);
-	asked = 0;
-	opened_with = blocks;
-	acquire_again();
-	release_elsewhere();
-	attach_on(wm0);
-	DONE(registry_close_cpu(&cpus[0]));
-	DONE(registry_close_keeper(&keeper));
-	DONE(registry_close_cpu(&cpus[1]));
-	EXPECT(blocks == 0 && asked == 4);
-}
-
 int main(void)
 {
 	struct registry_name wm = name_of("wm"), wm0 = name_of("wm0");
@@ -274,7 +203,6 @@ int main(void)
 	refuse_from = 0;
 	journey_without_memory(&wm);
 	EXPECT(blocks == 0);
-	keep_blocks(&wm, &wm0);
 	keep_of_refused(&wm);
 	printf("allocations refused in turn: %" PRIu64 "\n", refused - 1);
 	return refused < 2;

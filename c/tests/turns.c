@@ -293,6 +293,7 @@ static void test_deadlines(void)
 		expect_held(in(3 * TURN), 3);
 		expect_held(in(3 * TURN + 1), 4);
 		expect_held(in(start - 1), 1);
+		expect_held((struct timespec){INT64_MIN, 0}, 1);
 	}
 	say(REGISTRY_DONE, REGISTRY_STILL_HELD, 60, REGISTRY_DONE);
 	struct timespec deadline = in(5000000000);

@@ -60,7 +60,7 @@ macro_rules! handle {
             pub const EMPTY: $name = $name { at: ptr::null_mut() };
         }
 
-        // SAFETY: registry.h says that a handle goes to another thread by a lock, or by the start or the join of a thread; in Rust a
+        // SAFETY: registry(7) says that a handle goes to another thread by a lock, or by the start or the join of a thread; in Rust a
         // value goes by nothing less.
         unsafe impl Send for $name {}
     };

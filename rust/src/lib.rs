@@ -141,7 +141,7 @@
 //! # What is proved
 //!
 //! The protocol, the shared words and the calls of registry.h are proved, in Rattle: no entry is freed while a section that may have found it, or a
-//! reference, holds it. The proof assumes a caller that keeps the rules of registry.h. A few small calls in C aren't proved; registry.h lists them.
+//! reference, holds it. The proof assumes a caller that keeps the rules of registry.h. A few small calls in C aren't proved; registry.h marks them.
 //! This crate uses four of those: the text of an error, the library's version and limits, and the comparison of the limits.
 //!
 //! This crate isn't proved: it is tested. It uses `unsafe`, in some 110 blocks, a third of them in `shared.rs` and `carried.rs`,

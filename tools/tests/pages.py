@@ -3,10 +3,6 @@ from .trees import Case, Fault, real
 
 HEADER = """/*
  * registry.h - a registry
- *
- * THE OBJECTS
- *
- * A registry is a keeper and its CPUs.
  */
 
 /* What a call returns. */
@@ -36,7 +32,6 @@ FRAME = """.Sh NAME
 .Sh SYNOPSIS
 @synopsis
 .Sh DESCRIPTION
-@section THE OBJECTS
 @types registry_settings
 @constants REGISTRY_DONE
 @calls
@@ -60,7 +55,6 @@ MADE = """.\\" Made by tools/header-pages.py from crates/registry_c/include/regi
 .Fa "const struct registry_settings *settings"
 .Fc
 .Sh DESCRIPTION
-A registry is a keeper and its CPUs.
 .Bl -tag -width Ds
 .It Vt struct registry_settings
 How large a registry is.
@@ -145,7 +139,6 @@ def cases():
               ((FACE, "REGISTRY_CHECKED;\n", "REGISTRY_CHECKED;\n\n/*\n * registry_close - close it\n */\nvoid registry_close(void);\n"),)),
         Fault("another example", "< \treturn 2;", ((CLIENT, "return 1", "return 2"),)),
         Fault("an example that is gone", "'@example c/examples/packet.c opened' of the frame names nothing", ((CLIENT, "opened", "closed"),)),
-        Fault("a section that is gone", "'@section THE OBJECTS' of the frame names nothing", ((FACE, "THE OBJECTS", "OBJECTS"),)),
         Fault("a struct that is gone", "'@types registry_settings' of the frame names nothing", ((FACE, "\nstruct registry_settings {", "\nstruct settings {"),)),
         Fault("a part that isn't one", "'@call' of the frame names nothing", ((f"{PAGE}.in", "@calls", "@call"),)),
     )

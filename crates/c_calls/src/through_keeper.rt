@@ -1,19 +1,20 @@
 //! The calls of whoever holds the keeper, through the handles.
 
 ghost use Rattle.std.specs.Prelude.{◌≡◌};
-ghost use Rattle.name_registry.specs.Common.{is_inside};
+ghost use Rattle.name_registry.specs.Common.{is_inside, room_answer};
 ghost use Rattle.c_calls.specs.Calls.{AreOfOne, Through, ThroughBoth};
 ghost use Rattle.c_calls.specs.KeeperCalls.{AdvanceAnswers, AttachesNamed, DestroyAnswers, DetachesNamed, KeeperCloses, PerformCalls, TurnCalls};
 ghost use Rattle.c_values.specs.Places.{put};
-ghost use Rattle.c_values.specs.Values.{settings_out};
+ghost use Rattle.c_values.specs.Values.{number_of, settings_out};
 
 use crate::keeper_answers;
 use c_bodies::handle::{CpuHandle, KeeperHandle};
 use c_values::answer::{NamedAnswer, SettingsAnswer, StageAnswer, TurnAnswer, WaitAnswer};
 use c_values::given::GivenName;
 use c_values::place::{EntryPlace, NumberPlace, SettingsPlace, StagePlace, WaitPlace};
-use c_values::values::{DONE, EMPTY_HANDLE, settings_out};
+use c_values::values::{DONE, EMPTY_HANDLE, answered, settings_out};
 use held::CHandle;
+use name_registry::room_in;
 use std::alloc::Global;
 
 /// `registry_close_keeper` of the header.
@@ -39,6 +40,17 @@ pub fn settings_of(keeper: &mut KeeperHandle, mut settings: SettingsPlace) -> Se
     };
     settings.put(settings_out(body.settings()));
     settings.answer(DONE)
+}
+
+/// `registry_room` of the header.
+pub fn room(keeper: &mut KeeperHandle) -> u32
+    ensures { Through keeper.old.body keeper.new.body result (Unit {0})
+        (λ k l. (result ≡ number_of (room_answer k.words.settings k.keeper)) × (l ≡ k)) }
+{
+    let Some(body) = keeper.body_mut() else {
+        return EMPTY_HANDLE;
+    };
+    answered(room_in(&body.keeper))
 }
 
 /// `registry_attach` of the header.

@@ -1,7 +1,7 @@
 -- Attaching behind the interlock: which entry is given, why a call is refused, and what is left.
-use Rattle.std.specs.Prelude.{ℕ, length, Option, Result}
+use Rattle.std.specs.Prelude.{ℕ, length, Option, Some, None, Result, Ok, Err, if◌then◌else◌}
 use mathlib.Core.List.{IsPrefix}
-use Rattle.name_registry.specs.Types.{Room, Entry, Record, Refusal, Settings, ReferenceView}
+use Rattle.name_registry.specs.Types.{Room, Entry, Record, Refusal, NoSlot, HistoryFull, Settings, ReferenceView}
 use Rattle.registry_values.specs.Answers as answers
 use Rattle.registry_values.specs.Common.{key_of_record, is_iface, is_taken, live_count}
 use Rattle.passive_list.specs.Common.{OnCpu, OnKeeper, HasHeardOn, HasAttached, HasAttachedKeeping}
@@ -18,6 +18,15 @@ room_of a k = record { changes = length k.view.history; live = live_count k.slot
 -- the entry that an attach of the record makes
 abbrev pub given_entry : Settings → OnKeeper → Record → Result Entry Refusal
 given_entry a k rec = answers.given_entry (is_taken (key_of_record rec) k.slots) (first_fit k) (room_of a k) rec
+
+-- why an attach has no room, in this slot or none
+abbrev pub fit_answer : Option ℕ → Room → Result (Unit {0}) Refusal
+fit_answer None room = Err NoSlot
+fit_answer (Some t) room = if answers.has_room room then Ok tt else Err HistoryFull
+
+-- whether an attach has room, if its kind and name aren't taken
+abbrev pub room_answer : Settings → OnKeeper → Result (Unit {0}) Refusal
+room_answer a k = fit_answer (first_fit k) (room_of a k)
 
 -- The results of the two calls: the record of an interface is unfit for the one, a reference to an interface for the other.
 

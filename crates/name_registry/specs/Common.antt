@@ -2,7 +2,7 @@
 pub use Rattle.name_registry.specs.Advancing.{ClearBelow, CollectedBelow, EndsIn, HasAdvanced, HasEnded, HasLookedFor, HasLookedLast, HasWorkedFor, IsGoneIfFreed, IsLook, LooksBelow, LooksUnless}
 pub use Rattle.name_registry.specs.Advancing.{MayWork, Meets}
 pub use Rattle.name_registry.specs.Advancing.{MeetsGrace, MeetsLocal, MeetsPassive, PassedBelow, SeesPassive, SeesSection, Settles, is_retired_row}
-pub use Rattle.name_registry.specs.Attaching.{HasAttachedFor, HasAttachedIfaceFor, attach_answer, attach_iface_answer, first_fit, given_entry, room_of}
+pub use Rattle.name_registry.specs.Attaching.{HasAttachedFor, HasAttachedIfaceFor, attach_answer, attach_iface_answer, first_fit, given_entry, room_answer, room_of}
 pub use Rattle.name_registry.specs.Auditing.{AreAlike, AreAllCpus, AreShown, HasListened, HasToldAll, HaveHeardAndTold, HaveLearned, HavePass, IsAuditBy, IsAuditIn, IsAuditOf, IsKeeperOf}
 pub use Rattle.name_registry.specs.Auditing.{IsShownOn, IsTallied}
 pub use Rattle.name_registry.specs.Auditing.{KnowAll, KnowTheSame, Listed, Occupies}

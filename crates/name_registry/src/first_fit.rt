@@ -4,12 +4,12 @@ ghost use Rattle.std.specs.Prelude.{◌≡◌, ◌<◌, ◌≤◌, IfOk, IfSome,
 ghost use Rattle.std.specs.List.{list_any};
 ghost use Rattle.registry_values.specs.Common.{key_of_record, is_taken, live_count};
 ghost use Rattle.passive_list.specs.Common.{states_of};
-ghost use Rattle.name_registry.specs.Attaching.{given_entry, first_fit, room_of};
+ghost use Rattle.name_registry.specs.Attaching.{given_entry, first_fit, room_answer, room_of};
 ghost use Rattle.name_registry.specs.Rows.{is_live_row, is_available_row};
 
 use passive_list::{Keeper, KeptSlot};
 use registry_values::{
-    Entry, Key, Record, Refusal, Room, given_entry, is_available, is_live, is_live_as,
+    Entry, Key, Record, Refusal, Room, given_entry, has_room, is_available, is_live, is_live_as,
 };
 
 /// The entry that an attach of the record makes. Refused, in this order: `NameTaken`, `NoSlot`, `HistoryFull`.
@@ -18,6 +18,19 @@ pub(crate) fn entry_for(keeper: &Keeper, rec: Record) -> Result<Entry, Refusal>
     ensures within { IfOk result (λ entry. entry.slot < keeper.now.words.settings.slots) }
 {
     given_entry(rec, is_taken(keeper, rec), first_fit(keeper), room(keeper))
+}
+
+/// Whether an attach has room, if no live entry has its kind and name. Refused, in this order: `NoSlot`, `HistoryFull`.
+pub fn room_in(keeper: &Keeper) -> Result<(), Refusal>
+    ensures { result ≡ room_answer keeper.now.words.settings keeper.now.keeper }
+{
+    let Some(_) = first_fit(keeper) else {
+        return Err(Refusal::NoSlot);
+    };
+    if !has_room(room(keeper)) {
+        return Err(Refusal::HistoryFull);
+    }
+    Ok(())
 }
 
 /// Whether a live entry has the record's kind and name.

@@ -1,12 +1,12 @@
 //! The calls of whoever holds the keeper.
 
 ghost use Rattle.std.specs.Prelude.{◌≡◌};
-ghost use Rattle.name_registry.specs.Common.{is_inside};
+ghost use Rattle.name_registry.specs.Common.{is_inside, room_answer};
 ghost use Rattle.c_calls.specs.Calls.{AreOfOne, Through, ThroughBoth};
 ghost use Rattle.c_calls.specs.KeeperCalls.{AdvanceAnswers, AttachesNamed, DestroyAnswers, DetachesNamed, KeeperCloses, PerformCalls, TurnCalls};
 ghost use Rattle.c_values.specs.declared.values.TheConstants.{DONE};
 ghost use Rattle.c_values.specs.Places.{put};
-ghost use Rattle.c_values.specs.Values.{settings_out};
+ghost use Rattle.c_values.specs.Values.{number_of, settings_out};
 
 use c_bodies::handle::{CpuHandle, KeeperHandle};
 use c_calls::through_keeper;
@@ -34,6 +34,15 @@ pub extern "C" fn registry_settings_of(
         (λ k l. (result.number ≡ DONE) × (l ≡ k) × (result.place.value ≡ put settings.value (settings_out k.words.settings))) }
 {
     through_keeper::settings_of(keeper, settings)
+}
+
+/// `registry_room` of the header.
+#[unsafe(no_mangle)]
+pub extern "C" fn registry_room(keeper: &mut KeeperHandle) -> u32
+    ensures { Through keeper.old.body keeper.new.body result (Unit {0})
+        (λ k l. (result ≡ number_of (room_answer k.words.settings k.keeper)) × (l ≡ k)) }
+{
+    through_keeper::room(keeper)
 }
 
 /// `registry_attach` of the header.
