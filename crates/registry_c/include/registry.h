@@ -802,4 +802,9 @@ registry_answer registry_audit(struct registry_keeper *keeper, struct registry_c
 #ifdef __cplusplus
 }
 #endif
+
+/* The checking build. */
+#ifdef REGISTRY_CHECK
+#include "registry_check.h"
+#endif
 #endif
