@@ -333,7 +333,7 @@ static bool is_alive(long other)
 	const struct timespec moment = {0, 1000000};
 	char path[40];
 	snprintf(path, sizeof path, "/proc/self/task/%ld", other);
-	for (int i = 0; i < 100 && other != 0; i++) {
+	for (int i = 0; i < 1000 && other != 0; i++) {
 		if (access(path, F_OK) != 0)
 			return false;
 		nanosleep(&moment, NULL);
@@ -361,7 +361,7 @@ static void use_locked(const struct registry_keeper *keeper)
 static void learn(const struct event *event, const struct registry_keeper *keeper, pthread_mutex_t *mutex, bool is_told)
 {
 	lock_table();
-	struct record *record = seek_handle(KEEPER, keeper);
+	struct record *record = keeper != NULL ? seek_handle(KEEPER, keeper) : NULL;
 	if (record != NULL && (is_told || (!record->is_told && mutex != record->interlock))) {
 		record->interlock = mutex;
 		record->since = *event;
@@ -702,14 +702,20 @@ registry_answer registry_checked_thread_unregister(struct registry_threads *thre
 	return registry_thread_unregister(threads);
 }
 
+/* The references to the entry, or the open sections. */
+static void print_holders(FILE *out, uint64_t number, bool sections)
+{
+	static const char *const words[] = {[CPU] = "section", [LOCAL] = "local", [PASSIVE] = "passive"};
+	for (const struct record *record = after(NULL); record != NULL; record = after(record))
+		if (record->made.call != NULL && (record->kind == CPU) == sections && (sections || record->number == number))
+			fprintf(out, "%s, CPU %" PRIu64 ", %s:%u, thread %ld\n", words[record->kind], record->cpu, record->made.file, record->made.line,
+			    record->made.thread);
+}
+
 void registry_holders(FILE *out, uint64_t number)
 {
 	lock_table();
-	for (const struct record *record = after(NULL); record != NULL; record = after(record)) {
-		bool has = record->kind == CPU ? record->made.call != NULL : record->kind != KEEPER && record->number == plain(number);
-		if (has)
-			fprintf(out, "%s, CPU %" PRIu64 ", %s:%u, thread %ld\n", record->kind == CPU ? "section" : record->kind == LOCAL ? "local" : "passive",
-			    record->cpu, record->made.file, record->made.line, record->made.thread);
-	}
+	print_holders(out, plain(number), false);
+	print_holders(out, plain(number), true);
 	unlock_table();
 }
