@@ -74,10 +74,17 @@ static void acquire_local(struct registry_local *of)
 
 /* ---- Passive references. ---- */
 
+/* More are released before than the checking build remembers. */
 static void released_twice(void)
 {
+	for (int i = 0; i < 5000; i++) {
+		DONE(registry_get(&one.cpus[0], REGISTRY_DRIVER, &wm, &found));
+		DONE(registry_release(&one.cpus[0], found.number));
+	}
 	DONE(registry_get(&one.cpus[0], REGISTRY_DRIVER, &wm, &found));
 	DONE(AT(0, registry_release(&one.cpus[0], found.number)));
+	acquire_local(&local);
+	DONE(registry_local_release(&one.cpus[0], &local));
 	AT(1, registry_release(&one.cpus[0], found.number));
 }
 
@@ -103,7 +110,8 @@ static void released_to_another(void)
 
 static void never_acquired(void)
 {
-	AT(0, registry_release(&one.cpus[0], 3));
+	acquire_local(&local);
+	AT(0, registry_release(&one.cpus[0], 1));
 }
 
 static void left_behind(void)
@@ -239,6 +247,7 @@ static void in_a_child(void)
 	int status;
 	pid_t child = fork();
 	EXPECT(child >= 0);
+	alarm(20);
 	if (child == 0)
 		AT(0, registry_depth(&one.cpus[0], NULL));
 	EXPECT(child == 0 || waitpid(child, &status, 0) == child);
@@ -248,7 +257,11 @@ static void in_a_child(void)
 
 static void cancelled_anywhere(void)
 {
-	EXPECT(pthread_setcanceltype(PTHREAD_CANCEL_ASYNCHRONOUS, NULL) == 0);
+	int type, state;
+	EXPECT(pthread_setcancelstate(PTHREAD_CANCEL_DISABLE, &state) == 0 && pthread_setcanceltype(PTHREAD_CANCEL_ASYNCHRONOUS, &type) == 0);
+	DONE(registry_depth(&one.cpus[0], NULL));
+	EXPECT(pthread_setcanceltype(PTHREAD_CANCEL_ASYNCHRONOUS, &type) == 0 && type == PTHREAD_CANCEL_ASYNCHRONOUS);
+	EXPECT(pthread_setcancelstate(PTHREAD_CANCEL_ENABLE, &state) == 0);
 	AT(0, registry_depth(&one.cpus[0], NULL));
 }
 
@@ -320,27 +333,49 @@ static void barrier_inside(void)
 
 /* ---- What is right, or what a result says. ---- */
 
+static void *copy_and_release(void *of)
+{
+	DONE(registry_copy(&one.cpus[0], found.number));
+	stay();
+	DONE(registry_release(&one.cpus[0], found.number));
+	atomic_store(&is_there, true);
+	return of;
+}
+
+/* A release takes the thread's own reference, and a close takes all that are passive. */
 static void who_holds(void)
 {
 	DONE(AT(0, registry_get(&one.cpus[0], REGISTRY_DRIVER, &wm, &found)));
+	beside(copy_and_release);
 	DONE(AT(1, registry_copy(&one.cpus[0], found.number)));
+	atomic_store(&is_there, false);
+	while (!atomic_load(&is_there))
+		rest();
 	DONE(AT(2, registry_enter_find(&one.cpus[1], REGISTRY_DRIVER, &wm, NULL)));
 	DONE(AT(3, registry_local_acquire(&one.cpus[1], &local)));
-	DONE(registry_release(&one.cpus[0], found.number));
+	registry_holders(stderr, found.number);
+	DONE(registry_exit(&one.cpus[1]));
+	DONE(registry_local_forget(&local));
+	DONE(registry_close_cpu(&one.cpus[0]));
+	registry_holders(stderr, found.number);
+	DONE(registry_close(one.cpus, 2, &one.keeper));
 	registry_holders(stderr, found.number);
 }
 
-static void *release_local(void *of)
+/* Another thread releases what this one acquired, ends its section, and waits inside a section of another registry. */
+static void *take_over(void *of)
 {
 	struct registry_local moved = local;
 	DONE(registry_local_drop(&one.cpus[1], &moved, &interlock, &one.keeper));
 	DONE(registry_release(&one.cpus[0], found.number));
 	DONE(registry_exit(&one.cpus[0]));
+	DONE(registry_enter(&two.cpus[0]));
 	wait_once(of);
+	DONE(registry_exit(&two.cpus[0]));
 	return of;
 }
 
-/* A handle is moved there and back; another thread releases what this one acquired, ends its section and waits; then this thread alone has the keeper. */
+/* A handle is moved there and back. At the end this thread alone has the keeper. */
 static void handed_over(void)
 {
 	struct registry_cpu moved = one.cpus[0];
@@ -349,19 +384,41 @@ static void handed_over(void)
 	one.cpus[0] = moved;
 	acquire_local(&local);
 	DONE(registry_enter(&one.cpus[0]));
-	EXPECT(pthread_create(&thread, NULL, release_local, NULL) == 0 && pthread_join(thread, NULL) == 0);
+	EXPECT(pthread_create(&thread, NULL, take_over, NULL) == 0 && pthread_join(thread, NULL) == 0);
 	DONE(registry_attach(&one.keeper, &one.cpus[0], &wm0, 7, NULL));
 	EXPECT(registry_exit(&one.cpus[0]) == REGISTRY_OUTSIDE);
 	DONE(registry_close(one.cpus, 2, &one.keeper));
 	DONE(registry_close(one.cpus, 2, &one.keeper));
 	EXPECT(registry_enter(&one.cpus[0]) == REGISTRY_EMPTY_HANDLE);
-	DONE(registry_open(&SETTINGS, &one.keeper, one.cpus, 2));
 }
 
 static void without_interlock(void)
 {
 	registry_check_interlock(&one.keeper, NULL);
 	learned_interlock();
+}
+
+/* A recursive interlock stays locked as often. In the child of a fork it is that of a registry of its own. */
+static void recursive(void)
+{
+	const struct registry_lock lock = registry_lock_of_mutex(&interlock);
+	pthread_mutexattr_t often;
+	int status;
+	EXPECT(pthread_mutexattr_init(&often) == 0 && pthread_mutexattr_settype(&often, PTHREAD_MUTEX_RECURSIVE) == 0);
+	EXPECT(pthread_mutex_init(&interlock, &often) == 0);
+	pid_t child = fork();
+	alarm(20);
+	EXPECT(child == 0 || (waitpid(child, &status, 0) == child && status == 0));
+	struct bench own = {0};
+	DONE(registry_open(&SETTINGS, &own.keeper, own.cpus, 2));
+	registry_check_interlock(&own.keeper, &interlock);
+	EXPECT(pthread_mutex_lock(&interlock) == 0);
+	DONE(registry_perform_wait(&lock, &own.keeper, &own.cpus[0], NULL, NULL));
+	DONE(registry_attach(&own.keeper, &own.cpus[0], &wm, 7, NULL));
+	EXPECT(pthread_mutex_unlock(&interlock) == 0 && pthread_mutex_unlock(&interlock) != 0);
+	DONE(registry_close(own.cpus, 2, &own.keeper));
+	if (child == 0)
+		_exit(0);
 }
 
 /* What a process says, with @0 for the place of the call that AT has noted as 0, and @t for the thread; and whether it is aborted. */
@@ -379,7 +436,7 @@ static const struct row ROWS[] = {
 	{"on another CPU", released_elsewhere, "@1: registry_release: wm's reference 1 is CPU 0's, acquired at @0, and this is CPU 1\n", true},
 	{"of another registry", released_to_another,
 	    "@1: registry_release: wm's reference 1, acquired at @0, is of the registry opened at @8, and this is CPU 0\n", true},
-	{"never acquired", never_acquired, "@0: registry_release: CPU 0 never acquired a reference 3\n", true},
+	{"never acquired", never_acquired, "@0: registry_release: CPU 0 never acquired a reference 1\n", true},
 	{"left behind", left_behind, "@1: registry_thread_unregister: wm's reference 1, acquired at @0, stays on CPU 0\n", true},
 	{"released twice, and the CPU has another", taken_from_another, "@1: registry_release: wm's reference 1 was released already at @0\n", true},
 	{"read after its release", read_afterwards, "@1: registry_read: wm's reference 1 was released already at @0\n", true},
@@ -404,9 +461,12 @@ static const struct row ROWS[] = {
 	{"a section at the close", open_at_close, "@1: registry_close: CPU 1 is inside the section that began at @0\n", true},
 	{"a wait in a section", waits_inside, "@1: registry_destroy_wait: this thread is inside the section that began on CPU 1 at @0\n", true},
 	{"a barrier in a section", barrier_inside, "@1: registry_deferred_barrier: this thread is inside the section that began on CPU 1 at @0\n", true},
-	{"who holds", who_holds, "local, CPU 1, @3, thread @t\npassive, CPU 0, @0, thread @t\nsection, CPU 1, @2, thread @t\n", false},
+	{"who holds", who_holds,
+	    "local, CPU 1, @3, thread @t\npassive, CPU 0, @1, thread @t\npassive, CPU 0, @0, thread @t\nsection, CPU 1, @2, thread @t\n"
+	    "passive, CPU 0, @1, thread @t\npassive, CPU 0, @0, thread @t\n", false},
 	{"handed over", handed_over, "", false},
 	{"told that no interlock is needed", without_interlock, "", false},
+	{"a recursive interlock, and a child's registry", recursive, "", false},
 };
 
 /* The process of a row, and the end of a pipe with what it says. */
