@@ -524,19 +524,26 @@ CHECKED(perform_turn, (struct registry_keeper *keeper, struct registry_cpu *cpu,
 CHECKED(audit, (struct registry_keeper *keeper, struct registry_cpu *cpus, size_t count, struct registry_balance *list, size_t room, size_t *length,
     REGISTRY_FROM), use_locked(keeper); use_all(cpus, count), (keeper, cpus, count, list, room, length))
 
+static void note_entry(struct record *record, const struct registry_entry *entry)
+{
+	record->made = now;
+	record->number = entry->number;
+	if (registry_name_format(&entry->name, record->name, sizeof record->name) != REGISTRY_DONE)
+		record->name[0] = 0;
+}
+
 /* A CPU has acquired a reference with this number, which has a tag, or gets one. The call's result, and the number that the program gets. */
 static registry_answer acquired(registry_answer answer, const struct record *on, const struct registry_cpu *cpu, uint64_t *number, bool tagged)
 {
-	struct registry_entry entry = {0};
+	struct registry_entry entry = {.number = plain(*number)};
 	if (answer != REGISTRY_DONE)
 		return end(answer);
 	struct record record = *on;
 	record.kind = PASSIVE;
-	record.key = record.number = plain(*number);
+	record.key = entry.number;
 	record.tag = (uint32_t)(*number >> 32);
-	record.made = now;
-	if (registry_read(cpu, record.number, &entry) != REGISTRY_DONE || registry_name_format(&entry.name, record.name, sizeof record.name) != REGISTRY_DONE)
-		record.name[0] = 0;
+	registry_read(cpu, entry.number, &entry);
+	note_entry(&record, &entry);
 	lock_table();
 	if (tagged)
 		record.tag = ++tags != 0 ? tags : ++tags;
@@ -601,30 +608,35 @@ registry_answer registry_checked_release(struct registry_cpu *cpu, uint64_t numb
 	return end(answer);
 }
 
-registry_answer registry_checked_local_acquire(struct registry_cpu *cpu, struct registry_local *local, REGISTRY_FROM)
+/* A CPU has acquired a local reference, which gets a handle of the program's. */
+static registry_answer acquired_local(registry_answer answer, const struct record *on, struct registry_local library, struct registry_local *local)
 {
 	struct registry_entry entry = {0};
+	if (answer != REGISTRY_DONE)
+		return end(answer);
+	struct record record = *on;
+	record.kind = LOCAL;
+	record.user.call = NULL;
+	record.local = library;
+	registry_local_read(&library, &entry);
+	note_entry(&record, &entry);
+	lock_table();
+	record.key = ++locals;
+	insert(record);
+	unlock_table();
+	local->at = (void *)(uintptr_t)record.key;
+	return end(answer);
+}
+
+registry_answer registry_checked_local_acquire(struct registry_cpu *cpu, struct registry_local *local, REGISTRY_FROM)
+{
 	begin("registry_local_acquire", file, line);
 	const struct record *on = use(CPU, cpu);
 	if (local == NULL)
 		tell(&now, "the pointer to the handle of the local reference is NULL");
-	if (on == NULL || local->at != NULL)
-		return end(registry_local_acquire(cpu, local));
-	struct record record = *on;
-	registry_answer answer = registry_local_acquire(cpu, &record.local);
-	if (answer != REGISTRY_DONE)
-		return end(answer);
-	record.kind = LOCAL;
-	record.made = now;
-	record.user.call = NULL;
-	if (registry_local_read(&record.local, &entry) != REGISTRY_DONE || registry_name_format(&entry.name, record.name, sizeof record.name) != REGISTRY_DONE)
-		record.name[0] = 0;
-	record.number = entry.number;
-	lock_table();
-	record.key = ++locals;
-	local->at = (void *)(uintptr_t)insert(record)->key;
-	unlock_table();
-	return end(answer);
+	struct registry_local library = *local;
+	registry_answer answer = registry_local_acquire(cpu, &library);
+	return acquired_local(answer, on, library, local);
 }
 
 /* ---- The calls of waiting.h, which make those above. ---- */

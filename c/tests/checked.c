@@ -362,7 +362,7 @@ static void who_holds(void)
 	registry_holders(stderr, found.number);
 }
 
-/* Another thread releases what this one acquired, ends its section, and waits inside a section of another registry. */
+/* Another thread releases what this one acquired, ends its section, waits inside one of another registry, and needs no lock while it has the keeper. */
 static void *take_over(void *of)
 {
 	struct registry_local moved = local;
@@ -372,10 +372,11 @@ static void *take_over(void *of)
 	DONE(registry_enter(&two.cpus[0]));
 	wait_once(of);
 	DONE(registry_exit(&two.cpus[0]));
+	DONE(registry_attach(&one.keeper, &one.cpus[0], &wm0, 7, NULL));
 	return of;
 }
 
-/* A handle is moved there and back. At the end this thread alone has the keeper. */
+/* A handle is moved there and back. At the end this thread has the keeper. */
 static void handed_over(void)
 {
 	struct registry_cpu moved = one.cpus[0];
@@ -385,8 +386,9 @@ static void handed_over(void)
 	acquire_local(&local);
 	DONE(registry_enter(&one.cpus[0]));
 	EXPECT(pthread_create(&thread, NULL, take_over, NULL) == 0 && pthread_join(thread, NULL) == 0);
-	DONE(registry_attach(&one.keeper, &one.cpus[0], &wm0, 7, NULL));
-	EXPECT(registry_exit(&one.cpus[0]) == REGISTRY_OUTSIDE);
+	registry_holders(stderr, found.number);
+	DONE(registry_detach(&one.keeper, &one.cpus[0], REGISTRY_DRIVER, &wm0, NULL));
+	EXPECT(registry_exit(&one.cpus[0]) == REGISTRY_OUTSIDE && registry_copy(&one.cpus[0], found.number) == REGISTRY_NOT_HELD);
 	DONE(registry_close(one.cpus, 2, &one.keeper));
 	DONE(registry_close(one.cpus, 2, &one.keeper));
 	EXPECT(registry_enter(&one.cpus[0]) == REGISTRY_EMPTY_HANDLE);

@@ -803,7 +803,7 @@ registry_answer registry_audit(struct registry_keeper *keeper, struct registry_c
 }
 #endif
 
-/* The checking build. */
+/* The checking build tells a program that is compiled with -DREGISTRY_CHECK which of its calls break these rules. */
 #ifdef REGISTRY_CHECK
 #include "registry_check.h"
 #endif
