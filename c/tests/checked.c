@@ -333,8 +333,22 @@ static void barrier_inside(void)
 
 /* ---- What is right, or what a result says. ---- */
 
+static void take(void *of)
+{
+	EXPECT(of == NULL && pthread_mutex_lock(&interlock) == 0);
+}
+
+static void give(void *of)
+{
+	EXPECT(of == NULL && pthread_mutex_unlock(&interlock) == 0);
+}
+
+/* It waits while another thread is inside a section, by a lock that is no mutex. */
 static void *copy_and_release(void *of)
 {
+	const struct registry_lock lock = {take, give, NULL};
+	const struct timespec past = {0, 0};
+	EXPECT(registry_perform_wait(&lock, &one.keeper, &one.cpus[0], &past, NULL) == REGISTRY_WAITING);
 	DONE(registry_copy(&one.cpus[0], found.number));
 	stay();
 	DONE(registry_release(&one.cpus[0], found.number));
@@ -346,14 +360,16 @@ static void *copy_and_release(void *of)
 static void who_holds(void)
 {
 	DONE(AT(0, registry_get(&one.cpus[0], REGISTRY_DRIVER, &wm, &found)));
+	DONE(AT(2, registry_enter_find(&one.cpus[1], REGISTRY_DRIVER, &wm, NULL)));
 	beside(copy_and_release);
 	DONE(AT(1, registry_copy(&one.cpus[0], found.number)));
 	atomic_store(&is_there, false);
 	while (!atomic_load(&is_there))
 		rest();
-	DONE(AT(2, registry_enter_find(&one.cpus[1], REGISTRY_DRIVER, &wm, NULL)));
 	DONE(AT(3, registry_local_acquire(&one.cpus[1], &local)));
-	registry_holders(stderr, found.number);
+	DONE(registry_attach(&one.keeper, &one.cpus[0], &wm0, 7, NULL));
+	DONE(registry_get(&one.cpus[0], REGISTRY_DRIVER, &wm0, NULL));
+	registry_holders(stderr, found.number | UINT64_C(1) << 32);
 	DONE(registry_exit(&one.cpus[1]));
 	DONE(registry_local_forget(&local));
 	DONE(registry_close_cpu(&one.cpus[0]));
@@ -392,6 +408,25 @@ static void handed_over(void)
 	DONE(registry_close(one.cpus, 2, &one.keeper));
 	DONE(registry_close(one.cpus, 2, &one.keeper));
 	EXPECT(registry_enter(&one.cpus[0]) == REGISTRY_EMPTY_HANDLE);
+}
+
+static void *visit(void *of)
+{
+	DONE(registry_thread_register(of, NULL, NULL));
+	DONE(registry_thread_unregister(of));
+	return NULL;
+}
+
+/* A thread gives a CPU back where another one has a reference, and that one another CPU. */
+static void unregistered(void)
+{
+	struct registry_threads threads = {0}, others = {0};
+	pthread_t thread;
+	DONE(registry_get(&one.cpus[0], REGISTRY_DRIVER, &wm, &found));
+	DONE(registry_threads_open(&threads, &one.cpus[0], 1));
+	DONE(registry_threads_open(&others, &one.cpus[1], 1));
+	EXPECT(pthread_create(&thread, NULL, visit, &threads) == 0 && pthread_join(thread, NULL) == 0);
+	visit(&others);
 }
 
 static void without_interlock(void)
@@ -467,6 +502,7 @@ static const struct row ROWS[] = {
 	    "local, CPU 1, @3, thread @t\npassive, CPU 0, @1, thread @t\npassive, CPU 0, @0, thread @t\nsection, CPU 1, @2, thread @t\n"
 	    "passive, CPU 0, @1, thread @t\npassive, CPU 0, @0, thread @t\n", false},
 	{"handed over", handed_over, "", false},
+	{"unregistered", unregistered, "", false},
 	{"told that no interlock is needed", without_interlock, "", false},
 	{"a recursive interlock, and a child's registry", recursive, "", false},
 };
