@@ -18,7 +18,7 @@ PROGRAMS_x86_64 = recalls
 BENCH = bench
 BENCHED = $(if $(wildcard $(BENCH)/common.c),speed)
 
-all: $(PROGRAMS:%=$(OUT)/%)
+all: $(PROGRAMS:%=$(OUT)/%) $(OUT)/checked $(CHECKING:%=$(OUT)/checked-%)
 
 $(OUT):
 	mkdir -p $@
@@ -68,6 +68,16 @@ $(OUT)/speed: STRICT = -std=c11 -D_POSIX_C_SOURCE=200809L -I$(BENCH) -Wall -Wext
 
 $(PROGRAMS:%=$(OUT)/%): c/examples/client.h c/examples/expect.h c/examples/edges.h $(FACE) $(ARCHIVE) | $(OUT)
 	$(CC) $(STRICT) $(CPPFLAGS) $(CFLAGS) $(INCLUDES) $(LDFLAGS) -o $@ $(filter %.c,$^) $(ARCHIVE) -pthread $(LINK)
+
+# The checking build: the test of what it tells, and programs that it says nothing of.
+CHECKING = smallest row packet shared storm walk crowd forwarder device_switch together interrupted
+
+$(OUT)/checked: c/tests/checked.c
+$(OUT)/checked: LINK = -Wl,--wrap=registry_find
+$(CHECKING:%=$(OUT)/checked-%): $(OUT)/checked-%: %.c
+
+$(OUT)/checked $(CHECKING:%=$(OUT)/checked-%): c/src/check.c c/src/waiting.c c/include/registry_check.h c/include/waiting.h c/examples/client.h c/examples/expect.h c/examples/basket.h c/examples/workers.h $(FACE) $(ARCHIVE) | $(OUT)
+	$(CC) $(STRICT) $(CPPFLAGS) $(CFLAGS) -DREGISTRY_CHECK $(INCLUDES) $(LDFLAGS) -o $@ $(filter %.c,$^) $(ARCHIVE) -pthread $(LINK)
 
 # refuse has an allocator of its own, which the sanitizers' would fight.
 SANITIZED = smallest row packet shared storm misuse built walk entries names crowd forwarder device_switch $(WAITING_SANITIZED)
@@ -120,7 +130,7 @@ $(ORDERED:%=$(OUT)/ordered-%): $(OUT)/ordered-%: %.c c/tests/ordered.c c/example
 	    -Wl,--wrap=malloc,--wrap=free,--wrap=registry_open
 
 # What ends with status 0 where it finds nothing wrong, with the words that make it brief; and the names of the pages, plain.
-CHECKED = smallest packet shared misuse refuse built turns $(OVER_WAITING) history walk entries crowd forwarder device_switch
+CHECKED = smallest packet shared checked misuse refuse built turns $(OVER_WAITING) history walk entries crowd forwarder device_switch
 words_together = 20
 words_walk = 200
 words_entries = 50
@@ -154,7 +164,7 @@ $(NETBSD_CHECKED:%=check-netbsd-%): check-netbsd-%: netbsd-programs
 	$(RUN) ./$(OUT)/netbsd/plain/$*
 
 clean:
-	rm -f $(PROGRAMS:%=$(OUT)/%) $(SANITIZED:%=$(OUT)/sanitized-%) $(STRESSES) $(RACED:%=$(OUT)/raced-%) $(ORDERED:%=$(OUT)/ordered-%) $(OUT)/waiting.o $(OUT)/libkupaldiz*
+	rm -f $(PROGRAMS:%=$(OUT)/%) $(OUT)/checked $(CHECKING:%=$(OUT)/checked-%) $(SANITIZED:%=$(OUT)/sanitized-%) $(STRESSES) $(RACED:%=$(OUT)/raced-%) $(ORDERED:%=$(OUT)/ordered-%) $(OUT)/waiting.o $(OUT)/checked-part-*.o $(OUT)/libkupaldiz*
 	rm -rf $(OUT)/installed-netbsd $(OUT)/installed-bench
 
 .PHONY: all sanitized stresses ordered clean check check-row check-storm check-limits netbsd-programs $(CHECKED:%=check-%) $(NETBSD_CHECKED:%=check-netbsd-%)

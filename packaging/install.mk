@@ -1,5 +1,5 @@
 # The libraries that are installed: `make install PREFIX=.. DESTDIR=..` and `make uninstall` with the same words. libkupaldiz is the archive of the
-# registry together with waiting.c, libkupaldiz_netbsd the manual pages' own names over it; what is built lies in out/. The version stands in
+# registry together with waiting.c, libkupaldiz_check the checking build's part, libkupaldiz_netbsd the manual pages' own names; what is built lies in out/. The version stands in
 # registry.h alone.
 
 PREFIX = /usr/local
@@ -67,7 +67,7 @@ netbsd_named_by = $(filter-out $(1),$(shell sed -n 's/^\.Nm \([A-Za-z_0-9]*\).*/
 COMPILED = $(STRICT) $(CPPFLAGS) $(filter-out -flto%,$(CFLAGS)) $(HARDENING) -fPIC -I$(HEADER)
 LINKED = $(filter-out -flto%,$(CFLAGS)) $(LDFLAGS) -shared $(LINK_HARDENING) -Wl,-z,defs,-z,text,-z,nodelete
 
-library: $(OUT)/libkupaldiz.a $(OUT)/$(SHARED) $(OUT)/libkupaldiz_netbsd.a $(OUT)/$(NETBSD_SHARED)
+library: $(OUT)/libkupaldiz.a $(OUT)/$(SHARED) $(OUT)/libkupaldiz_check.a $(OUT)/libkupaldiz_netbsd.a $(OUT)/$(NETBSD_SHARED)
 
 $(OUT)/waiting.o: c/src/waiting.c c/include/waiting.h $(FACE) packaging/places.mk packaging/install.mk | $(OUT)
 	$(CC) $(COMPILED) -Ic/include -c -o $@ $<
@@ -77,6 +77,14 @@ $(OUT)/libkupaldiz.a: $(ARCHIVE) $(OUT)/waiting.o
 	mkdir -p $(OUT)/installed-archive
 	cd $(OUT)/installed-archive && $(AR) x $(if $(filter /%,$(ARCHIVE)),$(ARCHIVE),"$$OLDPWD"/$(ARCHIVE))
 	$(AR) rcsD $@ $(OUT)/installed-archive/*.o $(OUT)/waiting.o
+
+# The calls that wait are in it once more: these are told, too.
+$(OUT)/checked-part-%.o: c/src/%.c c/include/waiting.h c/include/registry_check.h $(FACE) packaging/places.mk packaging/install.mk | $(OUT)
+	$(CC) $(COMPILED) -DREGISTRY_CHECK -Ic/include -c -o $@ $<
+
+$(OUT)/libkupaldiz_check.a: $(OUT)/checked-part-check.o $(OUT)/checked-part-waiting.o
+	rm -f $@
+	$(AR) rcsD $@ $^
 
 # A thread that has called the layer runs code of it at its end, and others may be in a call: a library stays where it is.
 $(OUT)/$(SHARED): $(OUT)/libkupaldiz.a packaging/kupaldiz.map packaging/install.mk
@@ -111,10 +119,11 @@ install: library pages
 	$(INSTALL) -d $(DESTDIR)$(PKGCONFIGDIR) $(DESTDIR)$(CMAKEDIR) $(NETBSD_FOLDERS:%=$(DESTDIR)$(INCLUDEDIR)/kupaldiz/netbsd/%) \
 	    $(DESTDIR)$(MANDIR)/man3 $(DESTDIR)$(MANDIR)/man7 $(DESTDIR)$(DOCDIR)
 	$(INSTALL) -m 644 $(OUT)/libkupaldiz.a $(DESTDIR)$(LIBDIR)/libkupaldiz.a
+	$(INSTALL) -m 644 $(OUT)/libkupaldiz_check.a $(DESTDIR)$(LIBDIR)/libkupaldiz_check.a
 	$(INSTALL) -m 755 $(OUT)/$(SHARED) $(DESTDIR)$(LIBDIR)/$(SHARED)
 	ln -sf $(SHARED) $(DESTDIR)$(LIBDIR)/$(SONAME)
 	ln -sf $(SONAME) $(DESTDIR)$(LIBDIR)/libkupaldiz.so
-	$(INSTALL) -m 644 $(FACE) $(DESTDIR)$(INCLUDEDIR)/kupaldiz/
+	$(INSTALL) -m 644 $(FACE) c/include/registry_check.h $(DESTDIR)$(INCLUDEDIR)/kupaldiz/
 	$(INSTALL) -m 644 c/include/waiting.h $(DESTDIR)$(INCLUDEDIR)/kupaldiz/registry_waiting.h
 	$(INSTALL) -m 644 $(OUT)/libkupaldiz_netbsd.a $(DESTDIR)$(LIBDIR)/libkupaldiz_netbsd.a
 	$(INSTALL) -m 755 $(OUT)/$(NETBSD_SHARED) $(DESTDIR)$(LIBDIR)/$(NETBSD_SHARED)
@@ -159,11 +168,11 @@ installcheck:
 
 # Takes away what install has put there, and the folders that are the libraries' alone.
 uninstall: pages
-	rm -f $(addprefix $(DESTDIR)$(LIBDIR)/,libkupaldiz.a $(SHARED) $(SONAME) libkupaldiz.so pkgconfig/kupaldiz.pc)
+	rm -f $(addprefix $(DESTDIR)$(LIBDIR)/,libkupaldiz.a libkupaldiz_check.a $(SHARED) $(SONAME) libkupaldiz.so pkgconfig/kupaldiz.pc)
 	rm -f $(addprefix $(DESTDIR)$(LIBDIR)/,libkupaldiz_netbsd.a $(NETBSD_SHARED) $(NETBSD_SONAME) libkupaldiz_netbsd.so pkgconfig/kupaldiz-netbsd.pc)
 	rm -f $(addprefix $(DESTDIR)$(CMAKEDIR)/,kupaldizConfig.cmake kupaldizConfigVersion.cmake)
 	rm -f $(addprefix $(DESTDIR)$(INCLUDEDIR)/kupaldiz/netbsd/,$(NETBSD_HEADERS))
-	rm -f $(addprefix $(DESTDIR)$(INCLUDEDIR)/kupaldiz/,registry.h registry_limits.h registry_waiting.h)
+	rm -f $(addprefix $(DESTDIR)$(INCLUDEDIR)/kupaldiz/,registry.h registry_limits.h registry_waiting.h registry_check.h)
 	rm -f $(addprefix $(DESTDIR)$(MANDIR)/man3/,$(foreach page,$(PAGES),$(page).3 $(addsuffix .3$(MANSUFFIX),$(call named_by,$(page)))))
 	rm -f $(addprefix $(DESTDIR)$(MANDIR)/man3/,$(foreach page,$(NETBSD_PAGES),$(page).3 $(addsuffix .3$(MANSUFFIX),$(call netbsd_named_by,$(page)))))
 	rm -f $(addprefix $(DESTDIR)$(MANDIR)/man7/,registry.7 kupaldiz_netbsd.7)

@@ -58,6 +58,8 @@ try_all() {
 }
 
 try_all kupaldiz installed "version $version"
+try "$CC -std=c99 -DREGISTRY_CHECK -x c" kupaldiz installed "C, version $version" -lkupaldiz_check --libs
+try "$CC -std=c99 -DREGISTRY_CHECK -x c" kupaldiz installed "C, version $version" "-static -lkupaldiz_check" --static --libs
 try_all kupaldiz-netbsd installed_netbsd "by the pages' names"
 if [ -f "$stage$libdir/pkgconfig/kupaldiz-bench.pc" ]; then
     try_all kupaldiz-bench installed_bench "in every order"

@@ -75,6 +75,7 @@ for compiler in gcc clang; do
         # shellcheck disable=SC2086
         check "$compiler $words" runs "$compiler" -std=c11 $words
     done
+    check "$compiler, the checking build" runs "$compiler" -std=c11 -O2 -DREGISTRY_CHECK c/src/check.c
 done
 check "gcc -O3 -flto" runs gcc -std=gnu17 -O3 -flto
 if command -v ld.lld >/dev/null; then
@@ -82,6 +83,7 @@ if command -v ld.lld >/dev/null; then
 fi
 if command -v musl-gcc >/dev/null; then
     check "musl-gcc -static" runs_over_musl -std=c11 -O2 -static
+    check "musl-gcc -static, the checking build" runs_over_musl -std=c11 -O2 -static -DREGISTRY_CHECK c/src/check.c
 fi
 check "g++ -std=c++20" runs_as_cxx g++
 ! command -v clang++ >/dev/null || check "clang++ -std=c++20" runs_as_cxx clang++

@@ -196,7 +196,7 @@ test_c() {
     cpus=$(most_cpus)
     check "C: smallest" smallest_says "$out/smallest"
     check "C: row" row_says "$out/row"
-    for each in packet 'shared 2000' misuse refuse allocs blocks built turns deferred together interrupted reclaims lent history planted 'walk 5000' 'entries 1000' names \
+    for each in packet 'shared 2000' checked misuse refuse allocs blocks built turns deferred together interrupted reclaims lent history planted 'walk 5000' 'entries 1000' names \
         recalls 'crowd 2000' forwarder device_switch 'speed 2 8 1000' 'changes 20' "changes 20 $cpus"; do
         # shellcheck disable=SC2086
         check "C: $each" "$out"/$each
@@ -204,6 +204,13 @@ test_c() {
     for each in '1 1000' '2 3' '4 20000' "$cpus $((40000 / cpus))"; do
         # shellcheck disable=SC2086
         check "C: storm $each" storm_says $each "$out/storm"
+    done
+    check "C: smallest in the checking build" smallest_says "$out/checked-smallest"
+    check "C: row in the checking build" row_says "$out/checked-row"
+    check "C: storm 4 2000 in the checking build" storm_says 4 2000 "$out/checked-storm"
+    for each in packet 'shared 500' 'walk 500' 'crowd 200' forwarder device_switch 'together 20' interrupted; do
+        # shellcheck disable=SC2086
+        check "C: $each in the checking build" "$out"/checked-$each
     done
     counted "C: programs compiled for other limits" packaging/other-limits.sh "${header%/*}" "$out/libregistry.a"
     if [ -n "$limits" ]; then

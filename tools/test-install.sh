@@ -56,7 +56,7 @@ has_soname() {
 }
 
 calls_of_headers() {
-    packaging/calls-of.sh "$stage$prefix"/include/kupaldiz/registry*.h
+    packaging/calls-of.sh "$stage$prefix"/include/kupaldiz/registry{,_limits,_waiting}.h
 }
 
 # A program of the pages' names that is compiled for other CPUs than the library has doesn't link, and the linker names them.
@@ -149,7 +149,7 @@ pages_are_found() {
 # The words that a distribution gives reach the compiler and the linker.
 flags_are_taken() {
     local library
-    rm -rf "$top"/out/installed-{netbsd,bench} "$top/out/waiting.o" "$top"/out/libkupaldiz*
+    rm -rf "$top"/out/installed-{netbsd,bench} "$top"/out/{waiting.o,checked-part-*} "$top"/out/libkupaldiz*
     echo 'static const char of_cppflags[] __attribute__((used, section("seen"))) = "CPPFLAGS";' >"$room/seen.h"
     made library CPPFLAGS="-include $room/seen.h" CFLAGS='-O1 -frecord-gcc-switches' LDFLAGS=-Wl,--build-id=0xfeedfeed || return
     for library in "$top"/out/libkupaldiz{,_netbsd,_bench}.so."$(version)"; do
@@ -167,8 +167,8 @@ wanted() {
         echo "l 777 $me $libdir/$library.so.$abi -> $library.so.$1"
         echo "l 777 $me $libdir/$library.so -> $library.so.$abi"
     done
-    for file in "$libdir"/pkgconfig/kupaldiz{,-netbsd,-bench}.pc "$libdir"/cmake/kupaldiz/kupaldizConfig{,Version}.cmake \
-        "$prefix"/include/kupaldiz/{registry,registry_limits,registry_waiting,bench}.h "$prefix"/share/doc/kupaldiz/{CHANGELOG,VERSIONS}.md; do
+    for file in "$libdir"/libkupaldiz_check.a "$libdir"/pkgconfig/kupaldiz{,-netbsd,-bench}.pc "$libdir"/cmake/kupaldiz/kupaldizConfig{,Version}.cmake \
+        "$prefix"/include/kupaldiz/{registry,registry_limits,registry_waiting,registry_check,bench}.h "$prefix"/share/doc/kupaldiz/{CHANGELOG,VERSIONS}.md; do
         echo "f 644 $me $file"
     done
     (cd "$top/netbsd/include" && find . -name '*.h') | sed "s|^\.|f 644 $me $prefix/include/kupaldiz/netbsd|"

@@ -288,4 +288,10 @@ struct registry_cpu *registry_thread_cpu(const struct registry_threads *threads)
 #ifdef __cplusplus
 }
 #endif
+
+/* The checking build. */
+#ifdef REGISTRY_CHECK
+#define REGISTRY_WAITING_DECLARED
+#include "registry_check.h"
+#endif
 #endif

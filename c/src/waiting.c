@@ -1,4 +1,5 @@
-/* The calls of waiting.h, over those of registry.h. */
+/* The calls of waiting.h, over those of registry.h. The checking build tells what they meet with the place of the program's call. */
+#define REGISTRY_CHECK_INNER
 #include "waiting.h"
 
 #include <sched.h>

@@ -11,6 +11,8 @@ SYMBOLS = {
     "include/registry.h": "uint32_t registry_enter(struct registry_cpu *cpu);\nregistry_answer REGISTRY_BUILT_FOR(const struct registry_limits *limits);\n",
     "include/registry_limits.h": f"#define REGISTRY_BUILT_FOR\t{BUILT_FOR}\n",
     "c/include/waiting.h": "size_t registry_waits(void);\n",
+    "c/include/registry_check.h": "void registry_holders(void);\n#define registry_enter(cpu) 0\n#define registry_waits() 0\n",
+    "out/libkupaldiz_check.a": "0000 T registry_holders\n0000 T registry_waits\n",
     "packaging/kupaldiz.map": "KUPALDIZ_0 {\n\tglobal:\n\t\tregistry_enter;\n\t\tregistry_for_*;\n\t\tregistry_waits;\n\tlocal:\n\t\t*;\n};\n",
     "netbsd/include/kupaldiz/cpu.h": "int cpu_number(void);\nvoid kupaldiz_point(void);\nint kupaldiz_from(void);\n",
     "netbsd/netbsd.map": "NETBSD_0 {\n\tglobal:\n\t\tkupaldiz_cpu_number;\n\t\tkupaldiz_registry_for_*;\n};\n",
@@ -57,7 +59,11 @@ def symbols():
                    Fault(f"no {path}", told, ((path, tree[path], None),))]
     faults += [Fault(f"a call more in {path}", "< another", ((path, None, f"{tree[path]}int another(void);\n"),))
                for path in (*HEADERS, "explorer/bench.h")]
-    faults += [Fault("a call more of the pages", "< kupaldiz_another", (("netbsd/include/kupaldiz/lwp.h", None, "int another(void);\n"),)),
+    faults += [Fault("a call that isn't checked", "registry_check.h: other names than those of the headers\n< registry_waits",
+                     (("c/include/registry_check.h", "#define registry_waits() 0\n", ""),)),
+               Fault("a name less: libkupaldiz_check.a", "libkupaldiz_check.a: other names than those of the headers\n< registry_holders",
+                     (("out/libkupaldiz_check.a", "registry_holders", "less"),)),
+               Fault("a call more of the pages", "< kupaldiz_another", (("netbsd/include/kupaldiz/lwp.h", None, "int another(void);\n"),)),
                ]
     return Case("symbols", [], tree, ["./look"], faults, counts=False)
 

@@ -797,4 +797,9 @@ REGISTRY_WORDS(struct registry_limits, 6);
 #ifdef __cplusplus
 }
 #endif
+
+/* The checking build tells a program that is compiled with -DREGISTRY_CHECK which of its calls break these rules. */
+#ifdef REGISTRY_CHECK
+#include "registry_check.h"
+#endif
 #endif
