@@ -49,7 +49,7 @@ static inline void membar_sync(void)
 #define membar_datadep_consumer()	membar_acquire()
 
 /* An operation that returns nothing, and the one that returns the new value. */
-#define KUPALDIZ_CHANGES(name, type, parameters, change, value) \
+#define KUPALDIZ_CHANGE(name, type, parameters, change, value) \
 	static inline void atomic_##name parameters \
 	{ \
 		KUPALDIZ_POINT(at, KUPALDIZ_EXCHANGES); \
@@ -63,11 +63,11 @@ static inline void membar_sync(void)
 
 /* All operations on a word of one type: what their names end with, the type; what that of an addition ends with, and the type of what is added. */
 #define KUPALDIZ_ATOMICS(name, type, added, number) \
-	KUPALDIZ_CHANGES(add_##added, type, (volatile type *at, number value), __atomic_add_fetch, (type)value) \
-	KUPALDIZ_CHANGES(inc_##name, type, (volatile type *at), __atomic_add_fetch, 1) \
-	KUPALDIZ_CHANGES(dec_##name, type, (volatile type *at), __atomic_sub_fetch, 1) \
-	KUPALDIZ_CHANGES(or_##name, type, (volatile type *at, type bits), __atomic_or_fetch, bits) \
-	KUPALDIZ_CHANGES(and_##name, type, (volatile type *at, type bits), __atomic_and_fetch, bits) \
+	KUPALDIZ_CHANGE(add_##added, type, (volatile type *at, number value), __atomic_add_fetch, (type)value) \
+	KUPALDIZ_CHANGE(inc_##name, type, (volatile type *at), __atomic_add_fetch, 1) \
+	KUPALDIZ_CHANGE(dec_##name, type, (volatile type *at), __atomic_sub_fetch, 1) \
+	KUPALDIZ_CHANGE(or_##name, type, (volatile type *at, type bits), __atomic_or_fetch, bits) \
+	KUPALDIZ_CHANGE(and_##name, type, (volatile type *at, type bits), __atomic_and_fetch, bits) \
 	static inline type atomic_swap_##name(volatile type *at, type value) \
 	{ \
 		KUPALDIZ_POINT(at, KUPALDIZ_EXCHANGES); \
