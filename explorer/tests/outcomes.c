@@ -23,8 +23,9 @@
 #include <sys/systm.h>
 #include <time.h>
 
-#include "../bench.h"
+#include "found.h"
 #include "../../c/examples/expect.h"
+#include "../../netbsd/tests/bodies.h"
 
 enum { MOST = 4, LONGEST = 16 };
 
@@ -75,23 +76,9 @@ static void store_both(unsigned value)
 	memset(plains, (int)value, sizeof(plains));
 }
 
-static void count_plainly(void *arg)
-{
-	(void)arg;
-	plains[0]++;
-}
-
-static void handle(void *arg)
-{
-	(void)arg;
-	atomic_store_relaxed(&words[1], 26);
-}
-
-static void ring(void *arg)
-{
-	(void)arg;
-	atomic_store_relaxed(&words[0], 25);
-}
+HANDLER(count_plainly, plains[0]++)
+HANDLER(handle, atomic_store_relaxed(&words[1], 26))
+HANDLER(ring, atomic_store_relaxed(&words[0], 25))
 
 UNSEEN static void change_block(void *arg)
 {
@@ -209,12 +196,7 @@ static void end_target(void)
 	psref_target_destroy(&target, things);
 }
 
-static void store_and_exit(void *arg)
-{
-	(void)arg;
-	atomic_store_relaxed(&words[1], 24);
-	kthread_exit(0);
-}
+HANDLER(store_and_exit, atomic_store_relaxed(&words[1], 24); kthread_exit(0))
 
 /* Has a thread that it makes store a word, and waits for its end, or for another word meanwhile. */
 static void make_thread(unsigned thread)
@@ -264,6 +246,7 @@ UNSEEN static void act(unsigned thread, char letter, unsigned value)
 	case 'O': (void)callout_halt(&callout, NULL); break;
 	case 'c': kupaldiz_bind(0); break;
 	case 'k': (void)kpause("outcomes", false, 1, NULL); break;
+	case 'v': see(thread, (unsigned)getticks()); break;
 	case 'T': wait_for_a_tick(thread); break;
 	case 'S': cv_signal(&cv); break;
 	case 'j': schedule_own(thread); break;
@@ -299,14 +282,10 @@ UNSEEN static void run_text(void *arg)
 #define WITH_CV		"wsTSqQ"
 #define WITH_SECTIONS	"<>PgDqQ"
 #define PLAINLY		"xyXYz#p"
+#define NOT_BESIDE	PLAINLY "v"	/* a processor may change the order of plain accesses, and real time is another one */
 
 /* A soft interrupt waits on CPU 0 from the beginning, and its thread is made before the others. */
-static void schedule_early(void)
-{
-	kupaldiz_bind(0);
-	softint_schedule(softint);
-	kupaldiz_unbind();
-}
+static void schedule_early(void) { kupaldiz_bind(0); softint_schedule(softint); kupaldiz_unbind(); }
 
 static void begin(void)
 {
@@ -402,14 +381,6 @@ static struct bench_found explore(bool whole)
 	return found;
 }
 
-static bool has_outcome(const struct bench_found *found, const char *text)
-{
-	for (unsigned at = 0; at < found->outcomes; at++)
-		if (strcmp(found->outcome[at].text, text) == 0)
-			return true;
-	return false;
-}
-
 static void show(const struct bench_found *found, const char *which)
 {
 	printf("%s: %llu schedules, %u outcomes, %s%s\n", which, (unsigned long long)found->schedules, found->outcomes, found->line,
@@ -443,10 +414,10 @@ static void print_outcomes(void)
 		printf("%s|%s|%s: LEFT OUT\n", texts[0], texts[1], texts[2]);
 }
 
-/* Compares the two ways of the search for the program that is written. A processor may change the order of plain accesses. */
+/* Compares the two ways of the search for the program that is written. */
 static void compare(void)
 {
-	if (prints && !does(PLAINLY))
+	if (prints && !does(NOT_BESIDE))
 		print_outcomes();
 	if (prints)
 		return;
@@ -506,7 +477,7 @@ static void make_text(char *text, unsigned parts)
 {
 	static const char *const pieces[] = {"a", "b", "A", "B", "+", "(a)", "[A]", "([B])", "t", "<a>", "<ab>", "P", "(A)", "r", "W", "AB", "ba", "s", "w", "g", "i",
 	    "k", "o", "oO", "<iab>", "<iA>", "<ib>", "T", "TS", "S", "j", "je", "jAe", "jf", "lAL", "lAjL", "q",
-	    "q", "(S)", "kA", "x", "X", "xy", "Y", "z", "(x)", "(X)", "[Y]", "#", "({#})", "{x}", "<y>", "lXL", "lpyL", "p", "n", "B(t)"};
+	    "q", "(S)", "kA", "x", "X", "xy", "Y", "z", "(x)", "(X)", "[Y]", "#", "({#})", "{x}", "<y>", "lXL", "lpyL", "p", "n", "B(t)", "v", "vS"};
 	for (unsigned at = 0; at < parts; at++)
 		add(text, pieces[pick(sizeof(pieces) / sizeof(pieces[0]))]);
 }
@@ -580,6 +551,7 @@ static void try_written(void)
 	try("T", "s", "");
 	try("T", "S", "s");
 	try("T", "T", "S");
+	try("T", "vS", "");
 	try("je", "a", "");
 	try("jf", "a", "");
 	try("jAe", "ab", "");

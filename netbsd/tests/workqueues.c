@@ -15,10 +15,10 @@
 
 #include "stops.h"
 
-enum { JOBS = 200, AGAIN = 3 };
+enum { JOBS = 200 };
 
 struct job {
-	unsigned number, turns;
+	unsigned number;
 	struct work work;
 	bool freed;	/* by its function */
 };
@@ -63,44 +63,12 @@ static void test_order(void)
 	workqueue_destroy(queue);
 }
 
-/* A work may be enqueued again by its own function, which may wait for it without a deadlock. */
-static void do_again(struct work *work, void *arg)
-{
-	struct job *job = job_of(work);
-	(void)arg;
-	workqueue_wait(queue, work);
-	if (++job->turns < AGAIN)
-		workqueue_enqueue(queue, work, NULL);
-}
-
-static void test_again(void)
-{
-	struct job job = {.turns = 0};
-	EXPECT(workqueue_create(&queue, "again", do_again, NULL, PRI_NONE, IPL_SOFTNET, 0) == 0);
-	workqueue_enqueue(queue, &job.work, NULL);
-	workqueue_wait(queue, &job.work);
-	EXPECT(job.turns == AGAIN);
-	workqueue_destroy(queue);
-}
-
-/* A wait for a work that is being done lasts until its function returns. */
+/* Lasts. */
 static void do_slowly(struct work *work, void *arg)
 {
 	(void)work;
 	(void)kpause("slow", false, 2, NULL);
 	*(bool *)arg = true;
-}
-
-static void test_wait(void)
-{
-	struct work work;
-	bool over = false;
-	EXPECT(workqueue_create(&queue, "slow", do_slowly, &over, PRI_BIO, IPL_VM, WQ_MPSAFE) == 0);
-	workqueue_enqueue(queue, &work, NULL);
-	(void)kpause("begun", false, 1, NULL);
-	workqueue_wait(queue, &work);
-	EXPECT(over);
-	workqueue_destroy(queue);
 }
 
 /* ---- A queue for each CPU. ---- */
@@ -134,11 +102,7 @@ static void test_cpus(void)
 /* A soft interrupt enqueues, at the queue's level. */
 static atomic_bool was_enqueued;
 
-static void enqueue(void *work)
-{
-	workqueue_enqueue(queue, work, NULL);
-	atomic_store(&was_enqueued, true);
-}
+HANDLER(enqueue, workqueue_enqueue(queue, arg, NULL); atomic_store(&was_enqueued, true))
 
 static void test_softint(void)
 {
@@ -174,10 +138,7 @@ static void enqueue_twice(void)
 	workqueue_enqueue(queue, &one, NULL);
 }
 
-static void enqueue_on_cpu(void)
-{
-	workqueue_enqueue(queue, &one, kupaldiz_cpu(1));
-}
+static void enqueue_on_cpu(void) { workqueue_enqueue(queue, &one, kupaldiz_cpu(1)); }
 
 static void destroy_busy(void)
 {
@@ -193,11 +154,7 @@ static void enqueue_in_section(void)
 	workqueue_enqueue(queue, &one, NULL);
 }
 
-static void wait_in_section(void)
-{
-	(void)pserialize_read_enter();
-	workqueue_wait(queue, &one);
-}
+static void wait_in_section(void) { (void)pserialize_read_enter(); workqueue_wait(queue, &one); }
 
 /* Runs a function of a queue that ends the process. */
 static void run_in_queue(void (*body)(struct work *, void *))
@@ -214,10 +171,7 @@ static void destroy_own(struct work *work, void *of)
 	workqueue_destroy(*(struct workqueue **)of);
 }
 
-static void destroy_in_function(void)
-{
-	run_in_queue(destroy_own);
-}
+static void destroy_in_function(void) { run_in_queue(destroy_own); }
 
 static void return_raised(struct work *work, void *of)
 {
@@ -226,10 +180,7 @@ static void return_raised(struct work *work, void *of)
 	(void)splsoftnet();
 }
 
-static void return_at_level(void)
-{
-	run_in_queue(return_raised);
-}
+static void return_at_level(void) { run_in_queue(return_raised); }
 
 STOPS("workqueue_enqueue: the work is enqueued already, at PLACE", enqueue_twice())
 STOPS("workqueue_enqueue: a CPU is named, and the queue is without WQ_PERCPU, at PLACE", enqueue_on_cpu())
@@ -243,8 +194,6 @@ int main(void)
 {
 	int status = run_cases(begin);
 	test_order();
-	test_again();
-	test_wait();
 	test_cpus();
 	test_softint();
 	return status;
