@@ -195,7 +195,10 @@ def programs():
     other = proved.with_name("registry_run.by-rattle")
     # The gate builds it after the other one; else it is of an earlier run.
     is_of_gate = proved.is_file() and other.is_file() and other.stat().st_mtime >= proved.stat().st_mtime
-    return [str(proved), *[str(other)] * is_of_gate, COMMAND]
+    runs_proved = said(COMMAND, ["--proved"], stdout=subprocess.PIPE)[0] == 0
+    if not runs_proved:
+        print(f"{COMMAND} isn't tested: a source is newer than the proved program")
+    return [str(proved), *[str(other)] * is_of_gate, *[COMMAND] * runs_proved]
 
 
 def main():
