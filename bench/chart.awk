@@ -1,87 +1,103 @@
-# Draws a chart in SVG from the table that bench/run prints: a dot for each contender on one thread, the fastest first, for one lookup on a list of 8
-# in a section of its own and, where it was measured, in an open section. The variable `title` says which run it is.
+# Draws a chart in SVG from the table that bench/run prints: four panels on one scale of powers of ten, a dot for each contender, the
+# fastest first. Above: a lookup on a list of 8, on one thread and on four. Below, beside three readers: the time that 99 of 100 lookups
+# keep, and the median of a replacement. The variable `title` says which run it is. The panel of four threads is left out if hand-kept,
+# whose threads share no line, takes more than 1.3 times as long there: such a run shows nothing about scaling.
 
 BEGIN {
+    width = 455
     left = 150
-    right = 690
-    line_height = 20
+    right = 400
+    row = 18
+    label["registry_bench"] = "here, in a section"
+    label["from-C"] = "here, from C"
+    label["from-Rust"] = "here, from Rust"
+    label["urcu-memb"] = "liburcu (default)"
+    label["urcu-mb"] = "liburcu mb"
+    label["urcu-qsbr"] = "liburcu qsbr"
+    label["dpdk-qsbr"] = "DPDK qsbr"
+    label["ck_epoch"] = "ck_epoch"
+    label["crossbeam-epoch"] = "crossbeam-epoch"
+    label["arc-swap"] = "arc-swap"
+    label["pthread_rwlock"] = "reader-writer lock"
+    label["pthread_mutex"] = "mutex"
+    label["hand-packed"] = "unpadded words"
+    name[1] = "a lookup, one thread"
+    name[2] = "a lookup, each of four threads"
+    name[3] = "99 of 100 lookups beside changes"
+    name[4] = "a replacement beside three readers, median"
 }
 
-/^(lookup|batch), list of/ {
-    panel = $1 == "lookup," ? "a lookup in a section of its own" : "a lookup in an open section"
-    inside = $4 == 8
-    if (inside)
-        panels[++panel_count] = panel
-    next
-}
+/^(lookup|look_up), list of 8 / { block = $1; next }
+/^one lookup and one replacement/ { block = "spread"; next }
+/^[a-z]+, list of/ || NF == 0 { block = "" }
 
-NF == 0 || /^(passive|local|aims)/ {
-    inside = 0
+block == "lookup," && $1 == "hand-kept" { is_quiet = $5 <= 1.3 * $2 }
+block == "lookup," && $1 !~ /^from/ || block == "look_up," && $1 ~ /^from/ {
+    if ($1 != "hand-packed")
+        insert(1, $1, $2)
+    insert(2, $1, $5)
 }
-
-inside {
-    insert(panel, $1, $2)
-    if ($2 > most)
-        most = $2
+block == "spread" && $1 in label {
+    insert(3, $1, $4)
+    insert(4, $1, $6)
 }
 
 END {
-    ticks = int(most / 10) + 1
-    height = 62
-    for (p = 1; p <= panel_count; p++)
-        height += 66 + line_height * count[panels[p]]
-    printf "<svg xmlns=\"http://www.w3.org/2000/svg\" width=\"720\" height=\"%d\" viewBox=\"0 0 720 %d\" role=\"img\">\n", height, height
-    print "<title>Nanoseconds of one lookup on one thread, list of 8</title>"
+    if (!is_quiet)
+        count[2] = 0
+    upper = taller(count[1], count[2])
+    height = 62 + upper + taller(count[3], count[4])
+    printf "<svg xmlns=\"http://www.w3.org/2000/svg\" width=\"%d\" height=\"%d\" viewBox=\"0 0 %d %d\" role=\"img\">\n", 2 * width, height, 2 * width, height
+    print "<title>Nanoseconds of a lookup on one thread and on four, and beside changes</title>"
     style()
     print "<rect class=\"paper\" width=\"100%\" height=\"100%\"/>"
-    text(10, 22, "title", "Nanoseconds of one lookup on one thread, list of 8")
+    text(10, 22, "title", "Nanoseconds, list of 8")
     text(10, 40, "faint", title "; less is better")
-    y = 54
-    for (p = 1; p <= panel_count; p++)
-        draw(panels[p])
+    for (p = 1; p <= 4; p++)
+        if (count[p])
+            draw(p, p % 2 ? 0 : width, p < 3 ? 50 : 50 + upper)
     print "</svg>"
 }
 
 # Keeps the contenders of a panel in the order of their times.
-function insert(panel, name, time,    place) {
+function insert(panel, who, time,    place) {
+    if (!(who in label))
+        return
     for (place = ++count[panel]; place > 1 && times[panel, place - 1] + 0 > time + 0; place--) {
         names[panel, place] = names[panel, place - 1]
         times[panel, place] = times[panel, place - 1]
     }
-    names[panel, place] = name
+    names[panel, place] = who
     times[panel, place] = time
 }
 
-function draw(panel,    n, top, bottom) {
-    text(10, y + 16, "name", panel)
-    top = y + 26
-    bottom = top + line_height * count[panel]
-    axis(top, bottom)
-    for (n = 1; n <= count[panel]; n++)
-        dot(top + line_height * (n - 0.5), names[panel, n], times[panel, n])
-    y = bottom + 40
+function taller(one, other) {
+    return 60 + row * (one > other ? one : other)
 }
 
-# A line for every ten nanoseconds, with its number under it.
-function axis(top, bottom,    n) {
-    for (n = 0; n <= ticks; n++) {
-        printf "<line class=\"grid\" x1=\"%.1f\" y1=\"%d\" x2=\"%.1f\" y2=\"%d\"/>\n", place(10 * n), top, place(10 * n), bottom
-        printf "<text class=\"faint\" text-anchor=\"middle\" x=\"%.1f\" y=\"%d\">%d</text>\n", place(10 * n), bottom + 16, 10 * n
+function draw(panel, x, y,    n, top, bottom) {
+    text(x + 10, y + 16, "name", name[panel])
+    top = y + 24
+    bottom = top + row * count[panel]
+    for (n = 1; n <= 10000; n *= 10) {
+        printf "<line class=\"grid\" x1=\"%.1f\" y1=\"%d\" x2=\"%.1f\" y2=\"%d\"/>\n", at(x, n), top, at(x, n), bottom
+        printf "<text class=\"faint\" text-anchor=\"middle\" x=\"%.1f\" y=\"%d\">%s</text>\n", at(x, n), bottom + 14, n < 10000 ? n : "10,000 ns"
     }
-    printf "<text class=\"faint\" x=\"%d\" y=\"%d\">ns</text>\n", right + 14, bottom + 16
+    for (n = 1; n <= count[panel]; n++)
+        dot(x, top + row * (n - 0.5), names[panel, n], times[panel, n])
 }
 
 # A dot on its line, with the contender's name before the axis and its time beside the dot.
-function dot(middle, name, time,    kind) {
-    kind = name == "registry_bench" ? "ours" : "other"
-    text(10, middle + 4, kind == "ours" ? "name" : "", kind == "ours" ? "this library" : name)
-    printf "<line class=\"base\" x1=\"%d\" y1=\"%.1f\" x2=\"%.1f\" y2=\"%.1f\"/>\n", left, middle, place(time), middle
-    printf "<circle class=\"%s\" cx=\"%.1f\" cy=\"%.1f\" r=\"4.5\"/>\n", kind, place(time), middle
-    text(place(time) + 9, middle + 4, "faint", time)
+function dot(x, middle, who, time,    kind) {
+    kind = who ~ /^(registry_bench|from-)/ ? "ours" : "other"
+    text(x + 10, middle + 4, kind == "ours" ? "name" : "", label[who])
+    printf "<line class=\"base\" x1=\"%d\" y1=\"%.1f\" x2=\"%.1f\" y2=\"%.1f\"/>\n", x + left, middle, at(x, time), middle
+    printf "<circle class=\"%s\" cx=\"%.1f\" cy=\"%.1f\" r=\"4.5\"/>\n", kind, at(x, time), middle
+    text(at(x, time) + 8, middle + 4, "faint", time)
 }
 
-function place(time) {
-    return left + (right - left) * time / (10 * ticks)
+function at(x, time) {
+    return x + left + (right - left) * log(time < 1 ? 1 : time) / log(10000)
 }
 
 function text(x, y, kind, what) {

@@ -1,8 +1,9 @@
 #!/usr/bin/env python3
 """Runs the built program and compares its status, standard output and standard error with what they must be.
 
-    tools/test-program.py [PROGRAM]..    crates/registry_run/out/registry_run, which tools/prove-program.sh makes; and beside it what
-                                         Rattle's own compiler made, where the gate has just built both
+    tools/test-program.py [PROGRAM]..    crates/registry_run/out/registry_run, which tools/prove-program.sh makes; beside it what
+                                         Rattle's own compiler made, where the gate has just built both; and ./registry_run,
+                                         which runs the first
 
 Scripts with and without faults, storms, wrong arguments, a standard output that is full, closed or gone, a standard input that can't be read, and
 address spaces in which there is too little memory. The last line counts the runs.
@@ -18,6 +19,7 @@ sys.dont_write_bytecode = True
 from counts import ended
 
 ROOT = pathlib.Path(__file__).resolve().parent.parent
+COMMAND = str(ROOT / "registry_run")
 USAGE = b"usage: registry_run core | live | storm C T\n"
 SCRIPT = b"domain 2 2\nattach 0 driver wm 7\nenter 0\nfind 0 driver wm\n"
 REPORT = b"domain 2 2\nattached 1 slot 0\ninside\nfound 1 slot 0 value 7\n"
@@ -167,6 +169,24 @@ def with_little_memory(program):
         yield judged(f"{engine}, too little memory", ([], {"reading", "later", "enough"}), (odd, met))
 
 
+def by_command():
+    """What ./registry_run does beside running the program: help, a version, scripts in files, a word on CRLF."""
+    first, second = (str(ROOT / "examples" / name) for name in ("retire-under-section.txt", "kept-driver.txt"))
+    alone = {file: said(COMMAND, ["core"], input=pathlib.Path(file).read_bytes(), stdout=subprocess.PIPE)[1] for file in (first, second)}
+    together = b"".join(b"== %s\n%s" % (file.encode(), report) for file, report in alone.items())
+    crlf = script_fault(1, "BadByte") + b"registry_run: line 1 ends with a carriage return (CRLF); lines end with a line feed alone\n"
+    for words, script, wanted in [
+        (["core", first], b"", (0, alone[first], b"")),
+        (["live", first, second], b"", (0, together, b"")),
+        (["core", first, "no file"], b"", (2, b"", USAGE)),
+        (["core"], SCRIPT.replace(b"\n", b"\r\n"), (2, b"", crlf)),
+    ]:
+        yield judged(f"registry_run {words}", wanted, said(COMMAND, words, input=script, stdout=subprocess.PIPE))
+    for word, begin in (("--help", b"Runs scripts"), ("--version", b"registry_run 0.")):
+        status, text, error = said(COMMAND, [word], stdin=subprocess.DEVNULL, stdout=subprocess.PIPE)
+        yield judged(f"registry_run {word}", (0, begin, b""), (status, text[: len(begin)], error))
+
+
 def programs():
     """What the words name, else what the gate or tools/prove-program.sh built."""
     if sys.argv[1:]:
@@ -175,7 +195,10 @@ def programs():
     other = proved.with_name("registry_run.by-rattle")
     # The gate builds it after the other one; else it is of an earlier run.
     is_of_gate = proved.is_file() and other.is_file() and other.stat().st_mtime >= proved.stat().st_mtime
-    return [str(proved), *[str(other)] * is_of_gate]
+    runs_proved = said(COMMAND, ["--proved"], stdout=subprocess.PIPE)[0] == 0
+    if not runs_proved:
+        print(f"{COMMAND} isn't tested: a source is newer than the proved program")
+    return [str(proved), *[str(other)] * is_of_gate, *[COMMAND] * runs_proved]
 
 
 def main():
@@ -186,6 +209,8 @@ def main():
         for part in (usual, with_ends, with_closed_streams, with_unread_input, part_of_report):
             passed += part(program)
     passed += with_little_memory(programs()[0])
+    if COMMAND in programs():
+        passed += by_command()
     sys.exit(ended(sum(passed), len(passed) - sum(passed)))
 
 
