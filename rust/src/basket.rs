@@ -30,10 +30,7 @@ pub struct Baskets {
 
 impl Default for Baskets {
     fn default() -> Baskets {
-        Baskets {
-            of_slot: (0..ffi::MOST_SLOTS).map(|_| Basket::default()).collect(),
-            filled: Filled::default(),
-        }
+        Baskets { of_slot: (0..ffi::MOST_SLOTS).map(|_| Basket::default()).collect(), filled: Filled::default() }
     }
 }
 

@@ -43,9 +43,7 @@ impl<T> Carried<T> {
     /// Puts a value into a block of its own.
     pub fn new(value: T) -> Carried<T> {
         let plain = MaybeUninit::uninit();
-        Carried {
-            at: Box::into_raw(Box::new(Block { value, plain })),
-        }
+        Carried { at: Box::into_raw(Box::new(Block { value, plain })) }
     }
 
     /// Notes the entry that was attached.
@@ -84,9 +82,7 @@ impl<T> Carried<T> {
     /// The address that an entry's `value` is.
     #[inline]
     fn of_word(word: u64) -> Carried<T> {
-        Carried {
-            at: word as usize as *mut Block<T>,
-        }
+        Carried { at: word as usize as *mut Block<T> }
     }
 
     /// The value.
@@ -133,12 +129,7 @@ impl Plain {
 
     #[inline]
     pub fn entry(&self) -> Entry {
-        Entry {
-            number: self.number,
-            slot: self.slot,
-            kind: self.kind,
-            name: Name::of_words(self.name),
-        }
+        Entry { number: self.number, slot: self.slot, kind: self.kind, name: Name::of_words(self.name) }
     }
 }
 
@@ -161,13 +152,7 @@ impl<T> Record<T> {
     #[inline]
     pub fn of(entry: &ffi::Entry) -> Record<T> {
         Record {
-            plain: Plain {
-                number: entry.number,
-                name: entry.name,
-                slot: entry.slot as u8,
-                kind: Kind::of(entry.kind),
-                ticket: 0,
-            },
+            plain: Plain { number: entry.number, name: entry.name, slot: entry.slot as u8, kind: Kind::of(entry.kind), ticket: 0 },
             carried: Carried::of_word(entry.value),
         }
     }
@@ -255,13 +240,7 @@ mod tests {
 
     /// Also where the value is of no size, or aligned beyond the record.
     fn goes_and_comes_back<T: Clone + PartialEq + std::fmt::Debug>(value: T) {
-        let plain = Plain {
-            number: 7,
-            name: ffi::Name::default(),
-            slot: 3,
-            kind: Kind::Driver,
-            ticket: 0,
-        };
+        let plain = Plain { number: 7, name: ffi::Name::default(), slot: 3, kind: Kind::Driver, ticket: 0 };
         let carried = Carried::new(value.clone());
         let again = Carried::<T>::of_word(carried.word());
         // SAFETY: the value is there until it is taken, once, at the end.

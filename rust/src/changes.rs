@@ -210,19 +210,8 @@ impl<T> Registry<T> {
         }
         let mut driver = driver;
         let driver_of = Some(&mut driver);
-        let made = self.change(
-            &mut New {
-                cpu,
-                name,
-                driver: driver_of,
-            },
-            value,
-            change,
-        );
-        made.map_err(|Refused { refusal, given }| Refused {
-            refusal,
-            given: (driver, given),
-        })
+        let made = self.change(&mut New { cpu, name, driver: driver_of }, value, change);
+        made.map_err(|Refused { refusal, given }| Refused { refusal, given: (driver, given) })
     }
 
     /// Detaches under the interlock.

@@ -35,10 +35,7 @@ impl<T> Registry<T> {
         }
         let live = self.shared.kept().all_live();
         // Another thread may have detached one meanwhile.
-        let tokens: Vec<Retired<T>> = live
-            .iter()
-            .filter_map(|entry| self.detach_entry(cpu, &entry.entry()).ok())
-            .collect();
+        let tokens: Vec<Retired<T>> = live.iter().filter_map(|entry| self.detach_entry(cpu, &entry.entry()).ok()).collect();
         let (mut freed, mut held) = (Vec::new(), Vec::new());
         for token in tokens {
             match token.destroy(cpu, patience) {

@@ -28,13 +28,7 @@ impl<'section, 'cpu, T> Entries<'section, 'cpu, T> {
         let answer = unsafe { ffi::registry_walk(cpu.handle(), row.as_mut_ptr(), row.len(), &mut count) };
         assert_eq!(answer, ffi::DONE, "a walk in a section");
         cpu.last.set(0);
-        Entries {
-            row,
-            next: 0,
-            count,
-            cpu,
-            section: PhantomData,
-        }
+        Entries { row, next: 0, count, cpu, section: PhantomData }
     }
 
     /// What is still to come.

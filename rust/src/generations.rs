@@ -55,13 +55,7 @@ struct Newest<T> {
 impl<T> Newest<T> {
     fn open(settings: Settings) -> Result<Newest<T>, Refusal> {
         let (registry, mut cpus) = Registry::open(settings)?;
-        Ok(Newest {
-            registry,
-            cpu: cpus.pop().ok_or(Refusal::MissingCpu)?,
-            live: Vec::new(),
-            readers: 0,
-            left: Vec::new(),
-        })
+        Ok(Newest { registry, cpu: cpus.pop().ok_or(Refusal::MissingCpu)?, live: Vec::new(), readers: 0, left: Vec::new() })
     }
 
     fn attach(&mut self, name: &Name, value: Arc<T>) -> Result<(), Refused<AttachError, Arc<T>>> {
@@ -92,11 +86,7 @@ impl<T> Generations<T> {
     ///
     /// As for [`Registry::open`].
     pub fn open(settings: Settings) -> Result<Generations<T>, Refusal> {
-        Ok(Generations {
-            settings,
-            newest: Mutex::new(Newest::open(settings)?),
-            generation: AtomicU64::new(0),
-        })
+        Ok(Generations { settings, newest: Mutex::new(Newest::open(settings)?), generation: AtomicU64::new(0) })
     }
 
     /// How many registries were left so far.
@@ -115,11 +105,7 @@ impl<T> Generations<T> {
         let cpu = Some(newest.registry.any_cpu()?);
         newest.readers += 1;
         let generation = self.generation();
-        Some(Reader {
-            table: self,
-            cpu,
-            generation,
-        })
+        Some(Reader { table: self, cpu, generation })
     }
 
     /// Attaches a value, in the next registry if this one's changes are spent.
@@ -131,11 +117,7 @@ impl<T> Generations<T> {
         let mut newest = locked(&self.newest);
         let mut done = newest.attach(name, Arc::new(value));
         let mut freed = newest.collect();
-        if let Err(Refused {
-            refusal: AttachError::HistoryFull,
-            given,
-        }) = done
-        {
+        if let Err(Refused { refusal: AttachError::HistoryFull, given }) = done {
             // If there is no next registry, this one refuses it again.
             freed.extend(self.take_over(&mut newest).into_iter().flatten());
             done = newest.attach(name, given);
@@ -158,11 +140,7 @@ impl<T> Generations<T> {
         let retired = Some(newest.registry.detach(&newest.cpu, Kind::Driver, name)?);
         let place = newest.live.iter().position(|(other, _)| other == name);
         let (_, value) = newest.live.swap_remove(place.expect("a live entry"));
-        Ok(Leaving {
-            table: self,
-            retired,
-            value,
-        })
+        Ok(Leaving { table: self, retired, value })
     }
 
     /// Opens the next registry, attaches what is live, and takes it out of the one that is left. Returns what is freed by that.
@@ -297,17 +275,13 @@ impl<T> Leaving<'_, T> {
 
 impl<T> fmt::Debug for Generations<T> {
     fn fmt(&self, f: &mut fmt::Formatter<'_>) -> fmt::Result {
-        f.debug_struct("Generations")
-            .field("generation", &self.generation())
-            .finish_non_exhaustive()
+        f.debug_struct("Generations").field("generation", &self.generation()).finish_non_exhaustive()
     }
 }
 
 impl<T> fmt::Debug for Reader<'_, T> {
     fn fmt(&self, f: &mut fmt::Formatter<'_>) -> fmt::Result {
-        f.debug_struct("Reader")
-            .field("generation", &self.generation)
-            .finish_non_exhaustive()
+        f.debug_struct("Reader").field("generation", &self.generation).finish_non_exhaustive()
     }
 }
 

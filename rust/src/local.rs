@@ -66,11 +66,7 @@ impl<T> LocalRef<T> {
     /// The handle is a reference to the entry, which the lease's CPU acquired.
     #[inline]
     pub(crate) unsafe fn new(lease: Arc<Lease<T>>, record: Record<T>, handle: ffi::Local) -> LocalRef<T> {
-        LocalRef {
-            record,
-            handle,
-            lease: Some(lease),
-        }
+        LocalRef { record, handle, lease: Some(lease) }
     }
 
     /// Whether it is of this registry.

@@ -46,10 +46,7 @@ mod spinning {
 
     impl<T> Mutex<T> {
         pub fn new(value: T) -> Mutex<T> {
-            Mutex {
-                taken: AtomicBool::new(false),
-                value: UnsafeCell::new(value),
-            }
+            Mutex { taken: AtomicBool::new(false), value: UnsafeCell::new(value) }
         }
     }
 

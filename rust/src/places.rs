@@ -65,11 +65,7 @@ impl fmt::Display for Holders {
             return f.write_str("nobody");
         }
         let mut before = "";
-        for (hold, name) in [
-            (Hold::Section, "section"),
-            (Hold::Passive, "passive reference"),
-            (Hold::Local, "local reference"),
-        ] {
+        for (hold, name) in [(Hold::Section, "section"), (Hold::Passive, "passive reference"), (Hold::Local, "local reference")] {
             let places: Vec<String> = self.places.iter().filter(|one| one.hold == hold).map(Place::to_string).collect();
             if !places.is_empty() {
                 let plural = if places.len() == 1 { "" } else { "s" };
@@ -108,13 +104,7 @@ impl Notes {
 
 impl Place {
     fn here(hold: Hold, cpu: u8, location: &'static Location<'static>) -> Place {
-        Place {
-            hold,
-            cpu,
-            location,
-            thread: thread::current().name().map(str::to_string),
-            kept_by: None,
-        }
+        Place { hold, cpu, location, thread: thread::current().name().map(str::to_string), kept_by: None }
     }
 }
 

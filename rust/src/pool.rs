@@ -68,16 +68,8 @@ impl<T> State<T> {
     /// A CPU for this thread, if one is there.
     fn lend<'pool>(&mut self, pool: &'pool CpuPool<T>, place: &'static Location<'static>) -> Option<Lent<'pool, T>> {
         let cpu = self.idle.pop()?;
-        self.loans.push(Loan {
-            cpu: cpu.id(),
-            thread: thread::current().id(),
-            place,
-        });
-        Some(Lent {
-            pool,
-            cpu: Some(cpu),
-            thread: PhantomData,
-        })
+        self.loans.push(Loan { cpu: cpu.id(), thread: thread::current().id(), place });
+        Some(Lent { pool, cpu: Some(cpu), thread: PhantomData })
     }
 
     /// The first loan that this thread has.
@@ -100,11 +92,7 @@ impl<T> CpuPool<T> {
             return Err(Refusal::OtherRegistry);
         }
         Ok(CpuPool {
-            state: Mutex::new(State {
-                loans: Vec::with_capacity(cpus.len()),
-                wakers: Vec::new(),
-                idle: cpus,
-            }),
+            state: Mutex::new(State { loans: Vec::with_capacity(cpus.len()), wakers: Vec::new(), idle: cpus }),
             returned: Condvar::new(),
         })
     }

@@ -294,8 +294,6 @@ impl<T> Hash for Registry<T> {
 
 impl<T> fmt::Debug for Registry<T> {
     fn fmt(&self, f: &mut fmt::Formatter<'_>) -> fmt::Result {
-        f.debug_struct("Registry")
-            .field("settings", &self.settings())
-            .finish_non_exhaustive()
+        f.debug_struct("Registry").field("settings", &self.settings()).finish_non_exhaustive()
     }
 }

@@ -150,11 +150,7 @@ impl<'section, 'cpu, T> Found<'section, 'cpu, T> {
     /// The CPU found the entry in a section, or an outer one, that is open for as long as the value lives.
     #[inline]
     pub(crate) unsafe fn new(cpu: &'cpu Cpu<T>, record: Record<T>) -> Self {
-        Found {
-            record,
-            cpu,
-            section: PhantomData,
-        }
+        Found { record, cpu, section: PhantomData }
     }
 
     /// The entry, as it was attached.
@@ -208,13 +204,7 @@ impl<'section, 'cpu, T> Found<'section, 'cpu, T> {
             None => acquire_local_again(found.cpu, found.record)?,
         };
         // SAFETY: it was acquired above.
-        Ok(unsafe {
-            LocalRef::new(
-                found.cpu.share(),
-                found.cpu.noted(Hold::Local, found.record, Location::caller()),
-                local,
-            )
-        })
+        Ok(unsafe { LocalRef::new(found.cpu.share(), found.cpu.noted(Hold::Local, found.record, Location::caller()), local) })
     }
 
     /// The CPU's last found entry is this one.
@@ -248,9 +238,7 @@ fn acquire_local_last<T>(found: &Found<'_, '_, T>) -> Option<ffi::Local> {
     let mut local = ffi::Local::EMPTY;
     // SAFETY: as for `acquire_last`, and the local handle is empty.
     let answer = unsafe { ffi::registry_local_acquire(found.cpu.handle(), &mut local) };
-    (answer == ffi::DONE)
-        .then(|| of_entry(found.cpu, found.record.number(), local))
-        .flatten()
+    (answer == ffi::DONE).then(|| of_entry(found.cpu, found.record.number(), local)).flatten()
 }
 
 /// The local reference, which was just acquired on this CPU, if it is to the entry with this number. Another one is released.

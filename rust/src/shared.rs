@@ -84,11 +84,7 @@ impl<T> Kept<T> {
         // SAFETY: as the caller says.
         unsafe { carried.note(entry) };
         self.changes = entry.number;
-        self.rows.push(Row {
-            number: entry.number,
-            carried,
-            state: State::Live,
-        });
+        self.rows.push(Row { number: entry.number, carried, state: State::Live });
     }
 
     /// The row of an entry that isn't freed, or whose token is there.
@@ -445,11 +441,8 @@ impl<T> Drop for Shared<T> {
         }
         let kept = locked_mut(&mut self.kept);
         let rows = mem::take(&mut kept.rows);
-        let left: Vec<Carried<T>> = rows
-            .into_iter()
-            .filter(|row| !spare.iter_mut().any(|cpu| holds(cpu, row.number)))
-            .map(|row| row.carried)
-            .collect();
+        let left: Vec<Carried<T>> =
+            rows.into_iter().filter(|row| !spare.iter_mut().any(|cpu| holds(cpu, row.number))).map(|row| row.carried).collect();
         for cpu in spare.iter_mut().filter(|cpu| !cpu.is_empty()) {
             // SAFETY: nobody else has this CPU, and it was left as it became spare.
             unsafe { ffi::registry_close_cpu(cpu) };

@@ -108,17 +108,11 @@ pub(crate) struct Met {
 
 impl Met {
     /// There is no such entry any more.
-    pub(crate) const NOTHING: Met = Met {
-        answer: ffi::NOT_RETIRED,
-        stage: ffi::Stage { stage: 0, what: 0 },
-    };
+    pub(crate) const NOTHING: Met = Met { answer: ffi::NOT_RETIRED, stage: ffi::Stage { stage: 0, what: 0 } };
 
     /// So many local references hold the entry.
     pub(crate) fn local(held: u64) -> Met {
-        let stage = ffi::Stage {
-            stage: ffi::LOCAL,
-            what: held,
-        };
+        let stage = ffi::Stage { stage: ffi::LOCAL, what: held };
         Met { answer: ffi::DONE, stage }
     }
 
