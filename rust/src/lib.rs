@@ -39,7 +39,7 @@
 //! | free | [`Retired::destroy`], [`wait`](Retired::wait), [`advance`](Retired::advance), or `.await`; [`Registry::retire`] and [`Registry::collect`] return what is free by then |
 //! | end | [`Registry::drain`], then [`Registry::close`], or drop all handles |
 //! | share CPUs among more threads | [`CpuPool::lend`], [`lend_async`](CpuPool::lend_async), [`with`](CpuPool::with) |
-//! | use it without kinds | [`Cpu::table`]; [`Generations`], whose changes never run out |
+//! | use it without kinds | [`Cpu::table`] |
 //!
 //! ```
 //! use kupaldiz::{DestroyError, Found, Holder, Kind, Name, Registry, Settings};
@@ -121,8 +121,8 @@
 //!
 //! | Type | `Send` | `Sync` |
 //! |---|---|---|
-//! | [`Registry`], [`CpuPool`], [`LocalRef`], [`Retired`], [`Generations`], [`Drained`], [`StillOpen`] | if `T` is `Send` and `Sync` | if `T` is `Send` and `Sync` |
-//! | [`Cpu`], [`Reader`] | if `T` is `Send` and `Sync` | no |
+//! | [`Registry`], [`CpuPool`], [`LocalRef`], [`Retired`], [`Drained`], [`StillOpen`] | if `T` is `Send` and `Sync` | if `T` is `Send` and `Sync` |
+//! | [`Cpu`] | if `T` is `Send` and `Sync` | no |
 //! | [`Lent`], [`Table`], [`Section`], [`Found`], [`Entries`], [`ReadGuard`], [`PassiveRef`], [`PassiveRc`] | no | no |
 //! | [`Mapped`]`<G, U>` | if `G` is, and `U` is `Sync` | if `G` and `U` are |
 //! | [`Freed`]`<X>`, [`Refused`]`<E, X>` | if `X` is | if `X` is |
@@ -134,9 +134,9 @@
 //! # More than the limits
 //!
 //! Only an attach takes room from [`Settings::changes`]: for itself and for its detach. Lookups and references don't. What is left just after an attach is
-//! `changes`, less the new entry's [`number`](Entry::number), less the number of live entries, the new one among them. A [`Generations`] opens the next
-//! registry once `HistoryFull` or `SectionsSpent` comes. For interfaces, which it hasn't, do the same by hand: open a second registry, attach everything
-//! there, publish it in a lock, and retire what is in the first. If `T` is an [`Arc`](std::sync::Arc), both carry the same objects.
+//! `changes`, less the new entry's [`number`](Entry::number), less the number of live entries, the new one among them. Once
+//! it is spent, open a second registry, attach everything there, publish it in a lock, and retire what is in the first. If `T` is an
+//! [`Arc`](std::sync::Arc), both carry the same objects.
 //!
 //! # What is proved
 //!
@@ -171,7 +171,6 @@ mod cpu;
 mod ending;
 mod entries;
 mod ffi;
-mod generations;
 mod limits;
 mod local;
 mod lock;
@@ -196,7 +195,6 @@ pub use self::registry::Registry;
 pub use cpu::Cpu;
 pub use ending::{Drained, StillOpen};
 pub use entries::Entries;
-pub use generations::{Generations, Leaving, Reader};
 pub use limits::{limits, version, Limits, LIMITS};
 pub use local::LocalRef;
 pub use mapped::Mapped;
