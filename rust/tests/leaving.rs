@@ -10,7 +10,7 @@ use std::mem;
 use std::panic::{self, AssertUnwindSafe};
 use std::pin::Pin;
 use std::process;
-use std::sync::atomic::{AtomicUsize, Ordering};
+use std::sync::atomic::{AtomicU32, AtomicUsize, Ordering};
 use std::sync::Arc;
 use std::task::{Context, Poll, RawWaker, RawWakerVTable, Wake, Waker};
 use std::thread::{self, Thread};
@@ -119,6 +119,39 @@ fn each_call_that_lets_an_entry_go_wakes_the_task() {
     is_woken_as("a CPU that is dropped", &registry, &cpus[1], cpu, drop);
 }
 
+/// A call that holds an entry for a moment, and what it keeps.
+type Call = for<'cpu> fn(&'cpu Cpu<u32>, Kind, &Name) -> Option<PassiveRef<'cpu, u32>>;
+
+const CALLS: [Call; 5] = [
+    |cpu, kind, name| cpu.look_up(kind, name).ok().and(None),
+    |cpu, kind, name| cpu.get(kind, name).ok(),
+    |cpu, kind, name| cpu.read(kind, name).ok().and(None),
+    |cpu, kind, name| cpu.get_local(kind, name).ok().and(None),
+    |cpu, kind, name| {
+        let reference = cpu.get_local(kind, name).ok()?;
+        LocalRef::release(reference, cpu).unwrap();
+        None
+    },
+];
+
+/// Each may have opened a section within the archive, so its end wakes the task, once, also if it found nothing.
+#[test]
+fn a_lookup_that_ends_wakes_the_task() {
+    let (registry, cpus) = with_wm();
+    registry.attach(&cpus[2], &WM0, 8).unwrap();
+    let _held = local(&cpus[1], "wm");
+    let (mut retired, task) = (registry.detach(&cpus[2], Kind::Driver, &WM).unwrap(), Task::here());
+    for (place, call) in CALLS.iter().enumerate() {
+        for kind in [Kind::Driver, Kind::Iface] {
+            assert!(task.poll(&mut retired).is_pending());
+            let before = task.woken();
+            let kept = call(&cpus[0], kind, &WM0);
+            assert_eq!(task.woken(), before + 1, "call {place} of a {kind}");
+            drop(kept);
+        }
+    }
+}
+
 #[test]
 fn an_interface_that_is_freed_wakes_the_task_of_its_driver() {
     let (registry, cpus) = with_wm();
@@ -137,36 +170,14 @@ fn an_interface_that_is_freed_wakes_the_task_of_its_driver() {
     });
 }
 
-/// A call that holds an entry for a moment.
-type Way = fn(&Cpu<usize>);
-
-const WAYS: [Way; 7] = [
-    |cpu| drop(cpu.read(Kind::Driver, &WM)),
-    |cpu| drop(cpu.get(Kind::Driver, &WM)),
-    |cpu| drop(cpu.get_local(Kind::Driver, &WM)),
-    |cpu| {
-        if let Ok(reference) = cpu.get_local(Kind::Driver, &WM) {
-            LocalRef::release(reference, cpu).unwrap();
-        }
-    },
-    // These open a section within the archive.
-    |cpu| {
-        let _ = cpu.look_up(Kind::Driver, &WM);
-    },
-    |cpu| {
-        let _ = cpu.look_up(Kind::Driver, &WM0);
-    },
-    |cpu| drop(cpu.read(Kind::Driver, &WM0)),
-];
-
 /// In each round a thread makes the call once, while a task waits for the entry. Nobody does anything else then, so a wake that is lost ends the test.
 #[test]
 fn no_wake_is_lost_between_threads() {
-    for way in WAYS {
+    for (call, name) in CALLS.iter().flat_map(|call| [(call, WM), (call, WM0)]) {
         let (registry, mut cpus) = Registry::open(Settings::new(2, 8)).unwrap();
         let (mine, other) = (cpus.pop().unwrap(), cpus.pop().unwrap());
-        let (rounds, begun, ended) = (common::scaled(400), AtomicUsize::new(0), AtomicUsize::new(0));
-        let wait_for = |count: &AtomicUsize, round| {
+        let (rounds, begun, ended) = (common::scaled(400) as u32, AtomicU32::new(0), AtomicU32::new(0));
+        let wait_for = |count: &AtomicU32, round| {
             while count.load(Ordering::SeqCst) != round {
                 thread::yield_now();
             }
@@ -176,7 +187,7 @@ fn no_wake_is_lost_between_threads() {
                 let cpu = other;
                 for round in 1..=rounds {
                     wait_for(&begun, round);
-                    way(&cpu);
+                    drop(call(&cpu, Kind::Driver, &name));
                     ended.store(round, Ordering::SeqCst);
                 }
             });
