@@ -387,7 +387,7 @@ impl<T> Cpu<T> {
         Ok(ReadGuard { found: unsafe { Found::new(self, record) }, section: Section { cpu: self } })
     }
 
-    /// Makes a call that enters a section, for a guard of this.
+    /// Makes a call that enters a section, whose place is noted.
     #[inline]
     #[track_caller]
     fn enter_by<R>(&self, enter: impl FnOnce() -> Result<R, LookUpError>) -> Result<R, LookUpError> {
@@ -473,8 +473,8 @@ impl<T> Cpu<T> {
     }
 }
 
-/// An entry together with the section in which it was found: [`Cpu::read`] returns it. It derefs to what the entry carries, and dropping it exits. It is to
-/// its entry what a [`Found`] is, and to its thread what a [`Section`] is. All functions are called by the type's name, so that none hides a method of `T`.
+/// An entry together with the section in which it was found: [`Cpu::read`] returns it. It derefs to what the entry carries, and dropping it exits. It
+/// stays with its thread. All functions are called by the type's name, so that none hides a method of `T`.
 #[must_use = "a section that is dropped at once protects nothing"]
 pub struct ReadGuard<'cpu, T> {
     /// It is lent no longer than the guard lives, which has its section.
