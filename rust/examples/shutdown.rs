@@ -2,7 +2,7 @@
 
 use kupaldiz::{Cpu, Kind, LocalRef, Name, Patience, Refusal, Registry, Settings};
 use std::error::Error;
-use std::sync::mpsc::{channel, Receiver};
+use std::sync::mpsc::{channel, sync_channel, Receiver, SyncSender};
 use std::thread;
 use std::time::{Duration, Instant};
 
@@ -10,7 +10,7 @@ const DEVICES: [Name; 3] = [Name::from_static("wm"), Name::from_static("bge"), N
 
 /// Writes what it has when it is dropped, as a buffer does.
 struct Device {
-    written: std::sync::mpsc::Sender<Name>,
+    written: SyncSender<Name>,
     name: Name,
 }
 
@@ -31,7 +31,7 @@ fn work(cpu: Cpu<Device>, end: &Receiver<()>) -> Result<(), Refusal> {
 
 fn main() -> Result<(), Box<dyn Error>> {
     let (registry, mut cpus) = Registry::open_tracked(Settings::new(2, 4))?;
-    let (written, to_write) = channel();
+    let (written, to_write) = sync_channel(DEVICES.len());
     for name in DEVICES {
         let written = written.clone();
         registry.attach(&cpus[0], &name, Device { written, name })?;

@@ -1,10 +1,9 @@
 //! `speed THREADS ENTRIES OPERATIONS`: what a lookup and a pair of acquire and release take, through this crate.
 //!
 //! `lookup` reads what the entry found carries, a number in a block of its own; `batch` does so in an open section, 32 times a section. `plain` is
-//! `lookup` without that number: it reads the entry's. `read` is `lookup` by a guard, which is two calls; `look_up` is `plain` by one call; `get` gets a reference by one call,
-//! reads what the entry carries, and releases it. `local` releases each local reference on the CPU, `guarded` drops it bound to the CPU, and
-//! `dropped` drops it unbound and has the CPU release it then.
-//! The operations are those of `bench/` of the repository, whose README says what one is. It prints a line as the programs there do.
+//! `lookup` without that number: it reads the entry's. `read` is `lookup` by a guard, which is two calls; `look_up` is `plain` by one call; `get` gets a
+//! reference by one call, reads what the entry carries, and releases it. `local` releases each local reference on the CPU, and `dropped` drops it and has the
+//! CPU release it then. The operations are those of `bench/` of the repository, whose README says what one is. It prints a line as the programs there do.
 
 use kupaldiz::{Cpu, Found, Kind, LocalRef, Name, PassiveRef, Refusal, Registry, Section, Settings, LIMITS};
 use std::error::Error;
@@ -12,131 +11,91 @@ use std::sync::Barrier;
 use std::thread;
 use std::time::Instant;
 
-/// Makes so many operations on a CPU. Returns how many went as they should.
-type Operations = fn(&Cpu<u64>, &[Name], u64) -> Result<u64, Refusal>;
-
-fn lookups(cpu: &Cpu<u64>, names: &[Name], count: u64) -> Result<u64, Refusal> {
-    let mut right = 0;
-    let mut place = 0;
-    for _ in 0..count {
-        let section = cpu.enter()?;
-        let found = section.find(Kind::Driver, &names[place]);
-        right += u64::from(found.map_or(false, |found| *found == place as u64));
-        drop(section);
-        place = if place + 1 < names.len() { place + 1 } else { 0 };
-    }
-    Ok(right)
-}
-
 /// How many lookups a section of a batch has.
 const BATCH: u64 = 32;
 
-fn batches(cpu: &Cpu<u64>, names: &[Name], count: u64) -> Result<u64, Refusal> {
-    let mut right = 0;
-    let mut place = 0;
-    let mut left = count;
-    while left > 0 {
-        let many = left.min(BATCH);
-        let section = cpu.enter()?;
-        for _ in 0..many {
-            right += u64::from(finds(&section, names, place));
-            place = if place + 1 < names.len() { place + 1 } else { 0 };
-        }
-        left -= many;
+/// Makes so many operations on a CPU. Returns how many went as they should.
+type Operations = fn(&Cpu<u64>, &[Name], u64) -> Result<u64, Refusal>;
+
+/// One operation for each of so many names in turn, whose entries carry 0, 1, ..
+#[inline(always)]
+fn each(names: &[Name], count: u64, mut operate: impl FnMut(&Name, u64) -> Result<bool, Refusal>) -> Result<u64, Refusal> {
+    let (mut right, mut place) = (0, 0);
+    for _ in 0..count {
+        right += u64::from(operate(&names[place], place as u64)?);
+        place = if place + 1 < names.len() { place + 1 } else { 0 };
     }
     Ok(right)
 }
 
-/// A lookup in an open section.
 #[inline(always)]
-fn finds(section: &Section<'_, u64>, names: &[Name], place: usize) -> bool {
-    let found = section.find(Kind::Driver, &names[place]);
-    found.map_or(false, |found| *found == place as u64)
+fn finds(section: &Section<'_, u64>, name: &Name, value: u64) -> bool {
+    section.find(Kind::Driver, name).map_or(false, |found| *found == value)
+}
+
+fn lookups(cpu: &Cpu<u64>, names: &[Name], count: u64) -> Result<u64, Refusal> {
+    each(names, count, |name, value| Ok(finds(&cpu.enter()?, name, value)))
+}
+
+fn batches(cpu: &Cpu<u64>, names: &[Name], count: u64) -> Result<u64, Refusal> {
+    let (mut section, mut left) = (None, 0);
+    each(names, count, |name, value| {
+        if left == 0 {
+            drop(section.take());
+            (section, left) = (Some(cpu.enter()?), BATCH);
+        }
+        left -= 1;
+        Ok(section.as_ref().map_or(false, |section| finds(section, name, value)))
+    })
 }
 
 fn plain_lookups(cpu: &Cpu<u64>, names: &[Name], count: u64) -> Result<u64, Refusal> {
-    let mut right = 0;
-    let mut place = 0;
-    for _ in 0..count {
+    each(names, count, |name, value| {
         let section = cpu.enter()?;
-        let found = section.find(Kind::Driver, &names[place]);
-        place += 1;
-        right += u64::from(found.map_or(false, |found| Found::entry(&found).number == place as u64));
-        drop(section);
-        place = if place < names.len() { place } else { 0 };
-    }
-    Ok(right)
+        let found = section.find(Kind::Driver, name);
+        Ok(found.map_or(false, |found| Found::entry(&found).number == value + 1))
+    })
 }
 
 fn reads(cpu: &Cpu<u64>, names: &[Name], count: u64) -> Result<u64, Refusal> {
-    let mut right = 0;
-    let mut place = 0;
-    for _ in 0..count {
-        right += u64::from(*cpu.read(Kind::Driver, &names[place])? == place as u64);
-        place = if place + 1 < names.len() { place + 1 } else { 0 };
-    }
-    Ok(right)
+    each(names, count, |name, value| Ok(*cpu.read(Kind::Driver, name)? == value))
 }
 
 fn lookups_at_once(cpu: &Cpu<u64>, names: &[Name], count: u64) -> Result<u64, Refusal> {
-    let mut right = 0;
-    let mut place = 0;
-    for _ in 0..count {
-        let entry = cpu.look_up(Kind::Driver, &names[place])?;
-        place += 1;
-        right += u64::from(entry.number == place as u64);
-        place = if place < names.len() { place } else { 0 };
-    }
-    Ok(right)
+    each(names, count, |name, value| Ok(cpu.look_up(Kind::Driver, name)?.number == value + 1))
 }
 
 fn gets(cpu: &Cpu<u64>, names: &[Name], count: u64) -> Result<u64, Refusal> {
-    let mut right = 0;
-    let mut place = 0;
-    for _ in 0..count {
-        let reference = cpu.get(Kind::Driver, &names[place])?;
-        right += u64::from(*reference == place as u64);
-        PassiveRef::release(reference);
-        place = if place + 1 < names.len() { place + 1 } else { 0 };
-    }
-    Ok(right)
+    each(names, count, |name, value| Ok(*cpu.get(Kind::Driver, name)? == value))
 }
 
 fn walks(cpu: &Cpu<u64>, names: &[Name], count: u64) -> Result<u64, Refusal> {
-    let mut right = 0;
-    for _ in 0..count {
-        let section = cpu.enter()?;
-        right += u64::from(section.entries().count() == names.len());
-    }
-    Ok(right)
+    each(names, count, |_, _| Ok(cpu.enter()?.entries().count() == names.len()))
+}
+
+/// One operation for each of so many times, on an entry that a section found.
+#[inline(always)]
+fn on_found(cpu: &Cpu<u64>, name: &Name, count: u64, operate: impl Fn(&Found<u64>) -> Result<(), Refusal>) -> Result<u64, Refusal> {
+    let section = cpu.enter()?;
+    let found = section.find(Kind::Driver, name).ok_or(Refusal::NotFound)?;
+    (0..count).try_for_each(|_| operate(&found))?;
+    Ok(count)
 }
 
 fn passives(cpu: &Cpu<u64>, names: &[Name], count: u64) -> Result<u64, Refusal> {
-    let section = cpu.enter()?;
-    let found = section.find(Kind::Driver, &names[0]).ok_or(Refusal::NotFound)?;
-    for _ in 0..count {
-        PassiveRef::release(Found::acquire(&found)?);
-    }
-    Ok(count)
+    on_found(cpu, &names[0], count, |found| Found::acquire(found).map(PassiveRef::release).map_err(Refusal::from))
 }
 
 fn locals(cpu: &Cpu<u64>, names: &[Name], count: u64) -> Result<u64, Refusal> {
-    let section = cpu.enter()?;
-    let found = section.find(Kind::Driver, &names[0]).ok_or(Refusal::NotFound)?;
-    for _ in 0..count {
-        LocalRef::release(Found::acquire_local(&found)?, cpu)?;
-    }
-    Ok(count)
+    on_found(cpu, &names[0], count, |found| Ok(LocalRef::release(Found::acquire_local(found)?, cpu)?))
 }
 
 fn drops(cpu: &Cpu<u64>, names: &[Name], count: u64) -> Result<u64, Refusal> {
-    let section = cpu.enter()?;
-    let found = section.find(Kind::Driver, &names[0]).ok_or(Refusal::NotFound)?;
-    for _ in 0..count {
-        drop(Found::acquire_local(&found)?);
+    on_found(cpu, &names[0], count, |found| {
+        drop(Found::acquire_local(found)?);
         cpu.release_dropped();
-    }
-    Ok(count)
+        Ok(())
+    })
 }
 
 /// The nanoseconds that an operation takes its thread: the time from the first thread's first to the last thread's last, over the operations

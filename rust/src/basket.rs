@@ -4,7 +4,7 @@
 //! that finds a list filled takes it whole and releases what was in it. A turn of the work on a retired entry gives up the list of that entry.
 
 use crate::ffi;
-use crate::lock::{locked, Mutex};
+use crate::lock::{locked, locked_mut, Mutex};
 use std::mem;
 use std::sync::atomic::{AtomicU64, Ordering};
 
@@ -30,10 +30,7 @@ pub struct Baskets {
 
 impl Default for Baskets {
     fn default() -> Baskets {
-        Baskets {
-            of_slot: (0..ffi::MOST_SLOTS).map(|_| Basket::default()).collect(),
-            filled: Filled::default(),
-        }
+        Baskets { of_slot: (0..ffi::MOST_SLOTS).map(|_| Basket::default()).collect(), filled: Filled::default() }
     }
 }
 
@@ -82,6 +79,16 @@ impl Baskets {
     /// How many lie in all baskets.
     pub fn total(&self) -> usize {
         self.slots().map(|slot| locked(&self.of_slot[slot].dropped).len()).sum()
+    }
+}
+
+impl Drop for Basket {
+    /// The registry is closed, so nothing counts them any more.
+    fn drop(&mut self) {
+        for local in locked_mut(&mut self.dropped) {
+            // SAFETY: this is the last use of the reference's handle.
+            unsafe { ffi::registry_local_forget(local) };
+        }
     }
 }
 

@@ -3,8 +3,6 @@
 use crate::ffi;
 use crate::name::Name;
 use crate::values::{Entry, Kind};
-use std::boxed::Box;
-use std::fmt;
 use std::mem::MaybeUninit;
 use std::ptr;
 
@@ -30,22 +28,27 @@ unsafe impl<T: Send + Sync> Send for Carried<T> {}
 // SAFETY: as for `Send`.
 unsafe impl<T: Send + Sync> Sync for Carried<T> {}
 
-impl<T> Clone for Carried<T> {
-    #[inline]
-    fn clone(&self) -> Carried<T> {
-        *self
-    }
+/// Copies, as `derive` would alone where the `T` is copied.
+macro_rules! copied {
+    ($($name:ident)*) => {$(
+        impl<T> Clone for $name<T> {
+            #[inline]
+            fn clone(&self) -> $name<T> {
+                *self
+            }
+        }
+
+        impl<T> Copy for $name<T> {}
+    )*};
 }
 
-impl<T> Copy for Carried<T> {}
+copied!(Carried Record);
 
 impl<T> Carried<T> {
     /// Puts a value into a block of its own.
     pub fn new(value: T) -> Carried<T> {
         let plain = MaybeUninit::uninit();
-        Carried {
-            at: Box::into_raw(Box::new(Block { value, plain })),
-        }
+        Carried { at: Box::into_raw(Box::new(Block { value, plain })) }
     }
 
     /// Notes the entry that was attached.
@@ -84,9 +87,7 @@ impl<T> Carried<T> {
     /// The address that an entry's `value` is.
     #[inline]
     fn of_word(word: u64) -> Carried<T> {
-        Carried {
-            at: word as usize as *mut Block<T>,
-        }
+        Carried { at: word as usize as *mut Block<T> }
     }
 
     /// The value.
@@ -121,8 +122,8 @@ pub struct Plain {
     name: ffi::Name,
     slot: u8,
     kind: Kind,
-    /// Of a reference whose place is noted; else 0.
-    ticket: u32,
+    /// The ticket of a reference's note, or 0.
+    pub ticket: u32,
 }
 
 impl Plain {
@@ -133,43 +134,27 @@ impl Plain {
 
     #[inline]
     pub fn entry(&self) -> Entry {
-        Entry {
-            number: self.number,
-            slot: self.slot,
-            kind: self.kind,
-            name: Name::of_words(self.name),
-        }
+        Entry { number: self.number, slot: self.slot, kind: self.kind, name: Name::of_words(self.name) }
+    }
+
+    /// The kind and the name, as C has them.
+    #[inline]
+    pub fn key(&self) -> (u64, &ffi::Name) {
+        (self.kind.number(), &self.name)
     }
 }
 
 /// An entry as C wrote it, with the address of what it carries.
 pub struct Record<T> {
-    plain: Plain,
-    carried: Carried<T>,
+    pub plain: Plain,
+    pub carried: Carried<T>,
 }
-
-impl<T> Clone for Record<T> {
-    #[inline]
-    fn clone(&self) -> Record<T> {
-        *self
-    }
-}
-
-impl<T> Copy for Record<T> {}
 
 impl<T> Record<T> {
     #[inline]
     pub fn of(entry: &ffi::Entry) -> Record<T> {
-        Record {
-            plain: Plain {
-                number: entry.number,
-                name: entry.name,
-                slot: entry.slot as u8,
-                kind: Kind::of(entry.kind),
-                ticket: 0,
-            },
-            carried: Carried::of_word(entry.value),
-        }
+        let plain = Plain { number: entry.number, name: entry.name, slot: entry.slot as u8, kind: Kind::of(entry.kind), ticket: 0 };
+        Record { plain, carried: Carried::of_word(entry.value) }
     }
 
     /// The record that a call writes where it is done; or the call's answer.
@@ -187,48 +172,6 @@ impl<T> Record<T> {
         }
     }
 
-    #[inline]
-    pub fn number(&self) -> u64 {
-        self.plain.number
-    }
-
-    #[inline]
-    pub fn slot(&self) -> usize {
-        self.plain.slot()
-    }
-
-    #[inline]
-    pub fn plain(&self) -> Plain {
-        self.plain
-    }
-
-    /// The ticket of the note of its place, or 0.
-    #[inline]
-    pub fn ticket(&self) -> u32 {
-        self.plain.ticket
-    }
-
-    pub fn with_ticket(mut self, ticket: u32) -> Record<T> {
-        self.plain.ticket = ticket;
-        self
-    }
-
-    #[inline]
-    pub fn carried(&self) -> Carried<T> {
-        self.carried
-    }
-
-    #[inline]
-    pub fn entry(&self) -> Entry {
-        self.plain.entry()
-    }
-
-    /// The kind and the name, as C has them.
-    #[inline]
-    pub fn key(&self) -> (u64, &ffi::Name) {
-        (self.plain.kind.number(), &self.plain.name)
-    }
-
     /// What the entry carries.
     ///
     /// # Safety
@@ -238,51 +181,5 @@ impl<T> Record<T> {
     pub unsafe fn value<'a>(&self) -> &'a T {
         // SAFETY: the value of each entry of a registry whose entries carry a `T` is the address of one that was attached with it.
         unsafe { self.carried.get() }
-    }
-}
-
-impl<T> fmt::Debug for Record<T> {
-    fn fmt(&self, f: &mut fmt::Formatter<'_>) -> fmt::Result {
-        self.entry().fmt(f)
-    }
-}
-
-#[cfg(test)]
-mod tests {
-    use super::{Carried, Plain};
-    use crate::ffi;
-    use crate::values::Kind;
-
-    /// Also where the value is of no size, or aligned beyond the record.
-    fn goes_and_comes_back<T: Clone + PartialEq + std::fmt::Debug>(value: T) {
-        let plain = Plain {
-            number: 7,
-            name: ffi::Name::default(),
-            slot: 3,
-            kind: Kind::Driver,
-            ticket: 0,
-        };
-        let carried = Carried::new(value.clone());
-        let again = Carried::<T>::of_word(carried.word());
-        // SAFETY: the value is there until it is taken, once, at the end.
-        let read = unsafe { again.get() };
-        // SAFETY: nobody else has the block.
-        unsafe { carried.note(plain) };
-        assert_eq!(*read, value);
-        // SAFETY: it was noted.
-        let noted = unsafe { again.plain() };
-        assert_eq!((noted.number, noted.slot(), noted.entry().kind), (7, 3, Kind::Driver));
-        // SAFETY: what was read isn't used any more.
-        assert_eq!(unsafe { carried.take() }, value);
-    }
-
-    #[test]
-    fn a_value_goes_into_its_block_and_comes_back() {
-        #[derive(Clone, Debug, PartialEq)]
-        #[repr(align(128))]
-        struct Wide(u8);
-        goes_and_comes_back(String::from("gigabit"));
-        goes_and_comes_back(());
-        goes_and_comes_back(Wide(9));
     }
 }

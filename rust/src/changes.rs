@@ -1,10 +1,9 @@
 //! The changes: attach, detach, replace.
 
-use crate::carried::{Carried, Plain, Record};
+use crate::carried::{Carried, Record};
 use crate::cpu::Cpu;
 use crate::ffi;
-use crate::local::LocalRef;
-use crate::lock::MutexGuard;
+use crate::references::LocalRef;
 use crate::refusal::{AttachError, DetachError, Foreign, Refused};
 use crate::registry::Registry;
 use crate::retired::Retired;
@@ -12,25 +11,23 @@ use crate::shared::Kept;
 use crate::values::{Entry, Freed, Kind};
 use crate::Name;
 use std::sync::Arc;
-use std::vec::Vec;
 
 /// Changes. An attach and a detach drop no `T`, so a caller may hold a lock that the drop of a `T` takes.
 impl<T> Registry<T> {
     /// Attaches a driver that carries this value. Lookups that begin after this call has returned find it, until it is detached.
     ///
-    /// If no slot is vacant, the call releases the local references that were dropped, makes one turn on each retired entry, and tries again. So it fails
-    /// with `NoSlot` only if each slot has an entry that is live or held. A value that is freed by that goes to its [`Retired`], or to the next call that
-    /// [returns or drops](crate#what-is-dropped) what is freed.
+    /// If no slot is vacant, the call releases the local references that were dropped, makes one turn on each retired entry, and tries again. A value that is
+    /// freed by that goes to its [`Retired`], or to the next call that [returns or drops](crate#what-is-dropped) what is freed.
     ///
     /// # Errors
     ///
     /// `OtherRegistry`, `Inside`, `NameTaken`, `NoSlot`, `HistoryFull`. The value is returned.
     pub fn attach(&self, cpu: &Cpu<T>, name: &Name, value: T) -> Result<Entry, Refused<AttachError, T>> {
-        self.change(&mut New { cpu, name, driver: None }, value, attach)
+        Ok(self.change(&mut New { cpu, name, driver: None, replaces: false }, value)?.0)
     }
 
-    /// Attaches an interface that carries this value, on the driver that the reference is to. The interface's slot keeps the reference, so the driver
-    /// outlives the interface. If no slot is vacant, the call does what [`attach`](Registry::attach) does then.
+    /// Attaches an interface that carries this value, as [`attach`](Registry::attach) does, on the driver that the reference is to. The interface's slot keeps
+    /// the reference, so the driver outlives the interface.
     ///
     /// ```
     /// use kupaldiz::{Kind, Name, Registry, Settings};
@@ -54,12 +51,11 @@ impl<T> Registry<T> {
         driver: LocalRef<T>,
         value: T,
     ) -> Result<Entry, Refused<AttachError, (LocalRef<T>, T)>> {
-        self.change_on(cpu, name, driver, value, attach)
+        Ok(self.change_on(cpu, name, driver, value, false)?.0)
     }
 
-    /// Replaces what the live driver with this name carries: detaches it, and attaches another one with this value, under one hold of the interlock. A
-    /// lookup between the two finds nothing. Whoever holds the old entry keeps that. The new one needs a slot of its own: if none is vacant, the call does
-    /// what [`attach`](Registry::attach) does then. On an error the old entry stays.
+    /// Replaces what the live driver with this name carries: detaches it, and [attaches](Registry::attach) another one with this value, under one hold of the
+    /// interlock. A lookup between the two finds nothing. The new one needs a slot of its own. On an error the old entry stays.
     ///
     /// ```
     /// use kupaldiz::{Kind, Name, Patience, Registry, Settings};
@@ -76,24 +72,11 @@ impl<T> Registry<T> {
     ///
     /// `OtherRegistry`, `Inside`, `NotFound`, `NoSlot`, `HistoryFull`. The value is returned.
     pub fn replace(&self, cpu: &Cpu<T>, name: &Name, value: T) -> Result<(Entry, Retired<T>), Refused<AttachError, T>> {
-        self.change(&mut New { cpu, name, driver: None }, value, replace)
+        self.change(&mut New { cpu, name, driver: None, replaces: true }, value).map(Made::both)
     }
 
     /// Replaces what the live interface with this name carries, as [`replace`](Registry::replace) does for a driver. The new interface keeps this reference.
     /// The old one keeps its own until it is freed.
-    ///
-    /// ```
-    /// use kupaldiz::{Kind, Name, Patience, Registry, Settings};
-    ///
-    /// let (registry, cpus) = Registry::open(Settings::new(1, 4)).unwrap();
-    /// let (wm, wm0) = (Name::parse("wm").unwrap(), Name::parse("wm0").unwrap());
-    /// registry.attach(&cpus[0], &wm, 7).unwrap();
-    /// let driver = || cpus[0].get_local(Kind::Driver, &wm).unwrap();
-    /// registry.attach_iface(&cpus[0], &wm0, driver(), 1500).unwrap();
-    /// let (_, old) = registry.replace_iface(&cpus[0], &wm0, driver(), 9000).unwrap();
-    /// assert_eq!(old.destroy(&cpus[0], Patience::Forever).unwrap().value, 1500);
-    /// assert_eq!(*cpus[0].get(Kind::Iface, &wm0).unwrap(), 9000);
-    /// ```
     ///
     /// # Errors
     ///
@@ -106,11 +89,11 @@ impl<T> Registry<T> {
         driver: LocalRef<T>,
         value: T,
     ) -> Result<(Entry, Retired<T>), Refused<AttachError, (LocalRef<T>, T)>> {
-        self.change_on(cpu, name, driver, value, replace)
+        self.change_on(cpu, name, driver, value, true).map(Made::both)
     }
 
-    /// Detaches the live entry with this kind and name. Lookups that begin after this call has returned don't find it. It keeps its value until the
-    /// returned [`Retired`] has taken that, and its slot as long as something holds it.
+    /// Detaches the live entry with this kind and name. Lookups that begin after this call has returned don't find it. It keeps its value until that is taken
+    /// by the returned [`Retired`].
     ///
     /// # Errors
     ///
@@ -143,8 +126,7 @@ impl<T> Registry<T> {
     pub fn detach_entry(&self, cpu: &Cpu<T>, entry: &Entry) -> Result<Retired<T>, DetachError> {
         self.tidy(cpu)?;
         let mut kept = self.shared.kept();
-        let is_live = kept.all_live().iter().any(|live| live.entry() == *entry);
-        if cpu.is_inside() || is_live {
+        if cpu.is_inside() || kept.has_live(|live| live == entry) {
             self.detach_by(&mut kept, cpu, entry.kind, &entry.name).map_err(DetachError::of)
         } else {
             Err(DetachError::NotFound)
@@ -154,18 +136,6 @@ impl<T> Registry<T> {
     /// Detaches the live entry with this kind and name, [defers](Retired::defer) it, and returns what is free already: this entry, if nothing holds it,
     /// and those that were retired before. What is still held a later retire or [`Registry::collect`] returns.
     ///
-    /// ```
-    /// use kupaldiz::{Kind, Name, Registry, Settings};
-    ///
-    /// let (registry, cpus) = Registry::open(Settings::new(2, 4)).unwrap();
-    /// let wm = Name::parse("wm").unwrap();
-    /// for value in [7, 8] {
-    ///     registry.attach(&cpus[0], &wm, value).unwrap();
-    ///     let freed = registry.retire(&cpus[0], Kind::Driver, &wm).unwrap();
-    ///     assert_eq!(freed[0].value, value);
-    /// }
-    /// ```
-    ///
     /// # Errors
     ///
     /// `OtherRegistry`, `Inside`, `NotFound`.
@@ -173,56 +143,77 @@ impl<T> Registry<T> {
         Ok(self.detach(cpu, kind, name)?.deferred())
     }
 
-    /// Makes a change by which an entry gets this value. If no slot is vacant, once more after what nobody holds was freed.
-    fn change<R>(&self, new: &mut New<'_, T>, value: T, change: Change<T, R>) -> Result<R, Refused<AttachError, T>> {
+    /// Attaches an entry with this value. If no slot is vacant, once more after what nobody holds was freed.
+    fn change(&self, new: &mut New<'_, T>, value: T) -> Result<Made<T>, Refused<AttachError, T>> {
         if let Err(Foreign) = self.tidy(new.cpu) {
-            let refusal = AttachError::OtherRegistry;
-            return Err(Refused { refusal, given: value });
+            return Err(Refused { refusal: AttachError::OtherRegistry, given: value });
         }
         let carried = Carried::new(value);
-        let mut done = change(new, self, self.shared.kept(), carried);
+        let mut done = self.make(new, carried);
         if matches!(done, Err(AttachError::NoSlot)) {
             new.cpu.release_dropped();
             if self.shared.make_room() {
-                done = change(new, self, self.shared.kept(), carried);
+                done = self.make(new, carried);
             }
         }
-        done.map_err(|refusal| {
-            // SAFETY: registry.h says of a call that is refused that it changes nothing, so no entry has the address.
-            let given = unsafe { carried.take() };
-            Refused { refusal, given }
-        })
+        // SAFETY: registry.h says of a call that is refused that it changes nothing, so no entry has the address.
+        done.map_err(|refusal| Refused { refusal, given: unsafe { carried.take() } })
     }
 
     /// The same, for an interface on this driver.
-    fn change_on<R>(
-        &self,
-        cpu: &Cpu<T>,
-        name: &Name,
-        driver: LocalRef<T>,
-        value: T,
-        change: Change<T, R>,
-    ) -> Result<R, Refused<AttachError, (LocalRef<T>, T)>> {
+    fn change_on(&self, cpu: &Cpu<T>, name: &Name, driver: LocalRef<T>, value: T, replaces: bool) -> Result<Made<T>, RefusedIface<T>> {
         if !driver.is_of(&self.shared) {
-            let refusal = AttachError::OtherRegistry;
-            let given = (driver, value);
-            return Err(Refused { refusal, given });
+            return Err(Refused { refusal: AttachError::OtherRegistry, given: (driver, value) });
         }
         let mut driver = driver;
-        let driver_of = Some(&mut driver);
-        let made = self.change(
-            &mut New {
-                cpu,
-                name,
-                driver: driver_of,
-            },
-            value,
-            change,
-        );
-        made.map_err(|Refused { refusal, given }| Refused {
-            refusal,
-            given: (driver, given),
-        })
+        let made = self.change(&mut New { cpu, name, driver: Some(&mut driver), replaces }, value);
+        made.map_err(|Refused { refusal, given }| Refused { refusal, given: (driver, given) })
+    }
+
+    /// Makes the change under one hold of the interlock. If it is refused, nothing has changed.
+    fn make(&self, new: &mut New<'_, T>, carried: Carried<T>) -> Result<Made<T>, AttachError> {
+        let mut kept = self.shared.kept();
+        let old = if new.replaces { Some(self.detach_old(&mut kept, new)?) } else { None };
+        let made = self.attach_new(&mut kept, new, carried);
+        // The token may be dropped, which takes the interlock.
+        drop(kept);
+        Ok(Made(made?, old))
+    }
+
+    /// Detaches the entry that is replaced, after it has tested all that may refuse the attach.
+    fn detach_old(&self, kept: &mut Kept<T>, new: &New<'_, T>) -> Result<Retired<T>, AttachError> {
+        if new.cpu.is_inside() {
+            return Err(AttachError::Inside);
+        }
+        let kind = match &new.driver {
+            Some(driver) if LocalRef::entry(driver).kind != Kind::Driver => return Err(AttachError::NeedsDriver),
+            Some(_) => Kind::Iface,
+            None => Kind::Driver,
+        };
+        if !kept.has_live(|live| (live.kind, &live.name) == (kind, new.name)) {
+            return Err(AttachError::NotFound);
+        }
+        kept.check_room(&self.settings())?;
+        self.detach_by(kept, new.cpu, kind, new.name).map_err(AttachError::of)
+    }
+
+    fn attach_new(&self, kept: &mut Kept<T>, new: &mut New<'_, T>, carried: Carried<T>) -> Result<Entry, AttachError> {
+        let (keeper, cpu, name, word) = (&mut kept.keeper, new.cpu.handle(), &new.name.words, carried.word());
+        let call = |made: *mut ffi::Entry| match &mut new.driver {
+            // SAFETY: the keeper is locked, the CPU is this thread's, both are of one registry, and their handles aren't empty. The reference is of the same
+            // registry, and this is the only use of its handle. It is empty afterwards if the call is done, so dropping the reference releases nothing.
+            Some(driver) => unsafe { ffi::registry_attach_iface(keeper, cpu, driver.handle(), name, word, made) },
+            // SAFETY: as above, without a reference.
+            None => unsafe { ffi::registry_attach(keeper, cpu, name, word, made) },
+        };
+        // SAFETY: the call is an attach, which registry.h says writes the entry, to this registry.
+        let made = unsafe { Record::<T>::written(call) }.map_err(AttachError::of)?.plain;
+        // SAFETY: the call has attached the entry with the value's address.
+        unsafe { kept.note(made, carried) };
+        if let Some(driver) = &new.driver {
+            self.shared.noted(|notes| notes.kept(driver.ticket(), made.number));
+        }
+        Ok(made.entry())
     }
 
     /// Detaches under the interlock.
@@ -232,79 +223,28 @@ impl<T> Registry<T> {
         let call = |gone: *mut ffi::Entry| unsafe { ffi::registry_detach(keeper, cpu.handle(), kind.number(), &name.words, gone) };
         // SAFETY: registry.h says of a detach that it writes the entry.
         let gone = unsafe { Record::<T>::written(call) }?;
-        kept.retire(gone.number());
-        if let Some(places) = self.shared.places() {
-            places.detached(gone.number());
-        }
+        kept.retire(gone.plain.number);
+        self.shared.noted(|notes| notes.detached(gone.plain.number));
         // SAFETY: the entry was just detached.
-        Ok(unsafe { Retired::new(Arc::clone(&self.shared), gone.carried()) })
+        Ok(unsafe { Retired::new(Arc::clone(&self.shared), gone.carried) })
     }
 }
 
-/// An entry that is to be attached; an interface, if it has a driver.
+/// An entry that is to be attached, maybe in place of another: an interface, if it has a driver.
 struct New<'a, T> {
     cpu: &'a Cpu<T>,
     name: &'a Name,
     driver: Option<&'a mut LocalRef<T>>,
+    replaces: bool,
 }
 
-/// What is done under one hold of the interlock. If it is refused, nothing has changed.
-type Change<T, R> = fn(&mut New<'_, T>, &Registry<T>, MutexGuard<'_, Kept<T>>, Carried<T>) -> Result<R, AttachError>;
+type RefusedIface<T> = Refused<AttachError, (LocalRef<T>, T)>;
 
-/// Attaches it.
-fn attach<T>(
-    new: &mut New<'_, T>,
-    registry: &Registry<T>,
-    mut kept: MutexGuard<'_, Kept<T>>,
-    carried: Carried<T>,
-) -> Result<Entry, AttachError> {
-    new.attach(registry, &mut kept, carried)
-}
+/// An entry that was attached, and the one that it replaces.
+struct Made<T>(Entry, Option<Retired<T>>);
 
-/// Detaches the entry of the same kind and name, and attaches this one. All that may be refused is tested before.
-fn replace<T>(
-    new: &mut New<'_, T>,
-    registry: &Registry<T>,
-    mut kept: MutexGuard<'_, Kept<T>>,
-    carried: Carried<T>,
-) -> Result<(Entry, Retired<T>), AttachError> {
-    if new.cpu.is_inside() {
-        return Err(AttachError::Inside);
-    }
-    let kind = match &new.driver {
-        Some(driver) if LocalRef::entry(driver).kind != Kind::Driver => return Err(AttachError::NeedsDriver),
-        Some(_) => Kind::Iface,
-        None => Kind::Driver,
-    };
-    let (key, live) = ((kind, *new.name), kept.all_live());
-    if !live.iter().map(Plain::entry).any(|live| (live.kind, live.name) == key) {
-        return Err(AttachError::NotFound);
-    }
-    kept.check_room(&registry.settings())?;
-    let retired = registry.detach_by(&mut kept, new.cpu, kind, new.name).map_err(AttachError::of)?;
-    let made = new.attach(registry, &mut kept, carried);
-    // The token may be dropped, which takes the interlock.
-    drop(kept);
-    Ok((made?, retired))
-}
-
-impl<T> New<'_, T> {
-    fn attach(&mut self, registry: &Registry<T>, kept: &mut Kept<T>, carried: Carried<T>) -> Result<Entry, AttachError> {
-        let (keeper, cpu, name, word) = (&mut kept.keeper, self.cpu.handle(), &self.name.words, carried.word());
-        let call = |made: *mut ffi::Entry| match &mut self.driver {
-            // SAFETY: the keeper is locked, the CPU is this thread's, both are of one registry, and their handles aren't empty. The reference is of the same
-            // registry, and this is the only use of its handle. It is empty afterwards if the call is done, so dropping the reference releases nothing.
-            Some(driver) => unsafe { ffi::registry_attach_iface(keeper, cpu, driver.handle(), name, word, made) },
-            // SAFETY: as above, without a reference.
-            None => unsafe { ffi::registry_attach(keeper, cpu, name, word, made) },
-        };
-        // SAFETY: the call is an attach, which registry.h says writes the entry, to this registry.
-        let record = unsafe { Record::<T>::written(call) }.map_err(AttachError::of)?;
-        // SAFETY: the call has attached the entry with the value's address.
-        unsafe { kept.note(record.plain(), carried) };
-        if let (Some(driver), Some(places)) = (&self.driver, registry.shared.places()) {
-            places.kept(driver.ticket(), record.number());
-        }
-        Ok(record.entry())
+impl<T> Made<T> {
+    fn both(self) -> (Entry, Retired<T>) {
+        (self.0, self.1.expect("what it replaces"))
     }
 }

@@ -3,38 +3,21 @@
 use crate::carried::Record;
 use crate::ffi;
 use crate::places::Hold;
-use crate::refusal::{checked, LookUpError};
 use crate::registry::Registry;
-use crate::section::Section;
 use crate::shared::{Lease, Shared};
 use crate::tasks::Tasks;
 use std::cell::{Cell, UnsafeCell};
 use std::fmt;
 use std::mem;
 use std::panic::Location;
+use std::ptr;
 use std::sync::Arc;
 
 /// One of the registry's CPUs, for the thread that has it. It is a handle, not a processor. It co-owns its registry. It may be stored, and go to another
-/// thread. One thread at a time uses it. Sections and passive references borrow it, so it can't be moved or dropped while one exists.
+/// thread. Sections and passive references borrow it, so it can't be moved or dropped while one exists: a struct that owns both has a
+/// [`PassiveRc`](crate::PassiveRc). More threads than CPUs share them by a [`CpuPool`](crate::CpuPool).
 ///
-/// A struct that owns its CPU and references acquired there has the CPU in an [`Rc`](std::rc::Rc), and each reference as a
-/// [`PassiveRc`](crate::PassiveRc).
-///
-/// A CPU that is dropped goes back to its registry. [`Registry::cpu`] and [`Registry::any_cpu`] return it again. A program with more threads than CPUs
-/// lends them from a [`CpuPool`](crate::CpuPool).
-///
-/// ```
-/// use kupaldiz::{Kind, Name, Registry, Settings};
-/// use std::thread;
-///
-/// let (registry, mut cpus) = Registry::open(Settings::new(2, 4)).unwrap();
-/// let wm = Name::parse("wm").unwrap();
-/// registry.attach(&cpus[0], &wm, 7).unwrap();
-/// let cpu = cpus.remove(1);
-/// let reader = thread::spawn(move || cpu.enter().unwrap().find(Kind::Driver, &wm).map(|found| *found));
-/// assert_eq!(reader.join().unwrap(), Some(7));
-/// assert!(registry.cpu(1).is_some());
-/// ```
+/// A CPU that is dropped goes back to its registry. [`Registry::cpu`] and [`Registry::any_cpu`] return it again.
 // A lookup writes `last`, so two CPUs lie on cache lines of their own.
 #[repr(align(128))]
 pub struct Cpu<T> {
@@ -58,7 +41,7 @@ impl<T> Cpu<T> {
         Cpu {
             handle: UnsafeCell::new(handle),
             last: Cell::new(0),
-            is_tracked: shared.places().is_some(),
+            is_tracked: shared.notes.is_some(),
             lease: Arc::new(Lease { shared }),
             given_back: Cell::new(None),
             id,
@@ -71,18 +54,14 @@ impl<T> Cpu<T> {
         self.handle.get()
     }
 
-    /// The handle, taken out for a call that needs several in a row. `put_back` follows before anything else of this CPU.
-    pub(crate) fn take_out(&self) -> ffi::Cpu {
-        // SAFETY: this thread alone has the CPU, and no reference into the cell outlives this line.
-        unsafe { mem::replace(&mut *self.handle.get(), ffi::Cpu::EMPTY) }
-    }
-
+    /// Swaps the handle out for a call that needs several in a row, and back.
+    ///
     /// # Safety
     ///
-    /// It is the handle that `take_out` has returned.
-    pub(crate) unsafe fn put_back(&self, handle: ffi::Cpu) {
-        // SAFETY: as for `take_out`; the handle that is overwritten is empty.
-        unsafe { *self.handle.get() = handle };
+    /// The other one is empty, or what the last swap has put there. Between the two nothing else is done with the CPU.
+    pub(crate) unsafe fn swap(&self, handle: &mut ffi::Cpu) {
+        // SAFETY: this thread alone has the CPU, and no reference into the cell outlives this line.
+        unsafe { ptr::swap(self.handle.get(), handle) };
     }
 
     #[inline]
@@ -133,25 +112,6 @@ impl<T> Cpu<T> {
         self.depth() != 0
     }
 
-    /// Enters a section, or nests one more in the open section: `pserialize_read_enter`. It is open until the guard is dropped. A section whose guard
-    /// was forgotten stays open until the CPU [leaves](Cpu::leave), is dropped or goes back to its pool. An enter before that is nested in it.
-    ///
-    /// # Errors
-    ///
-    /// `TooDeep`, `SectionsSpent`.
-    #[inline]
-    #[track_caller]
-    pub fn enter(&self) -> Result<Section<'_, T>, LookUpError> {
-        self.enters(Location::caller());
-        // SAFETY: as for `depth`.
-        let entered = checked(unsafe { ffi::registry_enter(self.handle()) });
-        if entered.is_err() {
-            self.left();
-        }
-        // SAFETY: that was the enter.
-        entered.map(|()| unsafe { Section::new(self) }).map_err(LookUpError::of)
-    }
-
     /// Exits all sections that are still open. Their guards were forgotten: a guard that lives borrows the CPU.
     pub fn leave(&mut self) {
         // SAFETY: as for `depth`. No guard lives, so nothing that was found in these sections is in use.
@@ -167,9 +127,7 @@ impl<T> Cpu<T> {
         unsafe { ffi::registry_held(self.handle(), number, &mut held) };
         held
     }
-}
 
-impl<T> Cpu<T> {
     /// The tasks that wait for retired entries: each call that may have let one go wakes them. Where it counts, they are looked for before that call, so
     /// that this doesn't wait for the call's atomic steps.
     #[inline]
@@ -182,18 +140,17 @@ impl<T> Cpu<T> {
 impl<T> Cpu<T> {
     /// Notes where a reference to the entry was acquired.
     #[inline]
-    pub(crate) fn noted(&self, hold: Hold, record: Record<T>, at: &'static Location<'static>) -> Record<T> {
+    pub(crate) fn noted(&self, hold: Hold, mut record: Record<T>, at: &'static Location<'static>) -> Record<T> {
         if self.is_tracked {
-            self.note(hold, record, at)
-        } else {
-            record
+            record.plain.ticket = self.note(hold, record.plain.number, at);
         }
+        record
     }
 
+    /// By its number: its record needn't lie in memory then.
     #[cold]
-    fn note(&self, hold: Hold, record: Record<T>, at: &'static Location<'static>) -> Record<T> {
-        let places = self.shared().places();
-        record.with_ticket(places.map_or(0, |places| places.acquired(hold, self.id, record.number(), at)))
+    fn note(&self, hold: Hold, number: u64, at: &'static Location<'static>) -> u32 {
+        self.shared().noted(|notes| notes.acquired(hold, self.id, number, at))
     }
 
     /// The CPU is about to enter a section.
@@ -214,23 +171,22 @@ impl<T> Cpu<T> {
 
     #[cold]
     fn note_section(&self, at: Option<&'static Location<'static>>) {
-        match (self.shared().places(), at) {
-            (Some(places), Some(at)) if !self.is_inside() => places.entered(self.id, at),
-            (Some(places), None) if !self.is_inside() => places.exited(self.id),
-            _ => {}
+        if !self.is_inside() {
+            self.shared().noted(|notes| match at {
+                Some(at) => notes.entered(self.id, at),
+                None => notes.ended(u32::from(self.id)),
+            });
         }
     }
 }
 
-/// Local references that were dropped without a CPU.
+/// The release of local references.
 impl<T> Cpu<T> {
-    /// Releases all local references that were dropped without a CPU before the call, on any thread. It may wait for the interlock,
-    /// as [`LocalRef::release`](crate::LocalRef::release) does. No program needs this call: [other
-    /// calls](crate::LocalRef#dropped-without-a-cpu) do it.
+    /// Releases all local references that were dropped without a CPU before the call, on any thread. It may wait for the interlock. No program needs this
+    /// call: [other calls](crate::LocalRef#dropped-without-a-cpu) do it.
     pub fn release_dropped(&self) {
         if self.shared().baskets.has_any() {
-            // SAFETY: this thread alone has the CPU, and no code of a caller ever holds the interlock.
-            unsafe { self.shared().release_dropped(self.handle()) };
+            self.shared().baskets.slots().for_each(|slot| self.release_of(slot));
         }
     }
 
@@ -238,9 +194,35 @@ impl<T> Cpu<T> {
     #[inline]
     pub(crate) fn release_to(&self, slot: usize) {
         if self.shared().baskets.has(slot) {
-            // SAFETY: as for `release_dropped`.
-            unsafe { self.shared().release_of(self.handle(), slot) };
+            self.release_of(slot);
         }
+    }
+
+    #[cold]
+    fn release_of(&self, slot: usize) {
+        for local in self.shared().baskets.take(slot) {
+            // SAFETY: what lies in a registry's baskets is of it.
+            unsafe { self.release_local(slot, local) };
+        }
+    }
+
+    /// Releases a reference to the entry in this slot, or gives it up under the interlock where this CPU's count was collected.
+    ///
+    /// # Safety
+    ///
+    /// The reference is of this registry.
+    #[inline]
+    pub(crate) unsafe fn release_local(&self, slot: usize, mut local: ffi::Local) {
+        let shared = self.shared();
+        // SAFETY: this thread alone has the CPU, whose handle isn't empty, and the caller upholds the contract for the reference.
+        if unsafe { ffi::registry_local_release(self.handle(), &mut local) } != ffi::DONE {
+            // SAFETY: the keeper is locked, and of the reference's registry.
+            unsafe { ffi::registry_local_give_up(&mut shared.kept().keeper, &mut local) };
+        }
+        if !local.is_empty() {
+            shared.baskets.lay(slot, local);
+        }
+        shared.tasks.wake();
     }
 }
 
@@ -255,7 +237,7 @@ impl<T> Drop for Cpu<T> {
     fn drop(&mut self) {
         self.leave();
         self.release_dropped();
-        let handle = self.take_out();
+        let handle = mem::replace(self.handle.get_mut(), ffi::Cpu::EMPTY);
         // SAFETY: it is this CPU's, which is gone.
         unsafe { self.shared().put_cpu(self.id, handle) };
     }

@@ -141,13 +141,7 @@ pub struct Balance {
 
 impl Balance {
     /// Not written yet.
-    pub const EMPTY: Balance = Balance {
-        number: 0,
-        slot: 0,
-        held: 0,
-        locals: [0; MOST_CPUS],
-        total: 0,
-    };
+    pub const EMPTY: Balance = Balance { number: 0, slot: 0, held: 0, locals: [0; MOST_CPUS], total: 0 };
 }
 
 #[repr(C)]
@@ -161,12 +155,7 @@ pub struct Wait {
 
 impl Wait {
     /// Not begun yet.
-    pub const EMPTY: Wait = Wait {
-        snapshots: [0; MOST_CPUS],
-        retired: [0; MOST_SLOTS],
-        seen: [0; MOST_CPUS],
-        begun: 0,
-    };
+    pub const EMPTY: Wait = Wait { snapshots: [0; MOST_CPUS], retired: [0; MOST_SLOTS], seen: [0; MOST_CPUS], begun: 0 };
 }
 
 /// A struct has so many words of 64 bits, in C as here.

@@ -16,17 +16,12 @@
 //!
 //! # The terms
 //!
-//! - An [`Entry`] is a driver or an interface that was attached: the attach returns it. It is live until it is detached, and then retired until it is
-//!   freed. It carries a `T`, and everything that holds the entry derefs to it. `T` is one type for all entries of a registry: an `enum` if drivers and
-//!   interfaces carry different things, a `Box<dyn Driver>` for plug-ins, `()` if they carry nothing.
-//! - A [`Cpu`] is a handle, not a processor. One thread at a time uses it. A registry has at least one and at most [`LIMITS`]`.cpus`. A [`CpuPool`]
-//!   lends CPUs to more threads.
-//! - A [`Section`] is open on a CPU while it looks entries up. A [`Found`] borrows its section. While the section is open, the entry isn't freed and its
-//!   `T` isn't dropped. A change, a destroy or a perform on that CPU then fails with `Inside`.
-//! - A [`PassiveRef`] holds an entry beyond the section, on one CPU. It is cheap, and its holder may sleep. A [`PassiveRc`] co-owns the CPU instead of
-//!   borrowing it. A [`LocalRef`] may be stored and go to other threads.
-//! - A [`Retired`] is an entry that was detached and isn't freed yet. A turn is one attempt to free it.
-//! - The interlock is the lock of a [`Registry`]. Each change and each turn takes it.
+//! - An [`Entry`] is a driver or an interface that was attached. It is live until it is detached, and then [`Retired`] until it is freed. It carries a `T`:
+//!   one type for all entries of a registry, such as an `enum`, a `Box<dyn Driver>` for plug-ins, or `()`. Everything that holds the entry derefs to it.
+//! - A [`Cpu`] is a handle, not a processor. One thread at a time uses it. A [`CpuPool`] lends CPUs to more threads.
+//! - A [`Section`] is open on a CPU while it looks entries up. A [`PassiveRef`] holds an entry beyond the section, on one CPU. A [`LocalRef`] may be stored
+//!   and go to other threads.
+//! - The interlock is the lock of a [`Registry`]. Each change takes it, and each turn. A turn is one attempt to free a retired entry.
 //!
 //! # The calls
 //!
@@ -39,35 +34,28 @@
 //! | free | [`Retired::destroy`], [`wait`](Retired::wait), [`advance`](Retired::advance), or `.await`; [`Registry::retire`] and [`Registry::collect`] return what is free by then |
 //! | end | [`Registry::drain`], then [`Registry::close`], or drop all handles |
 //! | share CPUs among more threads | [`CpuPool::lend`], [`lend_async`](CpuPool::lend_async), [`with`](CpuPool::with) |
-//! | use it without kinds | [`Cpu::table`]; [`Generations`], whose changes never run out |
+//! | use it without kinds | [`Cpu::table`] |
 //!
 //! ```
 //! use kupaldiz::{DestroyError, Found, Holder, Kind, Name, Registry, Settings};
 //!
-//! #[derive(Debug)]
-//! struct Driver {
-//!     speed: u32,
-//! }
-//!
 //! let (registry, cpus) = Registry::open(Settings::new(2, 4)).unwrap();
 //! let wm = Name::parse("wm").unwrap();
-//! registry.attach(&cpus[1], &wm, Driver { speed: 1000 }).unwrap();
+//! registry.attach(&cpus[1], &wm, String::from("gigabit")).unwrap();
 //!
 //! let section = cpus[0].enter().unwrap();
 //! let found = section.find(Kind::Driver, &wm).unwrap();
 //! let retired = registry.detach(&cpus[1], Kind::Driver, &wm).unwrap();
 //! let held = retired.advance().unwrap_err();
 //! assert_eq!(held.refusal, DestroyError::StillHeld(Holder::Grace(0)));
-//! assert_eq!(found.speed, 1000);
+//! assert_eq!(found.len(), 7);
 //! let reference = Found::acquire(&found).unwrap();
 //! section.exit();
 //!
 //! let held = held.given.advance().unwrap_err();
 //! assert_eq!(held.refusal, DestroyError::StillHeld(Holder::Passive(0)));
-//! assert_eq!(reference.speed, 1000);
 //! drop(reference);
-//! let driver: Driver = held.given.advance().unwrap().value;
-//! assert_eq!(driver.speed, 1000);
+//! assert_eq!(held.given.advance().unwrap().value, "gigabit");
 //! ```
 //!
 //! # The order of memory
@@ -121,8 +109,8 @@
 //!
 //! | Type | `Send` | `Sync` |
 //! |---|---|---|
-//! | [`Registry`], [`CpuPool`], [`LocalRef`], [`Retired`], [`Generations`], [`Drained`], [`StillOpen`] | if `T` is `Send` and `Sync` | if `T` is `Send` and `Sync` |
-//! | [`Cpu`], [`Reader`] | if `T` is `Send` and `Sync` | no |
+//! | [`Registry`], [`CpuPool`], [`LocalRef`], [`Retired`], [`Drained`], [`StillOpen`] | if `T` is `Send` and `Sync` | if `T` is `Send` and `Sync` |
+//! | [`Cpu`] | if `T` is `Send` and `Sync` | no |
 //! | [`Lent`], [`Table`], [`Section`], [`Found`], [`Entries`], [`ReadGuard`], [`PassiveRef`], [`PassiveRc`] | no | no |
 //! | [`Mapped`]`<G, U>` | if `G` is, and `U` is `Sync` | if `G` and `U` are |
 //! | [`Freed`]`<X>`, [`Refused`]`<E, X>` | if `X` is | if `X` is |
@@ -133,10 +121,8 @@
 //!
 //! # More than the limits
 //!
-//! Only an attach takes room from [`Settings::changes`]: for itself and for its detach. Lookups and references don't. What is left just after an attach is
-//! `changes`, less the new entry's [`number`](Entry::number), less the number of live entries, the new one among them. A [`Generations`] opens the next
-//! registry once `HistoryFull` or `SectionsSpent` comes. For interfaces, which it hasn't, do the same by hand: open a second registry, attach everything
-//! there, publish it in a lock, and retire what is in the first. If `T` is an [`Arc`](std::sync::Arc), both carry the same objects.
+//! Only an attach takes room from [`Settings::changes`]: for itself and for its detach. Once it is spent, open a second registry, attach everything there,
+//! publish it in a lock, and retire what is in the first. If `T` is an [`Arc`](std::sync::Arc), both carry the same objects.
 //!
 //! # What is proved
 //!
@@ -144,13 +130,9 @@
 //! reference, holds it. The proof assumes a caller that keeps the rules of registry.h. A few small calls in C aren't proved; registry.h marks them.
 //! This crate uses four of those: the text of an error, the library's version and limits, and the comparison of the limits.
 //!
-//! This crate isn't proved: it is tested. It uses `unsafe`, in some 110 blocks, a third of them in `shared.rs` and `carried.rs`,
-//!
-//! - for the calls, and for the texts that they return;
-//! - for the way from the word that an entry carries to the `T`, and to a part of it;
-//! - where its own types move what they hold, and for their `Send` and `Sync`.
-//!
-//! Each use says what makes it sound. A bug there can break memory safety.
+//! This crate isn't proved: it is tested. Some 100 blocks are `unsafe`, half of them in `shared.rs`, `section.rs` and `carried.rs`: for the calls and the texts
+//! that they return; for the way from an entry to the `T`, and to a part of it; and where its own types move what they hold. Each says what makes it sound. A
+//! bug there can break memory safety.
 //!
 //! The compiler, or an error of the crate (`OtherRegistry`), stops all misuse that the C calls can't check, except of three rules, which you
 //! must keep. It takes `unsafe` code to break them, such as a call of `fork`, `sigaction` or `pthread_setcanceltype`; or the standard library's deprecated
@@ -168,19 +150,15 @@ mod basket;
 mod carried;
 mod changes;
 mod cpu;
-mod ending;
-mod entries;
 mod ffi;
-mod generations;
 mod limits;
-mod local;
 mod lock;
 mod mapped;
 mod name;
-mod passive;
 mod patience;
 mod places;
 mod pool;
+mod references;
 mod refusal;
 mod registry;
 mod retired;
@@ -189,26 +167,20 @@ mod settings;
 mod shared;
 mod table;
 mod tasks;
-mod usual;
 mod values;
 
-pub use self::registry::Registry;
 pub use cpu::Cpu;
-pub use ending::{Drained, StillOpen};
-pub use entries::Entries;
-pub use generations::{Generations, Leaving, Reader};
 pub use limits::{limits, version, Limits, LIMITS};
-pub use local::LocalRef;
 pub use mapped::Mapped;
 pub use name::{Name, NameFault};
-pub use passive::{PassiveRc, PassiveRef};
 pub use patience::Patience;
 pub use places::{Hold, Holders, Place};
 pub use pool::{CpuPool, Lent};
+pub use references::{LocalRef, PassiveRc, PassiveRef};
 pub use refusal::{AttachError, DestroyError, DetachError, LookUpError, Refusal, Refused};
+pub use registry::{Drained, Registry, StillOpen};
 pub use retired::Retired;
-pub use section::{Found, Section};
+pub use section::{Entries, Found, ReadGuard, Section};
 pub use settings::Settings;
 pub use table::Table;
-pub use usual::ReadGuard;
 pub use values::{Balance, Entry, Freed, Holder, Kind};

@@ -33,17 +33,11 @@ impl Patience {
     }
 }
 
-/// How often a wait spins before it yields.
 const SPINS: u32 = 16;
-
+const YIELDS: u32 = 8;
 /// The pause instructions of the longest spin.
 const MOST_PAUSES: u32 = 256;
-
-/// How often it yields before it sleeps.
-const YIELDS: u32 = 8;
-
 const FIRST_SLEEP: Duration = Duration::from_micros(16);
-
 const LONGEST_SLEEP: Duration = Duration::from_millis(8);
 
 /// What a wait does between two turns.
@@ -74,13 +68,6 @@ fn doubled(times: u32) -> u32 {
     1 << times.min(9)
 }
 
-/// Tells the processor so often that this thread spins.
-fn spin(pauses: u32) {
-    for _ in 0..pauses {
-        hint::spin_loop();
-    }
-}
-
 /// One wait: what is left of the patience.
 pub struct Pauses {
     patience: Patience,
@@ -108,7 +95,7 @@ impl Pauses {
             return false;
         }
         match Pause::after(self.made) {
-            Pause::Spin(pauses) => spin(pauses),
+            Pause::Spin(pauses) => (0..pauses).for_each(|_| hint::spin_loop()),
             Pause::Yield => thread::yield_now(),
             Pause::Sleep(length) => thread::sleep(length.min(left)),
         }

@@ -1,7 +1,6 @@
 //! Who holds an entry, by place: what a registry that was opened by [`Registry::open_tracked`](crate::Registry::open_tracked) notes of each reference and
 //! section.
 
-use crate::lock::{locked, Mutex};
 use crate::values::Entry;
 use std::collections::HashMap;
 use std::fmt;
@@ -65,11 +64,7 @@ impl fmt::Display for Holders {
             return f.write_str("nobody");
         }
         let mut before = "";
-        for (hold, name) in [
-            (Hold::Section, "section"),
-            (Hold::Passive, "passive reference"),
-            (Hold::Local, "local reference"),
-        ] {
+        for (hold, name) in [(Hold::Section, "section"), (Hold::Passive, "passive reference"), (Hold::Local, "local reference")] {
             let places: Vec<String> = self.places.iter().filter(|one| one.hold == hold).map(Place::to_string).collect();
             if !places.is_empty() {
                 let plural = if places.len() == 1 { "" } else { "s" };
@@ -81,22 +76,21 @@ impl fmt::Display for Holders {
     }
 }
 
-/// What is noted. A younger note has a greater stamp.
-#[derive(Default)]
-struct Notes {
-    last: u64,
-    /// The references, by their tickets, which are never 0: the stamp, to which entry it is, and the place.
-    references: HashMap<u32, (u64, u64, Place)>,
-    /// The outermost section of each CPU, and its stamp.
-    sections: HashMap<u8, (u64, Place)>,
-    /// When an entry was detached.
-    detached: HashMap<u64, u64>,
+impl Place {
+    fn here(hold: Hold, cpu: u8, location: &'static Location<'static>) -> Place {
+        Place { hold, cpu, location, thread: thread::current().name().map(str::to_string), kept_by: None }
+    }
 }
 
-/// The notes of a registry.
+/// What is noted of a registry. A younger note has a greater stamp.
 #[derive(Default)]
-pub struct Places {
-    notes: Mutex<Notes>,
+pub struct Notes {
+    last: u64,
+    /// By their tickets: the outermost section of a CPU by its number, and a reference by a greater one. Each with its stamp, and a reference with the number
+    /// of the entry that it is to.
+    held: HashMap<u32, (u64, Option<u64>, Place)>,
+    /// When an entry was detached.
+    detached: HashMap<u64, u64>,
 }
 
 impl Notes {
@@ -104,81 +98,54 @@ impl Notes {
         self.last += 1;
         self.last
     }
-}
 
-impl Place {
-    fn here(hold: Hold, cpu: u8, location: &'static Location<'static>) -> Place {
-        Place {
-            hold,
-            cpu,
-            location,
-            thread: thread::current().name().map(str::to_string),
-            kept_by: None,
-        }
-    }
-}
-
-impl Places {
-    /// Notes a reference that was acquired to the entry with this number.
-    pub fn acquired(&self, hold: Hold, cpu: u8, number: u64, location: &'static Location<'static>) -> u32 {
-        let place = Place::here(hold, cpu, location);
-        let mut notes = locked(&self.notes);
+    /// A reference was acquired to the entry with this number. Returns its ticket.
+    pub fn acquired(&mut self, hold: Hold, cpu: u8, number: u64, at: &'static Location<'static>) -> u32 {
         loop {
-            let stamp = notes.stamp();
+            let stamp = self.stamp();
             let ticket = stamp as u32;
-            if ticket != 0 && !notes.references.contains_key(&ticket) {
-                notes.references.insert(ticket, (stamp, number, place));
+            if ticket > u32::from(u8::MAX) && !self.held.contains_key(&ticket) {
+                self.held.insert(ticket, (stamp, Some(number), Place::here(hold, cpu, at)));
                 return ticket;
             }
         }
     }
 
-    pub fn released(&self, ticket: u32) {
-        locked(&self.notes).references.remove(&ticket);
+    /// A CPU is about to enter its outermost section.
+    pub fn entered(&mut self, cpu: u8, at: &'static Location<'static>) {
+        let stamp = self.stamp();
+        self.held.insert(u32::from(cpu), (stamp, None, Place::here(Hold::Section, cpu, at)));
+    }
+
+    /// The reference with this ticket is released, or the section of the CPU with this number has ended.
+    pub fn ended(&mut self, ticket: u32) {
+        self.held.remove(&ticket);
     }
 
     /// An interface keeps the reference.
-    pub fn kept(&self, ticket: u32, iface: u64) {
-        if let Some((_, _, place)) = locked(&self.notes).references.get_mut(&ticket) {
+    pub fn kept(&mut self, ticket: u32, iface: u64) {
+        if let Some((_, _, place)) = self.held.get_mut(&ticket) {
             place.kept_by = Some(iface);
         }
     }
 
-    /// Notes that a CPU is about to enter its outermost section.
-    pub fn entered(&self, cpu: u8, location: &'static Location<'static>) {
-        let place = Place::here(Hold::Section, cpu, location);
-        let mut notes = locked(&self.notes);
-        let stamp = notes.stamp();
-        notes.sections.insert(cpu, (stamp, place));
-    }
-
-    pub fn exited(&self, cpu: u8) {
-        locked(&self.notes).sections.remove(&cpu);
-    }
-
-    pub fn detached(&self, number: u64) {
-        let mut notes = locked(&self.notes);
-        let stamp = notes.stamp();
-        notes.detached.insert(number, stamp);
+    pub fn detached(&mut self, number: u64) {
+        let stamp = self.stamp();
+        self.detached.insert(number, stamp);
     }
 
     /// The entry is freed, and gives up what it kept.
-    pub fn freed(&self, number: u64) {
-        let mut notes = locked(&self.notes);
-        notes.detached.remove(&number);
-        notes.references.retain(|_, (_, _, place)| place.kept_by != Some(number));
+    pub fn freed(&mut self, number: u64) {
+        self.detached.remove(&number);
+        self.held.retain(|_, (_, _, place)| place.kept_by != Some(number));
     }
 
     /// Who holds an entry. A section that was entered after the detach doesn't.
     pub fn holders(&self, entry: &Entry) -> Holders {
-        let notes = locked(&self.notes);
-        let detached = notes.detached.get(&entry.number).copied().unwrap_or(u64::MAX);
-        let sections = notes.sections.values().filter(|(stamp, _)| *stamp < detached);
-        let references = notes.references.values().filter(|(_, number, _)| *number == entry.number);
-        let references = references.map(|(stamp, _, place)| (*stamp, place));
-        let mut places: Vec<_> = sections.map(|(stamp, place)| (*stamp, place)).chain(references).collect();
-        places.sort_by_key(|(stamp, place)| (place.hold, *stamp));
-        let places = places.into_iter().map(|(_, place)| place.clone()).collect();
-        Holders { places }
+        let detached = self.detached.get(&entry.number).copied().unwrap_or(u64::MAX);
+        let holds = |stamp: u64, number: Option<u64>| number.map_or(stamp < detached, |number| number == entry.number);
+        let mut held: Vec<_> = self.held.values().filter(|(stamp, number, _)| holds(*stamp, *number)).collect();
+        held.sort_by_key(|(stamp, _, place)| (place.hold, *stamp));
+        Holders { places: held.into_iter().map(|(_, _, place)| place.clone()).collect() }
     }
 }

@@ -1,7 +1,7 @@
 //! CPUs that are lent, for programs with more threads than CPUs.
 
 use crate::cpu::Cpu;
-use crate::local::LocalRef;
+use crate::references::LocalRef;
 use crate::refusal::{LookUpError, Refusal};
 use crate::values::Kind;
 use crate::Name;
@@ -20,11 +20,10 @@ use std::time::Instant;
 /// CPUs of one registry that any thread may borrow, each for a call or a batch of calls. Threads use the pool by reference, and a `static` may have one.
 /// Lending and taking back take a lock each, so a single lookup is faster on a CPU that the thread keeps.
 ///
-/// A section or a [`PassiveRef`](crate::PassiveRef) on a lent CPU borrows the loan. As long as you keep it the CPU isn't returned, and other threads may
-/// wait for a CPU. To sleep, acquire a [`LocalRef`](crate::LocalRef), such as by [`Cpu::get_local`], and drop the loan.
+/// A section or a [`PassiveRef`](crate::PassiveRef) on a lent CPU borrows the loan. To sleep, acquire a [`LocalRef`], and drop the loan.
 ///
-/// A thread needs one loan at a time. Name it by a `let`, and give it to each call: two loans in one expression need two CPUs, and where the pool has one
-/// the second would wait for the first for ever. [`lend`](CpuPool::lend) panics then.
+/// A thread needs one loan at a time. Name it by a `let`, and give it to each call: of two loans in one expression, the second would wait for the first for
+/// ever where the pool has one CPU. [`lend`](CpuPool::lend) panics then.
 ///
 /// ```
 /// use kupaldiz::{CpuPool, Kind, Name, Registry, Settings};
@@ -68,16 +67,8 @@ impl<T> State<T> {
     /// A CPU for this thread, if one is there.
     fn lend<'pool>(&mut self, pool: &'pool CpuPool<T>, place: &'static Location<'static>) -> Option<Lent<'pool, T>> {
         let cpu = self.idle.pop()?;
-        self.loans.push(Loan {
-            cpu: cpu.id(),
-            thread: thread::current().id(),
-            place,
-        });
-        Some(Lent {
-            pool,
-            cpu: Some(cpu),
-            thread: PhantomData,
-        })
+        self.loans.push(Loan { cpu: cpu.id(), thread: thread::current().id(), place });
+        Some(Lent { pool, cpu: Some(cpu), thread: PhantomData })
     }
 
     /// The first loan that this thread has.
@@ -100,11 +91,7 @@ impl<T> CpuPool<T> {
             return Err(Refusal::OtherRegistry);
         }
         Ok(CpuPool {
-            state: Mutex::new(State {
-                loans: Vec::with_capacity(cpus.len()),
-                wakers: Vec::new(),
-                idle: cpus,
-            }),
+            state: Mutex::new(State { loans: Vec::with_capacity(cpus.len()), wakers: Vec::new(), idle: cpus }),
             returned: Condvar::new(),
         })
     }
@@ -149,35 +136,13 @@ impl<T> CpuPool<T> {
         }
     }
 
-    /// Lends a CPU for this call alone, as [`lend`](CpuPool::lend) does.
-    ///
-    /// ```
-    /// use kupaldiz::{CpuPool, Kind, Name, Registry, Settings};
-    ///
-    /// let (registry, cpus) = Registry::open(Settings::new(2, 4)).unwrap();
-    /// let pool = CpuPool::new(cpus).unwrap();
-    /// let wm = Name::parse("wm").unwrap();
-    /// pool.with(|cpu| registry.attach(cpu, &wm, 7)).unwrap();
-    /// assert_eq!(pool.with(|cpu| cpu.read(Kind::Driver, &wm).map(|driver| *driver)), Ok(7));
-    /// ```
-    ///
-    /// # Panics
-    ///
-    /// As for [`lend`](CpuPool::lend), or if the closure does.
+    /// Lends a CPU for this call alone, and panics as [`lend`](CpuPool::lend) does.
     #[track_caller]
     pub fn with<R>(&self, deed: impl FnOnce(&Cpu<T>) -> R) -> R {
         deed(&self.lend())
     }
 
-    /// A local reference, as [`Cpu::get_local`] returns it, by a CPU that is lent for this call alone.
-    ///
-    /// # Errors
-    ///
-    /// As for [`Cpu::get_local`].
-    ///
-    /// # Panics
-    ///
-    /// As for [`lend`](CpuPool::lend).
+    /// A local reference, as [`Cpu::get_local`] returns it, or its error. A CPU is lent for this call alone: it panics as [`lend`](CpuPool::lend) does.
     #[track_caller]
     pub fn get_local(&self, kind: Kind, name: &Name) -> Result<LocalRef<T>, LookUpError> {
         self.lend().get_local(kind, name)

@@ -21,7 +21,6 @@ macro_rules! refusals {
 
         impl Refusal {
             /// The number of the error in registry.h. It is 0 for `OtherRegistry` and `OtherVersion`, which are this crate's own.
-            #[must_use]
             pub fn number(&self) -> u32 {
                 match self {
                     $(Refusal::$name => $number,)*
@@ -45,14 +44,6 @@ macro_rules! refusals {
 refusals! {
     /// Any error of a call. Most calls return an error of their own, such as [`LookUpError`]: `?` converts it to this one. A call that fails has changed
     /// nothing, unless it says so. Each call lists its errors in the order in which it tests them.
-    ///
-    /// ```
-    /// use kupaldiz::{Refusal, Registry, Settings};
-    ///
-    /// let refusal = Registry::<()>::open(Settings::new(0, 1)).unwrap_err();
-    /// assert_eq!((refusal, refusal.number()), (Refusal::BadSettings, 2));
-    /// println!("{refusal}");
-    /// ```
     Refusal {
         /// Memory ran out.
         NoMemory = ffi::NO_MEMORY,
@@ -145,18 +136,6 @@ macro_rules! errors_of_calls {
 
 errors_of_calls! {
     /// The error of a lookup, of a section's enter, and of an acquire.
-    ///
-    /// ```
-    /// use kupaldiz::{Kind, LookUpError, Name, Registry, Settings};
-    ///
-    /// let (_registry, cpus) = Registry::<u32>::open(Settings::new(1, 1)).unwrap();
-    /// let speed = match cpus[0].read(Kind::Driver, &Name::from_static("wm")) {
-    ///     Ok(driver) => *driver,
-    ///     Err(LookUpError::NotFound) => 0,
-    ///     Err(error) => panic!("{error}"),
-    /// };
-    /// assert_eq!(speed, 0);
-    /// ```
     LookUpError {
         NotFound = NOT_FOUND, TooDeep = TOO_DEEP, SectionsSpent = SECTIONS_SPENT,
         PassiveFull = PASSIVE_FULL, LocalFull = LOCAL_FULL, NoMemory = NO_MEMORY,

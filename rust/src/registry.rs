@@ -3,26 +3,24 @@
 use crate::cpu::Cpu;
 use crate::ffi;
 use crate::patience::{Patience, Pauses};
-use crate::places::{Holders, Places};
-use crate::refusal::{checked, Foreign, Refusal};
+use crate::places::Holders;
+use crate::refusal::{checked, DestroyError, DetachError, Foreign, Refusal, Refused};
+use crate::retired::Retired;
 use crate::settings::Settings;
 use crate::shared::{Shared, NO_CPUS};
 use crate::values::{Balance, Entry, Freed};
+use std::error::Error;
 use std::fmt;
 use std::hash::{Hash, Hasher};
 use std::sync::Arc;
-use std::vec;
-use std::vec::Vec;
 
 /// An open registry. Each entry carries a `T` of the caller's. A clone is one more handle of the same registry. Any thread may use a handle, and a
 /// `static` may have one.
 ///
-/// The registry is open as long as a handle of it exists: a `Registry`, a [`Cpu`], a [`LocalRef`](crate::LocalRef) or a [`Retired`](crate::Retired). Dropping the last one closes it,
-/// and drops the values that its entries still carry. A handle that is forgotten keeps it open for ever. So does a handle that an entry of the same
-/// registry carries.
+/// The registry is open as long as a [handle](crate#what-is-dropped) of it exists, also one that is forgotten, or that an entry of the same registry carries.
+/// Dropping the last one closes it, and drops the values that its entries still carry.
 ///
 /// Changes, and each try to free an entry, are made under a lock, the interlock. No call holds it while it waits for a reader, or while a `T` is dropped.
-/// So that drop may call the registry again.
 pub struct Registry<T> {
     pub(crate) shared: Arc<Shared<T>>,
 }
@@ -38,12 +36,12 @@ impl<T> Registry<T> {
     ///
     /// `OtherVersion`, `OtherLimits`, `BadSettings`, `NoMemory`.
     pub fn open(settings: Settings) -> Result<(Registry<T>, Vec<Cpu<T>>), Refusal> {
-        Registry::open_by(settings, None)
+        Registry::open_by(settings, false)
     }
 
     /// Opens a registry that notes by which line of the program, and on which thread, each reference is acquired and each section entered.
     /// [`holders`](Registry::holders) says so, and so does the error of a destroy that gives up. Each of these calls then takes a lock. A registry that
-    /// [`open`](Registry::open) opens notes nothing.
+    /// [`open`](Registry::open) opens notes nothing; the errors are the same.
     ///
     /// ```
     /// use kupaldiz::{Kind, Name, Patience, Registry, Settings};
@@ -58,49 +56,28 @@ impl<T> Registry<T> {
     /// assert!(refused.to_string().contains("1 local reference: "));
     /// # drop(kept);
     /// ```
-    ///
-    /// # Errors
-    ///
-    /// As for [`open`](Registry::open).
     pub fn open_tracked(settings: Settings) -> Result<(Registry<T>, Vec<Cpu<T>>), Refusal> {
-        Registry::open_by(settings, Some(Places::default()))
+        Registry::open_by(settings, true)
     }
 
-    fn open_by(settings: Settings, places: Option<Places>) -> Result<(Registry<T>, Vec<Cpu<T>>), Refusal> {
-        let registry = Registry::of(Arc::new(Shared::open(settings, places)?));
+    fn open_by(settings: Settings, is_tracked: bool) -> Result<(Registry<T>, Vec<Cpu<T>>), Refusal> {
+        let registry = Registry::of(Arc::new(Shared::open(settings, is_tracked)?));
         let cpus = (0..settings.cpus).filter_map(|id| registry.cpu(id)).collect();
         Ok((registry, cpus))
     }
 
     /// By which lines an entry is held, live or retired, if the registry was opened by [`open_tracked`](Registry::open_tracked). A reference that was
     /// forgotten is among them, one that was dropped isn't. A call that another thread makes meanwhile may be noted or not.
-    ///
-    /// ```
-    /// use kupaldiz::{Kind, Name, Registry, Settings};
-    ///
-    /// let (registry, cpus) = Registry::open_tracked(Settings::new(2, 4)).unwrap();
-    /// let wm = Name::parse("wm").unwrap();
-    /// let made = registry.attach(&cpus[0], &wm, 7).unwrap();
-    /// assert_eq!(registry.holders(&made).unwrap().to_string(), "nobody");
-    /// let reference = cpus[1].get(Kind::Driver, &wm).unwrap();
-    /// let holders = registry.holders(&made).unwrap();
-    /// assert_eq!((holders.places.len(), holders.places[0].cpu), (1, 1));
-    /// assert!(holders.to_string().starts_with("1 passive reference: "));
-    /// # drop(reference);
-    /// ```
-    #[must_use]
     pub fn holders(&self, entry: &Entry) -> Option<Holders> {
-        self.shared.places().map(|places| places.holders(entry))
+        self.shared.noted(|notes| Some(notes.holders(entry)))
     }
 
     /// The settings that it was opened with.
-    #[must_use]
     pub fn settings(&self) -> Settings {
         self.shared.settings
     }
 
-    /// The CPU with this number, if no handle of it exists. One that was dropped may be taken again. It still holds the passive
-    /// references that were forgotten on it.
+    /// The CPU with this number, if no handle of it exists. It still has the passive references that were forgotten on it.
     #[must_use]
     pub fn cpu(&self, id: u8) -> Option<Cpu<T>> {
         let handle = self.shared.take_cpu(id)?;
@@ -117,14 +94,10 @@ impl<T> Registry<T> {
     /// The CPU is of this registry, else `OtherRegistry`.
     #[inline]
     fn check(&self, cpu: &Cpu<T>) -> Result<(), Foreign> {
-        if cpu.is_of(&self.shared) {
-            Ok(())
-        } else {
-            Err(Foreign)
-        }
+        cpu.is_of(&self.shared).then_some(()).ok_or(Foreign)
     }
 
-    /// What comes before a change: the CPU releases what was dropped. A CPU that is inside doesn't, since the change will be refused.
+    /// What comes before a change: a CPU that is outside releases what was dropped.
     pub(crate) fn tidy(&self, cpu: &Cpu<T>) -> Result<(), Foreign> {
         self.check(cpu)?;
         if self.shared.baskets.has_any() && !cpu.is_inside() {
@@ -137,13 +110,11 @@ impl<T> Registry<T> {
 /// The work on retired entries, and the counts.
 impl<T> Registry<T> {
     /// The number of entries that were [retired](Registry::retire) or [deferred](crate::Retired::defer) and wait to be freed.
-    #[must_use]
     pub fn retired(&self) -> usize {
-        self.shared.deferred()
+        self.shared.kept().deferred.len()
     }
 
     /// The number of local references that were [dropped without a CPU](crate::LocalRef#dropped-without-a-cpu) and aren't released yet.
-    #[must_use]
     pub fn dropped(&self) -> usize {
         self.shared.baskets.total()
     }
@@ -212,10 +183,8 @@ impl<T> Registry<T> {
     }
 
     /// What the counts say of each live or retired entry, the lowest-numbered slot first. It needs all CPUs, in any order: a `Cpu`, a [`Lent`](crate::Lent)
-    /// or a reference to either of each. All local references that were dropped are released first.
-    ///
-    /// To see on which CPU references were acquired, call it before the first turn on the retired entry that gets as far as its local references. That turn
-    /// collects the counts, and `locals` is 0 from then on.
+    /// or a reference to either of each. All local references that were dropped are released first. To see on which CPU references were acquired, call it
+    /// before the first turn on the retired entry that meets its local references: that turn collects the counts.
     ///
     /// ```
     /// use kupaldiz::{CpuPool, Name, Registry, Settings};
@@ -253,23 +222,120 @@ impl<T> Registry<T> {
 
     /// Writes the balances, and returns how many. The CPUs are all of this registry's, in their order.
     fn audit_into(&self, cpus: &[&Cpu<T>], list: &mut [ffi::Balance]) -> Result<usize, Refusal> {
-        let mut kept = self.shared.kept();
-        let mut length = 0;
-        let mut handles = NO_CPUS;
-        for (place, cpu) in handles.iter_mut().zip(cpus) {
-            *place = cpu.take_out();
-        }
+        let (mut kept, mut length, mut handles) = (self.shared.kept(), 0, NO_CPUS);
+        let swap = |handles: &mut [ffi::Cpu]| {
+            // SAFETY: it is done once before the call and once after it, in the same order.
+            handles.iter_mut().zip(cpus).for_each(|(handle, cpu)| unsafe { cpu.swap(handle) });
+        };
+        swap(&mut handles);
         let row = handles.as_mut_ptr();
-        // SAFETY: as for `perform`, of so many CPUs; their handles are put back before anything else is done with them.
+        // SAFETY: as for `perform`, of so many CPUs.
         let answer = unsafe { ffi::registry_audit(&mut kept.keeper, row, cpus.len(), list.as_mut_ptr(), list.len(), &mut length) };
-        for (handle, cpu) in IntoIterator::into_iter(handles).zip(cpus) {
-            // SAFETY: it was taken out of this CPU above.
-            unsafe { cpu.put_back(handle) };
-        }
+        swap(&mut handles);
         checked(answer).map_err(Refusal::of)?;
         Ok(length)
     }
 }
+
+/// How a registry ends: what is in it is taken out, and then it is closed.
+impl<T> Registry<T> {
+    /// Detaches all live entries, and destroys each, an interface before its driver. The patience is for each destroy: take
+    /// [`Patience::Until`] for one deadline. What is deferred is worked on, too. Entries that are attached meanwhile may be left.
+    ///
+    /// ```
+    /// use kupaldiz::{Name, Patience, Registry, Settings};
+    ///
+    /// let (registry, cpus) = Registry::open(Settings::new(2, 4)).unwrap();
+    /// for (text, value) in [("wm", 7), ("bge", 8)] {
+    ///     registry.attach(&cpus[0], &Name::parse(text).unwrap(), value).unwrap();
+    /// }
+    /// let drained = registry.drain(&cpus[0], Patience::Forever).unwrap();
+    /// assert_eq!((drained.freed.len(), drained.held.len()), (2, 0));
+    /// ```
+    ///
+    /// # Errors
+    ///
+    /// `OtherRegistry`, `Inside`: nothing is detached then.
+    pub fn drain(&self, cpu: &Cpu<T>, patience: Patience) -> Result<Drained<T>, DetachError> {
+        self.tidy(cpu)?;
+        if cpu.is_inside() {
+            return Err(DetachError::Inside);
+        }
+        let live = self.shared.kept().all_live();
+        // Another thread may have detached one meanwhile.
+        let tokens: Vec<Retired<T>> = live.iter().filter_map(|entry| self.detach_entry(cpu, &entry.entry()).ok()).collect();
+        let (mut freed, mut held) = (Vec::new(), Vec::new());
+        for token in tokens {
+            match token.destroy(cpu, patience) {
+                Ok(one) => freed.push(one),
+                Err(error) => held.push(error),
+            }
+        }
+        freed.extend(self.collect());
+        Ok(Drained { freed, held })
+    }
+
+    /// Closes the registry, once this is its only handle, and drops what its entries carry. Until then it waits as long as the patience says.
+    ///
+    /// ```
+    /// use kupaldiz::{Patience, Registry, Settings};
+    ///
+    /// let (registry, cpus) = Registry::<u32>::open(Settings::new(2, 4)).unwrap();
+    /// let registry = registry.close(Patience::Turns(1)).unwrap_err().registry;
+    /// drop(cpus);
+    /// registry.close(Patience::Turns(1)).unwrap();
+    /// ```
+    ///
+    /// # Errors
+    ///
+    /// [`StillOpen`], if another handle exists: a `Registry`, a [`Cpu`], a [`LocalRef`](crate::LocalRef) or a [`Retired`].
+    pub fn close(self, patience: Patience) -> Result<(), StillOpen<T>> {
+        let (mut shared, mut pauses) = (self.shared, Pauses::new(patience));
+        loop {
+            match Arc::try_unwrap(shared) {
+                Ok(last) => {
+                    drop(last);
+                    return Ok(());
+                }
+                Err(back) if pauses.another() => shared = back,
+                Err(back) => {
+                    let registry = Registry::of(back);
+                    return Err(StillOpen { registry });
+                }
+            }
+        }
+    }
+}
+
+/// What [`Registry::drain`] has freed, and what it hasn't.
+#[derive(Debug)]
+#[non_exhaustive]
+pub struct Drained<T> {
+    /// What is freed.
+    pub freed: Vec<Freed<T>>,
+    /// What is still held, with what holds it.
+    pub held: Vec<Refused<DestroyError, Retired<T>>>,
+}
+
+/// The error of [`Registry::close`], together with the registry: another handle of it exists.
+pub struct StillOpen<T> {
+    /// The registry.
+    pub registry: Registry<T>,
+}
+
+impl<T> fmt::Debug for StillOpen<T> {
+    fn fmt(&self, f: &mut fmt::Formatter<'_>) -> fmt::Result {
+        f.debug_struct("StillOpen").field("registry", &self.registry).finish()
+    }
+}
+
+impl<T> fmt::Display for StillOpen<T> {
+    fn fmt(&self, f: &mut fmt::Formatter<'_>) -> fmt::Result {
+        f.write_str("the registry has another handle")
+    }
+}
+
+impl<T> Error for StillOpen<T> {}
 
 impl<T> Clone for Registry<T> {
     fn clone(&self) -> Registry<T> {
@@ -294,8 +360,6 @@ impl<T> Hash for Registry<T> {
 
 impl<T> fmt::Debug for Registry<T> {
     fn fmt(&self, f: &mut fmt::Formatter<'_>) -> fmt::Result {
-        f.debug_struct("Registry")
-            .field("settings", &self.settings())
-            .finish_non_exhaustive()
+        f.debug_struct("Registry").field("settings", &self.settings()).finish_non_exhaustive()
     }
 }

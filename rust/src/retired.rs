@@ -13,23 +13,19 @@ use std::pin::Pin;
 use std::sync::Arc;
 use std::task::{Context, Poll};
 
-/// An entry that was detached: [`Registry::detach`] returns it. Lookups that begin afterwards don't find it. It keeps its value until nothing holds it and
-/// it is freed. [`destroy`](Retired::destroy) and [`wait`](Retired::wait) wait for that, and so does an `.await`; [`advance`](Retired::advance) doesn't.
-/// Dropping it is the same as [`defer`](Retired::defer): it drops the value if nothing holds it, or leaves it to later calls. That waits for no reader.
+/// An entry that was detached: [`Registry::detach`] returns it. It keeps its value until nothing holds it and it is freed. [`destroy`](Retired::destroy) and
+/// [`wait`](Retired::wait) wait for that, and so does an `.await`; [`advance`](Retired::advance) doesn't. Dropping it is the same as
+/// [`defer`](Retired::defer).
 ///
-/// As long as it exists its value waits for it. But it keeps no slot from others, as where it lies in a boxed error: an attach that needs the slot frees
-/// the entry, if nothing holds it.
-///
-/// It co-owns its registry. It may be stored, and go to other threads.
+/// It co-owns its registry. It may be stored, and go to other threads. Its value waits for it, but its slot doesn't: an attach that needs the slot frees the
+/// entry, if nothing holds it.
 ///
 /// # As a future
 ///
-/// An `.await` returns the [`Freed`], and needs no CPU, no runtime and no thread. A poll makes one turn. If something holds the entry, the poll notes the
-/// task and makes a second turn. The tasks of a registry are woken by each call that lets something go: a section's exit, a release or a drop of a
-/// reference, a lookup's end, and a turn that frees an entry. That call takes a short lock and calls the wakers; where no task waits, it does neither.
-///
-/// So readers make the progress, and the poll frees the entry: nobody else makes turns on it, except an attach that needs its slot. A task whose entry is
-/// held by what was forgotten, or by what the task itself keeps, isn't woken. A future that is dropped [defers](Retired::defer) its entry.
+/// An `.await` returns the [`Freed`], and needs no CPU and no runtime. A poll makes one turn. If something holds the entry, the poll notes the task and makes
+/// a second turn. The tasks of a registry are woken by each call that lets something go: a section's exit, a release or a drop of a reference, a lookup's
+/// end, and a turn that frees an entry. That call takes a short lock and calls the wakers; where no task waits, it does neither. A task whose entry is held
+/// by what was forgotten, or by what the task itself keeps, isn't woken. A future that is dropped [defers](Retired::defer) its entry.
 ///
 /// ```
 /// use kupaldiz::{Cpu, Kind, Name, Refusal, Registry};
@@ -75,19 +71,16 @@ impl<T> Retired<T> {
     /// # Panics
     ///
     /// This and all other calls panic, if the future has returned the value.
-    #[must_use]
     pub fn entry(&self) -> Entry {
         self.plain().entry()
     }
 
     /// The registry that it is of.
-    #[must_use]
     pub fn registry(&self) -> Registry<T> {
         Registry::of(Arc::clone(self.shared()))
     }
 
-    /// Tries once to free it, and waits only for the interlock. If nothing holds it, it is freed and what it carried is returned. Nothing holds a freed
-    /// entry, now or later, as after [`destroy`](Retired::destroy).
+    /// Tries once to free it, and waits only for the interlock. If nothing holds it, it is freed and what it carried is returned.
     ///
     /// # Errors
     ///
@@ -102,25 +95,15 @@ impl<T> Retired<T> {
     /// One turn without a CPU. Once it is done, `after` or the like follows.
     #[inline(always)]
     fn turn(&self) -> Result<Freed<T>, DestroyError> {
-        let (entry, shared) = (self.plain(), self.shared());
-        let mut kept = shared.kept();
         // SAFETY: no CPU is given.
-        let met = unsafe { kept.turn(None, entry.number) };
-        if shared.goes_on(met) {
-            // SAFETY: the turn was just made.
-            let done = unsafe { shared.go_on(kept, None, entry.number, entry.slot(), met.locals()) };
-            return done.map_err(Met::refusal);
-        }
-        drop(kept);
-        Err(met.refusal())
+        unsafe { self.shared().turn(None, self.plain()) }.map_err(Met::refusal)
     }
 
-    /// Waits until nothing holds it, and frees it: `psref_target_destroy`, `localcount_drain`. What it carried is returned, and nothing holds it, now or
-    /// later. The call tries again and again to free it, as long as the [`Patience`] says. After each try the CPU has seen every change so far.
+    /// Waits until nothing holds it, and frees it: `psref_target_destroy`, `localcount_drain`. What it carried is returned. The call tries again and again to
+    /// free it, as long as the [`Patience`] says. After each try the CPU has seen every change so far.
     ///
-    /// If this CPU itself has a passive reference to the entry, nothing can release it while this thread waits. The call then tries only once, with any
-    /// patience. It can't see what this thread holds otherwise: a local reference; on another CPU a section or a passive reference. With
-    /// [`Patience::Forever`] it waits for these for ever.
+    /// If this CPU itself has a passive reference to the entry, nothing can release it while this thread waits, so the call tries only once. It can't see
+    /// what this thread holds otherwise: a local reference; on another CPU a section or a passive reference. [`Patience::Forever`] waits for these for ever.
     ///
     /// ```
     /// use kupaldiz::{DestroyError, Holder, Kind, Name, Patience, PassiveRef, Registry, Settings};
@@ -167,21 +150,8 @@ impl<T> Retired<T> {
         }
     }
 
-    /// Waits as [`destroy`](Retired::destroy) does, without a CPU: so another thread may use that meanwhile. After the call no CPU has seen more changes than
-    /// before.
-    ///
-    /// If this thread has a section open on any CPU, or any reference to the entry, [`Patience::Forever`] waits for ever.
-    ///
-    /// ```
-    /// use kupaldiz::{Kind, Name, Patience, Registry, Settings};
-    ///
-    /// let (registry, cpus) = Registry::open(Settings::new(2, 4)).unwrap();
-    /// let wm = Name::parse("wm").unwrap();
-    /// registry.attach(&cpus[0], &wm, 7).unwrap();
-    /// let retired = registry.detach(&cpus[0], Kind::Driver, &wm).unwrap();
-    /// drop(cpus);
-    /// assert_eq!(retired.wait(Patience::Forever).unwrap().value, 7);
-    /// ```
+    /// Waits as [`destroy`](Retired::destroy) does, without a CPU. If this thread has a section open on any CPU, or any reference to the entry,
+    /// [`Patience::Forever`] waits for ever.
     ///
     /// # Errors
     ///
@@ -208,9 +178,9 @@ impl<T> Retired<T> {
         }
     }
 
-    /// Leaves it to later calls, as dropping it does. It makes one turn on each entry that was deferred, and drops what they carried that nothing holds
-    /// any more. Each later drop does the same, and [`Registry::retire`] and [`Registry::collect`] return it. A `T` is dropped after the interlock is
-    /// free, by this call: don't make it under a lock that the drop of a `T` takes.
+    /// Leaves it to later calls, as dropping it does. The call makes one turn on each entry that was deferred, waits for no reader, and drops the values that
+    /// nothing holds any more. Each later drop does the same, and [`Registry::retire`] and [`Registry::collect`] return them. A `T` is dropped after the
+    /// interlock is free: don't make this call under a lock that the drop of a `T` takes.
     pub fn defer(self) {}
 
     /// Defers it, and returns what is free.
@@ -266,8 +236,8 @@ impl<T> fmt::Debug for Retired<T> {
 impl<T> ShownWith<Retired<T>> for DestroyError {
     fn show(&self, retired: &Retired<T>, f: &mut fmt::Formatter<'_>) -> fmt::Result {
         fmt::Display::fmt(self, f)?;
-        match (self, retired.shared().places()) {
-            (DestroyError::StillHeld(_), Some(places)) => write!(f, "; {}", places.holders(&retired.entry())),
+        match (self, retired.registry().holders(&retired.entry())) {
+            (DestroyError::StillHeld(_), Some(holders)) => write!(f, "; {holders}"),
             _ => Ok(()),
         }
     }

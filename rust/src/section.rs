@@ -1,72 +1,46 @@
-//! Sections on a CPU, and what is found in them.
+//! Sections on a CPU, what is found in them, and lookups by one call.
 
 use crate::carried::Record;
 use crate::cpu::Cpu;
-use crate::entries::Entries;
 use crate::ffi;
-use crate::local::LocalRef;
-use crate::passive::PassiveRef;
 use crate::places::Hold;
+use crate::references::{LocalRef, PassiveRc, PassiveRef};
 use crate::refusal::{checked, LookUpError};
 use crate::values::{Entry, Kind};
 use crate::Name;
 use std::fmt;
+use std::iter::FusedIterator;
 use std::marker::PhantomData;
 use std::ops::Deref;
 use std::panic::Location;
+use std::rc::Rc;
 
 /// An open section, or one nesting of it. An entry that is found in it keeps its slot and its value while it is open. Dropping it exits.
 ///
 /// It stays with its thread, so it isn't held across an `.await` of a future that may move to another.
-///
-/// ```
-/// use kupaldiz::{Kind, Name, Registry, Settings};
-///
-/// let (registry, cpus) = Registry::open(Settings::new(1, 2)).unwrap();
-/// let (wm, bge) = (Name::parse("wm").unwrap(), Name::parse("bge").unwrap());
-/// registry.attach(&cpus[0], &wm, "gigabit").unwrap();
-/// registry.attach(&cpus[0], &bge, "fast").unwrap();
-/// let section = cpus[0].enter().unwrap();
-/// let both = (section.find(Kind::Driver, &wm).unwrap(), section.find(Kind::Driver, &bge).unwrap());
-/// assert_eq!((*both.0, *both.1), ("gigabit", "fast"));
-/// let either = section.find(Kind::Iface, &wm).or_else(|| section.find(Kind::Driver, &wm));
-/// assert_eq!(either.map(|found| found.len()), Some(7));
-/// section.exit();
-/// ```
 #[must_use = "a section that is dropped at once protects nothing"]
 pub struct Section<'cpu, T> {
     cpu: &'cpu Cpu<T>,
 }
 
 impl<'cpu, T> Section<'cpu, T> {
-    /// # Safety
-    ///
-    /// An enter was made on this CPU for this guard.
-    #[inline]
-    pub(crate) unsafe fn new(cpu: &'cpu Cpu<T>) -> Section<'cpu, T> {
-        Section { cpu }
-    }
-
     /// Looks a live entry up. It takes no lock, waits for no other thread, and writes no word that other CPUs write.
     ///
-    /// The result is what the registry had at one moment between the call's first load and its last, however long the section has been open. So the call
-    /// finds an entry whose attach returned before it began, unless that entry is detached meanwhile. It doesn't find an entry whose detach returned
-    /// before it began.
-    ///
-    /// What was found can't be used past the section. Any number of entries may be in use at once.
+    /// The result is what the registry had at one moment during the call, however long the section has been open. So the call finds an entry whose attach
+    /// returned before, unless that is detached meanwhile. It doesn't find an entry whose detach returned before.
     #[inline]
     #[must_use]
     pub fn find(&self, kind: Kind, name: &Name) -> Option<Found<'_, 'cpu, T>> {
-        let record = look_up(self.cpu, kind.number(), &name.words)?;
+        let record = self.cpu.find(kind.number(), &name.words)?;
         // SAFETY: this section is open for as long as it is borrowed.
         Some(unsafe { Found::new(self.cpu, record) })
     }
 
-    /// All live entries, the newest first. It takes no lock, waits for no other thread, writes no word that other CPUs write, and allocates no memory.
+    /// All live entries, the newest first, as [`find`](Section::find) finds them.
     ///
     /// The walk covers the time from the last change that this CPU had seen at the call to the last that it has seen at the return. A CPU that enters a
     /// section has seen all changes so far; nested enters don't count. Each entry that is live for all of that time is there, once. An entry that is
-    /// attached or detached during that time may be there or not. What was met can't be used past the section.
+    /// attached or detached during that time may be there or not.
     ///
     /// ```
     /// use kupaldiz::{Found, Name, Registry, Settings};
@@ -88,7 +62,6 @@ impl<'cpu, T> Section<'cpu, T> {
     }
 
     /// The CPU that it is on.
-    #[must_use]
     pub fn cpu(&self) -> &'cpu Cpu<T> {
         self.cpu
     }
@@ -96,25 +69,6 @@ impl<'cpu, T> Section<'cpu, T> {
     /// Exits, as dropping it does: `pserialize_read_exit`.
     #[inline]
     pub fn exit(self) {}
-}
-
-/// Looks a live entry up on the CPU, which is inside a section. It is the CPU's last found entry then.
-#[inline]
-fn look_up<T>(cpu: &Cpu<T>, kind: u64, name: &ffi::Name) -> Option<Record<T>> {
-    // SAFETY: this thread alone has the CPU, whose handle isn't empty.
-    let call = |found: *mut ffi::Entry| unsafe { ffi::registry_find(cpu.handle(), kind, name, found) };
-    // SAFETY: registry.h says of a find that it writes the entry.
-    match unsafe { Record::written(call) } {
-        Ok(record) => {
-            cpu.last.set(record.number());
-            Some(record)
-        }
-        Err(answer) => {
-            assert_eq!(answer, ffi::NOT_FOUND, "a lookup in a section");
-            cpu.last.set(0);
-            None
-        }
-    }
 }
 
 impl<T> Drop for Section<'_, T> {
@@ -134,10 +88,8 @@ impl<T> fmt::Debug for Section<'_, T> {
     }
 }
 
-/// An entry that was found in a section, by a lookup or a walk, for as long as the section is open. It derefs to what the entry carries. To use the
-/// entry longer, acquire a reference.
-///
-/// All its functions are called by the type's name, so that none hides a method of `T`.
+/// An entry that was found in a section, for as long as the section is open. It derefs to what the entry carries. To use the entry longer, acquire a
+/// reference. All functions are called by the type's name, so that none hides a method of `T`.
 pub struct Found<'section, 'cpu, T> {
     record: Record<T>,
     cpu: &'cpu Cpu<T>,
@@ -150,32 +102,25 @@ impl<'section, 'cpu, T> Found<'section, 'cpu, T> {
     /// The CPU found the entry in a section, or an outer one, that is open for as long as the value lives.
     #[inline]
     pub(crate) unsafe fn new(cpu: &'cpu Cpu<T>, record: Record<T>) -> Self {
-        Found {
-            record,
-            cpu,
-            section: PhantomData,
-        }
+        Found { record, cpu, section: PhantomData }
     }
 
     /// The entry, as it was attached.
     #[inline]
-    #[must_use]
     pub fn entry(found: &Self) -> Entry {
-        found.record.entry()
+        found.record.plain.entry()
     }
 
     /// What the entry carries, for as long as the section is borrowed: it may outlive the `Found`.
     #[inline]
-    #[must_use]
     pub fn value(found: &Self) -> &'section T {
         // SAFETY: registry.h says of a find and of a walk that the entry keeps its slot until the section ends, and this borrows the section.
         // The section's guard is there, so the outermost exit is still to come.
         unsafe { found.record.value() }
     }
 
-    /// Acquires a passive reference: `psref_acquire`. The entry keeps its slot until the reference is released. The reference can't leave the CPU.
-    ///
-    /// If this CPU has looked up something else since it found the entry, it looks the entry up once more, unless it has a reference to it.
+    /// Acquires a passive reference: `psref_acquire`. If this CPU has looked up something else since it found the entry, it looks the entry up once more,
+    /// unless it has a reference to it.
     ///
     /// # Errors
     ///
@@ -183,17 +128,16 @@ impl<'section, 'cpu, T> Found<'section, 'cpu, T> {
     #[inline]
     #[track_caller]
     pub fn acquire(found: &Self) -> Result<PassiveRef<'cpu, T>, LookUpError> {
-        if !found.is_last() || !acquire_last(found.cpu, found.record.number()) {
-            acquire_again(found.cpu, found.record)?;
+        let (cpu, record) = (found.cpu, found.record);
+        if acquire_last(cpu, record.plain.number).is_err() {
+            acquire_again(cpu, record)?;
         }
         // SAFETY: it was acquired above.
-        Ok(unsafe { PassiveRef::new(found.cpu, found.cpu.noted(Hold::Passive, found.record, Location::caller())) })
+        Ok(unsafe { PassiveRef::new(cpu, cpu.noted(Hold::Passive, record, Location::caller())) })
     }
 
-    /// Acquires a local reference: `localcount_acquire`. The entry keeps its slot until the reference is released, on any CPU of the registry. The call
-    /// takes no lock, unless it releases references that were dropped.
-    ///
-    /// If this CPU has looked up something else since it found the entry, it looks the entry up once more.
+    /// Acquires a local reference: `localcount_acquire`. The call takes no lock, unless it releases references that were dropped. If this CPU has looked up
+    /// something else since it found the entry, it looks the entry up once more.
     ///
     /// # Errors
     ///
@@ -202,69 +146,52 @@ impl<'section, 'cpu, T> Found<'section, 'cpu, T> {
     #[inline(always)]
     #[track_caller]
     pub fn acquire_local(found: &Self) -> Result<LocalRef<T>, LookUpError> {
-        found.cpu.release_to(found.record.slot());
-        let local = match acquire_local_last(found) {
-            Some(local) => local,
-            None => acquire_local_again(found.cpu, found.record)?,
+        let (cpu, record) = (found.cpu, found.record);
+        cpu.release_to(record.plain.slot());
+        let local = match acquire_local_last(cpu, record.plain.number) {
+            Err(ffi::NOTHING_FOUND) => acquire_local_again(cpu, record)?,
+            done => done.map_err(LookUpError::of)?,
         };
         // SAFETY: it was acquired above.
-        Ok(unsafe {
-            LocalRef::new(
-                found.cpu.share(),
-                found.cpu.noted(Hold::Local, found.record, Location::caller()),
-                local,
-            )
-        })
-    }
-
-    /// The CPU's last found entry is this one.
-    #[inline]
-    fn is_last(&self) -> bool {
-        self.cpu.last.get() == self.record.number()
+        Ok(unsafe { LocalRef::new(cpu.share(), cpu.noted(Hold::Local, record, Location::caller()), local) })
     }
 }
 
-/// Acquires a passive reference to the CPU's last found entry, if that is the one with this number. What the crate notes of the last found entry isn't
-/// relied on: the archive says which entry it was.
+/// Acquires a passive reference to the CPU's last found entry, or returns `NOTHING_FOUND` if that isn't the one with this number. What the crate notes of
+/// the last found entry is a hint: the archive says which entry it was.
 #[inline]
-fn acquire_last<T>(cpu: &Cpu<T>, number: u64) -> bool {
+fn acquire_last<T>(cpu: &Cpu<T>, number: u64) -> Result<(), u32> {
+    if cpu.last.get() != number {
+        return Err(ffi::NOTHING_FOUND);
+    }
     let mut acquired = 0;
     // SAFETY: this thread alone has the CPU, whose handle isn't empty.
-    let answer = unsafe { ffi::registry_acquire(cpu.handle(), &mut acquired) };
-    if answer == ffi::DONE && acquired != number {
-        // SAFETY: as above. It is the reference that was just acquired.
-        unsafe { ffi::registry_release(cpu.handle(), acquired) };
-        cpu.tasks().wake();
+    checked(unsafe { ffi::registry_acquire(cpu.handle(), &mut acquired) })?;
+    if acquired == number {
+        return Ok(());
     }
-    answer == ffi::DONE && acquired == number
+    // SAFETY: as above. It is the reference that was just acquired. The section's exit wakes the tasks that met it.
+    unsafe { ffi::registry_release(cpu.handle(), acquired) };
+    Err(ffi::NOTHING_FOUND)
 }
 
 /// The same for a local reference.
 #[inline]
-fn acquire_local_last<T>(found: &Found<'_, '_, T>) -> Option<ffi::Local> {
-    if !found.is_last() {
-        return None;
+fn acquire_local_last<T>(cpu: &Cpu<T>, number: u64) -> Result<ffi::Local, u32> {
+    if cpu.last.get() != number {
+        return Err(ffi::NOTHING_FOUND);
     }
-    let mut local = ffi::Local::EMPTY;
+    let (mut local, mut entry) = (ffi::Local::EMPTY, ffi::Entry::default());
     // SAFETY: as for `acquire_last`, and the local handle is empty.
-    let answer = unsafe { ffi::registry_local_acquire(found.cpu.handle(), &mut local) };
-    (answer == ffi::DONE)
-        .then(|| of_entry(found.cpu, found.record.number(), local))
-        .flatten()
-}
-
-/// The local reference, which was just acquired on this CPU, if it is to the entry with this number. Another one is released.
-#[inline]
-fn of_entry<T>(cpu: &Cpu<T>, number: u64, mut local: ffi::Local) -> Option<ffi::Local> {
-    let mut entry = ffi::Entry::default();
+    checked(unsafe { ffi::registry_local_acquire(cpu.handle(), &mut local) })?;
     // SAFETY: this is the only use of the reference's handle.
     unsafe { ffi::registry_local_read(&mut local, &mut entry) };
     if entry.number == number {
-        return Some(local);
+        return Ok(local);
     }
-    // SAFETY: this thread alone has the CPU, the reference is of its registry, and no code of a caller holds the interlock.
-    unsafe { cpu.shared().release_local(cpu.handle(), entry.slot as usize, local) };
-    None
+    // SAFETY: it was just acquired on this CPU.
+    unsafe { cpu.release_local(entry.slot as usize, local) };
+    Err(ffi::NOTHING_FOUND)
 }
 
 // What follows is seldom done. It takes its record by value, so that the record of a `Found` needn't lie in memory.
@@ -273,51 +200,30 @@ fn of_entry<T>(cpu: &Cpu<T>, number: u64, mut local: ffi::Local) -> Option<ffi::
 #[cold]
 fn acquire_again<T>(cpu: &Cpu<T>, record: Record<T>) -> Result<(), LookUpError> {
     // SAFETY: this thread alone has the CPU, whose handle isn't empty.
-    match unsafe { ffi::registry_copy(cpu.handle(), record.number()) } {
+    let acquired = match unsafe { ffi::registry_copy(cpu.handle(), record.plain.number) } {
         ffi::NOT_HELD => {
             find_again(cpu, record)?;
-            let mut number = 0;
-            // SAFETY: as above.
-            checked(unsafe { ffi::registry_acquire(cpu.handle(), &mut number) }).map_err(LookUpError::of)?;
-            assert_eq!(number, record.number(), "the archive's last found entry");
-            Ok(())
+            acquire_last(cpu, record.plain.number)
         }
-        answer => checked(answer).map_err(LookUpError::of),
-    }
+        answer => checked(answer),
+    };
+    acquired.map_err(LookUpError::of)
+}
+
+/// Acquires a local reference there.
+#[cold]
+fn acquire_local_again<T>(cpu: &Cpu<T>, record: Record<T>) -> Result<ffi::Local, LookUpError> {
+    find_again(cpu, record)?;
+    acquire_local_last(cpu, record.plain.number).map_err(LookUpError::of)
 }
 
 /// Makes the entry the last one that the CPU found, by its kind and name, or is refused `NotFound`.
 #[cold]
 fn find_again<T>(cpu: &Cpu<T>, record: Record<T>) -> Result<(), LookUpError> {
-    let (kind, name) = record.key();
-    match look_up::<T>(cpu, kind, name) {
-        Some(again) if again.number() == record.number() => Ok(()),
+    let (kind, name) = record.plain.key();
+    match cpu.find(kind, name) {
+        Some(again) if again.plain.number == record.plain.number => Ok(()),
         _ => Err(LookUpError::NotFound),
-    }
-}
-
-/// Acquires a local reference where the last found entry was another one or the acquire failed.
-#[cold]
-fn acquire_local_again<T>(cpu: &Cpu<T>, record: Record<T>) -> Result<ffi::Local, LookUpError> {
-    let mut is_sought = cpu.last.get() != record.number();
-    if is_sought {
-        find_again(cpu, record)?;
-    }
-    loop {
-        let mut local = ffi::Local::EMPTY;
-        // SAFETY: this thread alone has the CPU, whose handle isn't empty, and the local handle is empty.
-        match unsafe { ffi::registry_local_acquire(cpu.handle(), &mut local) } {
-            ffi::DONE => {
-                if let Some(local) = of_entry(cpu, record.number(), local) {
-                    return Ok(local);
-                }
-            }
-            ffi::NOTHING_FOUND => {}
-            answer => return Err(LookUpError::of(answer)),
-        }
-        assert!(!is_sought, "the archive's last found entry");
-        find_again(cpu, record)?;
-        is_sought = true;
     }
 }
 
@@ -327,6 +233,295 @@ impl<T> Deref for Found<'_, '_, T> {
     #[inline]
     fn deref(&self) -> &T {
         Found::value(self)
+    }
+}
+
+/// The live entries, the newest first: what [`Section::entries`] met.
+#[must_use = "an iterator does nothing until it is asked"]
+pub struct Entries<'section, 'cpu, T> {
+    row: [ffi::Entry; ffi::MOST_SLOTS],
+    next: usize,
+    count: usize,
+    cpu: &'cpu Cpu<T>,
+    section: PhantomData<&'section Section<'cpu, T>>,
+}
+
+impl<'section, 'cpu, T> Entries<'section, 'cpu, T> {
+    /// Walks in the section.
+    pub(crate) fn walk(section: &'section Section<'cpu, T>) -> Self {
+        let cpu = section.cpu();
+        let mut row = [ffi::Entry::default(); ffi::MOST_SLOTS];
+        let mut count = 0;
+        // SAFETY: this thread alone has the CPU, whose handle isn't empty, and the row has the room that is told.
+        let answer = unsafe { ffi::registry_walk(cpu.handle(), row.as_mut_ptr(), row.len(), &mut count) };
+        assert_eq!(answer, ffi::DONE, "a walk in a section");
+        cpu.last.set(0);
+        Entries { row, next: 0, count, cpu, section: PhantomData }
+    }
+
+    /// What is still to come.
+    fn left(&self) -> &[ffi::Entry] {
+        &self.row[self.next..self.count]
+    }
+}
+
+impl<'section, 'cpu, T> Iterator for Entries<'section, 'cpu, T> {
+    type Item = Found<'section, 'cpu, T>;
+
+    fn next(&mut self) -> Option<Found<'section, 'cpu, T>> {
+        let record = Record::of(self.left().first()?);
+        self.next += 1;
+        // SAFETY: registry.h says of a walk, as of a find, that what it writes keeps its slot until the section ends, which is borrowed.
+        Some(unsafe { Found::new(self.cpu, record) })
+    }
+
+    fn size_hint(&self) -> (usize, Option<usize>) {
+        let left = self.left().len();
+        (left, Some(left))
+    }
+}
+
+impl<T> ExactSizeIterator for Entries<'_, '_, T> {}
+
+impl<T> FusedIterator for Entries<'_, '_, T> {}
+
+impl<T> fmt::Debug for Entries<'_, '_, T> {
+    fn fmt(&self, f: &mut fmt::Formatter<'_>) -> fmt::Result {
+        f.debug_list().entries(self.left().iter().map(|entry| Record::<T>::of(entry).plain.entry())).finish()
+    }
+}
+
+/// A call of registry.h that looks an entry up, and writes it.
+type LookUp = unsafe extern "C" fn(*mut ffi::Cpu, u64, *const ffi::Name, *mut ffi::Entry) -> u32;
+
+impl<T> Cpu<T> {
+    /// Enters a section, or nests one more in the open section: `pserialize_read_enter`. It is open until the guard is dropped. A section whose guard
+    /// was forgotten stays open until the CPU [leaves](Cpu::leave), is dropped or goes back to its pool. An enter before that is nested in it.
+    ///
+    /// # Errors
+    ///
+    /// `TooDeep`, `SectionsSpent`.
+    #[inline]
+    #[track_caller]
+    pub fn enter(&self) -> Result<Section<'_, T>, LookUpError> {
+        // SAFETY: this thread alone has the CPU, whose handle isn't empty.
+        self.enter_by(|| checked(unsafe { ffi::registry_enter(self.handle()) }).map_err(LookUpError::of))?;
+        Ok(Section { cpu: self })
+    }
+
+    /// A passive reference to the live entry with this kind and name. In an open section the call is nested in it. Outside it opens none and writes only the
+    /// word that counts the reference, if the CPU remembers the entry.
+    ///
+    /// # Errors
+    ///
+    /// `TooDeep`, `SectionsSpent`, `NotFound`, `PassiveFull`.
+    #[inline]
+    #[track_caller]
+    pub fn get(&self, kind: Kind, name: &Name) -> Result<PassiveRef<'_, T>, LookUpError> {
+        let record = self.get_record(kind, name)?;
+        // SAFETY: that has acquired it.
+        Ok(unsafe { PassiveRef::new(self, record) })
+    }
+
+    /// The same reference, which co-owns its CPU, or the same error: a struct may own both.
+    ///
+    /// ```
+    /// use kupaldiz::{Cpu, Kind, Name, PassiveRc, Registry, Settings};
+    /// use std::rc::Rc;
+    ///
+    /// struct Worker {
+    ///     cpu: Rc<Cpu<u64>>,
+    ///     driver: PassiveRc<u64>,
+    /// }
+    ///
+    /// let (registry, mut cpus) = Registry::open(Settings::new(2, 1)).unwrap();
+    /// let wm = Name::parse("wm").unwrap();
+    /// registry.attach(&cpus[1], &wm, 7).unwrap();
+    /// let cpu = Rc::new(cpus.remove(0));
+    /// let worker = Worker { driver: cpu.get_rc(Kind::Driver, &wm).unwrap(), cpu };
+    /// assert_eq!((*worker.driver, worker.cpu.holds(1)), (7, true));
+    /// ```
+    #[inline]
+    #[track_caller]
+    pub fn get_rc(self: &Rc<Self>, kind: Kind, name: &Name) -> Result<PassiveRc<T>, LookUpError> {
+        let record = self.get_record(kind, name)?;
+        // SAFETY: that has acquired it.
+        Ok(unsafe { PassiveRc::new(Rc::clone(self), record) })
+    }
+
+    /// A local reference to the live entry with this kind and name: what [`read`](Cpu::read) and [`acquire_local`](ReadGuard::acquire_local) give together.
+    ///
+    /// # Errors
+    ///
+    /// `TooDeep`, `SectionsSpent`, `NotFound`, `LocalFull`, `NoMemory`.
+    #[inline]
+    #[track_caller]
+    pub fn get_local(&self, kind: Kind, name: &Name) -> Result<LocalRef<T>, LookUpError> {
+        ReadGuard::acquire_local(&self.read(kind, name)?)
+    }
+
+    /// The live entry with this kind and name, and the section in which it was found: what [`enter`](Cpu::enter) and [`find`](Section::find) give together.
+    ///
+    /// ```
+    /// use kupaldiz::{Kind, LookUpError, Name, Registry, Settings};
+    ///
+    /// let (registry, cpus) = Registry::open(Settings::new(1, 1)).unwrap();
+    /// let wm = Name::parse("wm").unwrap();
+    /// registry.attach(&cpus[0], &wm, vec![1500, 9000]).unwrap();
+    /// assert_eq!(cpus[0].read(Kind::Driver, &wm).map(|driver| driver[1]), Ok(9000));
+    /// assert_eq!(cpus[0].read(Kind::Iface, &wm).unwrap_err(), LookUpError::NotFound);
+    /// assert!(!cpus[0].is_inside());
+    /// ```
+    ///
+    /// # Errors
+    ///
+    /// `TooDeep`, `SectionsSpent`, `NotFound`. The CPU is then as deep inside as before.
+    #[inline]
+    #[track_caller]
+    pub fn read(&self, kind: Kind, name: &Name) -> Result<ReadGuard<'_, T>, LookUpError> {
+        let record = self.enter_by(|| {
+            // SAFETY: it is such a call.
+            unsafe { self.found_by(ffi::registry_enter_find, kind.number(), &name.words) }.map_err(|answer| self.refused(answer))
+        })?;
+        // SAFETY: it was found in the section of the guard, which has both.
+        Ok(ReadGuard { found: unsafe { Found::new(self, record) }, section: Section { cpu: self } })
+    }
+
+    /// Makes a call that enters a section, whose place is noted.
+    #[inline]
+    #[track_caller]
+    fn enter_by<R>(&self, enter: impl FnOnce() -> Result<R, LookUpError>) -> Result<R, LookUpError> {
+        self.enters(Location::caller());
+        let entered = enter();
+        if entered.is_err() {
+            self.left();
+        }
+        entered
+    }
+
+    /// The record of the live entry with this kind and name, at one moment during the call. Nothing holds the entry afterwards, so what it carries isn't
+    /// returned. Outside a section the call opens none and writes no shared word, if the CPU remembers the entry, or that there is none.
+    ///
+    /// # Errors
+    ///
+    /// `TooDeep`, `SectionsSpent`, `NotFound`.
+    #[inline]
+    pub fn look_up(&self, kind: Kind, name: &Name) -> Result<Entry, LookUpError> {
+        let tasks = self.tasks();
+        // SAFETY: it is such a call.
+        let found = unsafe { self.found_by(ffi::registry_look_up, kind.number(), &name.words) };
+        let record = found.map_err(|answer| self.refused(answer))?;
+        tasks.wake();
+        Ok(record.plain.entry())
+    }
+
+    /// Acquires a passive reference, and returns the record of its entry.
+    #[inline]
+    #[track_caller]
+    fn get_record(&self, kind: Kind, name: &Name) -> Result<Record<T>, LookUpError> {
+        let tasks = self.tasks();
+        // SAFETY: it is such a call.
+        let found = unsafe { self.found_by(ffi::registry_get, kind.number(), &name.words) };
+        let record = found.map_err(|answer| self.refused(answer))?;
+        tasks.wake();
+        Ok(self.noted(Hold::Passive, record, Location::caller()))
+    }
+
+    /// Looks a live entry up, inside a section.
+    #[inline]
+    fn find(&self, kind: u64, name: &ffi::Name) -> Option<Record<T>> {
+        // SAFETY: it is such a call.
+        match unsafe { self.found_by(ffi::registry_find, kind, name) } {
+            Ok(record) => Some(record),
+            Err(answer) => {
+                assert_eq!(answer, ffi::NOT_FOUND, "a lookup in a section");
+                None
+            }
+        }
+    }
+
+    /// Makes a call whose find changes the last found entry of an open section. Refused, the CPU may have found an entry that isn't told, so none counts
+    /// as found; but `TooDeep` comes before the find.
+    ///
+    /// # Safety
+    ///
+    /// registry.h says of the call that it looks an entry up on the CPU, and writes it if it is done.
+    #[inline(always)]
+    unsafe fn found_by(&self, call: LookUp, kind: u64, name: &ffi::Name) -> Result<Record<T>, u32> {
+        // SAFETY: this thread alone has the CPU, whose handle isn't empty.
+        let call = |found: *mut ffi::Entry| unsafe { call(self.handle(), kind, name, found) };
+        // SAFETY: the caller says so.
+        match unsafe { Record::written(call) } {
+            Ok(record) => {
+                self.last.set(record.plain.number);
+                Ok(record)
+            }
+            Err(answer) => {
+                if answer != ffi::TOO_DEEP {
+                    self.last.set(0);
+                }
+                Err(answer)
+            }
+        }
+    }
+
+    /// The error of such a call. It has let go of what it looked at.
+    #[inline]
+    fn refused(&self, answer: u32) -> LookUpError {
+        self.tasks().wake();
+        LookUpError::of(answer)
+    }
+}
+
+/// An entry together with the section in which it was found: [`Cpu::read`] returns it. It derefs to what the entry carries, and dropping it exits. It
+/// stays with its thread. All functions are called by the type's name, so that none hides a method of `T`.
+#[must_use = "a section that is dropped at once protects nothing"]
+pub struct ReadGuard<'cpu, T> {
+    /// It is lent no longer than the guard lives, which has its section.
+    found: Found<'cpu, 'cpu, T>,
+    section: Section<'cpu, T>,
+}
+
+impl<'cpu, T> ReadGuard<'cpu, T> {
+    /// The entry, as it was attached.
+    #[inline]
+    pub fn entry(guard: &Self) -> Entry {
+        Found::entry(&guard.found)
+    }
+
+    /// The section, in which more may be found.
+    #[inline]
+    pub fn section(guard: &Self) -> &Section<'cpu, T> {
+        &guard.section
+    }
+
+    /// Acquires a passive reference, or fails, as [`Found::acquire`] does.
+    #[inline]
+    #[track_caller]
+    pub fn acquire(guard: &Self) -> Result<PassiveRef<'cpu, T>, LookUpError> {
+        Found::acquire(&guard.found)
+    }
+
+    /// Acquires a local reference, or fails, as [`Found::acquire_local`] does.
+    #[inline]
+    #[track_caller]
+    pub fn acquire_local(guard: &Self) -> Result<LocalRef<T>, LookUpError> {
+        Found::acquire_local(&guard.found)
+    }
+
+    /// Exits, as dropping it does.
+    #[inline]
+    pub fn exit(guard: Self) {
+        drop(guard);
+    }
+}
+
+impl<T> Deref for ReadGuard<'_, T> {
+    type Target = T;
+
+    #[inline]
+    fn deref(&self) -> &T {
+        &self.found
     }
 }
 
@@ -347,7 +542,7 @@ mod tests {
         for other in [&vga, &pci] {
             let mislead = || {
                 let _last = section.find(Kind::Driver, other);
-                cpus[0].last.set(found.record.number());
+                cpus[0].last.set(found.record.plain.number);
             };
             mislead();
             let passive = Found::acquire(&found).unwrap();

@@ -7,9 +7,9 @@ use crate::ffi;
 /// ```
 /// use kupaldiz::{Registry, Settings};
 ///
-/// let settings = Settings::new(2, 4).changes(100);
-/// let (registry, cpus) = Registry::<()>::open(settings).unwrap();
-/// assert_eq!((registry.settings(), cpus.len(), settings.changes), (settings, 2, 100));
+/// const SETTINGS: Settings = Settings::builder().cpus(2).slots(4).changes(100);
+/// let (registry, cpus) = Registry::<()>::open(SETTINGS).unwrap();
+/// assert_eq!((registry.settings(), cpus.len()), (Settings::new(2, 4).changes(100), 2));
 /// ```
 #[derive(Clone, Copy, Debug, PartialEq, Eq, Hash)]
 #[non_exhaustive]
@@ -41,7 +41,6 @@ macro_rules! limits {
 
 impl Settings {
     /// This many CPUs and slots, and the largest limits. [`Registry::open`](crate::Registry::open) checks them.
-    #[must_use]
     pub const fn new(cpus: u8, slots: u8) -> Settings {
         Settings {
             cpus,
@@ -54,14 +53,6 @@ impl Settings {
     }
 
     /// The largest registry, as [`Settings::default`] has it, for the methods that follow: so no two numbers are swapped.
-    ///
-    /// ```
-    /// use kupaldiz::Settings;
-    ///
-    /// const SETTINGS: Settings = Settings::builder().cpus(2).slots(4).changes(100);
-    /// assert_eq!(SETTINGS, Settings::new(2, 4).changes(100));
-    /// ```
-    #[must_use]
     pub const fn builder() -> Settings {
         Settings::new(ffi::MOST_CPUS as u8, ffi::MOST_SLOTS as u8)
     }

@@ -7,16 +7,15 @@ use crate::carried::{Carried, Plain};
 use crate::ffi;
 use crate::limits::{check_version, version, LIMITS};
 use crate::lock::{locked, locked_mut, Mutex, MutexGuard};
-use crate::places::Places;
+use crate::places::Notes;
 use crate::refusal::{checked, AttachError, Refusal};
 use crate::settings::Settings;
 use crate::tasks::Tasks;
-use crate::values::{Freed, Met};
+use crate::values::{Entry, Freed, Met};
 use std::cmp::Reverse;
 use std::mem;
 use std::sync::atomic::{AtomicUsize, Ordering};
 use std::sync::Arc;
-use std::vec::Vec;
 
 /// A place for each CPU, all of them empty.
 pub const NO_CPUS: [ffi::Cpu; ffi::MOST_CPUS] = [ffi::Cpu::EMPTY; ffi::MOST_CPUS];
@@ -27,7 +26,7 @@ pub struct Kept<T> {
     /// Each live or retired entry, and each freed one whose value its token hasn't taken yet.
     rows: Vec<Row<T>>,
     /// The entries that are to be freed as soon as nobody holds them, the oldest first.
-    deferred: Vec<Plain>,
+    pub deferred: Vec<Plain>,
     /// How many attaches and detaches there were.
     changes: u64,
     /// What an attach freed of these, as it needed a slot. No more than there are slots: each entry that is deferred later takes all out.
@@ -63,7 +62,7 @@ pub struct Shared<T> {
     pub baskets: Baskets,
     pub tasks: Tasks,
     /// Who holds what, if that is noted.
-    places: Option<Places>,
+    pub notes: Option<Mutex<Notes>>,
     pub settings: Settings,
 }
 
@@ -79,16 +78,12 @@ impl<T> Kept<T> {
     ///
     /// # Safety
     ///
-    /// The entry was attached with it, and the interlock has been held since.
+    /// As of `Carried::note`.
     pub unsafe fn note(&mut self, entry: Plain, carried: Carried<T>) {
         // SAFETY: as the caller says.
         unsafe { carried.note(entry) };
         self.changes = entry.number;
-        self.rows.push(Row {
-            number: entry.number,
-            carried,
-            state: State::Live,
-        });
+        self.rows.push(Row { number: entry.number, carried, state: State::Live });
     }
 
     /// The row of an entry that isn't freed, or whose token is there.
@@ -103,6 +98,11 @@ impl<T> Kept<T> {
         let mut entries: Vec<Plain> = live.map(|row| unsafe { row.carried.plain() }).collect();
         entries.sort_by_key(|entry| Reverse(entry.number));
         entries
+    }
+
+    /// Whether a live entry is the one that is meant.
+    pub fn has_live(&self, is_meant: impl Fn(&Entry) -> bool) -> bool {
+        self.all_live().iter().any(|live| is_meant(&live.entry()))
     }
 
     /// Whether an entry can be attached after a detach.
@@ -124,7 +124,7 @@ impl<T> Kept<T> {
         self.row(number).expect("a row of each entry").state = State::Retired;
     }
 
-    /// One turn of C on the retired entry with this number. With a CPU it is a turn of a destroy, which the CPU hears.
+    /// One turn of C on the retired entry with this number; with a CPU, of a destroy.
     ///
     /// # Safety
     ///
@@ -160,8 +160,7 @@ impl<T> Kept<T> {
         Some(Freed { entry, value })
     }
 
-    /// One turn on a retired entry, whoever has its token. What it frees is kept for the token, or for the next call that returns what is freed. Whether
-    /// it freed it.
+    /// One turn on a retired entry, whoever has its token: whether it freed it. What it frees is kept for the token, or for the next call that returns it.
     fn work_on(&mut self, number: u64) -> bool {
         // SAFETY: no CPU is given.
         let is_freed = unsafe { self.turn(None, number) }.is_freed();
@@ -179,9 +178,8 @@ impl<T> Kept<T> {
 }
 
 impl<T> Shared<T> {
-    /// A new registry. Nobody has any of its CPUs. Refused: `OtherVersion`, `OtherLimits`, `BadSettings`,
-    /// `NoMemory`.
-    pub fn open(settings: Settings, places: Option<Places>) -> Result<Shared<T>, Refusal> {
+    /// A new registry. Nobody has any of its CPUs. Refused: `OtherVersion`, `OtherLimits`, `BadSettings`, `NoMemory`.
+    pub fn open(settings: Settings, is_tracked: bool) -> Result<Shared<T>, Refusal> {
         check_version(version())?;
         checked(LIMITS.compared()).map_err(Refusal::of)?;
         let mut keeper = ffi::Keeper::EMPTY;
@@ -202,28 +200,33 @@ impl<T> Shared<T> {
             spare: Mutex::new(cpus),
             baskets: Baskets::default(),
             tasks: Tasks::default(),
-            places,
+            notes: is_tracked.then(Mutex::default),
             settings,
         })
     }
 
-    pub fn places(&self) -> Option<&Places> {
-        self.places.as_ref()
+    /// Does this with the notes of who holds what, if there are any. Else it returns nothing, or 0.
+    #[inline]
+    pub fn noted<R: Default>(&self, deed: impl FnOnce(&mut Notes) -> R) -> R {
+        self.notes.as_ref().map_or_else(R::default, |notes| deed(&mut locked(notes)))
     }
 
-    /// A reference whose place is noted by this ticket is released.
-    #[cold]
-    pub fn released(&self, ticket: u32) {
-        if let Some(places) = &self.places {
-            places.released(ticket);
+    /// A reference is released. Its ticket is 0 if its place isn't noted.
+    #[inline]
+    pub fn ended(&self, ticket: u32) {
+        if ticket != 0 {
+            self.note_ended(ticket);
         }
+    }
+
+    #[cold]
+    fn note_ended(&self, ticket: u32) {
+        self.noted(|notes| notes.ended(ticket));
     }
 
     /// An entry is freed, and gives up the reference that it kept.
     fn note_freed(&self, number: u64) {
-        if let Some(places) = &self.places {
-            places.freed(number);
-        }
+        self.noted(|notes| notes.freed(number));
         self.tasks.wake();
     }
 
@@ -252,37 +255,33 @@ impl<T> Shared<T> {
 
 /// The work on retired entries.
 impl<T> Shared<T> {
-    /// One turn of the work on the retired entry, on a CPU or on none: what was freed, or what was met. Where local references hold it, some of
-    /// those to it that were dropped are given up, and the turn is made once more.
+    /// One turn of the work on the retired entry, on a CPU or on none: what was freed, or what was met. Where local references hold it, those to it that
+    /// were dropped are given up, and the turn is made once more.
     ///
     /// # Safety
     ///
-    /// As of `Kept::turn`.
+    /// As of `Kept::turn`. The caller has the entry's token, if it has one.
+    #[inline(always)]
     pub(crate) unsafe fn turn(&self, cpu: Option<*mut ffi::Cpu>, entry: Plain) -> Result<Freed<T>, Met> {
         let mut kept = self.kept();
         // SAFETY: the caller upholds the contract for the CPU.
         let met = unsafe { kept.turn(cpu, entry.number) };
-        if self.goes_on(met) {
+        let locals = met.locals();
+        if met.is_gone() || locals.is_some() && self.baskets.has_any() {
             // SAFETY: as above, and the turn was just made.
-            return unsafe { self.go_on(kept, cpu, entry.number, entry.slot(), met.locals()) };
+            return unsafe { self.go_on(kept, cpu, entry.number, entry.slot(), locals) };
         }
+        drop(kept);
         Err(met)
-    }
-
-    /// Whether more is to be done in the same turn: the entry is freed, or it met local references where some were dropped.
-    #[inline]
-    pub(crate) fn goes_on(&self, met: Met) -> bool {
-        met.is_gone() || met.locals().is_some() && self.baskets.has_any()
     }
 
     /// Goes on with a turn. Apart, and all of it in registers: most turns of whoever waits end before, and the lock waits for what they store.
     ///
     /// # Safety
     ///
-    /// As of `Kept::turn`, which was just made under this lock, on the same CPU or on none, for this entry: it met so many local references, or the
-    /// entry is freed. The caller has its token, if it has one.
+    /// As of `turn`, whose turn was just made under this lock: it met so many local references, or the entry is freed.
     #[inline(never)]
-    pub(crate) unsafe fn go_on(
+    unsafe fn go_on(
         &self,
         mut kept: MutexGuard<'_, Kept<T>>,
         cpu: Option<*mut ffi::Cpu>,
@@ -325,11 +324,6 @@ impl<T> Shared<T> {
         self.collect()
     }
 
-    /// How many entries are deferred.
-    pub fn deferred(&self) -> usize {
-        self.kept().deferred.len()
-    }
-
     /// One turn for each deferred entry, the oldest first, and what they freed. The interlock is let go after each.
     pub fn collect(&self) -> Vec<Freed<T>> {
         if self.waiting.load(Ordering::Relaxed) == 0 {
@@ -368,52 +362,6 @@ impl<T> Shared<T> {
         }
         has_room
     }
-}
-
-/// Local references that were dropped.
-impl<T> Shared<T> {
-    /// Releases a reference to the entry in this slot on a CPU, or under the interlock where that CPU's count was collected.
-    ///
-    /// # Safety
-    ///
-    /// The handle is of a CPU of this registry, which this thread runs on, and not in use; the reference is of this registry; the caller
-    /// doesn't hold the interlock.
-    #[inline]
-    pub unsafe fn release_local(&self, handle: *mut ffi::Cpu, slot: usize, mut local: ffi::Local) {
-        // SAFETY: the caller upholds the contract for both handles.
-        if unsafe { ffi::registry_local_release(handle, &mut local) } != ffi::DONE {
-            // SAFETY: the keeper is locked, and of the reference's registry.
-            unsafe { ffi::registry_local_give_up(&mut self.kept().keeper, &mut local) };
-        }
-        if !local.is_empty() {
-            self.baskets.lay(slot, local);
-        }
-        self.tasks.wake();
-    }
-
-    /// Releases on a CPU what was dropped that is to the entry in this slot.
-    ///
-    /// # Safety
-    ///
-    /// As of `release_local`.
-    pub unsafe fn release_of(&self, handle: *mut ffi::Cpu, slot: usize) {
-        for local in self.baskets.take(slot) {
-            // SAFETY: the caller upholds the contract for the CPU, and what lies in this registry's baskets is of it.
-            unsafe { self.release_local(handle, slot, local) };
-        }
-    }
-
-    /// Releases on a CPU all that was dropped.
-    ///
-    /// # Safety
-    ///
-    /// As of `release_local`.
-    pub unsafe fn release_dropped(&self, handle: *mut ffi::Cpu) {
-        for slot in self.baskets.slots() {
-            // SAFETY: the caller upholds the contract for the CPU.
-            unsafe { self.release_of(handle, slot) };
-        }
-    }
 
     /// Gives up, under the interlock, what was dropped that is to the entry in this slot, whose counts were collected. Whether there was any.
     #[cold]
@@ -438,18 +386,10 @@ impl<T> Drop for Shared<T> {
     ///
     /// If a passive reference to an entry was forgotten, the entry stays held and its value isn't dropped.
     fn drop(&mut self) {
-        let mut spare = mem::replace(&mut *locked(&self.spare), NO_CPUS);
-        if let Some(cpu) = spare.iter_mut().find(|cpu| !cpu.is_empty()) {
-            // SAFETY: nobody else has this CPU, and nobody holds the interlock.
-            unsafe { self.release_dropped(cpu) };
-        }
-        let kept = locked_mut(&mut self.kept);
+        let (spare, kept) = (locked_mut(&mut self.spare), locked_mut(&mut self.kept));
         let rows = mem::take(&mut kept.rows);
-        let left: Vec<Carried<T>> = rows
-            .into_iter()
-            .filter(|row| !spare.iter_mut().any(|cpu| holds(cpu, row.number)))
-            .map(|row| row.carried)
-            .collect();
+        let left: Vec<Carried<T>> =
+            rows.into_iter().filter(|row| !spare.iter_mut().any(|cpu| holds(cpu, row.number))).map(|row| row.carried).collect();
         for cpu in spare.iter_mut().filter(|cpu| !cpu.is_empty()) {
             // SAFETY: nobody else has this CPU, and it was left as it became spare.
             unsafe { ffi::registry_close_cpu(cpu) };

@@ -1,11 +1,10 @@
 //! A plain table: a registry whose entries are all drivers.
 
 use crate::cpu::Cpu;
-use crate::local::LocalRef;
-use crate::passive::PassiveRef;
+use crate::references::{LocalRef, PassiveRef};
 use crate::refusal::{AttachError, DetachError, LookUpError, Refused};
 use crate::retired::Retired;
-use crate::usual::ReadGuard;
+use crate::section::ReadGuard;
 use crate::values::{Entry, Freed, Kind};
 use crate::Name;
 use std::fmt;
@@ -30,7 +29,6 @@ pub struct Table<'cpu, T> {
 
 impl<T> Cpu<T> {
     /// The registry as a plain table, by this CPU.
-    #[must_use]
     pub fn table(&self) -> Table<'_, T> {
         Table { cpu: self }
     }

@@ -4,7 +4,6 @@ use crate::lock::{locked, Mutex};
 use std::mem;
 use std::sync::atomic::{fence, AtomicBool, Ordering};
 use std::task::Waker;
-use std::vec::Vec;
 
 /// Tasks that are woken as something is let go, and whether there are any. On cache lines of its own: each exit and each release reads the flag.
 #[derive(Default)]

@@ -4,19 +4,8 @@ use crate::ffi;
 use crate::name::Name;
 use crate::refusal::DestroyError;
 use std::fmt;
-use std::vec::Vec;
 
 /// What an entry is.
-///
-/// ```
-/// use kupaldiz::{Kind, Registry, Settings};
-///
-/// let (registry, cpus) = Registry::open(Settings::new(1, 1)).unwrap();
-/// let wm = "wm".parse().unwrap();
-/// registry.attach(&cpus[0], &wm, 7).unwrap();
-/// let section = cpus[0].enter().unwrap();
-/// assert!(section.find(Kind::Driver, &wm).is_some() && section.find(Kind::Iface, &wm).is_none());
-/// ```
 #[derive(Clone, Copy, Debug, PartialEq, Eq, Hash, PartialOrd, Ord)]
 pub enum Kind {
     /// A network interface, which keeps its driver.
@@ -83,8 +72,7 @@ pub enum Holder {
     Grace(u8),
     /// This CPU has a passive reference to it, or is in a call of [`Cpu::get`](crate::Cpu::get) that may be acquiring one.
     Passive(u8),
-    /// This many local references to it are held. It includes those that interfaces keep, and those that were dropped and aren't released yet. Who has them
-    /// is noted in a registry that was opened by [`Registry::open_tracked`](crate::Registry::open_tracked).
+    /// This many local references to it are held. It includes those that interfaces keep, and those that were dropped and aren't released yet.
     Local(u64),
 }
 
@@ -98,8 +86,7 @@ impl fmt::Display for Holder {
     }
 }
 
-/// What a turn of C on a retired entry answered, and the stage that it met. It is read at the end alone: a holder that is put together is two stores,
-/// and whoever moves it soon after waits for both.
+/// What a turn of C on a retired entry answered, and the stage that it met. It is read at the end alone.
 #[derive(Clone, Copy)]
 pub(crate) struct Met {
     pub answer: u32,
@@ -108,17 +95,11 @@ pub(crate) struct Met {
 
 impl Met {
     /// There is no such entry any more.
-    pub(crate) const NOTHING: Met = Met {
-        answer: ffi::NOT_RETIRED,
-        stage: ffi::Stage { stage: 0, what: 0 },
-    };
+    pub(crate) const NOTHING: Met = Met { answer: ffi::NOT_RETIRED, stage: ffi::Stage { stage: 0, what: 0 } };
 
     /// So many local references hold the entry.
     pub(crate) fn local(held: u64) -> Met {
-        let stage = ffi::Stage {
-            stage: ffi::LOCAL,
-            what: held,
-        };
+        let stage = ffi::Stage { stage: ffi::LOCAL, what: held };
         Met { answer: ffi::DONE, stage }
     }
 

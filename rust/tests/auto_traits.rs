@@ -4,11 +4,7 @@
 //! and `Sync`, `y` one that is `Sync` alone, `s` one that is `Send` alone, `n` one that is neither. The last column has `Unpin`, `UnwindSafe`,
 //! `RefUnwindSafe` and `Clone` with a `T` that is a plain number: `p`, `u`, `r`, `c`.
 
-use kupaldiz::{
-    AttachError, Balance, Cpu, CpuPool, DestroyError, DetachError, Drained, Entries, Entry, Found, Freed, Generations, Hold, Holder,
-    Holders, Kind, Leaving, Lent, Limits, LocalRef, LookUpError, Mapped, Name, NameFault, PassiveRc, PassiveRef, Patience, Place,
-    ReadGuard, Reader, Refusal, Refused, Registry, Retired, Section, Settings, StillOpen, Table,
-};
+use kupaldiz::*;
 use std::collections::BTreeSet;
 use std::marker::PhantomData;
 use std::panic::{RefUnwindSafe, UnwindSafe};
@@ -93,9 +89,6 @@ table! {
     DestroyError: DestroyError,                          "bysn", "bysn", "purc";
     DetachError: DetachError,                            "bysn", "bysn", "purc";
     LookUpError: LookUpError,                            "bysn", "bysn", "purc";
-    Generations: Generations<T>,                         "b",    "b",    "pur";
-    Leaving: Leaving<'static, T>,                        "b",    "b",    "pur";
-    Reader: Reader<'static, T>,                          "b",    "",     "pu";
     Hold: Hold,                                          "bysn", "bysn", "purc";
     Holders: Holders,                                    "bysn", "bysn", "purc";
     Place: Place,                                        "bysn", "bysn", "purc";

@@ -124,23 +124,6 @@ fn a_panic_gives_all_back() {
     assert_eq!(drops.dropped(), 1);
 }
 
-/// Its token is lost with the panic, and deferred by that.
-#[test]
-fn a_retired_entry_that_a_panic_loses_is_freed() {
-    let drops = Drops::default();
-    let (registry, cpus) = with_driver(drops.make(0));
-    let section = cpus[1].enter().unwrap();
-    let lost = || {
-        let _token = registry.detach(&cpus[0], Kind::Driver, &name("wm")).unwrap();
-        panic!("the body's own");
-    };
-    assert!(catch_unwind(AssertUnwindSafe(lost)).is_err());
-    assert_eq!((registry.retired(), drops.dropped()), (1, 0));
-    section.exit();
-    drop(registry.collect());
-    assert_eq!((registry.retired(), drops.dropped()), (0, 1));
-}
-
 /// An error that is boxed and kept has the token in it. Its entry's slot is vacant all the same once an attach needs it, and its value waits for it.
 #[test]
 fn a_token_in_a_boxed_error_keeps_no_slot() {
@@ -243,9 +226,14 @@ fn a_drop_may_call_the_registry() {
     drop(DESK.with(|place| place.borrow_mut().take()));
 }
 
-/// Of any size, of one thread, and borrowed ones.
+/// Of any size and alignment, of one thread, and borrowed ones.
 #[test]
 fn any_value_is_carried() {
+    #[repr(align(256))]
+    struct Wide(u8);
+    let (registry, cpus) = with_driver(Wide(9));
+    assert_eq!(passive(&cpus[0], "wm").0, 9);
+    assert_eq!(detach(&registry, &cpus[0], "wm").freed().value.0, 9);
     let (registry, cpus) = with_driver([7u8; 4096]);
     assert_eq!(passive(&cpus[0], "wm")[4095], 7);
     assert_eq!(detach(&registry, &cpus[0], "wm").freed().value, [7; 4096]);

@@ -20,7 +20,7 @@ impl Bench {
     fn compile(&self, path: &str, words: &[&str]) -> Output {
         let mut command = Command::new(env::var_os("RUSTC").unwrap_or_else(|| "rustc".into()));
         command.args(["--edition", "2021", "--crate-type", "lib", "--emit", "metadata", "-A", "warnings"]);
-        command.arg(self.root.join(path)).arg("--out-dir").arg(&self.out).args(words);
+        command.arg(self.root.join(path)).arg("--out-dir").arg(&self.out).args(words).env("OUT_DIR", env!("OUT_DIR"));
         command.output().expect("a compiler")
     }
 

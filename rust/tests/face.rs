@@ -19,17 +19,6 @@ use std::time::{Duration, Instant};
 
 const WM: Name = Name::from_static("wm");
 
-#[test]
-fn names_are_judged() {
-    assert_eq!("abcdefghijklmno".parse::<Name>().unwrap().to_string(), "abcdefghijklmno");
-    assert_eq!(Name::parse(""), Err(NameFault::Empty));
-    assert_eq!(Name::parse("abcdefghijklmnop"), Err(NameFault::TooLong));
-    assert_eq!(Name::parse("0"), Err(NameFault::BadByte(0)));
-    assert_eq!(Name::parse("wmX"), Err(NameFault::BadByte(2)));
-    assert_eq!(Name::from_bytes(b"wm\0"), Err(NameFault::BadByte(2)));
-    assert_eq!(("wm".parse(), Name::from_bytes(b"wm")), (Ok(WM), Ok(WM)));
-}
-
 /// Also where they differ past the eighth byte alone.
 #[test]
 fn names_are_told_apart_and_ordered_as_their_texts() {
@@ -40,7 +29,8 @@ fn names_are_told_apart_and_ordered_as_their_texts() {
     let ordered: Vec<&str> = names.iter().rev().collect::<BTreeSet<_>>().into_iter().map(Name::as_str).collect();
     assert_eq!(ordered, texts);
     assert!(names.iter().zip(texts).all(|(name, text)| *name == text && *name == *text));
-    assert!(WM != "wm0" && WM != *"vm");
+    assert!(WM != "wm0" && WM != *"vm" && Name::from_bytes(b"wm") == Ok(WM));
+    assert_eq!(("wm".parse(), "".parse::<Name>()), (Ok(WM), Err(NameFault::Empty)));
     let (registry, cpus) = Registry::open(Settings::new(1, 8)).unwrap();
     for (value, name) in names.iter().enumerate() {
         registry.attach(&cpus[0], name, value).unwrap();

@@ -1,22 +1,20 @@
-//! Entries that leave: those that tasks wait for, and those that go on in the next registry.
+//! Entries that leave, and the tasks that wait for them.
 
 mod common;
 
-use common::{local, name, passive, patience, Drops, Stops, LONG};
-use kupaldiz::{
-    AttachError, Cpu, Generations, Kind, LocalRef, LookUpError, Name, PassiveRef, Patience, Refusal, Registry, Retired, Settings,
-};
+use common::{local, name, passive, LONG};
+use kupaldiz::{Cpu, Kind, LocalRef, Name, PassiveRef, Patience, Registry, Retired, Settings};
 use std::cell::RefCell;
 use std::future::Future;
 use std::mem;
 use std::panic::{self, AssertUnwindSafe};
 use std::pin::Pin;
 use std::process;
-use std::sync::atomic::{AtomicBool, AtomicUsize, Ordering};
-use std::sync::{mpsc, Arc, Mutex, Weak};
+use std::sync::atomic::{AtomicU32, AtomicUsize, Ordering};
+use std::sync::Arc;
 use std::task::{Context, Poll, RawWaker, RawWakerVTable, Wake, Waker};
 use std::thread::{self, Thread};
-use std::time::{Duration, Instant};
+use std::time::Instant;
 
 const WM: Name = Name::from_static("wm");
 const WM0: Name = Name::from_static("wm0");
@@ -121,6 +119,39 @@ fn each_call_that_lets_an_entry_go_wakes_the_task() {
     is_woken_as("a CPU that is dropped", &registry, &cpus[1], cpu, drop);
 }
 
+/// A call that holds an entry for a moment, and what it keeps.
+type Call = for<'cpu> fn(&'cpu Cpu<u32>, Kind, &Name) -> Option<PassiveRef<'cpu, u32>>;
+
+const CALLS: [Call; 5] = [
+    |cpu, kind, name| cpu.look_up(kind, name).ok().and(None),
+    |cpu, kind, name| cpu.get(kind, name).ok(),
+    |cpu, kind, name| cpu.read(kind, name).ok().and(None),
+    |cpu, kind, name| cpu.get_local(kind, name).ok().and(None),
+    |cpu, kind, name| {
+        let reference = cpu.get_local(kind, name).ok()?;
+        LocalRef::release(reference, cpu).unwrap();
+        None
+    },
+];
+
+/// Each may have opened a section within the archive, so its end wakes the task, once, also if it found nothing.
+#[test]
+fn a_lookup_that_ends_wakes_the_task() {
+    let (registry, cpus) = with_wm();
+    registry.attach(&cpus[2], &WM0, 8).unwrap();
+    let _held = local(&cpus[1], "wm");
+    let (mut retired, task) = (registry.detach(&cpus[2], Kind::Driver, &WM).unwrap(), Task::here());
+    for (place, call) in CALLS.iter().enumerate() {
+        for kind in [Kind::Driver, Kind::Iface] {
+            assert!(task.poll(&mut retired).is_pending());
+            let before = task.woken();
+            let kept = call(&cpus[0], kind, &WM0);
+            assert_eq!(task.woken(), before + 1, "call {place} of a {kind}");
+            drop(kept);
+        }
+    }
+}
+
 #[test]
 fn an_interface_that_is_freed_wakes_the_task_of_its_driver() {
     let (registry, cpus) = with_wm();
@@ -139,36 +170,14 @@ fn an_interface_that_is_freed_wakes_the_task_of_its_driver() {
     });
 }
 
-/// A call that holds an entry for a moment.
-type Way = fn(&Cpu<usize>);
-
-const WAYS: [Way; 7] = [
-    |cpu| drop(cpu.read(Kind::Driver, &WM)),
-    |cpu| drop(cpu.get(Kind::Driver, &WM)),
-    |cpu| drop(cpu.get_local(Kind::Driver, &WM)),
-    |cpu| {
-        if let Ok(reference) = cpu.get_local(Kind::Driver, &WM) {
-            LocalRef::release(reference, cpu).unwrap();
-        }
-    },
-    // These open a section within the archive.
-    |cpu| {
-        let _ = cpu.look_up(Kind::Driver, &WM);
-    },
-    |cpu| {
-        let _ = cpu.look_up(Kind::Driver, &WM0);
-    },
-    |cpu| drop(cpu.read(Kind::Driver, &WM0)),
-];
-
 /// In each round a thread makes the call once, while a task waits for the entry. Nobody does anything else then, so a wake that is lost ends the test.
 #[test]
 fn no_wake_is_lost_between_threads() {
-    for way in WAYS {
+    for (call, name) in CALLS.iter().flat_map(|call| [(call, WM), (call, WM0)]) {
         let (registry, mut cpus) = Registry::open(Settings::new(2, 8)).unwrap();
         let (mine, other) = (cpus.pop().unwrap(), cpus.pop().unwrap());
-        let (rounds, begun, ended) = (common::scaled(400), AtomicUsize::new(0), AtomicUsize::new(0));
-        let wait_for = |count: &AtomicUsize, round| {
+        let (rounds, begun, ended) = (common::scaled(400) as u32, AtomicU32::new(0), AtomicU32::new(0));
+        let wait_for = |count: &AtomicU32, round| {
             while count.load(Ordering::SeqCst) != round {
                 thread::yield_now();
             }
@@ -178,7 +187,7 @@ fn no_wake_is_lost_between_threads() {
                 let cpu = other;
                 for round in 1..=rounds {
                     wait_for(&begun, round);
-                    way(&cpu);
+                    drop(call(&cpu, Kind::Driver, &name));
                     ended.store(round, Ordering::SeqCst);
                 }
             });
@@ -242,129 +251,4 @@ fn a_future_that_is_dropped_or_done_leaves_nothing_behind() {
     assert!(panic::catch_unwind(AssertUnwindSafe(|| task.poll(&mut retired))).is_err());
     drop((retired, cpus));
     registry.close(Patience::Turns(1)).unwrap();
-}
-
-/// A reference to an entry of a registry that was left is one to the value. A reader that looks nothing up keeps that registry open, but no value.
-#[test]
-fn a_value_comes_back_once_no_registry_has_it() {
-    let drops = Drops::default();
-    let table = Generations::open(Settings::new(3, 3).changes(8)).unwrap();
-    let (mut reader, _idle) = (table.reader().unwrap(), table.reader().unwrap());
-    table.attach(&WM, drops.make(1)).unwrap();
-    let reference = reader.get_local(&WM).unwrap();
-    while table.generation() < 3 {
-        table.attach(&WM0, drops.make(2)).unwrap();
-        drop(table.detach(&WM0).unwrap().wait(Patience::Turns(1)).unwrap());
-    }
-    reader.read(&WM, |value| value.check()).unwrap();
-    let leaving = table.detach(&WM).unwrap();
-    assert_eq!(reader.read(&WM, |_| ()), Err(LookUpError::NotFound));
-    let leaving = leaving.wait(Patience::Turns(3)).unwrap_err();
-    reference.check();
-    let releasing = thread::spawn(move || {
-        thread::sleep(Duration::from_millis(5));
-        drop(reference);
-    });
-    leaving.wait(patience()).unwrap().check();
-    releasing.join().unwrap();
-    assert_eq!(drops.dropped(), drops.made());
-}
-
-/// Also between the moment at which it looks for the newest registry and its lookup.
-#[test]
-fn a_reader_finds_what_stays_while_registries_are_left() {
-    let table = Generations::open(Settings::new(4, 4).changes(4)).unwrap();
-    table.attach(&WM, 7).unwrap();
-    let stop = AtomicBool::new(false);
-    thread::scope(|scope| {
-        let _stops = Stops(&stop);
-        for _ in 0..3 {
-            scope.spawn(|| {
-                let mut reader = table.reader().unwrap();
-                while !stop.load(Ordering::Relaxed) {
-                    assert_eq!(reader.read(&WM, |value| *value), Ok(7));
-                }
-            });
-        }
-        for _ in 0..common::scaled(5_000) {
-            table.attach(&WM0, 8).unwrap();
-            assert_eq!(table.detach(&WM0).unwrap().wait(patience()).unwrap(), 8);
-        }
-    });
-}
-
-#[test]
-fn the_next_registry_takes_over_as_sections_are_spent() {
-    let table = Generations::open(Settings::new(3, 2).sections(4)).unwrap();
-    table.attach(&WM, 7).unwrap();
-    let (mut one, mut two) = (table.reader().unwrap(), table.reader().unwrap());
-    for _ in 0..10 {
-        assert_eq!((one.read(&WM, |value| *value), two.read(&WM, |value| *value)), (Ok(7), Ok(7)));
-        drop(one.get_local(&WM).unwrap());
-    }
-    assert!(table.generation() > 0);
-}
-
-#[test]
-fn what_a_table_refuses_comes_back() {
-    let table = Generations::open(Settings::new(2, 2).changes(4)).unwrap();
-    table.attach(&WM, Box::new(7)).unwrap();
-    let refused = table.attach(&WM, Box::new(8)).unwrap_err();
-    assert_eq!((refused.refusal, *refused.given), (AttachError::NameTaken, 8));
-    table.attach(&WM0, Box::new(8)).unwrap();
-    let refused = table.attach(&name("vga"), Box::new(9)).unwrap_err();
-    assert_eq!((refused.refusal, *refused.given), (AttachError::NoSlot, 9));
-    assert_eq!(table.detach(&name("vga")).unwrap_err(), Refusal::NotFound);
-    // Each registry has room for two entries, but not for a third.
-    let table = Generations::open(Settings::new(2, 3).changes(4)).unwrap();
-    for (name, value) in [(WM, 7), (WM0, 8)] {
-        table.attach(&name, value).unwrap();
-    }
-    let refused = table.attach(&name("vga"), 9).unwrap_err();
-    assert_eq!((refused.refusal, refused.given), (AttachError::HistoryFull, 9));
-    assert_eq!(table.reader().unwrap().read(&WM0, |value| *value), Ok(8));
-    assert_eq!(Generations::<u8>::open(Settings::new(0, 1)).unwrap_err(), Refusal::BadSettings);
-}
-
-#[test]
-fn a_table_has_as_many_readers_as_cpus_for_them() {
-    let table = Generations::<u32>::open(Settings::new(3, 2).changes(2)).unwrap();
-    let (one, two) = (table.reader().unwrap(), table.reader().unwrap());
-    assert!(table.reader().is_none());
-    drop(one);
-    let three = table.reader().unwrap();
-    assert!(table.reader().is_none());
-    drop((two, three));
-    assert!(Generations::<u32>::open(Settings::new(1, 1)).unwrap().reader().is_none());
-}
-
-/// Changes its table as it is dropped.
-struct Last(Weak<Generations<Mutex<Last>>>);
-
-impl Drop for Last {
-    fn drop(&mut self) {
-        if let Some(table) = self.0.upgrade() {
-            table.attach(&name("dropped"), Mutex::new(Last(Weak::new()))).unwrap();
-        }
-    }
-}
-
-/// So its lock is free while a value is dropped, also one that a registry had which was left.
-#[test]
-fn the_drop_of_a_value_may_change_the_table() {
-    let (tell, told) = mpsc::channel();
-    thread::spawn(move || {
-        let table = Arc::new(Generations::open(Settings::new(2, 4).changes(8)).unwrap());
-        let mut reader = table.reader().unwrap();
-        table.attach(&WM, Mutex::new(Last(Arc::downgrade(&table)))).unwrap();
-        let reference = reader.get_local(&WM).unwrap();
-        drop(table.detach(&WM).unwrap());
-        drop(reference);
-        for _ in 0..4 {
-            table.attach(&WM0, Mutex::new(Last(Weak::new()))).unwrap();
-            drop(table.detach(&WM0).unwrap());
-        }
-        tell.send(table.detach(&name("dropped")).is_ok()).unwrap();
-    });
-    assert_eq!(told.recv_timeout(LONG), Ok(true));
 }

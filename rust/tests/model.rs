@@ -379,12 +379,16 @@ impl<'cpu> Bench<'cpu> {
             }
             _ => {
                 let got = if is_table { table.get_local(&name) } else { cpu.get_local(kind, &name) };
-                let got = got.map_err(why);
-                if !self.is_spent(at, &got) {
-                    let expected = self.look(at, kind, &name).and_then(|entry| self.locally(at, entry));
-                    self.keep_local(got, at, expected);
-                }
+                self.got_local(at, kind, &name, got.map_err(why));
             }
+        }
+    }
+
+    /// A local reference that a call by one name has acquired.
+    fn got_local(&mut self, at: usize, kind: Kind, name: &Name, got: Told<LocalRef<Tracked>>) {
+        if !self.is_spent(at, &got) {
+            let expected = self.look(at, kind, name).and_then(|entry| self.locally(at, entry));
+            self.keep_local(got, at, expected);
         }
     }
 
@@ -677,10 +681,7 @@ impl<'cpu> Bench<'cpu> {
                 let got = pool.get_local(kind, &name).map_err(why);
                 drop(rest);
                 self.loans.extend(others);
-                if !self.is_spent(at, &got) {
-                    let expected = self.look(at, kind, &name).and_then(|entry| self.locally(at, entry));
-                    self.keep_local(got, at, expected);
-                }
+                self.got_local(at, kind, &name, got);
             }
             _ => drop(loan),
         }
@@ -688,43 +689,30 @@ impl<'cpu> Bench<'cpu> {
 
     /// Each call that takes two handles is refused where they are of two registries, and gives back what it was given.
     fn mix(&mut self) {
-        let (registry, other, (kind, name)) = (self.registry, self.foreign, self.any_key());
-        let refused = match self.dice.below(10) {
-            0 => told(registry.attach(other, &name, self.drops.make(0))),
-            1 => told(registry.replace(other, &name, self.drops.make(0))),
-            2 => told(registry.detach(other, kind, &name)),
-            3 => told(registry.retire(other, kind, &name)),
-            4 => told(registry.drain(other, Patience::Forever)),
-            5 => told(registry.perform(other, Patience::Forever)),
-            6 => match self.known.first() {
-                Some(one) => told(registry.detach_entry(other, &one.entry)),
-                None => return,
-            },
-            7 => match self.tokens.pop() {
-                Some(token) => {
-                    let error = token.destroy(other, Patience::Forever).unwrap_err();
-                    self.tokens.push(error.given);
-                    Err(why(error.refusal))
-                }
-                None => return,
-            },
-            8 => match self.locals.pop() {
-                Some((held, of)) => {
-                    let cloned = told(LocalRef::try_clone(&held, other));
-                    let released = LocalRef::release(held, other).unwrap_err();
-                    let attached = registry.attach_iface(other, &name, released.given, self.drops.make(0)).unwrap_err();
-                    self.locals.push((attached.given.0, of));
-                    assert_eq!([cloned, Err(why(released.refusal))], [Err(Refusal::OtherRegistry); 2]);
-                    Err(why(attached.refusal))
-                }
-                None => return,
-            },
-            _ => {
-                let driver = common::local(other, "d0");
-                told(registry.attach_iface(&self.cpus[0], &name, driver, self.drops.make(0)))
-            }
-        };
-        assert_eq!(refused, Err(Refusal::OtherRegistry));
+        let (registry, other, drops, (kind, name)) = (self.registry, self.foreign, self.drops, self.any_key());
+        let mut refused = vec![
+            told(registry.attach(other, &name, drops.make(0))),
+            told(registry.attach_iface(&self.cpus[0], &name, common::local(other, "d0"), drops.make(0))),
+            told(registry.replace(other, &name, drops.make(0))),
+            told(registry.detach(other, kind, &name)),
+            told(registry.retire(other, kind, &name)),
+            told(registry.drain(other, Patience::Forever)),
+            told(registry.perform(other, Patience::Forever)),
+        ];
+        refused.extend(self.known.first().map(|one| told(registry.detach_entry(other, &one.entry))));
+        if let Some(token) = self.tokens.pop() {
+            let error = token.destroy(other, Patience::Forever).unwrap_err();
+            self.tokens.push(error.given);
+            refused.push(Err(why(error.refusal)));
+        }
+        if let Some((held, of)) = self.locals.pop() {
+            refused.push(told(LocalRef::try_clone(&held, other)));
+            let released = LocalRef::release(held, other).unwrap_err();
+            let attached = registry.attach_iface(other, &name, released.given, drops.make(0)).unwrap_err();
+            self.locals.push((attached.given.0, of));
+            refused.extend([Err(why(released.refusal)), Err(why(attached.refusal))]);
+        }
+        assert!(refused.iter().all(|one| *one == Err(Refusal::OtherRegistry)), "{refused:?}");
     }
 }
 

@@ -1,8 +1,8 @@
 //! Threads that share a registry. Their calls are random. Each thread alone changes its own names, so of these each answer is known; of the others' what is
 //! found is whole and has the name that was asked for.
 //!
-//! tests/sanitized.sh runs it under the thread sanitizer, which doesn't see what the standard library's locks hand from thread to thread. So the lock is one
-//! of its own, and threads are joined one by one.
+//! tests/sanitized.sh runs it under the thread sanitizer, which doesn't see how the standard library waits. So a lock is tried again and again, and threads are
+//! joined one by one.
 
 mod common;
 
@@ -11,32 +11,27 @@ use kupaldiz::{
     AttachError, Cpu, DestroyError, Found, Holder, Kind, LocalRef, Name, PassiveRef, Patience, ReadGuard, Refusal, Refused, Registry,
     Retired, Settings, LIMITS,
 };
-use std::cell::UnsafeCell;
-use std::sync::atomic::{AtomicBool, Ordering};
+use std::sync::Mutex;
 use std::thread;
 use std::time::Duration;
 
 /// References that any thread may take.
 #[derive(Default)]
-struct Handed {
-    taken: AtomicBool,
-    held: UnsafeCell<Vec<LocalRef<Tracked>>>,
-}
-
-// SAFETY: `with` alone uses the cell, one thread at a time.
-unsafe impl Sync for Handed {}
+struct Handed(Mutex<Vec<LocalRef<Tracked>>>);
 
 impl Handed {
     fn with<R>(&self, deed: impl FnOnce(&mut Vec<LocalRef<Tracked>>) -> R) -> R {
-        while self.taken.swap(true, Ordering::Acquire) {
-            thread::sleep(Duration::from_micros(10));
+        loop {
+            match self.0.try_lock() {
+                Ok(mut held) => return deed(&mut held),
+                Err(_) => thread::sleep(Duration::from_micros(10)),
+            }
         }
-        // SAFETY: this thread has taken it.
-        let done = deed(unsafe { &mut *self.held.get() });
-        self.taken.store(false, Ordering::Release);
-        done
     }
 }
+
+/// The number and the label of an entry that is live.
+type Live = Option<(u64, u64)>;
 
 /// What one of so many threads has, each with so many names of its own.
 struct Worker<'all, const CPUS: usize, const OWN: usize> {
@@ -67,49 +62,34 @@ impl<'all, const CPUS: usize, const OWN: usize> Worker<'all, CPUS, OWN> {
         (own, self.id * OWN + own)
     }
 
+    /// Attaches, replaces or detaches one of its own.
     fn change(&mut self) {
         let (own, place) = self.own();
-        let name = &self.names[place];
-        match self.live[own] {
-            None => {
-                self.labels += 1;
-                let label = self.labels * Self::NAMES as u64 + place as u64;
-                match self.registry.attach(self.cpu, name, self.drops.make(label)) {
-                    Ok(entry) => self.live[own] = Some((entry.number, label)),
-                    Err(refused) => assert_eq!((refused.refusal, refused.given.label), (AttachError::NoSlot, label)),
+        let (name, old) = (&self.names[place], self.live[own]);
+        let retired = if old.is_some() && self.dice.below(3) > 0 {
+            self.live[own] = None;
+            Some(self.registry.detach(self.cpu, Kind::Driver, name).unwrap())
+        } else {
+            self.labels += 1;
+            let label = self.labels * Self::NAMES as u64 + place as u64;
+            let value = self.drops.make(label);
+            let made = match old {
+                None => self.registry.attach(self.cpu, name, value).map(|entry| (entry, None)),
+                Some(_) => self.cpu.table().replace(name, value).map(|(entry, retired)| (entry, Some(retired))),
+            };
+            match made {
+                Ok((entry, retired)) => {
+                    self.live[own] = Some((entry.number, label));
+                    retired
                 }
+                Err(refused) => return assert_eq!((refused.refusal, refused.given.label), (AttachError::NoSlot, label)),
             }
-            Some((number, label)) => {
-                let retired = match self.dice.below(3) {
-                    0 => self.replace(own, place),
-                    _ => {
-                        self.live[own] = None;
-                        Some(self.registry.detach(self.cpu, Kind::Driver, name).unwrap())
-                    }
-                };
-                if let Some(retired) = retired {
-                    assert_eq!(retired.entry().number, number);
-                    match self.dice.below(3) {
-                        0 | 1 => self.tokens.push((retired, label)),
-                        _ => retired.defer(),
-                    }
-                }
-            }
-        }
-    }
-
-    /// Replaces one of its own, if a slot is left.
-    fn replace(&mut self, own: usize, place: usize) -> Option<Retired<Tracked>> {
-        self.labels += 1;
-        let label = self.labels * Self::NAMES as u64 + place as u64;
-        match self.cpu.table().replace(&self.names[place], self.drops.make(label)) {
-            Ok((entry, retired)) => {
-                self.live[own] = Some((entry.number, label));
-                Some(retired)
-            }
-            Err(refused) => {
-                assert_eq!((refused.refusal, refused.given.label), (AttachError::NoSlot, label));
-                None
+        };
+        if let (Some(retired), Some((number, label))) = (retired, old) {
+            assert_eq!(retired.entry().number, number);
+            match self.dice.below(3) {
+                0 | 1 => self.tokens.push((retired, label)),
+                _ => retired.defer(),
             }
         }
     }
@@ -163,8 +143,7 @@ impl<'all, const CPUS: usize, const OWN: usize> Worker<'all, CPUS, OWN> {
                 passive.check();
             }
         }
-        let handed = self.handed.with(Vec::pop);
-        if let Some(local) = handed {
+        if let Some(local) = self.handed.with(Vec::pop) {
             local.check();
             match self.dice.below(4) {
                 0 | 1 => LocalRef::release(local, self.cpu).unwrap(),
@@ -202,12 +181,10 @@ impl<'all, const CPUS: usize, const OWN: usize> Worker<'all, CPUS, OWN> {
     }
 
     fn collect_or_perform(&mut self) {
-        match self.dice.below(2) {
-            0 => self.registry.collect().iter().for_each(|freed| freed.value.check()),
-            _ => match self.registry.perform(self.cpu, Patience::Turns(1)) {
-                Ok(()) => (),
-                Err(refusal) => assert!(matches!(refusal, Refusal::Waiting(other) if other != self.cpu.id())),
-            },
+        if self.dice.below(2) == 0 {
+            self.registry.collect().iter().for_each(|freed| freed.value.check());
+        } else if let Err(refusal) = self.registry.perform(self.cpu, Patience::Turns(1)) {
+            assert!(matches!(refusal, Refusal::Waiting(other) if other != self.cpu.id()));
         }
     }
 
@@ -223,15 +200,12 @@ impl<'all, const CPUS: usize, const OWN: usize> Worker<'all, CPUS, OWN> {
     }
 }
 
-/// The number and the label of an entry that is live.
-type Live = Option<(u64, u64)>;
-
 /// Attaches the names, as long as a slot is left.
 fn fill(registry: &Registry<Tracked>, cpu: &Cpu<Tracked>, drops: &Drops, names: &[Name]) -> Vec<Live> {
     let attach = |(label, name)| match registry.attach(cpu, name, drops.make(label)) {
         Ok(entry) => Some((entry.number, label)),
         Err(refused) => {
-            assert_eq!(refused.refusal, Refusal::NoSlot);
+            assert_eq!(refused.refusal, AttachError::NoSlot);
             None
         }
     };
@@ -250,20 +224,9 @@ fn run<const CPUS: usize, const OWN: usize>(slots: usize, seed: u64, steps: usiz
         let work = |(cpu, live): (Cpu<Tracked>, &[Live])| {
             let live = live.try_into().unwrap();
             scope.spawn(move || {
-                let id = usize::from(cpu.id());
-                let mut worker = Worker::<CPUS, OWN> {
-                    registry,
-                    cpu: &cpu,
-                    drops,
-                    names,
-                    handed,
-                    id,
-                    dice: Dice::of(seed + id as u64),
-                    live,
-                    passives: Vec::new(),
-                    tokens: Vec::new(),
-                    labels: 0,
-                };
+                let (id, cpu) = (usize::from(cpu.id()), &cpu);
+                let (dice, passives, tokens) = (Dice::of(seed + id as u64), Vec::new(), Vec::new());
+                let mut worker = Worker::<CPUS, OWN> { registry, cpu, drops, names, handed, id, dice, live, passives, tokens, labels: 0 };
                 (0..steps).for_each(|_| worker.step());
             })
         };

@@ -5,7 +5,7 @@ pub mod watched;
 
 use kupaldiz::{Cpu, DestroyError, Entry, Freed, Holder, Kind, LocalRef, Name, PassiveRef, Refusal, Refused, Registry, Retired, Settings};
 use std::cell::RefCell;
-use std::sync::atomic::{AtomicBool, AtomicUsize, Ordering};
+use std::sync::atomic::{AtomicUsize, Ordering};
 use std::sync::Arc;
 use std::time::Duration;
 
@@ -107,15 +107,6 @@ impl<T> Gone<T> {
     /// What one turn frees.
     pub fn freed(&self) -> Freed<T> {
         self.token().advance().unwrap_or_else(|held| panic!("{held}"))
-    }
-}
-
-/// Tells threads to stop as it is dropped, so also where the test fails: else a scope would wait for them for ever.
-pub struct Stops<'a>(pub &'a AtomicBool);
-
-impl Drop for Stops<'_> {
-    fn drop(&mut self) {
-        self.0.store(true, Ordering::Relaxed);
     }
 }
 

@@ -28,5 +28,5 @@ echo "done: its tests: $(awk '/^test result/ { n += $4 } END { print n }' "$room
 cargo build --offline --release --examples
 target/release/examples/packet
 target/release/examples/connections
-target/release/examples/changeover 5 | grep -x 'wrong 0'
+target/release/examples/configuration
 echo "done: its examples"
