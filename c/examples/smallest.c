@@ -36,12 +36,12 @@ int main(void)
 	check("name", registry_name_parse("wm0", strlen("wm0"), &name, NULL));
 	check("attach", registry_attach(&keeper, &cpus[1], &name, 1500, NULL));
 
-	/* Between these two calls the thread may sleep. If the value is a pointer, its memory may be used there. */
+	/* Until the release the thread may sleep, and use the memory that a value points to. */
 	check("get", registry_get(&cpus[0], REGISTRY_DRIVER, &name, &found));
 	printf("wm0 has value %" PRIu64 "\n", found.value);
 	check("release", registry_release(&cpus[0], found.number));
 
-	/* One call does, since nothing holds the entry. Beside other threads, call it again while it returns REGISTRY_STILL_HELD. */
+	/* Nothing holds the entry. Else repeat the call while it returns REGISTRY_STILL_HELD. */
 	check("detach", registry_detach(&keeper, &cpus[1], REGISTRY_DRIVER, &name, &found));
 	check("destroy", registry_destroy(&keeper, &cpus[1], found.number, NULL));
 	check("close", registry_close(cpus, 2, &keeper));
