@@ -803,7 +803,7 @@ registry_answer registry_audit(struct registry_keeper *keeper, struct registry_c
 }
 #endif
 
-/* The checking build tells a program that is compiled with -DREGISTRY_CHECK which of its calls break these rules. */
+/* The checking build: registry_check.h says what it tells of a program's misuse. */
 #ifdef REGISTRY_CHECK
 #include "registry_check.h"
 #endif
