@@ -358,7 +358,7 @@ static void use_locked(const struct registry_keeper *keeper)
 	unlock_table();
 }
 
-/* The keeper's interlock is this mutex from now on, or none if it is NULL. What the program has told stays, whatever a wait takes. */
+/* The keeper's interlock is this mutex from now on, or none if it is NULL. What the program has told stays when a wait takes another one. */
 static void learn(const struct event *event, const struct registry_keeper *keeper, pthread_mutex_t *mutex, bool is_told)
 {
 	lock_table();
