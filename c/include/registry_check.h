@@ -1,24 +1,33 @@
 /*
- * registry_check.h - the checking build: a program's misuse of the calls is told in one line on standard error, and the program is aborted
+ * registry_check.h - the checking build: a program's misuse of the calls is told in one line on
+ * standard error, and the program is aborted
  *
- * Compile each file of the program with -DREGISTRY_CHECK, and link -lkupaldiz_check before -lkupaldiz. registry.h and registry_waiting.h then include this
- * header: their calls become macros that pass the file and the line. The calls return and do the same. It tells only what no result says:
+ * Compile each file of the program with -DREGISTRY_CHECK, and link -lkupaldiz_check before
+ * -lkupaldiz. registry.h and registry_waiting.h then include this header: their calls become
+ * macros that pass the file and the line, so none is made by a pointer. The calls do and return
+ * the same. What no result says is told:
  *
- * - a passive reference that is released twice, never acquired, of another CPU or of another registry; one that stays at registry_thread_unregister
- * - a copy of a handle that was closed, released or given to an interface; a handle that was never set, or is NULL
- * - a handle that two threads use at once, or a signal handler within a call; handles of two registries in one call; a call in the child of a fork
- * - a call with the keeper by a thread that doesn't hold the interlock, where that is known
+ * - a passive reference that is released twice, never acquired, of another CPU or of another
+ *   registry; one that is left at registry_thread_unregister
+ * - a copy of a handle that was closed, released or given to an interface; a handle that was
+ *   never set, or is NULL
+ * - a handle that two threads use at once, or a signal handler within a call; handles of two
+ *   registries in one call; a call in the child of a fork
+ * - a call with the keeper by a thread that doesn't hold the interlock, if that is known; a call
+ *   that takes it by a thread that holds it
  * - a section that is open when its CPU is closed, or when its thread makes a call that waits
  * - a name within the entry that the call writes; asynchronous cancellation
  *
- * The interlock is the mutex of registry_check_interlock. Else it is the one of the last wait by registry_lock_of_mutex with the keeper, and a call is told
- * if another thread that still runs has used the keeper since.
+ * The interlock is the mutex of registry_check_interlock. Without that, it is the one of the
+ * last wait by registry_lock_of_mutex with the keeper. A call is then told only if another
+ * thread that still runs has used the keeper since. Who holds a mutex is known with glibc alone.
  *
- * A CPU's references to an entry have one number. So a second release is told once the CPU has no other reference to it. With -DREGISTRY_CHECK=2 each
- * reference has a tag above the low 32 bits of its number, which are the entry's number: then each second release is told.
+ * A CPU's references to an entry have one number. So a second release is told once the CPU has
+ * no other reference to it. With -DREGISTRY_CHECK=2 each reference has a tag above the low 32
+ * bits of its number, which are the entry's number: then each second release is told.
  *
- * It doesn't see a write into a handle or into a struct registry_wait, or a use of memory behind a value. Its lock orders the program's threads: a
- * checker of data races is for a build without it.
+ * It doesn't see a write into a handle or into a struct registry_wait, or a use of memory behind
+ * a value. Its lock orders the program's threads: look for data races in a build without it.
  */
 #ifndef REGISTRY_CHECK_H
 #define REGISTRY_CHECK_H
@@ -34,9 +43,9 @@ extern "C" {
 #define REGISTRY_FROM	const char *file, unsigned line
 
 /*
- * registry_holders - write who holds the entry with this number, one a line: "passive, CPU 0, send.c:80, thread 1234"
+ * registry_holders - write who holds the entry with this number, each in a line, such as "passive, CPU 0, send.c:80, thread 1234"
  *
- * `local` is a local reference with a handle, and the CPU is the one that acquired it. `section` is an open section, which may hold any entry.
+ * "local" is a local reference, and the CPU is the one that acquired it. "section" is an open section: it may hold any entry.
  * Interfaces on a driver have no line. Registries aren't distinguished.
  */
 void registry_holders(FILE *out, uint64_t number);
@@ -100,6 +109,7 @@ registry_answer registry_checked_deferred_barrier(const struct registry_lock *, 
     REGISTRY_CHECKED;
 registry_answer registry_checked_local_drop(struct registry_cpu *, struct registry_local *, pthread_mutex_t *, struct registry_keeper *, REGISTRY_FROM);
 registry_answer registry_checked_reclaimer_start(const struct registry_lock *, struct registry_deferred *, REGISTRY_FROM) REGISTRY_CHECKED;
+registry_answer registry_checked_reclaimer_stop(const struct registry_lock *, struct registry_deferred *, REGISTRY_FROM);
 registry_answer registry_checked_thread_unregister(struct registry_threads *, REGISTRY_FROM);
 
 #ifdef __cplusplus
@@ -169,6 +179,7 @@ static inline registry_answer registry_open_checked(const struct registry_settin
 #define registry_local_drop(cpu, local, mutex, keeper)			registry_checked_local_drop(cpu, local, mutex, keeper, REGISTRY_AT)
 #define registry_deferred_barrier(lock, deferred, deadline)		registry_checked_deferred_barrier(lock, deferred, deadline, REGISTRY_AT)
 #define registry_reclaimer_start(lock, deferred)			registry_checked_reclaimer_start(lock, deferred, REGISTRY_AT)
+#define registry_reclaimer_stop(lock, deferred)				registry_checked_reclaimer_stop(lock, deferred, REGISTRY_AT)
 #define registry_thread_unregister(threads)				registry_checked_thread_unregister(threads, REGISTRY_AT)
 #define registry_deferred_free(deferred, freed)		registry_deferred_free(REGISTRY_OUTER("registry_deferred_free", deferred), freed)
 #define registry_deferred_detach(deferred, cpu, kind, name, gone) \

@@ -162,9 +162,10 @@ static const struct record *seek_past(const struct record *sought)
 	return NULL;
 }
 
+/* NULL for an empty handle, too. */
 static struct record *seek_handle(enum kind kind, const void *handle)
 {
-	return seek(&(struct record){.kind = kind, .key = (uintptr_t)*(void *const *)handle});
+	return handle != NULL ? seek(&(struct record){.kind = kind, .key = (uintptr_t)*(void *const *)handle}) : NULL;
 }
 
 static struct record *insert(struct record values)
@@ -347,21 +348,21 @@ static void use_locked(const struct registry_keeper *keeper)
 	struct record *record = use(KEEPER, keeper);
 	if (record == NULL)
 		return;
+	lock_table();
 	if (record->last != now.thread)
 		record->other = record->last;
 	record->last = now.thread;
-	lock_table();
 	bool needed = record->interlock != NULL && (record->is_told || record->other != 0) && !holds(record->interlock, true);
 	if (needed && (record->is_told || is_alive(record->other)))
 		tell(&now, "this thread doesn't hold the keeper's interlock, known by %s at %s:%u", record->since.call, record->since.file, record->since.line);
 	unlock_table();
 }
 
-/* The keeper's interlock is this mutex from now on, or none if it is NULL. What the program has told stays, whatever a wait takes. */
+/* The keeper's interlock is this mutex from now on, or none if it is NULL. What the program has told stays when a wait takes another one. */
 static void learn(const struct event *event, const struct registry_keeper *keeper, pthread_mutex_t *mutex, bool is_told)
 {
 	lock_table();
-	struct record *record = keeper != NULL ? seek_handle(KEEPER, keeper) : NULL;
+	struct record *record = seek_handle(KEEPER, keeper);
 	if (record != NULL && (is_told || (!record->is_told && mutex != record->interlock))) {
 		record->interlock = mutex;
 		record->since = *event;
@@ -538,13 +539,13 @@ static registry_answer acquired(registry_answer answer, const struct record *on,
 	struct registry_entry entry = {.number = plain(*number)};
 	if (answer != REGISTRY_DONE)
 		return end(answer);
+	registry_read(cpu, entry.number, &entry);
+	lock_table();
 	struct record record = *on;
 	record.kind = PASSIVE;
 	record.key = entry.number;
 	record.tag = (uint32_t)(*number >> 32);
-	registry_read(cpu, entry.number, &entry);
 	note_entry(&record, &entry);
-	lock_table();
 	if (tagged)
 		record.tag = ++tags != 0 ? tags : ++tags;
 	insert(record);
@@ -614,13 +615,13 @@ static registry_answer acquired_local(registry_answer answer, const struct recor
 	struct registry_entry entry = {0};
 	if (answer != REGISTRY_DONE)
 		return end(answer);
+	registry_local_read(&library, &entry);
+	lock_table();
 	struct record record = *on;
 	record.kind = LOCAL;
 	record.user.call = NULL;
 	record.local = library;
-	registry_local_read(&library, &entry);
 	note_entry(&record, &entry);
-	lock_table();
 	record.key = ++locals;
 	insert(record);
 	unlock_table();
@@ -667,30 +668,31 @@ static void judge_interlock(const struct registry_keeper *keeper, pthread_mutex_
 	learn(&outer, keeper, mutex, false);
 }
 
-static void begin_wait(const char *call, const struct registry_lock *lock, const struct registry_keeper *keeper, REGISTRY_FROM)
+static void begin_outer(const char *call, const struct registry_lock *lock, const struct registry_keeper *keeper, REGISTRY_FROM)
 {
 	registry_check_outer(call, file, line);
-	if (keeper == NULL)
-		return;
-	judge_may_wait(keeper);
 	if (lock->take == registry_lock_of_mutex(&guard).take)
 		judge_interlock(keeper, lock->of);
 }
 
-#define WAITS(name, parameters, keeper, arguments)                                                                                 \
+/* A call that takes the interlock: what is looked at first, and what it gets. */
+#define LOCKS(name, parameters, keeper, first, arguments)                                                                          \
 	registry_answer registry_checked_##name parameters                                                                         \
 	{                                                                                                                          \
-		begin_wait("registry_" #name, lock, keeper, file, line);                                                           \
+		begin_outer("registry_" #name, lock, keeper, file, line);                                                          \
+		first;                                                                                                             \
 		return registry_##name arguments;                                                                                  \
 	}
 
-WAITS(destroy_wait, (const struct registry_lock *lock, struct registry_keeper *keeper, struct registry_cpu *cpu, uint64_t number,
-    const struct timespec *deadline, struct registry_stage *met, REGISTRY_FROM), keeper, (lock, keeper, cpu, plain(number), deadline, met))
-WAITS(perform_wait, (const struct registry_lock *lock, struct registry_keeper *keeper, struct registry_cpu *cpu, const struct timespec *deadline,
-    uint64_t *waited, REGISTRY_FROM), keeper, (lock, keeper, cpu, deadline, waited))
-WAITS(deferred_barrier, (const struct registry_lock *lock, struct registry_deferred *deferred, const struct timespec *deadline, REGISTRY_FROM),
-    deferred->keeper, (lock, deferred, deadline))
-WAITS(reclaimer_start, (const struct registry_lock *lock, struct registry_deferred *deferred, REGISTRY_FROM), deferred->keeper, (lock, deferred))
+LOCKS(destroy_wait, (const struct registry_lock *lock, struct registry_keeper *keeper, struct registry_cpu *cpu, uint64_t number,
+    const struct timespec *deadline, struct registry_stage *met, REGISTRY_FROM), keeper, judge_may_wait(keeper),
+    (lock, keeper, cpu, plain(number), deadline, met))
+LOCKS(perform_wait, (const struct registry_lock *lock, struct registry_keeper *keeper, struct registry_cpu *cpu, const struct timespec *deadline,
+    uint64_t *waited, REGISTRY_FROM), keeper, judge_may_wait(keeper), (lock, keeper, cpu, deadline, waited))
+LOCKS(deferred_barrier, (const struct registry_lock *lock, struct registry_deferred *deferred, const struct timespec *deadline, REGISTRY_FROM),
+    deferred->keeper, judge_may_wait(deferred->keeper), (lock, deferred, deadline))
+LOCKS(reclaimer_start, (const struct registry_lock *lock, struct registry_deferred *deferred, REGISTRY_FROM), deferred->keeper, , (lock, deferred))
+LOCKS(reclaimer_stop, (const struct registry_lock *lock, struct registry_deferred *deferred, REGISTRY_FROM), deferred->keeper, , (lock, deferred))
 
 registry_answer registry_checked_local_drop(struct registry_cpu *cpu, struct registry_local *local, pthread_mutex_t *mutex, struct registry_keeper *keeper,
     REGISTRY_FROM)

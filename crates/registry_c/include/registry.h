@@ -798,7 +798,7 @@ REGISTRY_WORDS(struct registry_limits, 6);
 }
 #endif
 
-/* The checking build tells a program that is compiled with -DREGISTRY_CHECK which of its calls break these rules. */
+/* The checking build: registry_check.h says what it tells of a program's misuse. */
 #ifdef REGISTRY_CHECK
 #include "registry_check.h"
 #endif
