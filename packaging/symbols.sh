@@ -67,7 +67,7 @@ same libkupaldiz.so "$calls" "$(shared "$out/libkupaldiz$suffix")"
 same "the nodes of libkupaldiz.so" "$(in_nodes packaging/kupaldiz.map)" "$(shown_in_nodes "$out/libkupaldiz$suffix")"
 same libkupaldiz.a "$calls" "$(static "$out/libkupaldiz.a")"
 # The checking build has each call that takes a handle of a registry, or makes such calls.
-others='registry_(for_.*|name_.*|text|strerror|version|limits|lock_of_mutex|deferred_count|threads_.*|thread_cpu)'
+others='registry_(for_.*|name_.*|id_of_name|text|strerror|version|limits|lock_of_mutex|deferred_count|threads_.*|thread_cpu)'
 same registry_check.h "$(grep -vxE "$others" <<<"$calls")" "$(sed -nE 's/^#define (registry_[a-z_]+)\(.*/\1/p' c/include/registry_check.h | grep -vx registry_check_interlock | sort)"
 same libkupaldiz_check.a "$(packaging/calls-of.sh c/include/{registry_check,waiting}.h)" "$(static "$out/libkupaldiz_check.a")"
 # With the pages' names the bench has three calls more, its own, and those that the compiler makes with -fsanitize=thread.

@@ -23,7 +23,7 @@
  * thread that still runs has used the keeper since. Who holds a mutex is known with glibc alone.
  *
  * A CPU's references to an entry have one number. So a second release is told once the CPU has
- * no other reference to it. With -DREGISTRY_CHECK=2 each reference has a tag above the low 32
+ * no other reference to it. With -DREGISTRY_CHECK=2 each reference has a tag above the low 41
  * bits of its number, which are the entry's number: then each second release is told.
  *
  * It doesn't see a write into a handle or into a struct registry_wait, or a use of memory behind
@@ -68,6 +68,8 @@ registry_answer registry_checked_find(struct registry_cpu *, uint64_t, const str
 registry_answer registry_checked_walk(struct registry_cpu *, struct registry_entry *, size_t, size_t *, REGISTRY_FROM) REGISTRY_CHECKED;
 registry_answer registry_checked_acquire(struct registry_cpu *, uint64_t *, bool tagged, REGISTRY_FROM) REGISTRY_CHECKED;
 registry_answer registry_checked_acquire_entry(struct registry_cpu *, const struct registry_entry *, REGISTRY_FROM) REGISTRY_CHECKED;
+registry_answer registry_checked_first(struct registry_cpu *, struct registry_cursor *, struct registry_entry *, REGISTRY_FROM) REGISTRY_CHECKED;
+registry_answer registry_checked_next(struct registry_cpu *, struct registry_cursor *, struct registry_entry *, REGISTRY_FROM) REGISTRY_CHECKED;
 registry_answer registry_checked_copy(struct registry_cpu *, uint64_t, REGISTRY_FROM) REGISTRY_CHECKED;
 registry_answer registry_checked_held(const struct registry_cpu *, uint64_t, bool *, REGISTRY_FROM);
 registry_answer registry_checked_read(const struct registry_cpu *, uint64_t, struct registry_entry *, REGISTRY_FROM);
@@ -78,6 +80,8 @@ registry_answer registry_checked_get(struct registry_cpu *, uint64_t, const stru
 registry_answer registry_checked_enter_find(struct registry_cpu *, uint64_t, const struct registry_name *, struct registry_entry *, REGISTRY_FROM)
     REGISTRY_CHECKED;
 registry_answer registry_checked_local_acquire(struct registry_cpu *, struct registry_local *, REGISTRY_FROM) REGISTRY_CHECKED;
+registry_answer registry_checked_local_acquire_entry(struct registry_cpu *, const struct registry_entry *, struct registry_local *, REGISTRY_FROM)
+    REGISTRY_CHECKED;
 registry_answer registry_checked_local_read(const struct registry_local *, struct registry_entry *, REGISTRY_FROM);
 registry_answer registry_checked_local_release(struct registry_cpu *, struct registry_local *, REGISTRY_FROM) REGISTRY_CHECKED;
 registry_answer registry_checked_local_give_up(struct registry_keeper *, struct registry_local *, REGISTRY_FROM) REGISTRY_CHECKED;
@@ -86,6 +90,11 @@ registry_answer registry_checked_attach(struct registry_keeper *, struct registr
     REGISTRY_FROM) REGISTRY_CHECKED;
 registry_answer registry_checked_attach_iface(struct registry_keeper *, struct registry_cpu *, struct registry_local *, const struct registry_name *, uint64_t,
     struct registry_entry *, REGISTRY_FROM) REGISTRY_CHECKED;
+registry_answer registry_checked_replace(struct registry_keeper *, struct registry_cpu *, const struct registry_name *, uint64_t, struct registry_entry *,
+    struct registry_entry *, REGISTRY_FROM) REGISTRY_CHECKED;
+registry_answer registry_checked_replace_iface(struct registry_keeper *, struct registry_cpu *, struct registry_local *, const struct registry_name *, uint64_t,
+    struct registry_entry *, struct registry_entry *, REGISTRY_FROM) REGISTRY_CHECKED;
+registry_answer registry_checked_room(const struct registry_keeper *, REGISTRY_FROM) REGISTRY_CHECKED;
 registry_answer registry_checked_detach(struct registry_keeper *, struct registry_cpu *, uint64_t, const struct registry_name *, struct registry_entry *,
     REGISTRY_FROM) REGISTRY_CHECKED;
 registry_answer registry_checked_advance(struct registry_keeper *, uint64_t, struct registry_stage *, REGISTRY_FROM) REGISTRY_CHECKED;
@@ -147,6 +156,8 @@ static inline registry_answer registry_open_checked(const struct registry_settin
 #define registry_walk(cpu, row, room, count)				registry_checked_walk(cpu, row, room, count, REGISTRY_AT)
 #define registry_acquire(cpu, number)					registry_checked_acquire(cpu, number, REGISTRY_TAGGED, REGISTRY_AT)
 #define registry_acquire_entry(cpu, entry)				registry_checked_acquire_entry(cpu, entry, REGISTRY_AT)
+#define registry_first(cpu, cursor, entry)				registry_checked_first(cpu, cursor, entry, REGISTRY_AT)
+#define registry_next(cpu, cursor, entry)				registry_checked_next(cpu, cursor, entry, REGISTRY_AT)
 #define registry_copy(cpu, number)					registry_checked_copy(cpu, number, REGISTRY_AT)
 #define registry_held(cpu, number, held)				registry_checked_held(cpu, number, held, REGISTRY_AT)
 #define registry_read(cpu, number, entry)				registry_checked_read(cpu, number, entry, REGISTRY_AT)
@@ -155,12 +166,17 @@ static inline registry_answer registry_open_checked(const struct registry_settin
 #define registry_get(cpu, kind, name, found)				registry_checked_get(cpu, kind, name, found, REGISTRY_TAGGED, REGISTRY_AT)
 #define registry_enter_find(cpu, kind, name, found)			registry_checked_enter_find(cpu, kind, name, found, REGISTRY_AT)
 #define registry_local_acquire(cpu, local)				registry_checked_local_acquire(cpu, local, REGISTRY_AT)
+#define registry_local_acquire_entry(cpu, entry, local)			registry_checked_local_acquire_entry(cpu, entry, local, REGISTRY_AT)
 #define registry_local_read(local, entry)				registry_checked_local_read(local, entry, REGISTRY_AT)
 #define registry_local_release(cpu, local)				registry_checked_local_release(cpu, local, REGISTRY_AT)
 #define registry_local_give_up(keeper, local)				registry_checked_local_give_up(keeper, local, REGISTRY_AT)
 #define registry_local_forget(local)					registry_checked_local_forget(local, REGISTRY_AT)
 #define registry_attach(keeper, cpu, name, value, made)			registry_checked_attach(keeper, cpu, name, value, made, REGISTRY_AT)
 #define registry_attach_iface(keeper, cpu, driver, name, value, made)	registry_checked_attach_iface(keeper, cpu, driver, name, value, made, REGISTRY_AT)
+#define registry_replace(keeper, cpu, name, value, gone, made)		registry_checked_replace(keeper, cpu, name, value, gone, made, REGISTRY_AT)
+#define registry_replace_iface(keeper, cpu, driver, name, value, gone, made) \
+	registry_checked_replace_iface(keeper, cpu, driver, name, value, gone, made, REGISTRY_AT)
+#define registry_room(keeper)						registry_checked_room(keeper, REGISTRY_AT)
 #define registry_detach(keeper, cpu, kind, name, gone)			registry_checked_detach(keeper, cpu, kind, name, gone, REGISTRY_AT)
 #define registry_advance(keeper, number, met)				registry_checked_advance(keeper, number, met, REGISTRY_AT)
 #define registry_destroy(keeper, cpu, number, met)			registry_checked_destroy(keeper, cpu, number, met, REGISTRY_AT)

@@ -19,9 +19,11 @@
 #include <sys/syscall.h>
 #include <unistd.h>
 
-enum { BUCKETS = 1024, PAST = 4096, LONGEST = 500 };
+/* A tag is above an entry's number. */
+enum { BUCKETS = 1024, PAST = 4096, LONGEST = 500, NUMBER_BITS = 41 };
+#define TAGS	((UINT32_C(1) << (64 - NUMBER_BITS)) - 1)
 
-_Static_assert(REGISTRY_MOST_CHANGES <= UINT32_MAX, "a tag is above an entry's number");
+_Static_assert(REGISTRY_MOST_CHANGES < UINT64_C(1) << NUMBER_BITS, "a tag is above an entry's number");
 
 /* A call, and which thread made it where. None if `call` is NULL. */
 struct event {
@@ -116,7 +118,7 @@ __attribute__((format(printf, 2, 3))) static _Noreturn void tell(const struct ev
 /* The number of the entry in that of a reference to it. Its tag is above. */
 static uint64_t plain(uint64_t number)
 {
-	return number & UINT32_MAX;
+	return number & ((UINT64_C(1) << NUMBER_BITS) - 1);
 }
 
 /* ---- The records. The caller has the table locked. ---- */
@@ -429,7 +431,7 @@ static _Noreturn void tell_not_held(const struct record *on, struct record sough
 /* The CPU's reference with this number: this thread's own if it has one. NULL if only a call that isn't checked can have acquired it. */
 static struct record *held_by(const struct record *on, const struct registry_cpu *cpu, uint64_t number)
 {
-	struct record sought = {.kind = PASSIVE, .key = plain(number), .on = on->on, .tag = (uint32_t)(number >> 32), .made = {.thread = now.thread}};
+	struct record sought = {.kind = PASSIVE, .key = plain(number), .on = on->on, .tag = (uint32_t)(number >> NUMBER_BITS), .made = {.thread = now.thread}};
 	bool held = false;
 	lock_table();
 	struct record *found = seek(&sought);
@@ -446,7 +448,7 @@ static struct record *held_by(const struct record *on, const struct registry_cpu
 static void judge_tagged(const struct registry_cpu *cpu, uint64_t number)
 {
 	const struct record *on = use(CPU, cpu);
-	if (on != NULL && number >> 32 != 0)
+	if (on != NULL && number >> NUMBER_BITS != 0)
 		held_by(on, cpu, number);
 }
 
@@ -494,6 +496,8 @@ CHECKED(depth, (const struct registry_cpu *cpu, uint64_t *depth, REGISTRY_FROM),
 CHECKED(find, (struct registry_cpu *cpu, uint64_t kind, const struct registry_name *name, struct registry_entry *found, REGISTRY_FROM),
     use(CPU, cpu); judge_apart(name, found), (cpu, kind, name, found))
 CHECKED(walk, (struct registry_cpu *cpu, struct registry_entry *row, size_t room, size_t *count, REGISTRY_FROM), use(CPU, cpu), (cpu, row, room, count))
+CHECKED(first, (struct registry_cpu *cpu, struct registry_cursor *cursor, struct registry_entry *entry, REGISTRY_FROM), use(CPU, cpu), (cpu, cursor, entry))
+CHECKED(next, (struct registry_cpu *cpu, struct registry_cursor *cursor, struct registry_entry *entry, REGISTRY_FROM), use(CPU, cpu), (cpu, cursor, entry))
 CHECKED(look_up, (struct registry_cpu *cpu, uint64_t kind, const struct registry_name *name, struct registry_entry *found, REGISTRY_FROM),
     use(CPU, cpu); judge_apart(name, found), (cpu, kind, name, found))
 CHECKED(enter_find, (struct registry_cpu *cpu, uint64_t kind, const struct registry_name *name, struct registry_entry *found, REGISTRY_FROM),
@@ -512,6 +516,14 @@ CHECKED(attach, (struct registry_keeper *keeper, struct registry_cpu *cpu, const
 CHECKED(attach_iface, (struct registry_keeper *keeper, struct registry_cpu *cpu, struct registry_local *driver, const struct registry_name *name, uint64_t value,
     struct registry_entry *made, REGISTRY_FROM), use_locked(keeper); use(CPU, cpu); judge_apart(name, made),
     (keeper, cpu, library_handle(driver), name, value, made))
+CHECKED(replace, (struct registry_keeper *keeper, struct registry_cpu *cpu, const struct registry_name *name, uint64_t value, struct registry_entry *gone,
+    struct registry_entry *made, REGISTRY_FROM), use_locked(keeper); use(CPU, cpu); judge_apart(name, gone); judge_apart(name, made),
+    (keeper, cpu, name, value, gone, made))
+CHECKED(replace_iface, (struct registry_keeper *keeper, struct registry_cpu *cpu, struct registry_local *driver, const struct registry_name *name,
+    uint64_t value, struct registry_entry *gone, struct registry_entry *made, REGISTRY_FROM),
+    use_locked(keeper); use(CPU, cpu); judge_apart(name, gone); judge_apart(name, made),
+    (keeper, cpu, library_handle(driver), name, value, gone, made))
+CHECKED(room, (const struct registry_keeper *keeper, REGISTRY_FROM), use_locked(keeper), (keeper))
 CHECKED(detach, (struct registry_keeper *keeper, struct registry_cpu *cpu, uint64_t kind, const struct registry_name *name, struct registry_entry *gone,
     REGISTRY_FROM), use_locked(keeper); use(CPU, cpu); judge_apart(name, gone), (keeper, cpu, kind, name, gone))
 CHECKED(advance, (struct registry_keeper *keeper, uint64_t number, struct registry_stage *met, REGISTRY_FROM), use_locked(keeper),
@@ -544,13 +556,13 @@ static registry_answer acquired(registry_answer answer, const struct record *on,
 	struct record record = *on;
 	record.kind = PASSIVE;
 	record.key = entry.number;
-	record.tag = (uint32_t)(*number >> 32);
+	record.tag = (uint32_t)(*number >> NUMBER_BITS);
 	note_entry(&record, &entry);
 	if (tagged)
-		record.tag = ++tags != 0 ? tags : ++tags;
+		record.tag = tags++ % TAGS + 1;
 	insert(record);
 	unlock_table();
-	*number = (uint64_t)record.tag << 32 | record.number;
+	*number = (uint64_t)record.tag << NUMBER_BITS | record.number;
 	return end(answer);
 }
 
@@ -637,6 +649,19 @@ registry_answer registry_checked_local_acquire(struct registry_cpu *cpu, struct 
 		tell(&now, "the pointer to the handle of the local reference is NULL");
 	struct registry_local library = *local;
 	registry_answer answer = registry_local_acquire(cpu, &library);
+	return acquired_local(answer, on, library, local);
+}
+
+registry_answer registry_checked_local_acquire_entry(struct registry_cpu *cpu, const struct registry_entry *entry, struct registry_local *local, REGISTRY_FROM)
+{
+	begin("registry_local_acquire_entry", file, line);
+	const struct record *on = use(CPU, cpu);
+	if (local == NULL)
+		tell(&now, "the pointer to the handle of the local reference is NULL");
+	struct registry_local library = *local;
+	struct registry_entry own = entry != NULL ? *entry : (struct registry_entry){0};
+	own.number = plain(own.number);
+	registry_answer answer = registry_local_acquire_entry(cpu, entry != NULL ? &own : NULL, &library);
 	return acquired_local(answer, on, library, local);
 }
 

@@ -369,7 +369,7 @@ static void who_holds(void)
 	DONE(AT(3, registry_local_acquire(&one.cpus[1], &local)));
 	DONE(registry_attach(&one.keeper, &one.cpus[0], &wm0, 7, NULL));
 	DONE(registry_get(&one.cpus[0], REGISTRY_DRIVER, &wm0, NULL));
-	registry_holders(stderr, found.number | UINT64_C(1) << 32);
+	registry_holders(stderr, found.number | UINT64_C(1) << 41);
 	DONE(registry_exit(&one.cpus[1]));
 	DONE(registry_local_forget(&local));
 	DONE(registry_close_cpu(&one.cpus[0]));
