@@ -248,9 +248,11 @@ mod tests {
     /// The name that the archive makes of an id, and the id that it reads from a name.
     fn by_archive(id: u64, name: &Name) -> (ffi::Name, Option<u64>) {
         let (mut words, mut read) = (ffi::Name::default(), 0);
-        // SAFETY: each of the three places is a value of its own.
-        let answers = unsafe { (ffi::registry_name_of_id(id, &mut words), ffi::registry_id_of_name(&name.words, &mut read)) };
-        match answers {
+        // SAFETY: the place is a value of its own.
+        let made = unsafe { ffi::registry_name_of_id(id, &mut words) };
+        // SAFETY: each of the two places is a value of its own.
+        let found = unsafe { ffi::registry_id_of_name(&name.words, &mut read) };
+        match (made, found) {
             (ffi::DONE, ffi::DONE) => (words, Some(read)),
             (ffi::DONE, ffi::BAD_NAME) => (words, None),
             other => panic!("{other:?}"),
