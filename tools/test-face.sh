@@ -190,7 +190,7 @@ test_c() {
     cpus=$(most_cpus)
     check "C: smallest" smallest_says "$out/smallest"
     check "C: row" row_says "$out/row"
-    for each in packet 'shared 2000' checked misuse refuse allocs blocks built turns deferred together interrupted reclaims lent history planted 'walk 5000' 'entries 1000' names \
+    for each in packet 'shared 2000' misuse refuse allocs blocks built turns deferred together interrupted reclaims lent history planted 'walk 5000' 'entries 1000' names \
         recalls 'crowd 2000' forwarder device_switch 'speed 2 8 1000' 'changes 20' "changes 20 $cpus"; do
         # shellcheck disable=SC2086
         check "C: $each" "$out"/$each
@@ -199,6 +199,7 @@ test_c() {
         # shellcheck disable=SC2086
         check "C: storm $each" storm_says $each "$out/storm"
     done
+    check "C: checked" "$out/checked"
     check "C: smallest in the checking build" smallest_says "$out/checked-smallest"
     check "C: row in the checking build" row_says "$out/checked-row"
     check "C: storm 4 2000 in the checking build" storm_says 4 2000 "$out/checked-storm"

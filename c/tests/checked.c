@@ -553,7 +553,9 @@ static bool holds(const struct row *row)
 	close(says);
 	EXPECT(waitpid(child, &status, 0) == child);
 	fill(wanted, sizeof wanted, row->says, child);
-	bool right = strcmp(said, wanted) == 0 && (row->aborts ? WIFSIGNALED(status) && WTERMSIG(status) == SIGABRT : status == 0);
+	/* An emulator says more of an abort. */
+	bool right = row->aborts ? strncmp(said, wanted, strlen(wanted)) == 0 && WIFSIGNALED(status) && WTERMSIG(status) == SIGABRT
+	                         : strcmp(said, wanted) == 0 && status == 0;
 	if (!right)
 		printf("FAILED  %s, with status %x. It said:\n%sWanted:\n%s", row->name, (unsigned)status, said, wanted);
 	return right;
