@@ -271,7 +271,6 @@ impl<T> Shared<T> {
             // SAFETY: as above, and the turn was just made.
             return unsafe { self.go_on(kept, cpu, entry.number, entry.slot(), locals) };
         }
-        drop(kept);
         Err(met)
     }
 
