@@ -46,7 +46,7 @@ pub fn running_headline()
 {}
 
 /// The main theorem of a whole run, no effect at run time: what holds of the words that `Words::close` returns. Each finished run has such
-/// words, whatever its schedule was. No hypothesis speaks of the rule: `close` ensures all of it (`HasClosed`).
+/// words, on any schedule. No hypothesis speaks of the rule: `close` ensures all of it (`HasClosed`).
 ///
 /// A list of events leads from the opening to the words. Each event was made, with its reply, by the seat at its place (`are`, `all`).
 ///
