@@ -1,6 +1,7 @@
 pub mod Balance
 pub mod Called
 pub mod Freed
+pub mod Ended
 pub mod Fresh
 pub mod Kept
 pub mod Holders

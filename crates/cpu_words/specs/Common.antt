@@ -16,6 +16,7 @@ pub use Rattle.cpu_words.specs.Called.{CpuHearsLater, EndsOpenSections, HasLeft,
 pub use Rattle.cpu_words.specs.Domains.{AreWordsOf}
 pub use Rattle.cpu_words.specs.Draining.{CollectTold, HasAdded, HasCollected, HasKeptSub, HasLookedPassive, IsFoundCollected, KeptSubTold, LookedPassiveTold, MayCollect, MayJoinKeeper, MayKeptSub}
 pub use Rattle.cpu_words.specs.Draining.{MayPassiveLook, MayTotalAdd, MayTotalSub, TotalAddTold, TotalSubTold, keeper_after_join, row_of, with_given_up}
+pub use Rattle.cpu_words.specs.Ended.{EndedRuns, EndsRun, HasClosed, IsGoneFrom}
 pub use Rattle.cpu_words.specs.Freed.{FreedByKeeper, FreedIsGone, HasGone, IsGone}
 pub use Rattle.cpu_words.specs.Fresh.{HeadsAreNewest, LookupsAreFresh, PassesAreWhole, RecallsAreLive, RefindsAreLive, WholeInTheList, has_sought, history_length, until_reply, with_reply}
 pub use Rattle.cpu_words.specs.Grace.{HasLooked, HasSnapshot, LookTold, MayGlance, MayLook, MaySnapshot, due_next, keeper_after_look}

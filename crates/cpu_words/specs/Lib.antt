@@ -29,6 +29,7 @@ pub mod Waiting
 pub mod Ordered
 pub mod Called
 pub mod Freed
+pub mod Ended
 pub mod Fresh
 pub mod Kept
 pub mod Domains

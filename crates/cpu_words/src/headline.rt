@@ -1,6 +1,7 @@
 //! The laws of the protocol, said of the running words: functions that do nothing, whose contracts are the laws.
 
 ghost use Rattle.cpu_words.specs.Headline.{DrainedIsFree, FoundIsHeld, HeldHaveSlots, MarksAreHonest, RunningHeadline};
+ghost use Rattle.cpu_words.specs.Ended.{EndedRuns};
 ghost use Rattle.cpu_words.specs.Called.{CpuHearsLater, EndsOpenSections, KeeperHearsLater};
 ghost use Rattle.cpu_words.specs.Waiting.{WaitingEnds};
 ghost use Rattle.cpu_words.specs.Freed.{FreedByKeeper, FreedIsGone};
@@ -42,6 +43,18 @@ pub fn running_headline()
     ensures freed_by { FreedByKeeper }
     ensures kept { AttachedKeeps }
     ensures balance { SeatsBalance }
+{}
+
+/// The main theorem of a whole run, no effect at run time: what holds of the words that `Words::close` returns. Each finished run has such
+/// words, on any schedule. No hypothesis speaks of the rule: `close` ensures all of it (`HasClosed`).
+///
+/// A list of events leads from the opening to the words. Each event was made, with its reply, by the seat at its place (`are`, `all`).
+///
+/// - `words`, `holds`, `modelled`, `laws`: they are the words of the state that the list leads to, which obeys the protocol's laws.
+/// - `keeper`, `shown`: the keeper's log is its whole part of the list, and its view is of that state.
+/// - `gone`: an entry that the keeper freed by that log has no slot, no holder, and no live word.
+pub fn ended_run()
+    ensures ended { EndedRuns }
 {}
 
 /// Theorem, no effect at run time: what the keeper's marks say of all seats, in every state of the table that is under the rule.

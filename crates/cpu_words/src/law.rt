@@ -40,7 +40,7 @@ impl Model for Words {
 
     ghost view = { λ w. record { table = w.table.shared.table_id; settings = w.settings } };
 
-    ghost invariant = { λ w. (w.settings ≡ w.table.shared.key) × (w.table.shared.table_id.words ≡ WORDS) };
+    ghost invariant = { λ w. (w.settings ≡ w.table.shared.key) × (w.table.shared.table_id.words ≡ WORDS) × (w.table.shared.table_id.slots ≡ 0) };
 }
 
 impl Words {

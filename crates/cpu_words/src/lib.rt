@@ -7,6 +7,7 @@
 //! A local reference's seat is split from its CPU's, and spent when it is counted down or kept. A note's is split from any seat that tells.
 #![tactic(auto)]
 
+mod closing;
 mod headline;
 mod law;
 mod layout;
@@ -16,7 +17,8 @@ mod seat;
 pub mod steps;
 mod view;
 
-pub use headline::{honest_marks, running_headline};
+pub use closing::LastWords;
+pub use headline::{ended_run, honest_marks, running_headline};
 pub use law::{Domain, RegistryRule, Words};
 pub use layout::layout_law;
 pub use seat::{CpuSeat, KeeperSeat, NoteSeat, ReferenceSeat};

@@ -1,5 +1,5 @@
 -- A detach: the keeper's live slots are the entries live in its history, and what the call leaves.
-use Rattle.std.proofs.Common.{◌++◌, ◌≡◌, ◌∙◌, inl, ℕ, Bool, true, false, Option, Some, None, Result, Ok, Err, position, List, length, sym, ap, subst}
+use Rattle.std.proofs.Common.{◌++◌, ◌≡◌, ◌∙◌, inl, ℕ, Bool, true, false, Option, Some, None, Result, Ok, Err, position, List, length, refl, sym, ap, subst}
 use Rattle.std.proofs.lemmas.List.Quantifiers.{position-Some}
 use mathlib.Core.List.{IsPrefix}
 use Rattle.name_registry.specs.Types.{Change, Entry, Refusal, Inside, NotFound, Settings, Key, Slot, Live, KeeperView, LogItem, KeptSlot}
@@ -9,7 +9,7 @@ use Rattle.registry_values.proofs.Slots.{key_same, live_tells}
 use Rattle.protocol.proofs.slots.Numbers.{position_fails}
 use Rattle.protocol.proofs.slots.Occupied.{in_within, live_one}
 use Rattle.cpu_words.proofs.by_keeper.KeeperSees.{seen_by_keeper}
-use Rattle.passive_list.specs.Common.{OnCpu, OnKeeper, states_of, IsOurKeeper, HasHeardOn, cpu_after_tell, has_heard, HasDetached}
+use Rattle.passive_list.specs.Common.{OnCpu, OnKeeper, states_of, IsOurKeeper, HasHeardOn, cpu_after_tell, has_heard, HasDetached, LogsDetach}
 use Rattle.passive_list.proofs.Attached.{rows_live, live_rows}
 use Rattle.name_registry.specs.Common.{IsDetachRefusal, IsLookupNow, IsLivePlace, HasDetachedFor, keeper_after_hear, keeper_after_tell, is_inside}
 use Rattle.name_registry.proofs.Heard.{seen_detach}
@@ -79,13 +79,14 @@ detached_told a t e b has = record {
 -- The keeper m heard the CPU x, the entry e in the slot t was retired, and the CPU heard the history that the keeper b has then.
 pub detached_for : (a : OnKeeper) (x : OnCpu) (m : OnKeeper) (n : OnCpu) (t : ℕ) (e : Entry) (b : OnKeeper) (y : OnCpu) → m ≡ keeper_after_hear a x → n ≡ cpu_after_tell x
     → IsPrefix x.view.pass m.view.history → IsAttached a.view.history e → e.slot ≡ t
-    → HasDetached m t e b → HasHeardOn b.view.history n y → y.log ≡ n.log ++ has_heard n None → HasDetachedFor a x e (keeper_after_tell b) y
-detached_for a x m n t e b y heard same seen attached slot has hears log =
+    → HasDetached m t e b → LogsDetach m.view.settings.cpus t m.log b.log → HasHeardOn b.view.history n y → y.log ≡ n.log ++ has_heard n None → HasDetachedFor a x e (keeper_after_tell b) y
+detached_for a x m n t e b y heard same seen attached slot has logs hears log =
     let before = subst (λ (k : OnKeeper). IsPrefix x.view.pass k.view.history) heard seen in
     let done = subst (λ (u : ℕ). HasDetached (keeper_after_hear a x) u e b) (sym slot) (subst (λ (k : OnKeeper). HasDetached k t e b) heard has) in
     record {
       seen = before;
       keeper = detached_told (keeper_after_hear a x) e.slot e b done;
+      log = (b.log, subst (λ (u : ℕ). LogsDetach a.view.settings.cpus u (keeper_after_hear a x).log b.log) (sym slot) (subst (λ (k : OnKeeper). LogsDetach k.view.settings.cpus t k.log b.log) heard logs), refl);
       cpu = heard_told b.view.history x y (subst (λ (z : OnCpu). HasHeardOn b.view.history z y) same hears);
       own = seen_detach a.view.history x y e before attached (subst (λ (h : List Change). IsPrefix h y.view.pass) (ap (λ (k : KeeperView). k.history) done.view) hears.told) (met x n y same log);
     }

@@ -1,6 +1,7 @@
 pub mod Attached
 pub mod Audits
 pub mod Balanced
+pub mod Closed
 pub mod Destroyed
 pub mod Detached
 pub mod Exact

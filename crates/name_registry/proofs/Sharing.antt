@@ -38,17 +38,18 @@ pub passed : (m : ℕ) (z : Settings) (a : OnKeeper) (x : OnCpu) (numbers : List
 passed m z a x numbers b y had = record { known = had.known; end = had.end; passes = had.passes; own = had.own; is = had.is; hears = heard m _ x y had.hears; told = had.told; cpu_log = had.cpu_log }
 
 pub attached : (m : ℕ) (a : OnKeeper) (x : OnCpu) (e : Entry) (b : OnKeeper) (y : OnCpu) → HasAttachedFor a x e b y → HasAttachedFor a (sharing m x) e b (sharing m y)
-attached m a x e b y had = record { seen = had.seen; keeper = had.keeper; cpu = heard m _ x y had.cpu; own = record { later = had.own.later; attached = had.own.attached; log = had.own.log } }
+attached m a x e b y had = record { seen = had.seen; keeper = had.keeper; log = had.log; cpu = heard m _ x y had.cpu; own = record { later = had.own.later; attached = had.own.attached; log = had.own.log } }
 
 pub iface_attached : (m : ℕ) (a : OnKeeper) (x : OnCpu) (v : ReferenceView) (e : Entry) (b : OnKeeper) (y : OnCpu) → HasAttachedIfaceFor a x v e b y
     → HasAttachedIfaceFor a (sharing m x) v e b (sharing m y)
 iface_attached m a x v e b y had =
-    record { seen = had.seen; keeper = had.keeper; keeping = had.keeping; cpu = heard m _ x y had.cpu; own = record { later = had.own.later; attached = had.own.attached; log = had.own.log } }
+    record { seen = had.seen; keeper = had.keeper; log = had.log; keeping = had.keeping; cpu = heard m _ x y had.cpu; own = record { later = had.own.later; attached = had.own.attached; log = had.own.log } }
 
 pub detached : (m : ℕ) (a : OnKeeper) (x : OnCpu) (e : Entry) (b : OnKeeper) (y : OnCpu) → HasDetachedFor a x e b y → HasDetachedFor a (sharing m x) e b (sharing m y)
 detached m a x e b y had = record {
   seen = had.seen;
   keeper = had.keeper;
+  log = had.log;
   cpu = heard m _ x y had.cpu;
   own = record { end = had.own.end; later = had.own.later; ends = had.own.ends; attached = had.own.attached; log = had.own.log };
 }

@@ -110,7 +110,7 @@ pub record MeetsGrace (a : OnKeeper) (t c : ℕ) (b : OnKeeper) : Type 0 where
   pub lesser : PassedBelow b.view t c
   pub leaves : HasLookedFor a t b
 
--- it saw that c has a passive reference; all CPUs have passed, and those before c are clear
+-- it saw that c's passive word isn't 0; all CPUs have passed, and those before c are clear
 pub record MeetsPassive (a : OnKeeper) (t c : ℕ) (b : OnKeeper) : Type 0 where
   pub cpu : c < a.view.settings.cpus
   pub sees : SeesPassive a t c b

@@ -10,6 +10,7 @@ pub use Rattle.name_registry.specs.Auditing.{acquired_of, audited, audited_at, a
 pub use Rattle.name_registry.specs.Auditing.{locals_of, net_met, net_of, net_unless, place_of, places_below, released_of, tallies_below, tallies_met, tally, tally_by, tally_in, tally_met, tally_of}
 pub use Rattle.name_registry.specs.Auditing.{total_in}
 pub use Rattle.name_registry.specs.Changes.{HasMade, WeightsTell, number_of, unit, weigh, weight}
+pub use Rattle.name_registry.specs.Closing.{ClosesRun}
 pub use Rattle.name_registry.specs.Destroying.{Destroys, DestroysOutside, HasAdvancedFor, HasDestroyed, LastMeeting, SomeAdvancedFor, TurnsMeeting}
 pub use Rattle.name_registry.specs.Detaching.{HasDetachedFor, IsDetachAnswer, IsDetachRefusal, IsLivePlace, IsLookupNow}
 pub use Rattle.name_registry.specs.Law.{Balanced, ExactAudit, FreeInterlock, counts_of}

@@ -1,10 +1,11 @@
 -- Detaching behind the interlock: the entry that a lookup of the history gives now is retired.
-use Rattle.std.specs.Prelude.{◌≡◌, ℕ, length, Option, Some, None, Result, Ok, Err, true, false}
+use Rattle.std.specs.Prelude.{◌≡◌, ◌++◌, ℕ, List, length, Option, Some, None, Result, Ok, Err, true, false}
 use mathlib.Core.List.{IsPrefix}
-use Rattle.name_registry.specs.Types.{Entry, Refusal, Inside, NotFound, Key, Live}
+use Rattle.name_registry.specs.Types.{Entry, Tell, Done, LogItem, Refusal, Inside, NotFound, Key, Live}
 use Rattle.protocol.specs.Common.{IsLookup}
 use Rattle.registry_values.specs.Common.{slot_at}
-use Rattle.passive_list.specs.Common.{OnCpu, OnKeeper, HasHeardOn, HasDetached}
+use Rattle.cpu_words.specs.Common.{did}
+use Rattle.passive_list.specs.Common.{OnCpu, OnKeeper, HasHeardOn, HasDetached, LogsDetach}
 use Rattle.name_registry.specs.Meeting.{is_inside, keeper_after_hear, HasSeenDetach}
 
 -- the result of a lookup now
@@ -30,5 +31,7 @@ IsDetachAnswer k x key (Err refusal) = IsDetachRefusal k x key refusal
 pub record HasDetachedFor (a : OnKeeper) (x : OnCpu) (e : Entry) (b : OnKeeper) (y : OnCpu) : Type 0 where
   pub seen : IsPrefix x.view.pass a.view.history
   pub keeper : HasDetached (keeper_after_hear a x) e.slot e b
+  -- the keeper's log goes on by the events of the detach, and a Tell
+  pub log : (end : List LogItem) × LogsDetach a.view.settings.cpus e.slot (keeper_after_hear a x).log end × (b.log ≡ end ++ did (Tell None) Done)
   pub cpu : HasHeardOn b.view.history x y
   pub own : HasSeenDetach x y e

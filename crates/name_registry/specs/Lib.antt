@@ -8,6 +8,7 @@ pub mod Detaching
 pub mod Auditing
 pub mod Law
 pub mod Opening
+pub mod Closing
 pub mod Advancing
 pub mod Locking
 pub mod LookingUp

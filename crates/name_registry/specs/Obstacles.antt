@@ -25,7 +25,7 @@ pub record MetSection (t c : ℕ) (begin log : List LogItem) : Type 0 where
   pub snapped : IsSnapped t c word log
   pub lesser : (d : ℕ) → d < c → HasPassedOn t d log
 
--- The last thing that the keeper did, and in this turn, was to load the passive word of c for the slot, which wasn't 0: c has a passive reference. All CPUs have passed.
+-- The last thing that the keeper did, and in this turn, was to load the passive word of c for the slot, which wasn't 0: c has a passive reference to the entry, or tries to get one in the slot. All CPUs have passed.
 pub record MetReference (cpus t c : ℕ) (begin log : List LogItem) : Type 0 where
   pub word : ℕ
   pub before : List LogItem

@@ -19,7 +19,7 @@ pub use Rattle.registry_values.specs.declared.slot.Slot.TheVariants.{Live, Retir
 pub use Rattle.registry_values.specs.declared.stage.Stage.{Stage}
 pub use Rattle.registry_values.specs.declared.stage.Stage.TheVariants.{Freed, Grace, Local, Passive}
 pub use Rattle.protocol.specs.declared.event.Event.{Event}
-pub use Rattle.protocol.specs.declared.event.Event.TheVariants.{Collect, Hear, JoinKeeper, KeptSub, Look, PassiveLook, PassiveSub, Publish, Snapshot, Tell, TotalAdd, TotalSub, Vacate}
+pub use Rattle.protocol.specs.declared.event.Event.TheVariants.{Collect, Hear, JoinKeeper, Keep, KeptSub, Look, PassiveLook, PassiveSub, Publish, Snapshot, Tell, TotalAdd, TotalSub, Vacate}
 pub use Rattle.protocol.specs.declared.event.Reply.{Reply}
 pub use Rattle.protocol.specs.declared.event.Reply.TheVariants.{Done, Word}
 pub use Rattle.protocol.specs.declared.state.Due.{Due}

@@ -12,6 +12,7 @@ mod advancing;
 mod attaching;
 mod auditing;
 mod blank;
+mod closing;
 mod destroying;
 mod detaching;
 mod first_fit;

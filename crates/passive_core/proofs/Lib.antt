@@ -9,3 +9,4 @@ pub mod Locals
 pub mod Making
 pub mod Passives
 pub mod Performing
+pub mod Plain

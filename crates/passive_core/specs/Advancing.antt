@@ -1,9 +1,9 @@
 -- How far the destruction of a retired entry has come, in plain terms, and what the keeper's work on it leaves.
 use Rattle.std.specs.Prelude.{◌≡◌, ◌<◌, ℕ, ◌+◌, ◌==◌, nat_lt, List, Option, Some, None, Bool, true, false, not, ◌&&◌, Result, Ok, Err, slice_set}
 use Rattle.passive_core.specs.Types.{Entry, Refusal, StillHeld, Stage, Grace, Passive, Local, Freed, Mark, Slot, Vacant, Retired}
-use Rattle.protocol.specs.Common.{MayHold, State, section_at, begin_at, mark_at, passive_at, count_at, total_at, kept_at, is_inside, held_at, one_if, AllClear, AllCollected, AllPassed, MarksGrow}
+use Rattle.protocol.specs.Common.{MayHold, State, section_at, begin_at, mark_at, passive_at, count_at, total_at, kept_at, is_inside, held_at, passive_in, one_if, AllClear, AllCollected, AllPassed, MarksGrow}
 use Rattle.protocol.specs.Common.{SameElsewhere}
-use Rattle.registry_values.specs.Common.{bias, slot_at, has_number, retired_slot, least_below, stage_of}
+use Rattle.registry_values.specs.Common.{bias, slot_at, slot_of, has_number, retired_slot, least_below, stage_of}
 use Rattle.registry_values.specs.Stages as stages
 
 -- the word is that of the snapshot
@@ -29,6 +29,17 @@ stage_in s n place = stages.stage_in (λ t. first_obstacle s t n) place
 -- The result of advance.
 abbrev pub advance_answer : State → ℕ → Result Stage Refusal
 advance_answer s n = stage_in s n (retired_slot s.slots n)
+
+-- The plain stage, by who holds the entry: a CPU has a passive reference to n
+abbrev pub refers_to : State → ℕ → ℕ → Bool
+refers_to s n c = nat_lt 0 (passive_in s.passive s.hands c (slot_of s.slots n))
+
+-- an open section as old as its snapshot, a passive reference, local ones
+abbrev pub plain_obstacle : State → ℕ → ℕ → Stage
+plain_obstacle s n t = stage_of t (least_below (is_open_since s t) s.settings.cpus) (least_below (refers_to s n) s.settings.cpus) (held_at s.locals s.hands s.keeps s.due n t)
+
+abbrev pub plain_stage : State → ℕ → Result Stage Refusal
+plain_stage s n = stages.stage_in (plain_obstacle s n) (retired_slot s.slots n)
 
 -- Every open section that may hold the retired entry e counts as open since its snapshots.
 abbrev pub HoldersAreOpen : State → Type 0

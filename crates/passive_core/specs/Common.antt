@@ -2,7 +2,7 @@
 pub use Rattle.passive_core.specs.declared.machine.commands.attach.Before.{Before}
 pub use Rattle.passive_core.specs.Advancing.{AdvanceLeaves, AdvanceMarks, ClearBelow, Clears, DestroyLeaves, Empties, Gathers, HoldersAreOpen, LeavesFree, LeavesMarks, LeavesTotal, MarksClear, MarksPass, Passes}
 pub use Rattle.passive_core.specs.Advancing.{SameBut, Settles, StageLeaves, StageMarks, advance_answer, count_given_up, destroy_answer, first_obstacle, has_passive, is_open_since, is_snapshot}
-pub use Rattle.passive_core.specs.Advancing.{stage_in}
+pub use Rattle.passive_core.specs.Advancing.{plain_obstacle, plain_stage, refers_to, stage_in}
 pub use Rattle.passive_core.specs.Attaching.{IsAnswer, after_attach, after_attach_iface, attach_answer, attach_iface_answer, first_fit, given_entry, is_driver_in, is_driver_number, is_to_driver}
 pub use Rattle.passive_core.specs.Attaching.{with_attach_undone, with_linked, with_prepared, with_reference_given_back, with_reference_kept, words_before}
 pub use Rattle.passive_core.specs.Audits.{IsHeldRightly, audit_of, locals_at, tallies_at, tallies_below, tally_of}

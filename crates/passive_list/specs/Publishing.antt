@@ -1,9 +1,9 @@
 -- An entry is published: what changes of the keeper.
-use Rattle.std.specs.Prelude.{◌≡◌, ℕ, suc, ◌+◌, ◌<◌, ◌≤◌, List, [], length, slice_index_or, slice_set, IsTrue, false}
-use Rattle.passive_list.specs.Types.{Entry, Attach, Publish, Show, Done, Settings, RecordWords, Vacant, Live, KeeperView, Keeper}
+use Rattle.std.specs.Prelude.{◌≡◌, ℕ, zero, suc, ◌+◌, ◌<◌, ◌≤◌, List, [], ◌++◌, length, slice_index_or, slice_set, IsTrue, false}
+use Rattle.passive_list.specs.Types.{Entry, Attach, StoreSlot, StoreNext, Publish, Show, Done, Settings, RecordWords, Vacant, Live, KeeperView, Keeper, LogItem}
 use Rattle.protocol.specs.Common.{with_biases, kept_at, keeps_rightly, words_of, after_change}
-use Rattle.registry_values.specs.Common.{key_of, is_taken, live_count, slot_at, is_lawful}
-use Rattle.cpu_words.specs.Common.{LeadsBelow, Makes, keeper_after_live}
+use Rattle.registry_values.specs.Common.{bias, key_of, is_taken, live_count, slot_at, is_lawful}
+use Rattle.cpu_words.specs.Common.{LeadsBelow, Makes, did, keeper_after_live}
 use Rattle.passive_list.specs.declared.keeper.KeptSlot.{KeptSlot}
 use Rattle.passive_list.specs.Keepers.{OnKeeper, IsAtRest, RowsAgree, states_of}
 
@@ -55,3 +55,25 @@ pub record HasEntry (k : KeeperView) (e : Entry) (l : KeeperView) : Type 0 where
 pub record HasAttached (a : OnKeeper) (e : Entry) (b : OnKeeper) : Type 0 where
   pub entry : HasEntry a.view e b.view
   pub slots : b.slots ≡ slice_set a.slots e.slot (Live e)
+
+-- The keeper's log, by what was stored
+
+-- the words of e's record, one store each
+abbrev pub logged_row : Entry → List LogItem → List LogItem
+logged_row e log = (((((log ++ did (StoreSlot e.slot 0 (words_of e).number) Done) ++ did (StoreSlot e.slot 1 (words_of e).kind) Done) ++ did (StoreSlot e.slot 2 (words_of e).high) Done)
+    ++ did (StoreSlot e.slot 3 (words_of e).low) Done) ++ did (StoreSlot e.slot 4 (words_of e).value) Done)
+
+-- the count words of the first c CPUs for the slot t: no reference
+abbrev pub logged_counts : ℕ → ℕ → List LogItem → List LogItem
+logged_counts t zero log = log
+logged_counts t (suc c) log = logged_counts t c log ++ did (StoreSlot t (5 + c) bias) Done
+
+-- all words of the slot: record, counts and link
+abbrev pub logged_stores : ℕ → Entry → ℕ → List LogItem → List LogItem
+logged_stores cpus e link log = logged_counts e.slot cpus (logged_row e log) ++ did (StoreNext e.slot link) Done
+
+-- then the head and the live word: these are all events of an attach, in this order, and the link leads to the newest entry that was live before
+pub record LogsAttach (k : KeeperView) (e : Entry) (old new : List LogItem) : Type 0 where
+  pub link : ℕ
+  pub leads : LeadsBelow k.slots e.number link
+  pub log : new ≡ (logged_stores k.settings.cpus e link old ++ did (Publish e.slot) Done) ++ did (Show e.slot) Done

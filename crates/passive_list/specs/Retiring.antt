@@ -1,9 +1,9 @@
 -- An entry is retired: what changes of the keeper.
-use Rattle.std.specs.Prelude.{◌≡◌, ℕ, ◌<◌, List, [], length, replicate, slice_index_or, slice_set, Option}
-use Rattle.passive_list.specs.Types.{Entry, Hide, Unpublish, Done, Mark, Retired, Rest, MOST_CPUS, KeeperView, Keeper}
+use Rattle.std.specs.Prelude.{◌≡◌, ℕ, zero, suc, ◌<◌, List, [], ◌++◌, length, replicate, slice_index_or, slice_set, Option, Some}
+use Rattle.passive_list.specs.Types.{Entry, Hide, Unpublish, Snapshot, Done, Word, LogItem, Mark, Retired, Rest, MOST_CPUS, KeeperView, Keeper}
 use Rattle.protocol.specs.Common.{snapshot_mark}
 use Rattle.registry_values.specs.Common.{no_mark}
-use Rattle.cpu_words.specs.Common.{LeadsBelow, IsBefore, keeper_after_unpublish, keeper_after_live, Makes}
+use Rattle.cpu_words.specs.Common.{LeadsBelow, IsBefore, keeper_after_unpublish, keeper_after_live, Makes, did}
 use Rattle.passive_list.specs.Keepers.{OnKeeper}
 
 -- the slot's marks are none, and it has a place for them
@@ -32,3 +32,12 @@ pub record HasDetached (a : OnKeeper) (t : ℕ) (e : Entry) (b : OnKeeper) : Typ
   pub snapshots : AreSnapshots a.view.settings.cpus marks
   pub view : b.view ≡ with_snapshots (keeper_after_unpublish (keeper_after_live a.view t 0) t e before link) t marks
   pub slots : b.slots ≡ slice_set a.slots t (Retired e)
+
+-- The keeper's log: the section words of the first c CPUs were taken for the slot t. What they were the marks have, by `AreMarksOf`.
+abbrev pub LogsSnapshots : ℕ → ℕ → List LogItem → List LogItem → Type 0
+LogsSnapshots t zero old new = new ≡ old
+LogsSnapshots t (suc c) old new = (log : List LogItem) × (w : ℕ) × LogsSnapshots t c old log × (new ≡ log ++ did (Snapshot (Some t) c) (Word w))
+
+-- these are all events of a detach from the slot t, in this order
+abbrev pub LogsDetach : ℕ → ℕ → List LogItem → List LogItem → Type 0
+LogsDetach cpus t old new = LogsSnapshots t cpus ((old ++ did (Hide t) Done) ++ did (Unpublish t) Done) new

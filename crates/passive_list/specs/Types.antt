@@ -15,7 +15,7 @@ pub use Rattle.registry_values.specs.declared.slot.Key.{Key}
 pub use Rattle.registry_values.specs.declared.slot.Slot.{Slot}
 pub use Rattle.registry_values.specs.declared.slot.Slot.TheVariants.{Live, Retired, Vacant}
 pub use Rattle.protocol.specs.declared.event.Event.{Event}
-pub use Rattle.protocol.specs.declared.event.Event.TheVariants.{Collect, CountAdd, CountDown, Enter, Exit, Hear, JoinKeeper, JoinRef, Keep, KeptSub, LoadLink, LoadRecord, Look, PassiveAdd}
+pub use Rattle.protocol.specs.declared.event.Event.TheVariants.{Collect, CountAdd, CountDown, Enter, Exit, Hear, JoinKeeper, JoinRef, Keep, KeptSub, LoadLink, LoadRecord, Look, PassiveAdd, StoreNext, StoreSlot}
 pub use Rattle.protocol.specs.declared.event.Event.TheVariants.{PassiveLook, PassiveSub, Publish, Seek, Snapshot, SplitBack, SplitRef, Tell, TotalAdd, TotalSub, Unpublish, Confirm, Hide, Recall, RecallHead, Refind, Show, TakeBack, Try, Vacate}
 pub use Rattle.protocol.specs.declared.event.RecordOf.TheVariants.{Compared, Passive}
 pub use Rattle.protocol.specs.declared.event.Reply.{Reply}

@@ -87,6 +87,19 @@ impl Keeper {
         }
     }
 
+    /// The seat alone, for whoever ends the table (`Words::close`).
+    pub fn into_seat(self) -> KeeperSeat
+        ensures { (result.table ≡ self.words.table) × (result.view ≡ self.keeper.view) × (result.log ≡ self.keeper.log) }
+    {
+        let Keeper {
+            seat,
+            settings: _,
+            changes: _,
+            rows: _,
+        } = self;
+        seat
+    }
+
     /// The state of a slot, from 0.
     /// Condition: the slot is below `MOST_SLOTS`.
     pub fn slot(&self, s: u8) -> SlotState

@@ -1,11 +1,12 @@
 //! An interface is published with the local reference that its slot keeps to its driver.
 
-ghost use Rattle.std.specs.Prelude.{◌≡◌, ◌<◌, ◌≤◌, ◌+◌, suc, IsTrue, false, length, None};
-ghost use Rattle.passive_list.specs.Types.{Iface, Driver, Vacant};
+ghost use Rattle.std.specs.Prelude.{◌≡◌, ◌<◌, ◌≤◌, ◌+◌, ◌++◌, suc, IsTrue, false, length, None};
+ghost use Rattle.passive_list.specs.Types.{Iface, Driver, Keep, Done, Vacant};
 ghost use Rattle.registry_values.specs.Common.{key_of_record, is_taken, live_count, slot_at, is_lawful};
 ghost use Rattle.protocol.specs.Common.{kept_at};
-ghost use Rattle.cpu_words.specs.Common.{AreWordsOf};
+ghost use Rattle.cpu_words.specs.Common.{AreWordsOf, did};
 ghost use Rattle.passive_list.specs.Draining.{HasAttachedKeeping};
+ghost use Rattle.passive_list.specs.Publishing.{LogsAttach};
 
 use crate::keeper::{Keeper, SlotState};
 use crate::publishing::publish_entry;
@@ -42,6 +43,7 @@ pub fn publish_keeping(
     requires room { length keeper.old.keeper.view.history + live_count keeper.old.keeper.slots + 2 ≤ keeper.old.words.settings.change_limit }
     ensures entry { result ≡ record { number = suc (length keeper.old.keeper.view.history); slot = slot; rec = rec } }
     ensures change { HasAttachedKeeping keeper.old.keeper reference.view result keeper.new.keeper }
+    ensures log { LogsAttach keeper.old.keeper.view result (keeper.old.keeper.log ++ did (Keep slot reference.view.entry.number) Done) keeper.new.keeper.log }
     ensures words { keeper.new.words ≡ keeper.old.words }
 {
     let entry = Entry {

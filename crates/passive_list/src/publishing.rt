@@ -6,7 +6,7 @@ ghost use Rattle.registry_values.specs.Common.{key_of_record, is_taken, live_cou
 ghost use Rattle.protocol.specs.Common.{keeps_rightly, words_of, kept_at};
 ghost use Rattle.cpu_words.specs.Common.{IsAttachedKeeping, AreWordsOf, MayWrite};
 ghost use Rattle.passive_list.specs.Keepers.{AreSized};
-ghost use Rattle.passive_list.specs.Publishing.{MayAttach, HasEntry, HasAttached, with_row, with_counts, keeper_after_stores};
+ghost use Rattle.passive_list.specs.Publishing.{MayAttach, HasEntry, HasAttached, LogsAttach, logged_counts, logged_row, logged_stores, with_row, with_counts, keeper_after_stores};
 
 use crate::keeper::{Keeper, KeptSlot, SlotState};
 use crate::links::link_below;
@@ -30,6 +30,7 @@ pub fn publish(words: &Words, keeper: &mut Keeper, slot: u8, rec: Record) -> Ent
     requires room { length keeper.old.keeper.view.history + live_count keeper.old.keeper.slots + 2 ≤ keeper.old.words.settings.change_limit }
     ensures entry { result ≡ record { number = suc (length keeper.old.keeper.view.history); slot = slot; rec = rec } }
     ensures change { HasAttached keeper.old.keeper result keeper.new.keeper }
+    ensures log { LogsAttach keeper.old.keeper.view result keeper.old.keeper.log keeper.new.keeper.log }
     ensures words { keeper.new.words ≡ keeper.old.words }
 {
     let entry = Entry {
@@ -56,6 +57,7 @@ pub(crate) fn publish_entry(
     requires may { MayAttach words.now.settings seat.old.view rows.now entry.now }
     ensures table { seat.new.table ≡ seat.old.table }
     ensures change { HasEntry seat.old.view entry.now seat.new.view }
+    ensures log { LogsAttach seat.old.view entry.now seat.old.log seat.new.log }
     ensures attached { (d : ℕ) → kept_at seat.old.view.keeps entry.now.slot ≡ Some d → IsAttachedKeeping entry.now.slot entry.now.number d seat.new.log }
 {
     let link = link_below(rows, entry.number);
@@ -73,6 +75,7 @@ fn prepare(words: &Words, seat: &mut KeeperSeat, entry: &Entry, cpus: u8, link: 
     requires link { link ≤ seat.old.view.settings.slots }
     ensures table { seat.new.table ≡ seat.old.table }
     ensures prepared { seat.new.view ≡ keeper_after_stores seat.old.view entry.now link }
+    ensures log { seat.new.log ≡ logged_stores cpus entry.now link seat.old.log }
 {
     store_row(words, seat, entry);
     store_counts(words, seat, entry.slot, cpus);
@@ -85,6 +88,7 @@ fn store_row(words: &Words, seat: &mut KeeperSeat, entry: &Entry)
     requires fit { seat.old.view.settings.slots ≤ MOST_SLOTS }
     ensures table { seat.new.table ≡ seat.old.table }
     ensures row { seat.new.view ≡ with_row seat.old.view entry.now.slot (words_of entry.now) }
+    ensures log { seat.new.log ≡ logged_row entry.now seat.old.log }
 {
     let t = entry.slot;
     let (high, low) = entry.rec.name.words();
@@ -103,6 +107,7 @@ fn store_counts(words: &Words, seat: &mut KeeperSeat, slot: u8, cpus: u8)
     requires fit { (seat.old.view.settings.slots ≤ MOST_SLOTS) × (cpus ≡ seat.old.view.settings.cpus) × (cpus ≤ MOST_CPUS) }
     ensures table { seat.new.table ≡ seat.old.table }
     ensures counts { seat.new.view ≡ with_counts seat.old.view slot cpus }
+    ensures log { seat.new.log ≡ logged_counts slot cpus seat.old.log }
 {
     for c in 0..cpus {
         steps::store_count(words, seat, slot, c, BIAS);

@@ -4,7 +4,7 @@ ghost use Rattle.std.specs.Prelude.{◌≡◌, ◌<◌, ◌≤◌, None};
 ghost use Rattle.passive_list.specs.Types.{Entry, Live, Snapshots};
 ghost use Rattle.registry_values.specs.Common.{slot_at};
 ghost use Rattle.cpu_words.specs.Common.{AreWordsOf, IsShown};
-ghost use Rattle.passive_list.specs.Retiring.{HasDetached, with_snapshots, AreSnapshots, AreFresh};
+ghost use Rattle.passive_list.specs.Retiring.{HasDetached, LogsDetach, LogsSnapshots, with_snapshots, AreSnapshots, AreFresh};
 
 use crate::keeper::{Keeper, KeptSlot, SlotState};
 use crate::links::{link_below, slot_above};
@@ -19,6 +19,7 @@ pub fn retire(words: &Words, keeper: &mut Keeper, slot: u8) -> Entry
     requires live { (e : Entry) × (slot_at keeper.old.keeper.slots slot ≡ Live e) }
     ensures entry { slot_at keeper.old.keeper.slots slot ≡ Live result }
     ensures change { HasDetached keeper.old.keeper slot result keeper.new.keeper }
+    ensures log { LogsDetach keeper.old.keeper.view.settings.cpus slot keeper.old.keeper.log keeper.new.keeper.log }
     ensures words { keeper.new.words ≡ keeper.old.words }
 {
     let row = keeper.rows[slot as usize];
@@ -49,6 +50,7 @@ fn snapshots(words: &Words, seat: &mut KeeperSeat, slot: u8, cpus: u8) -> [Mark;
     ensures table { seat.new.table ≡ seat.old.table }
     ensures marks { AreSnapshots cpus result }
     ensures view { seat.new.view ≡ with_snapshots seat.old.view slot result }
+    ensures log { LogsSnapshots slot cpus seat.old.log seat.new.log }
     ensures is_shown { IsShown seat.new.view }
 {
     let mut marks = [NO_MARK; MOST_CPUS];

@@ -5,6 +5,8 @@ use Rattle.std.proofs.Common.{length-append, arith}
 use Rattle.std.proofs.lemmas.List.{append-nil}
 use Rattle.std.proofs.lemmas.Option.{none-some, same_Some}
 use mathlib.Core.List.{IsPrefix}
+use lib.ListN.{get_elem?}
+use mathlib.Core.Option.{some}
 use Rattle.atomic_table.specs.Table.{State as Table}
 use Rattle.atomic_table.proofs.Lists.{at_map}
 use Rattle.cpu_words.specs.Types.{Entry, Change, Attach, Detach, Settings, Vacant, Retired, Event, Vacate, KeptSub, Done}
@@ -19,7 +21,7 @@ use Rattle.protocol.proofs.runs.Headline.{unheld_unoccupied}
 use Rattle.protocol.proofs.runs.Reuse.{number_is, destroyed_drained}
 use Rattle.protocol.proofs.runs.State.{obeys_laws}
 use Rattle.protocol.proofs.slots.Occupied.{attached_in, in_within, slot_cases}
-use Rattle.cpu_words.specs.Common.{LogItem, Logged, View, Good, ShowsViews, IsDetachedFrom, IsFreedFrom, part, without_logs, AreByOwn, RunsAsLogged, IsGone, HasGone, FreedIsGone, FreedByKeeper, Sits, IsStanding}
+use Rattle.cpu_words.specs.Common.{LogItem, Logged, View, Good, ShowsViews, IsDetachedFrom, IsFreedFrom, part, without_logs, AreByOwn, RunsAsLogged, IsGone, HasGone, FreedIsGone, FreedByKeeper, Sits, IsStanding, KeeperView, Keeper}
 use Rattle.protocol.proofs.history.History.{at_prefix}
 use Rattle.cpu_words.proofs.shown.Passes.{attached_prefix}
 use Rattle.cpu_words.proofs.shown.Showing.{backed}
@@ -197,21 +199,25 @@ at_item z s log before after_it item r known log_is =
           (walked run.seat g.seated (Known z.cpus) [] (opening z) first k.earlier k.between (known_stays run.seat g.seated z.cpus) k.before (opening_holds z fit) own (known_first z));
     }
 
-freed_gone : (z : Settings) (s : Table ℕ Logged) (log : List LogItem) (t n : ℕ) → (r : RunsAsLogged z s) → IsPrefix log (part 0 r.acts) → IsFreedFrom t n log → HasGone z s t n
-freed_gone z s log t n r known f =
+pub gone_by : (z : Settings) (s : Table ℕ Logged) (log : List LogItem) (t n : ℕ) → (r : RunsAsLogged z s) → IsPrefix log (part 0 r.acts) → IsFreedFrom t n log
+    → IsGone (after (opening z) r.run.events) (without_logs s) t n
+gone_by z s log t n r known f =
     let run = r.run in
     let g = after (opening z) run.events in
     let a = at_item z s log f.before f.after f.item r known f.are in
     let freed : Freed a.m g t n = since_freed z.cpus f.before a.m f.item a.more a.es g t n a.run a.on a.known f.detached f.freed in
-    record { run = r; gone = gone_of a.m g run.seat (without_logs s) t n run.good run.shows (histories a.m ((0, f.item) ∷ a.more) a.es g a.run a.on) freed }
+    gone_of a.m g run.seat (without_logs s) t n run.good run.shows (histories a.m ((0, f.item) ∷ a.more) a.es g a.run a.on) freed
 
 pub freed_is_gone : FreedIsGone
-freed_is_gone z s i l t n r at f = let run = running_headline z s r in freed_gone z s l.known_log t n run (run.known i l at).0 f
+freed_is_gone z s i l t n r at f = let run = running_headline z s r in record { run = run; gone = gone_by z s l.known_log t n run (run.known i l at).0 f }
 
 -- the keeper has the first seat, and its log is all that it did
+pub keeper_did : (z : Settings) (s : Table ℕ Logged) (i : ℕ) (l : Logged) (k : KeeperView) → (r : RunsAsLogged z s) → get_elem? s.views i ≡ some l → l.view ≡ Keeper k → l.log ≡ part 0 r.acts
+keeper_did z s i l k r at is =
+    let first : i ≡ 0 = subst (Sits r.run.seat i) is (r.run.shows.fits i l.view (at_map (λ (d : Logged). d.view) s.views i l at)).0 in
+    r.logs i l at (subst IsStanding (sym is) tt) ∙ ap (λ (j : ℕ). part j r.acts) first
+
 pub freed_by_keeper : FreedByKeeper
 freed_by_keeper z s i l k t n r at is f =
     let run = running_headline z s r in
-    let first : i ≡ 0 = subst (Sits run.run.seat i) is (run.run.shows.fits i l.view (at_map (λ (d : Logged). d.view) s.views i l at)).0 in
-    let own : l.log ≡ part 0 run.acts = run.logs i l at (subst IsStanding (sym is) tt) ∙ ap (λ (j : ℕ). part j run.acts) first in
-    freed_gone z s l.log t n run ([], append-nil l.log ∙ own) f
+    record { run = run; gone = gone_by z s l.log t n run ([], append-nil l.log ∙ keeper_did z s i l k run at is) f }

@@ -1,9 +1,9 @@
 -- `attach_iface_in`: its clauses `answer`, `refused` and `ok`; what `publish_iface` requires.
-use Rattle.std.proofs.Common.{◌≡◌, ◌∙◌, ◌+◌, ◌<◌, ◌≤◌, length, Result, Ok, IfOk, refl, sym, ap, subst}
-use Rattle.name_registry.specs.Types.{Entry, Refusal, KeeperView, Vacant}
+use Rattle.std.proofs.Common.{◌≡◌, ◌++◌, ◌∙◌, ℕ, ◌+◌, ◌<◌, ◌≤◌, length, Result, Ok, IfOk, refl, sym, ap, subst}
+use Rattle.name_registry.specs.Types.{Entry, Keep, Done, Refusal, KeeperView, Vacant}
 use Rattle.registry_values.specs.Common.{attach_answer, is_iface, live_count, slot_at}
-use Rattle.passive_list.specs.Common.{OnKeeper, HasAttachedKeeping}
-use Rattle.cpu_words.specs.Common.{Named}
+use Rattle.passive_list.specs.Common.{OnKeeper, HasAttachedKeeping, LogsAttach}
+use Rattle.cpu_words.specs.Common.{Named, did}
 use Rattle.name_registry.specs.Common.{HasAttachedIfaceFor}
 use Rattle.name_registry.proofs.Attached.{MayTake, keeping_more, log_told, a_driver, inside_is, taken_tells, attach_met, keeping_told}
 use Rattle.name_registry.proofs.attaching.attach_iface_in.Goals.{After-hear_cpu}
@@ -59,9 +59,13 @@ returns-clause-ok c =
     let after = ap (λ (k : KeeperView). k.history) has.attached.entry.view in
     let met = attach_met a x m c.hear_cpu.new.cpu.cpu e b c.show_cpu.new.cpu.cpu c.hear_cpu.ensures.keeper c.hear_cpu.ensures.cpu c.hear_cpu.ensures.seen
     (ap (λ x. x.number) c.publish_iface-entry.ensures.entry) after c.show_cpu.ensures.cpu c.show_cpu.ensures.log in
+    let slot = ap (λ (f : Entry). f.slot) c.publish_iface-entry.ensures.entry in
+    let kept = subst (λ (t : ℕ). LogsAttach m.view e (m.log ++ did (Keep t v.entry.number) Done) b.log) (sym slot) c.publish_iface-entry.ensures.log in
+    let logs = subst (λ (k : OnKeeper). LogsAttach k.view e (k.log ++ did (Keep e.slot v.entry.number) Done) b.log) c.hear_cpu.ensures.keeper kept in
     subst (λ (k : OnKeeper). HasAttachedIfaceFor a x v e k c.show_cpu.new.cpu.cpu) (sym c.show_cpu.ensures.keeper) record {
       seen = met.0;
       keeper = keeping_told _ v e b (subst (λ (k : OnKeeper). HasAttachedKeeping k v e b) c.hear_cpu.ensures.keeper has);
+      log = (b.log, record { link = logs.link; leads = logs.leads; log = logs.log }, refl);
       keeping = keeping_more e.slot e.number v.entry.number b.log c.show_cpu.new.cpu.cpu.known_log
           (log_told b c.show_cpu.new.keeper.keeper c.show_cpu.new.cpu.cpu c.show_cpu.ensures.keeper c.show_cpu.ensures.told) has.keeping;
       cpu = met.1;

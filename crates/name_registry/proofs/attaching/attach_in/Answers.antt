@@ -1,9 +1,9 @@
 -- `attach_in`: its clauses `answer` and `ok`; what `publish` requires.
-use Rattle.std.proofs.Common.{◌≡◌, ◌∙◌, ◌+◌, ◌<◌, ◌≤◌, length, Result, Ok, IfOk, sym, ap, subst}
+use Rattle.std.proofs.Common.{◌≡◌, ◌∙◌, ◌+◌, ◌<◌, ◌≤◌, length, Result, Ok, IfOk, refl, sym, ap, subst}
 use Rattle.name_registry.specs.Types.{Entry, Refusal, KeeperView, Vacant}
 use Rattle.registry_values.specs.Common.{attach_answer, live_count, slot_at}
 use Rattle.registry_values.proofs.Answers.{handed_on}
-use Rattle.passive_list.specs.Common.{OnKeeper, HasAttached}
+use Rattle.passive_list.specs.Common.{OnKeeper, HasAttached, LogsAttach}
 use Rattle.cpu_words.specs.Common.{Named}
 use Rattle.name_registry.specs.Common.{HasAttachedFor}
 use Rattle.name_registry.proofs.Attached.{MayTake, inside_is, taken_tells, driver_keeps, attach_met, attached_told}
@@ -57,9 +57,11 @@ returns-clause-ok c =
     let has = c.publish-entry.ensures.change in
     let met = attach_met a x m c.hear_cpu.new.cpu.cpu e b c.show_cpu.new.cpu.cpu c.hear_cpu.ensures.keeper c.hear_cpu.ensures.cpu c.hear_cpu.ensures.seen
     (ap (λ x. x.number) c.publish-entry.ensures.entry) (ap (λ (k : KeeperView). k.history) has.entry.view) c.show_cpu.ensures.cpu c.show_cpu.ensures.log in
+    let logs = subst (λ (k : OnKeeper). LogsAttach k.view e k.log b.log) c.hear_cpu.ensures.keeper c.publish-entry.ensures.log in
     subst (λ (k : OnKeeper). HasAttachedFor a x e k c.show_cpu.new.cpu.cpu) (sym c.show_cpu.ensures.keeper) record {
       seen = met.0;
       keeper = attached_told _ e b (subst (λ (k : OnKeeper). HasAttached k e b) c.hear_cpu.ensures.keeper has);
+      log = (b.log, record { link = logs.link; leads = logs.leads; log = logs.log }, refl);
       cpu = met.1;
       own = met.2;
     }

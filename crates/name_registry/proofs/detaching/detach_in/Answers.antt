@@ -43,4 +43,4 @@ returns-clause-ok c =
     let is = place_is a x m _ t e c.hear_cpu.ensures.keeper found c.retire-entry.ensures.entry in
     subst (λ (b : OnKeeper). HasDetachedFor a x e b c.show_cpu.new.cpu.cpu) (sym c.show_cpu.ensures.keeper)
     (detached_for a x m c.hear_cpu.new.cpu.cpu t e c.retire-entry.new.keeper.keeper c.show_cpu.new.cpu.cpu c.hear_cpu.ensures.keeper c.hear_cpu.ensures.cpu c.hear_cpu.ensures.seen is.0.0.attached is.2
-    c.retire-entry.ensures.change c.show_cpu.ensures.cpu c.show_cpu.ensures.log)
+    c.retire-entry.ensures.change c.retire-entry.ensures.log c.show_cpu.ensures.cpu c.show_cpu.ensures.log)

@@ -1,10 +1,10 @@
 -- The slot keeps the reference, and then the interface is published there.
-use Rattle.std.proofs.Common.{◌+◌, ◌<◌, ◌∙◌, List, sym, ap, subst, set}
+use Rattle.std.proofs.Common.{◌+◌, ◌++◌, ◌<◌, ◌∙◌, List, sym, ap, subst, set}
 use Rattle.std.proofs.lemmas.List.{map-set}
-use Rattle.passive_list.specs.Types.{Entry, Keep, Settings, Slot, Live, KeeperView, Keeper, Reference}
-use Rattle.cpu_words.specs.Common.{JoinsBy}
+use Rattle.passive_list.specs.Types.{Entry, Keep, Done, LogItem, Settings, Slot, Live, KeeperView, Keeper, Reference}
+use Rattle.cpu_words.specs.Common.{JoinsBy, did, keeper_after_keep}
 use Rattle.cpu_words.proofs.shown.KeepersShown.{step_is_shown}
-use Rattle.passive_list.specs.Common.{OnKeeper, row_at, state_of, states_of, MayAttach, HasEntry, HasAttachedKeeping}
+use Rattle.passive_list.specs.Common.{LogsAttach, OnKeeper, row_at, state_of, states_of, MayAttach, HasEntry, HasAttachedKeeping}
 use Rattle.passive_list.proofs.Rows.{keeper_is, settings_are}
 use Rattle.passive_list.proofs.Attached.{published_keeper, row_live}
 use Rattle.passive_list.proofs.Kept.{keeps_it, rows_keeping, states_keeping, may_attach, same_history}
@@ -49,3 +49,15 @@ returns-clause-change c =
       keeping = c.publish_entry.ensures.attached v.entry.number (keeps_it _ _ _ _ _ t v c.keeper.invariant
           (subst (λ (z : Settings). t < z.slots) (sym (settings_are c.keeper.view_is)) c.requires.vacant.0) c.keep.ensures.change);
     }
+
+pub returns-clause-log : goal.returns-clause-log
+returns-clause-log c =
+    let k = c.keeper.inside.seat.view in
+    let v = c.args.reference.view in
+    let t = c.args.slot in
+    let e : Entry = record { number = c.keeper.inside.changes + 1; slot = t; rec = c.args.rec } in
+    let new = c.publish_entry.new.seat.log in
+    let was = subst (λ (x : KeeperView). LogsAttach x e c.keep.new.keeper.log new) c.keep.ensures.change c.publish_entry.ensures.log in
+    let keeps : List LogItem = did (Keep t v.entry.number) Done in
+    let kept : LogsAttach (keeper_after_keep k t v) e (c.keeper.inside.seat.log ++ keeps) new = subst (λ (log : List LogItem). LogsAttach (keeper_after_keep k t v) e log new) c.keep.ensures.step.log was in
+    subst (λ (a : OnKeeper). LogsAttach a.view e (a.log ++ keeps) new) (keeper_is c.keeper.view_is) record { link = kept.link; leads = kept.leads; log = kept.log }

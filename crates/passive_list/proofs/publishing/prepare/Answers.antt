@@ -1,6 +1,8 @@
--- `prepare`: its clause `prepared`; what `store_counts` and `store_next` require.
-use Rattle.std.proofs.Common.{◌∙◌, ◌≤◌, sym, ap, subst}
-use Rattle.passive_list.specs.Types.{Settings, KeeperView, MOST_SLOTS}
+-- `prepare`: its clauses `prepared` and `log`; what `store_counts` and `store_next` require.
+use Rattle.std.proofs.Common.{◌++◌, ◌∙◌, ◌≤◌, List, sym, ap, subst}
+use Rattle.passive_list.specs.Types.{Settings, KeeperView, LogItem, StoreNext, Done, MOST_SLOTS}
+use Rattle.cpu_words.specs.Common.{did}
+use Rattle.passive_list.specs.Common.{logged_counts}
 use Rattle.protocol.specs.Common.{words_of}
 use Rattle.passive_list.proofs.Preparing.{row_may, row_settings, sized_after, counts_may, prepared_from}
 use Rattle.passive_list.proofs.publishing.prepare.Goals as goal
@@ -35,3 +37,8 @@ store_next-requires-clause-link c =
 pub returns-clause-prepared : goal.returns-clause-prepared
 returns-clause-prepared c = prepared_from c.args.seat.now.view c.store_row.new.seat.view c.store_counts.new.seat.view c.store_next.new.keeper.view c.args.entry.now c.args.cpus c.args.link
     c.requires.fit.1 c.store_row.ensures.row c.store_counts.ensures.counts c.store_next.ensures.change
+
+pub returns-clause-log : goal.returns-clause-log
+returns-clause-log c =
+    let stored = c.store_counts.ensures.log ∙ ap (logged_counts c.args.entry.now.slot c.args.cpus) c.store_row.ensures.log in
+    c.store_next.ensures.step.log ∙ ap (λ (log : List LogItem). log ++ did (StoreNext c.args.entry.now.slot c.args.link) Done) stored

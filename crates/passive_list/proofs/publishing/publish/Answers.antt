@@ -1,9 +1,9 @@
--- `publish`: its clause `change`; what `publish_entry` requires; the invariant of `keeper`.
+-- `publish`: its clauses `change` and `log`; what `publish_entry` requires; the invariant of `keeper`.
 use Rattle.std.proofs.Common.{◌+◌, ◌∙◌, sym, ap, subst, set}
 use Rattle.std.proofs.lemmas.List.{map-set}
 use Rattle.passive_list.specs.Types.{Entry, Settings}
 use Rattle.cpu_words.proofs.shown.KeepersShown.{step_is_shown}
-use Rattle.passive_list.specs.Common.{OnKeeper, OnPlainKeeper, row_at, state_of, states_of, MayAttach, HasAttached}
+use Rattle.passive_list.specs.Common.{LogsAttach, OnKeeper, OnPlainKeeper, row_at, state_of, states_of, MayAttach, HasAttached}
 use Rattle.passive_list.proofs.Attached.{ask, published_keeper, row_live}
 use Rattle.passive_list.proofs.publishing.publish.Goals as goal
 
@@ -35,3 +35,8 @@ returns-clause-change c =
       entry = c.publish_entry.ensures.change;
       slots = map-set state_of inside.rows c.args.slot (row_live (row_at inside.rows c.args.slot) e);
     }
+
+pub returns-clause-log : goal.returns-clause-log
+returns-clause-log c =
+    let e : Entry = record { number = c.keeper.inside.changes + 1; slot = c.args.slot; rec = c.args.rec } in
+    subst (λ (x : OnPlainKeeper). LogsAttach x.keeper.view e x.keeper.log c.publish_entry.new.seat.log) c.keeper.view_is c.publish_entry.ensures.log

@@ -1,12 +1,12 @@
--- `retire`: its clause `change`; what `hide`, `unpublish` and `snapshots` require; the invariant of `keeper`.
-use Rattle.std.proofs.Common.{◌≡◌, ◌∙◌, ◌<◌, ℕ, List, sym, ap, subst, set, arith}
+-- `retire`: its clauses `change` and `log`; what `hide`, `unpublish` and `snapshots` require; the invariant of `keeper`.
+use Rattle.std.proofs.Common.{◌≡◌, ◌++◌, ◌∙◌, ◌<◌, ℕ, List, sym, ap, subst, set, arith}
 use Rattle.std.proofs.lemmas.List.{map-set}
 use Rattle.registry_values.proofs.Fit.{ranges}
-use Rattle.passive_list.specs.Types.{Settings, Hide, Unpublish, Done, KeeperView, Keeper}
+use Rattle.passive_list.specs.Types.{Settings, Hide, Unpublish, Done, LogItem, KeeperView, Keeper}
 use Rattle.protocol.specs.Common.{live_at}
-use Rattle.cpu_words.specs.Common.{Makes, keeper_after_live, keeper_after_unpublish}
+use Rattle.cpu_words.specs.Common.{Makes, did, keeper_after_live, keeper_after_unpublish}
 use Rattle.cpu_words.proofs.shown.KeepersShown.{step_is_shown}
-use Rattle.passive_list.specs.Common.{OnKeeper, OnPlainKeeper, row_at, state_of, states_of, AreSnapshots, HasDetached, with_snapshots}
+use Rattle.passive_list.specs.Common.{OnKeeper, OnPlainKeeper, row_at, state_of, states_of, AreSnapshots, HasDetached, LogsDetach, LogsSnapshots, with_snapshots}
 use Rattle.passive_list.proofs.Rows.{state_at, live_in}
 use Rattle.passive_list.proofs.Detached.{before_in, leads_in, may_unpublish, unpublished_is, snapped_is, stored_keeper, zero_stored, detached_keeper, row_retired}
 use Rattle.passive_list.proofs.retiring.retire.Goals as goal
@@ -81,3 +81,13 @@ returns-clause-change c =
           ∙ ap (λ (x : KeeperView). with_snapshots (keeper_after_unpublish x t e p v) t marks) hid;
       slots = map-set state_of inside.rows t (row_retired (row_at inside.rows t) e marks);
     }
+
+pub returns-clause-log : goal.returns-clause-log
+returns-clause-log c =
+    let inside = c.keeper.inside in
+    let t = c.args.slot in
+    let new = c.snapshots-marks.new.seat.log in
+    let unlinked = c.unpublish.ensures.step.log ∙ ap (λ (log : List LogItem). log ++ did (Unpublish t) Done) c.hide.ensures.step.log in
+    let logs = subst (λ (log : List LogItem). LogsSnapshots t inside.settings.cpus log new) unlinked c.snapshots-marks.ensures.log in
+    subst (λ (x : OnPlainKeeper). LogsDetach x.keeper.view.settings.cpus t x.keeper.log new) c.keeper.view_is
+    (subst (λ (z : Settings). LogsDetach z.cpus t inside.seat.log new) (sym c.keeper.invariant.view.settings) logs)

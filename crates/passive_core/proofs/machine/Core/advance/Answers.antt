@@ -1,4 +1,4 @@
--- `Core::advance`: its clauses `holders`, `answer`, `ready` and `made`; what `advance_slot` requires.
+-- `Core::advance`: its clauses `holders`, `answer`, `plain`, `ready` and `made`; what `advance_slot` requires.
 use Rattle.std.proofs.Common.{◌≡◌, true, sym, ap, subst, ◌∙◌, Ok}
 use Rattle.passive_core.specs.Types.{Retired, Stage}
 use Rattle.passive_core.specs.Common.{first_obstacle, stage_in, may_act}
@@ -7,6 +7,7 @@ use Rattle.registry_values.specs.Common.{is_retired, slot_at}
 use Rattle.passive_core.proofs.Advancing.{holders_are_open, stage_acts}
 use Rattle.registry_values.proofs.Slots.{retired_slot_tells}
 use Rattle.passive_core.proofs.Acting.{acting_on}
+use Rattle.passive_core.proofs.Plain.{plain_is}
 use Rattle.passive_core.proofs.Making.{only_seats, work_seated}
 use Rattle.passive_core.proofs.machine.Core.advance.Goals as goal
 
@@ -26,6 +27,9 @@ returns-clause-answer c =
     let stage : c.advance_slot.result ≡ first_obstacle s c.in-Some.t c.args.number =
     c.advance_slot.ensures.stage e.1.0 there ∙ (ap (λ (x : State). first_obstacle x c.in-Some.t e.1.0.number) c.seat_all.ensures ∙ ap (first_obstacle s c.in-Some.t) e.1.2) in
     ap (λ (x : Stage). Ok x) stage ∙ ap (stage_in s c.args.number) c.in-Some.ensures.value
+
+pub returns-clause-plain : goal.returns-clause-plain
+returns-clause-plain c = λ acts. returns-clause-answer c ∙ plain_is c.args.self.now c.args.number (subst Holds c.self.view_is c.self.invariant) acts
 
 pub returns-clause-holders : goal.returns-clause-holders
 returns-clause-holders c = holders_are_open c.args.self.now (subst Holds c.self.view_is c.self.invariant) c.requires
