@@ -29,7 +29,7 @@ static struct model_slot *live_slot(struct model *model, uint64_t kind, const st
 
 static uint64_t hint_of(const struct registry_name *name)
 {
-	return (name->high + name->low) * 0x9e3779b97f4a7c15 >> 56;
+	return (name->high + name->low) * 0xc4ceb9fe1a85ec53 >> 56;
 }
 
 static uint64_t *places_of(struct model_cpu *own, const struct registry_name *name)
@@ -99,7 +99,7 @@ static const struct registry_entry *next_older(const struct model *model, uint64
 /* Whether the CPU knows that there is no such entry: none is live, or the CPU missed it while the newest one was the same. */
 static bool is_missed(const struct model *model, unsigned cpu, uint64_t kind, const struct registry_name *name)
 {
-	const struct registry_entry *newest = next_older(model, UINT64_MAX), *miss = &model->cpus[cpu].misses[hint_of(name) % MISSES];
+	const struct registry_entry *newest = next_older(model, UINT64_MAX), *miss = &model->cpus[cpu].misses[hint_of(name)];
 	return newest == NULL || (is_of(miss, kind, name) && miss->number == newest->number);
 }
 
@@ -107,7 +107,7 @@ static bool is_missed(const struct model *model, unsigned cpu, uint64_t kind, co
 static void remember_miss(struct model *model, unsigned cpu, uint64_t kind, const struct registry_name *name)
 {
 	uint64_t newest = next_older(model, UINT64_MAX)->number;
-	model->cpus[cpu].misses[hint_of(name) % MISSES] = (struct registry_entry){newest, 0, kind, *name, 0};
+	model->cpus[cpu].misses[hint_of(name)] = (struct registry_entry){newest, 0, kind, *name, 0};
 }
 
 uint32_t model_enter(struct model *model, unsigned cpu)

@@ -9,7 +9,7 @@
 
 #include "client.h"
 
-enum { CPUS = REGISTRY_MOST_CPUS, SLOTS = REGISTRY_MOST_SLOTS, HINTS = 256, MISSES = 64 };
+enum { CPUS = REGISTRY_MOST_CPUS, SLOTS = REGISTRY_MOST_SLOTS, HINTS = 256 };
 
 enum state { VACANT, LIVE, RETIRED };
 
@@ -31,7 +31,7 @@ struct model_cpu {
 	uint64_t found;			/* the number of the last found entry, or 0 */
 	struct registry_entry rows[SLOTS];	/* the entry that the CPU found last in that slot */
 	uint64_t places[HINTS][2];	/* the slots plus 1 where entries with that hint were found last and before, or 0 */
-	struct registry_entry misses[MISSES];	/* the last kind and name of that hint that no entry had, while the newest entry was the one with this number */
+	struct registry_entry misses[HINTS];	/* the last kind and name of that hint that no entry had, while the newest entry was the one with this number */
 };
 
 /* A wait of a perform: the CPUs whose section was open as it began, and is open still. */

@@ -13,7 +13,7 @@ use Rattle.cpu_words.proofs.shown.Passes.{attached_prefix}
 use Rattle.std.specs.Prelude.{is_some}
 use Rattle.passive_list.specs.declared.memory.Memory.{Memory}
 use Rattle.passive_list.specs.declared.memory.Miss.{Miss}
-use Rattle.passive_list.specs.Common.{HasFound, HasFoundFromOutside, HasNumbered, HasRecalledHeadOn, HasRecalledOn, HasRefoundOn, OnCpu, OnPlainCpu, WasAbsent, entry_seen, may_begin, Seen, IsMiss, IsTrueMiss, Misses, miss_at, miss_hint, with_miss, FindsAndRemembers, FindsWhatStays, HasFoundAnew, HasFoundInSection, HasRecalledAs, HasRecalledInVain, HasSeen, IsAbsentAt, FindsAfterHead, FindsAfterWord, RecallsSeen, RefindsSeen, RemembersAnswer}
+use Rattle.passive_list.specs.Common.{HasFound, HasFoundFromOutside, HasNumbered, HasRecalledHeadOn, HasRecalledOn, HasRefoundOn, OnCpu, OnPlainCpu, WasAbsent, entry_seen, may_begin, Seen, IsMiss, IsTrueMiss, Misses, hint_of, miss_at, with_miss, FindsAndRemembers, FindsWhatStays, HasFoundAnew, HasFoundInSection, HasFoundByMemory, HasRecalledAs, HasRecalledByMemory, HasRecalledInVain, HasSeen, IsAbsentAt, FindsAfterHead, FindsAfterWord, Recalls, RecallsBy, RecallsSeen, RefindsSeen, RemembersAnswer}
 use Rattle.passive_list.proofs.Memories.{ends_on, numbered_longer, length_longer, live_back}
 use Rattle.passive_list.proofs.Walking.{prefix_trans}
 
@@ -150,6 +150,42 @@ anew_stays key h a b answer had outside longer =
     let c = had.at_head in
     head_stays had.head key h c b answer had.finds (ap (λ (x : OnCpu). x.depth) had.heads.is ∙ outside) (prefix_trans h a.view.pass c.view.pass longer had.heads.pass)
 
+-- A lookup by memory
+
+abbrev pub FoundAndStays : Key → OnCpu → OnCpu → Option Seen → Type 0
+FoundAndStays key a b answer = HasFoundByMemory key a b answer × FindsWhatStays key a.view.pass b.view.pass (entry_seen key answer)
+
+load_by : (key : Key) (a b : OnCpu) (s : Seen) (kept : Option Seen) → Recalls a.memory key kept → RecallsBy kept key a b (Some s) → FoundAndStays key a b (Some s)
+load_by key a b s None at had = let clash : ◌≡◌ {A = Option Seen} (Some s) None = had.0 in cc
+load_by key a b s (Some r) at (inl had) =
+    ((Some r, at, inl (had.0, had.1)), subst (λ (o : Option Seen). FindsWhatStays key a.view.pass b.view.pass (entry_seen key o)) (sym had.0) (recalled_stays key a b (entry_with key r.slot r.number r.value) had.1))
+load_by key a b s (Some r) at (inr had) = let clash : ◌≡◌ {A = Option Seen} (Some s) None = had.0 in cc
+
+-- by the load alone
+pub by_load : (key : Key) (a b : OnCpu) (s : Seen) → HasRecalledByMemory key a b (Some s) → FoundAndStays key a b (Some s)
+by_load key a b s had = load_by key a b s had.0 had.1 had.2
+
+anew_by : (key : Key) (a c b : OnCpu) (answer kept : Option Seen) → Recalls a.memory key kept → RecallsBy kept key a c None → HasFoundAnew key c b answer → a.depth ≡ 0 → FoundAndStays key a b answer
+anew_by key a c b answer None at had anew outside =
+    let here = subst (λ (x : OnCpu). HasFoundAnew key x b answer) had.1 anew in
+    ((None, at, here), anew_stays key a.view.pass a b answer here outside ([], append-nil a.view.pass))
+anew_by key a c b answer (Some s) at (inl had) anew outside = let clash : ◌≡◌ {A = Option Seen} None (Some s) = had.0 in cc
+anew_by key a c b answer (Some s) at (inr had) anew outside =
+    ((Some s, at, inr (c, had.1, anew)), anew_stays key a.view.pass c b answer anew (vain_outside s a c had.1 outside) had.1.pass)
+
+-- anew, after a load that told nothing
+pub anew_after : (key : Key) (a c b : OnCpu) (answer : Option Seen) → HasRecalledByMemory key a c None → HasFoundAnew key c b answer → a.depth ≡ 0 → FoundAndStays key a b answer
+anew_after key a c b answer had anew outside = anew_by key a c b answer had.0 had.1 had.2 anew outside
+
+still_by : (key : Key) (a c : OnCpu) (kept : Option Seen) → RecallsBy kept key a c None → (c.depth ≡ a.depth) × (may_begin c.view ≡ may_begin a.view)
+still_by key a c None had = (ap (λ (x : OnCpu). x.depth) had.1, ap (λ (x : OnCpu). may_begin x.view) had.1)
+still_by key a c (Some s) (inl had) = let clash : ◌≡◌ {A = Option Seen} None (Some s) = had.0 in cc
+still_by key a c (Some s) (inr had) = (ap (λ (x : OnCpu). x.depth) had.1.is, vain_room s a c had.1)
+
+-- after such a load the CPU is outside still, with a section left
+pub still_outside : (key : Key) (a c : OnCpu) → HasRecalledByMemory key a c None → (c.depth ≡ a.depth) × (may_begin c.view ≡ may_begin a.view)
+still_outside key a c had = still_by key a c had.0 had.2
+
 -- What a miss tells
 
 later_there : (h : List Change) → IsLegal h → (k : ℕ) (e f : Entry) → IsLiveAt h k e → IsLiveAt h k f → e.slot ≡ f.slot → e.number < f.number → ⊥
@@ -280,14 +316,14 @@ miss_absent h key n m so is =
     let same : m ≡ record { number = n; kind = key.kind; name = key.name } = λ i. record { number = is.number i; kind = is.kind i; name = is.name i } in
     subst (λ (x : Miss). WasAbsent h (record { kind = x.kind; name = x.name }) x.number) same (so (λ zero. is.some (sym is.number ∙ zero)))
 
-pub absent_anew : (key : Key) (t n w : ℕ) (a c d : OnCpu) (m : Miss) → HasRecalledHeadOn a c w → w ≡ suc t → HasRecalledOn t n c d true → m ≡ miss_at a.memory.missed (miss_hint key.name)
+pub absent_anew : (key : Key) (t n w : ℕ) (a c d : OnCpu) (m : Miss) → HasRecalledHeadOn a c w → w ≡ suc t → HasRecalledOn t n c d true → m ≡ miss_at a.memory.missed (hint_of key.name)
     → IsTrueMiss a.view.pass m → IsMiss key n m → HasFoundAnew key a d None
 absent_anew key t n w a c d m heads head recalled at so is =
-    let misses : Misses c.memory key n = subst (IsMiss key n) (at ∙ ap (λ (x : OnCpu). miss_at x.memory.missed (miss_hint key.name)) (sym heads.is)) is in
+    let misses : Misses c.memory key n = subst (IsMiss key n) (at ∙ ap (λ (x : OnCpu). miss_at x.memory.missed (hint_of key.name)) (sym heads.is)) is in
     record { head = w; at_head = c; heads = heads; finds = inr (t, n, d, head, recalled, inl (misses, still_absent key t n w a c d (miss_absent a.view.pass key n m so is) heads head recalled, refl)) }
 
 pub section_anew : (key : Key) (t n w : ℕ) (a c d b : OnCpu) (m : Miss) (answer : Option Seen) → HasRecalledHeadOn a c w → w ≡ suc t → HasRecalledOn t n c d true
-    → m ≡ miss_at a.memory.missed (miss_hint key.name) → (IsMiss key n m → ⊥) → HasFoundInSection key n d b answer → HasFoundAnew key a b answer
+    → m ≡ miss_at a.memory.missed (hint_of key.name) → (IsMiss key n m → ⊥) → HasFoundInSection key n d b answer → HasFoundAnew key a b answer
 section_anew key t n w a c d b m answer heads head recalled at not found =
-    let none : Misses c.memory key n → ⊥ = λ misses. not (subst (IsMiss key n) (sym (at ∙ ap (λ (x : OnCpu). miss_at x.memory.missed (miss_hint key.name)) (sym heads.is))) misses) in
+    let none : Misses c.memory key n → ⊥ = λ misses. not (subst (IsMiss key n) (sym (at ∙ ap (λ (x : OnCpu). miss_at x.memory.missed (hint_of key.name)) (sym heads.is))) misses) in
     record { head = w; at_head = c; heads = heads; finds = inr (t, n, d, head, recalled, inr (none, found)) }

@@ -1,5 +1,5 @@
 -- What a row that is remembered tells, what stays remembered, and what is remembered from then on.
-use Rattle.passive_list.specs.Common.{HasCleared, HasForgotten, HasNumbered, IsOfRow, IsRow, IsTrueMiss, KeepsOthers, Recalls, RecallsAt, Remembers, Seen, WasAbsent, entry_of, hint_of, hinted, memo_at, memo_of, miss_at, miss_hint, no_memo, no_memory, no_miss, with_miss, with_seen}
+use Rattle.passive_list.specs.Common.{HasCleared, HasForgotten, HasNumbered, IsOfRow, IsRow, IsTrueMiss, KeepsOthers, Recalls, RecallsAt, Remembers, Seen, WasAbsent, entry_of, hint_of, hinted, memo_at, memo_of, miss_at, no_memo, no_memory, no_miss, with_miss, with_seen}
 use Rattle.std.proofs.Common.{◌≡◌, ◌≢◌, ◌⊎◌, ⊎_elim, inl, inr, ℕ, ◌+◌, ◌%◌, ◌<◌, ◌≤◌, ◌==◌, if◌then◌else◌, Bool, true, false, List, length, set, get_or-set_same, get_or-set_other, Some, None, refl, sym, ap, ◌∙◌, subst, arith, length-append}
 use Rattle.std.proofs.lemmas.Bool.{cases_eq, eqb-true}
 use Rattle.std.proofs.lemmas.List.{length-set}
@@ -13,7 +13,7 @@ use Rattle.cpu_words.proofs.shown.Passes.{attached_prefix}
 use Rattle.passive_list.specs.declared.memory.Memo.{Memo}
 use Rattle.passive_list.specs.declared.memory.Memory.{Memory}
 use Rattle.passive_list.specs.declared.memory.Miss.{Miss}
-use Rattle.passive_list.specs.declared.memory.TheConstants.{HINTS, MISSES}
+use Rattle.passive_list.specs.declared.memory.TheConstants.{HINTS}
 
 -- A pass and a longer one
 
@@ -78,7 +78,7 @@ none_remembered z h = record {
   older = refl;
   missed = refl;
   each = λ t some. absurd (some (ap (λ (m : Memo). m.number) (get_or_all MOST_SLOTS no_memo t)));
-  absent = λ i some. absurd (some (ap (λ (m : Miss). m.number) (get_or_all MISSES no_miss i)));
+  absent = λ i some. absurd (some (ap (λ (m : Miss). m.number) (get_or_all HINTS no_miss i)));
 }
 
 -- One row more
@@ -271,19 +271,19 @@ misses_stay m n key had = ap (λ (x : Memory). x.missed) had.2.is ∙ ap (λ (x 
 
 pub misses_more : (z : ℕ) (h : List Change) (m : Memory) (key : Key) (n : ℕ) → Remembers z h m → WasAbsent h key n → Remembers z h (with_miss m key n)
 misses_more z h m key n had was =
-    record { size = had.size; last = had.last; older = had.older; missed = length-set m.missed (miss_hint key.name) miss ∙ had.missed; each = had.each; absent = absent }
+    record { size = had.size; last = had.last; older = had.older; missed = length-set m.missed (hint_of key.name) miss ∙ had.missed; each = had.each; absent = absent }
   where
     miss : Miss
     miss = record { number = n; kind = key.kind; name = key.name }
 
     missed : List Miss
-    missed = set m.missed (miss_hint key.name) miss
+    missed = set m.missed (hint_of key.name) miss
 
-    few : miss_hint key.name < length m.missed
-    few = let size = had.missed in omega (arith, size)
+    few : hint_of key.name < length m.missed
+    few = let size = had.missed in let least = hint_few key.name in omega (arith, size, least)
 
     absent : (i : ℕ) → IsTrueMiss h (miss_at missed i)
     absent i = ⊎_elim
-        (λ (same : i ≡ miss_hint key.name). subst (IsTrueMiss h) (sym (ap (miss_at missed) same ∙ get_or-set_same m.missed (miss_hint key.name) miss no_miss few)) (λ some. was))
-        (λ (off : i ≢ miss_hint key.name). subst (IsTrueMiss h) (sym (get_or-set_other m.missed (miss_hint key.name) i miss no_miss off)) (had.absent i))
-        (cases_eq i (miss_hint key.name))
+        (λ (same : i ≡ hint_of key.name). subst (IsTrueMiss h) (sym (ap (miss_at missed) same ∙ get_or-set_same m.missed (hint_of key.name) miss no_miss few)) (λ some. was))
+        (λ (off : i ≢ hint_of key.name). subst (IsTrueMiss h) (sym (get_or-set_other m.missed (hint_of key.name) i miss no_miss off)) (had.absent i))
+        (cases_eq i (hint_of key.name))

@@ -13,9 +13,9 @@ pub use Rattle.passive_list.specs.Logs.{GoesOnBy, HasOwnLog}
 pub use Rattle.passive_list.specs.Lookups.{HasFound, HasFoundFromOutside}
 pub use Rattle.passive_list.specs.Notes.{HasHeardOn, HeardAndTold, WasShown, as_teller, cpu_after_tell, has_heard, has_told}
 pub use Rattle.passive_list.specs.Publishing.{HasAttached, HasEntry, LogsAttach, MayAttach, logged_counts, logged_stores, keeper_after_publish, keeper_after_stores, with_counts, with_row}
-pub use Rattle.passive_list.specs.Memories.{HasCleared, HasForgotten, HasNumbered, IsMiss, IsOfRow, IsRow, IsTrueMiss, KeepsOthers, Misses, Recalls, RecallsAt, Remembers, WasAbsent, entry_of, hint_of, hinted, memo_at, memo_of, miss_at, miss_hint, no_memo, no_memory, no_miss, with_miss, with_seen}
+pub use Rattle.passive_list.specs.Memories.{HasCleared, HasForgotten, HasNumbered, IsMiss, IsOfRow, IsRow, IsTrueMiss, KeepsOthers, Misses, Recalls, RecallsAt, Remembers, WasAbsent, entry_of, hint_of, hinted, memo_at, memo_of, miss_at, no_memo, no_memory, no_miss, with_miss, with_seen}
 pub use Rattle.passive_list.specs.Recalling.{HasRecalledHeadOn, HasRecalledOn, HasRefoundAs, HasRefoundOn}
-pub use Rattle.passive_list.specs.Remembering.{FindsAfterHead, FindsAfterWord, FindsAndRemembers, FindsBy, FindsInside, FindsInsideBy, FindsWhatStays, HasFoundAnew, HasFoundByMemory, HasFoundInSection, HasFoundInside, HasFoundKept, HasFoundRemembered, HasRecalledAs, HasRecalledInVain, HasSeen, IsAbsentAt, RecallsSeen, RefindsSeen, RemembersAnswer}
+pub use Rattle.passive_list.specs.Remembering.{FindsAfterHead, FindsAfterWord, FindsAndRemembers, FindsBy, FindsInside, FindsInsideBy, FindsWhatStays, HasFoundAnew, HasFoundByMemory, HasFoundInSection, HasFoundInside, HasFoundKept, HasFoundRemembered, HasRecalledAs, HasRecalledByMemory, HasRecalledInVain, HasSeen, IsAbsentAt, RecallsBy, RecallsSeen, RefindsSeen, RemembersAnswer}
 pub use Rattle.passive_list.specs.Retiring.{AreFresh, AreSnapshots, HasDetached, LogsDetach, LogsSnapshots, with_snapshots}
 pub use Rattle.passive_list.specs.Searches.{GoesOnByLoads, GoesOnBySoMany, HasGoneOverBy, HasSearchedFor, HasWalkedBy, IsLoad, IsWalkLoad, SearchesOnce, nobody}
 pub use Rattle.passive_list.specs.Sections.{AnswersEnter, HasEnteredOn, HasExitedOn, may_begin}

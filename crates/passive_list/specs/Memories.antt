@@ -6,7 +6,7 @@ use Rattle.passive_list.specs.declared.lookup.Seen.{Seen}
 use Rattle.passive_list.specs.declared.memory.Memo.{Memo}
 use Rattle.passive_list.specs.declared.memory.Memory.{Memory}
 use Rattle.passive_list.specs.declared.memory.Miss.{Miss}
-use Rattle.passive_list.specs.declared.memory.TheConstants.{GOLDEN, HINTS, MISSES, SHARE}
+use Rattle.passive_list.specs.declared.memory.TheConstants.{HINTS, MIX, SHARE}
 
 abbrev pub no_memo : Memo
 no_memo = record { number = 0; value = 0; kind = Iface; name = record { high = 0; low = 0 } }
@@ -16,7 +16,7 @@ no_miss = record { number = 0; kind = Iface; name = record { high = 0; low = 0 }
 
 -- of no entry
 abbrev pub no_memory : Memory
-no_memory = record { rows = replicate MOST_SLOTS no_memo; last = replicate HINTS 0; older = replicate HINTS 0; missed = replicate MISSES no_miss }
+no_memory = record { rows = replicate MOST_SLOTS no_memo; last = replicate HINTS 0; older = replicate HINTS 0; missed = replicate HINTS no_miss }
 
 abbrev pub memo_at : List Memo → ℕ → Memo
 memo_at rows t = slice_index_or rows t no_memo
@@ -54,7 +54,7 @@ pub record Remembers (slots : ℕ) (h : List Change) (m : Memory) : Type 0 where
   pub size : length m.rows ≡ MOST_SLOTS
   pub last : length m.last ≡ HINTS
   pub older : length m.older ≡ HINTS
-  pub missed : length m.missed ≡ MISSES
+  pub missed : length m.missed ≡ HINTS
   pub each : (t : ℕ) → (memo_at m.rows t).number ≢ 0 → (t < slots) × IsAttached h (entry_of t (memo_at m.rows t))
   pub absent : (i : ℕ) → IsTrueMiss h (miss_at m.missed i)
 
@@ -73,7 +73,7 @@ pub record IsOfRow (rows : List Memo) (key : Key) (s : Seen) : Type 0 where
 -- What is remembered of a key
 
 abbrev pub hint_of : Name → ℕ
-hint_of n = ((n.high + n.low) % 2 ^ 64 * GOLDEN % 2 ^ 64) / SHARE % HINTS
+hint_of n = ((n.high + n.low) % 2 ^ 64 * MIX % 2 ^ 64) / SHARE % HINTS
 
 -- the slot that the hint of the name leads to
 abbrev pub hinted : List ℕ → Name → ℕ
@@ -113,9 +113,6 @@ HasForgotten key m n = (c : Memory) × HasCleared key (hinted m.last key.name) m
 
 -- What is remembered of a key that wasn't found
 
-abbrev pub miss_hint : Name → ℕ
-miss_hint n = hint_of n % MISSES
-
 -- the miss is of the key, while the entry with the number n was the newest one
 pub record IsMiss (key : Key) (n : ℕ) (m : Miss) : Type 0 where
   pub some : n ≢ 0
@@ -125,7 +122,7 @@ pub record IsMiss (key : Key) (n : ℕ) (m : Miss) : Type 0 where
 
 -- the CPU remembers that miss
 abbrev pub Misses : Memory → Key → ℕ → Type 0
-Misses m key n = IsMiss key n (miss_at m.missed (miss_hint key.name))
+Misses m key n = IsMiss key n (miss_at m.missed (hint_of key.name))
 
 abbrev pub with_miss : Memory → Key → ℕ → Memory
-with_miss m key n = record m { missed = set m.missed (miss_hint key.name) (record { number = n; kind = key.kind; name = key.name }) }
+with_miss m key n = record m { missed = set m.missed (hint_of key.name) (record { number = n; kind = key.kind; name = key.name }) }

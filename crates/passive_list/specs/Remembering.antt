@@ -96,6 +96,15 @@ FindsInside key a b answer = (kept : Option Seen) × Recalls a.memory key kept �
 abbrev pub HasFoundInside : Key → OnCpu → OnCpu → Option Entry → Type 0
 HasFoundInside key a b answer = (seen : Option Seen) × (answer ≡ entry_seen key seen) × FindsInside key a b seen
 
+-- what a load of what the CPU remembers of the key tells: nothing, or s
+abbrev pub RecallsBy : Option Seen → Key → OnCpu → OnCpu → Option Seen → Type 0
+RecallsBy None key a b answer = (answer ≡ None) × (b ≡ a)
+RecallsBy (Some s) key a b answer = ((answer ≡ Some s) × HasRecalledAs key a b (entry_with key s.slot s.number s.value)) ⊎ ((answer ≡ None) × HasRecalledInVain s a b)
+
+-- By one load, if the CPU remembers an entry with the key: that entry, if its slot's live word is its number.
+abbrev pub HasRecalledByMemory : Key → OnCpu → OnCpu → Option Seen → Type 0
+HasRecalledByMemory key a b answer = (kept : Option Seen) × Recalls a.memory key kept × RecallsBy kept key a b answer
+
 -- what a lookup does by what the CPU remembers of the key: nothing, or s
 abbrev pub FindsBy : Option Seen → Key → OnCpu → OnCpu → Option Seen → Type 0
 FindsBy None key a b answer = HasFoundAnew key a b answer

@@ -51,7 +51,10 @@ pub use place::{Found, NumberedCount};
 pub use plain_cpu::PlainCpu;
 pub use publishing::publish;
 pub use recalling::{recall_head_on, recall_on, refind_on};
-pub use remembering::{find_by_memory, find_inside, find_inside_on, find_remembered, remembered};
+pub use remembering::{
+    find_anew, find_by_memory, find_inside, find_inside_on, find_remembered, recall_remembered,
+    remembered,
+};
 pub use retiring::retire;
 pub use sections::{enter, enter_on, exit, exit_on, may_begin_on};
 pub use vacating::vacate;

@@ -2,7 +2,7 @@
 
 ghost use Rattle.std.specs.Prelude.{◌≡◌, ◌↔◌, ◌<◌, IsTrue};
 ghost use Rattle.cpu_words.specs.Common.{key_with};
-ghost use Rattle.passive_list.specs.Memories.{HasCleared, HasForgotten, IsMiss, IsRow, Recalls, RecallsAt, hint_of, miss_at, miss_hint, no_memo, no_memory, no_miss, with_miss, with_seen};
+ghost use Rattle.passive_list.specs.Memories.{HasCleared, HasForgotten, IsMiss, IsRow, Recalls, RecallsAt, hint_of, miss_at, no_memo, no_memory, no_miss, with_miss, with_seen};
 
 use crate::lookup::Seen;
 use registry_values::{Kind, MOST_SLOTS, Name};
@@ -10,14 +10,11 @@ use registry_values::{Kind, MOST_SLOTS, Name};
 /// How many hints there are.
 const HINTS: usize = 256;
 
-/// 2^64 by the golden ratio.
-const GOLDEN: u64 = 0x9e37_79b9_7f4a_7c15;
+/// An odd number. Of 32 names that differ in a counter few have products with it that begin with the same eight bits.
+const MIX: u64 = 0xc4ce_b9fe_1a85_ec53;
 
 /// The numbers below 2^64 with the same hint.
 const SHARE: u64 = 1 << 56;
-
-/// How many lookups without an answer are remembered.
-const MISSES: usize = 64;
 
 /// The words of an entry that the CPU has found in a slot.
 #[derive(Clone, Copy)]
@@ -82,7 +79,7 @@ pub struct Memory {
     /// Where one was found before that.
     pub older: [u8; HINTS],
     /// By hint of a name, the last miss.
-    pub missed: [Miss; MISSES],
+    pub missed: [Miss; HINTS],
 }
 
 impl Memory {
@@ -94,7 +91,7 @@ impl Memory {
             rows: [Memo::none(); MOST_SLOTS],
             last: [0; HINTS],
             older: [0; HINTS],
-            missed: [Miss::none(); MISSES],
+            missed: [Miss::none(); HINTS],
         }
     }
 
@@ -162,16 +159,16 @@ impl Memory {
 
     /// The last miss of a name with this hint.
     pub fn miss_of(&self, name: Name) -> Miss
-        ensures { result ≡ miss_at self.now.missed (miss_hint name) }
+        ensures { result ≡ miss_at self.now.missed (hint_of name) }
     {
-        self.missed[miss_hint(name)]
+        self.missed[hint_of(name)]
     }
 
     /// Remembers a miss.
     pub fn miss(&mut self, kind: Kind, name: Name, number: u64)
         ensures { self.new ≡ with_miss self.old (key_with kind name) number }
     {
-        self.missed[miss_hint(name)] = Miss { number, kind, name };
+        self.missed[hint_of(name)] = Miss { number, kind, name };
     }
 
     /// Clears the row of a slot, if it has this kind and name. There is none at `MOST_SLOTS`.
@@ -185,19 +182,12 @@ impl Memory {
     }
 }
 
-/// The hint of a name for its miss, from 0.
-fn miss_hint(name: Name) -> usize
-    ensures { (result ≡ miss_hint name) × (result < MISSES) }
-{
-    hint_of(name) % MISSES
-}
-
 /// The hint of a name, from 0: the high bits of a product with an odd number, so that names that differ in a digit lie apart.
 fn hint_of(name: Name) -> usize
     ensures { (result ≡ hint_of name) × (result < HINTS) }
 {
     let (high, low) = name.words();
-    let mixed = high.wrapping_add(low).wrapping_mul(GOLDEN);
+    let mixed = high.wrapping_add(low).wrapping_mul(MIX);
     (mixed / SHARE) as usize % HINTS
 }
 

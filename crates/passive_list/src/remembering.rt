@@ -3,9 +3,9 @@
 
 ghost use Rattle.std.specs.Prelude.{◌≡◌, ◌≢◌, ◌↔◌, ◌<◌, IfSome, IsTrue, None, true};
 ghost use Rattle.cpu_words.specs.Common.{AreWordsOf, key_with};
-ghost use Rattle.passive_list.specs.Memories.{HasNumbered, IsMiss, IsTrueMiss, Recalls, WasAbsent, miss_at, miss_hint, with_miss};
+ghost use Rattle.passive_list.specs.Memories.{HasNumbered, IsMiss, IsTrueMiss, Recalls, WasAbsent, hint_of, miss_at, with_miss};
 ghost use Rattle.passive_list.specs.Recalling.{HasRecalledOn};
-ghost use Rattle.passive_list.specs.Remembering.{FindsInside, FindsWhatStays, HasFoundAnew, HasFoundByMemory, HasFoundInSection, HasFoundInside, HasFoundKept, HasFoundRemembered, HasSeen, RecallsSeen, RefindsSeen, RemembersAnswer};
+ghost use Rattle.passive_list.specs.Remembering.{FindsInside, FindsWhatStays, HasFoundAnew, HasFoundByMemory, HasFoundInSection, HasFoundInside, HasFoundKept, HasFoundRemembered, HasRecalledByMemory, HasSeen, RecallsSeen, RefindsSeen, RemembersAnswer};
 ghost use Rattle.passive_list.specs.Sections.{may_begin};
 ghost use Rattle.passive_list.specs.Walking.{entry_seen};
 
@@ -34,12 +34,27 @@ pub fn find_by_memory(words: &Words, cpu: &mut PlainCpu, kind: Kind, name: Name)
     ensures slot { IfSome result (λ seen. seen.slot < MOST_SLOTS) }
     ensures words { cpu.new.words ≡ cpu.old.words }
 {
-    if let Some(seen) = remembered(cpu, kind, name) {
-        if recall_seen(words, cpu, kind, name, seen) {
-            return Some(seen);
-        }
+    if let Some(seen) = recall_remembered(words, cpu, kind, name) {
+        return Some(seen);
     }
     find_anew(words, cpu, kind, name)
+}
+
+/// The entry that the CPU remembers with this kind and name, if it is live: by one load. It is the registry's answer at the very point of that
+/// load. `None` says nothing: the caller looks up anew (`find_anew`).
+/// Condition: the words are the CPU's table's.
+#[inline(always)]
+pub fn recall_remembered(words: &Words, cpu: &mut PlainCpu, kind: Kind, name: Name) -> Option<Seen>
+    requires words { AreWordsOf words.now cpu.old.words.table cpu.old.words.settings }
+    ensures found { HasRecalledByMemory (key_with kind name) cpu.old.cpu cpu.new.cpu result }
+    ensures slot { IfSome result (λ seen. seen.slot < MOST_SLOTS) }
+    ensures words { cpu.new.words ≡ cpu.old.words }
+{
+    let seen = remembered(cpu, kind, name)?;
+    if recall_seen(words, cpu, kind, name, seen) {
+        return Some(seen);
+    }
+    None
 }
 
 /// `find_by_memory` on a CPU of the table that D names: looks an entry up by its kind and name, by one load if the CPU remembers a live one, by two
@@ -85,8 +100,10 @@ fn recall_seen(words: &Words, cpu: &mut PlainCpu, kind: Kind, name: Name, seen: 
 }
 
 /// Looks an entry up anew: there is none, if no entry is live, or if the newest live one is that of the last miss. Else in a section.
+/// It stands apart, so that a lookup by memory saves no register for it.
+/// Conditions: the words are the CPU's table's; it is outside, and has a section left (`may_begin_on`).
 #[inline(never)]
-fn find_anew(words: &Words, cpu: &mut PlainCpu, kind: Kind, name: Name) -> Option<Seen>
+pub fn find_anew(words: &Words, cpu: &mut PlainCpu, kind: Kind, name: Name) -> Option<Seen>
     requires words { AreWordsOf words.now cpu.old.words.table cpu.old.words.settings }
     requires outside { cpu.old.cpu.depth ≡ 0 }
     requires room { IsTrue (may_begin cpu.old.cpu.view) }
@@ -109,7 +126,7 @@ fn find_anew(words: &Words, cpu: &mut PlainCpu, kind: Kind, name: Name) -> Optio
 
 /// The last miss of a name with this one's hint.
 fn last_miss(cpu: &PlainCpu, name: Name) -> Miss
-    ensures is { result ≡ miss_at cpu.now.cpu.memory.missed (miss_hint name) }
+    ensures is { result ≡ miss_at cpu.now.cpu.memory.missed (hint_of name) }
     ensures so { IsTrueMiss cpu.now.cpu.view.pass result }
 {
     cpu.memory.miss_of(name)
@@ -127,6 +144,8 @@ fn recall_word(words: &Words, cpu: &mut PlainCpu, slot: u8) -> u64
 }
 
 /// Looks an entry up in a section, and remembers the answer: a miss by the number of the newest live entry before it, if that isn't 0.
+/// It stands apart, so that a miss that is remembered saves no register for it.
+#[inline(never)]
 fn find_in_section(
     words: &Words,
     cpu: &mut PlainCpu,

@@ -1,30 +1,23 @@
--- An entry that was attached and isn't detached is found: by the load, or in the section.
-use Rattle.std.proofs.Common.{◌≡◌, [], ap, append-nil, subst, sym, ◌∙◌}
-use mathlib.Core.List.{IsPrefix}
+-- What the load told is the answer; else what was found anew.
+use Rattle.std.proofs.Common.{◌∙◌}
 use Rattle.cpu_words.specs.Common.{key_with}
-use Rattle.protocol.specs.Common.{entry_with}
-use Rattle.passive_list.specs.Common.{OnPlainCpu}
-use Rattle.passive_list.proofs.ByMemory.{anew_stays, recalled_stays, vain_outside}
-use Rattle.passive_list.proofs.remembering.find_by_memory.Goals.{in-Some+else-recall_seen, in_default}
+use Rattle.passive_list.proofs.ByMemory.{anew_after, by_load, still_outside}
 use Rattle.passive_list.proofs.remembering.find_by_memory.Goals as goal
 
-pub returns-then-recall_seen-clause-stays : goal.returns-then-recall_seen-clause-stays
-returns-then-recall_seen-clause-stays c =
-    let key = key_with c.args.kind c.args.name in
-    let s = c.in-Some.seen in
-    recalled_stays key c.args.cpu.now.cpu c.recall_seen.new.cpu.cpu (entry_with key s.slot s.number s.value) c.if-recall_seen.ensures.recalled
+pub find_anew-requires-clause-outside : goal.find_anew-requires-clause-outside
+find_anew-requires-clause-outside c = (still_outside (key_with c.args.kind c.args.name) _ _ c.in_default.ensures.found).0 ∙ c.requires.outside
+
+pub find_anew-requires-clause-room : goal.find_anew-requires-clause-room
+find_anew-requires-clause-room c = (still_outside (key_with c.args.kind c.args.name) _ _ c.in_default.ensures.found).1 ∙ c.requires.room
+
+pub returns-in-Some-clause-found : goal.returns-in-Some-clause-found
+returns-in-Some-clause-found c = (by_load (key_with c.args.kind c.args.name) _ _ c.in-Some.seen c.in-Some.ensures.found).0
+
+pub returns-in-Some-clause-stays : goal.returns-in-Some-clause-stays
+returns-in-Some-clause-stays c = (by_load (key_with c.args.kind c.args.name) _ _ c.in-Some.seen c.in-Some.ensures.found).1
+
+pub returns-clause-found : goal.returns-clause-found
+returns-clause-found c = (anew_after (key_with c.args.kind c.args.name) _ _ _ _ c.in_default.ensures.found c.find_anew.ensures.found c.requires.outside).0
 
 pub returns-clause-stays : goal.returns-clause-stays
-returns-clause-stays c =
-    let key = key_with c.args.kind c.args.name in
-    let a = c.args.cpu.now.cpu in
-    let m = c.match-remembered.cpu.cpu in
-    let longer : IsPrefix a.view.pass m.view.pass = elim c.match-remembered.branch [
-      | in-Some+else-recall_seen w ↦ subst (λ (o : OnPlainCpu). IsPrefix a.view.pass o.cpu.view.pass) (sym w.cpu-is) w.if-recall_seen.ensures.recalled.pass
-      | in_default w ↦ subst (λ (o : OnPlainCpu). IsPrefix a.view.pass o.cpu.view.pass) (sym w.cpu-is) ([], append-nil a.view.pass)
-    ] in
-    let shallow : m.depth ≡ 0 = elim c.match-remembered.branch [
-      | in-Some+else-recall_seen w ↦ ap (λ (o : OnPlainCpu). o.cpu.depth) w.cpu-is ∙ vain_outside _ a _ w.if-recall_seen.ensures.recalled c.requires.outside
-      | in_default w ↦ ap (λ (o : OnPlainCpu). o.cpu.depth) w.cpu-is ∙ c.requires.outside
-    ] in
-    anew_stays key a.view.pass m c.find_anew.new.cpu.cpu c.find_anew.result c.find_anew.ensures.found shallow longer
+returns-clause-stays c = (anew_after (key_with c.args.kind c.args.name) _ _ _ _ c.in_default.ensures.found c.find_anew.ensures.found c.requires.outside).1
