@@ -201,7 +201,7 @@ impl fmt::Display for Refusal {
 impl Error for Refusal {}
 
 /// The error of a call that takes a value, together with that value, unchanged: what an attach was given, or the [`Retired`](crate::Retired) of a destroy.
-/// It will have no other field, so a caller may take it apart. The text of a destroy's error names the first thing that holds the entry, and in a registry
+/// It will have no other field, so a caller may take it apart. The text of a destroy's error names the first obstacle, and in a registry
 /// that was opened by [`Registry::open_tracked`](crate::Registry::open_tracked) each line that does.
 ///
 /// In a function that returns a [`Refusal`], `?` converts it, and drops what was given. If the error must be `Send` and `'static`, such as a boxed error,

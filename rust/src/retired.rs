@@ -80,11 +80,12 @@ impl<T> Retired<T> {
         Registry::of(Arc::clone(self.shared()))
     }
 
-    /// Tries once to free it, and waits only for the interlock. If nothing holds it, it is freed and what it carried is returned.
+    /// Tries once to free it, and waits only for the interlock. If the turn meets no obstacle, it is freed and what it carried is returned. Nothing holds
+    /// a freed entry, now or later, as after [`destroy`](Retired::destroy).
     ///
     /// # Errors
     ///
-    /// `StillHeld` with the first thing that holds it. The `Retired` is returned.
+    /// `StillHeld` with the first obstacle. The `Retired` is returned.
     // Inlined, the token isn't moved: a turn that meets something takes a tenth less.
     #[inline(always)]
     pub fn advance(self) -> Result<Freed<T>, Refused<DestroyError, Retired<T>>> {

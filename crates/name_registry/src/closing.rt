@@ -18,7 +18,10 @@ impl<D: Domain> Registry<D> {
         ensures { ClosesRun D.settings cpu result }
     {
         let Registry { words, interlock } = self;
-        let Interlock { mut keeper, book: _ } = interlock.into_inner();
+        let Interlock {
+            mut keeper,
+            book: _,
+        } = interlock.into_inner();
         let Cpu {
             mut plain,
             share: _,

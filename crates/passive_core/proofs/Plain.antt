@@ -39,7 +39,7 @@ plain_in s n (Some t) on acts at =
     let same : least_below (has_passive s t) s.settings.cpus ≡ least_below (refers_to s told.1.0.number) s.settings.cpus =
     least_agrees (has_passive s t) (refers_to s told.1.0.number) s.settings.cpus (λ c lt. refers s t c told.1.0 on (hands_empty s on acts c) told.1.1) in
     ap (λ (x : Stage). Ok x) (subst (λ (k : ℕ). first_obstacle s t k ≡ plain_obstacle s k t) told.1.2
-        (ap (λ (p : Option ℕ). stage_of t (least_below (is_open_since s t) s.settings.cpus) p (held_at s.locals s.hands s.keeps s.due told.1.0.number t)) same))
+    (ap (λ (p : Option ℕ). stage_of t (least_below (is_open_since s t) s.settings.cpus) p (held_at s.locals s.hands s.keeps s.due told.1.0.number t)) same))
 
 pub plain_is : (s : State) (n : ℕ) → Holds s → ((c : ℕ) → may_act s c ≡ true) → advance_answer s n ≡ plain_stage s n
 plain_is s n on acts = plain_in s n (retired_slot s.slots n) on acts refl

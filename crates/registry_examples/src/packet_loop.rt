@@ -1,8 +1,10 @@
 //! A packet loop: four CPUs look up the interface of each packet, thirty-two packets to a section, while a fifth pulls the interface out
-//! and plugs it in again.
+//! and plugs it in again. At the end the driver goes, and the registry is closed: what its last words say of the driver is proved by what
+//! holds of every run that has ended.
 
-ghost use Rattle.std.specs.Prelude.{◌≡◌, ◌≢◌, IsTrue, None};
+ghost use Rattle.std.specs.Prelude.{◌≡◌, ◌≢◌, ◌<◌, IfOk, IsTrue, None};
 ghost use Rattle.std.specs.Thread.{IsSync};
+ghost use Rattle.cpu_words.specs.Common.{IsFreedFrom};
 ghost use Rattle.registry_values.specs.Common.{is_lawful};
 ghost use Rattle.name_registry.specs.Common.{IsBlankOf};
 
@@ -90,9 +92,47 @@ fn run_on<D: Domain + Send + Sync, R: Threads + Wait + Sync>(
     let Some(mut cpu) = cpus.pop() else {
         return Err(Failure::Wrong("a registry without CPUs"));
     };
-    let bus = Bus::new(&registry)?;
-    bus.load_driver(rt, &mut cpu)?;
-    carry_and_plug(rt, &bus, &mut cpu, cpus)
+    let sum = run_bus(rt, &registry, &mut cpu, cpus)?;
+    let driver = unload_driver(rt, &registry, &mut cpu)?;
+    close(registry, cpu, driver);
+    Ok(sum)
+}
+
+/// With the driver loaded, the loop itself. All threads have ended at the end.
+fn run_bus<D: Domain + Send + Sync, R: Threads + Wait + Sync>(
+    rt: &R,
+    registry: &Registry<D>,
+    cpu: &mut Cpu<D>,
+    carriers: Vec<Cpu<D>>,
+) -> Result<PacketSum, Failure> {
+    let bus = Bus::new(registry)?;
+    bus.load_driver(rt, cpu)?;
+    carry_and_plug(rt, &bus, cpu, carriers)
+}
+
+/// Detaches the driver and destroys it. Returns its entry: it had that slot.
+fn unload_driver<D: Domain, R: Wait>(
+    rt: &R,
+    registry: &Registry<D>,
+    cpu: &mut Cpu<D>,
+) -> Result<(u8, u64), Failure>
+    ensures slot { IfOk result (λ gone. gone.0 < D.settings.slots) }
+    ensures gone { IfOk result (λ gone. IsFreedFrom gone.0 gone.1 cpu.new.known_log) }
+{
+    let driver = registry.detach(rt, cpu, Kind::Driver, &Name::parse(b"wm")?)?;
+    let slot = registry.destroy(rt, cpu, driver.number, u32::MAX)?;
+    Ok((slot, driver.number))
+}
+
+/// Ends the registry, and returns what the live word of the driver's slot is then. One list of events of all threads led to it, on any
+/// schedule, so it isn't the driver's number.
+fn close<D: Domain>(registry: Registry<D>, cpu: Cpu<D>, driver: (u8, u64)) -> u64
+    requires slot { driver.0 < D.settings.slots }
+    requires gone { IsFreedFrom driver.0 driver.1 cpu.known_log }
+    ensures { result ≢ driver.1 }
+{
+    let words = registry.close(cpu);
+    words.live(driver.0)
 }
 
 /// All at once: this CPU plugs the interface in and out, and each of the others carries packets on a thread of its own.
