@@ -26,6 +26,6 @@ done
 for name in client expect edges basket workers; do
     put "c/examples/$name.h" "$name.h"
 done
-for path in netbsd/examples/*.[ch] netbsd/tests/drivers.c netbsd/tests/test.h; do
+for path in netbsd/examples/*.[ch] netbsd/tests/{drivers.c,test.h,bodies.h}; do
     put "$path" "netbsd/$(basename "$path")"
 done

@@ -6,6 +6,7 @@
 #ifndef BENCH_CASES_H
 #define BENCH_CASES_H
 
+#include "../../netbsd/tests/bodies.h"
 #include "../bench.h"
 
 struct driver_case {

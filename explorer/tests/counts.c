@@ -16,6 +16,7 @@
 
 #include "../bench.h"
 #include "../../c/examples/expect.h"
+#include "../../netbsd/tests/bodies.h"
 
 static unsigned lengths[4];
 
@@ -70,10 +71,7 @@ static void test_count(unsigned a, unsigned b, unsigned c, unsigned d)
 	EXPECT(reduced.schedules == 1);
 }
 
-static void do_nothing(void *arg)
-{
-	(void)arg;
-}
+HANDLER(do_nothing, (void)0)
 
 /* ---- What is tried where the search ends early. ---- */
 
@@ -173,10 +171,7 @@ static void make_rounders(void)
 	bench_thread("near", round_to_nearest, NULL);
 }
 
-static void test_rounding(void)
-{
-	EXPECT(explore(make_rounders, true).schedules > 1);
-}
+static void test_rounding(void) { EXPECT(explore(make_rounders, true).schedules > 1); }
 
 /* ---- A thread that spins for another one. ---- */
 
@@ -203,11 +198,7 @@ static void make_spinners(void)
 	bench_thread("steps", step_slowly, NULL);
 }
 
-static void set_length(void *arg)
-{
-	(void)arg;
-	atomic_store_release(&lengths[0], 1);
-}
+HANDLER(set_length, atomic_store_release(&lengths[0], 1))
 
 static void spin_for_length(void *arg)
 {
@@ -255,11 +246,7 @@ static void write_many(void *arg)
 		many_words[at] = 1;
 }
 
-static void write_last(void *arg)
-{
-	(void)arg;
-	many_words[MANY - 1] = 2;
-}
+HANDLER(write_last, many_words[MANY - 1] = 2)
 
 static void make_writers(void)
 {
@@ -326,43 +313,12 @@ static kmutex_t lock;
 static struct localcount local;
 static percpu_t *parts;
 
-static void read_once(void *arg)
-{
-	(void)arg;
-	rw_enter(&rw, RW_READER);
-	rw_exit(&rw);
-}
-
-static void ask_readers(void *arg)
-{
-	(void)arg;
-	bench_outcome("%d", rw_read_held(&rw) + rw_lock_held(&rw));
-}
-
-static void count_once(void *arg)
-{
-	(void)arg;
-	localcount_acquire(&local);
-	localcount_release(&local, &cv, &lock);
-}
-
-static void ask_count(void *arg)
-{
-	(void)arg;
-	bench_outcome("%u", localcount_debug_refcnt(&local));
-}
-
-static void end_cv(void *arg)
-{
-	(void)arg;
-	cv_destroy(&cv);
-}
-
-static void ask_cv(void *arg)
-{
-	(void)arg;
-	bench_outcome("%d", cv_is_valid(&cv));
-}
+HANDLER(read_once, rw_enter(&rw, RW_READER); rw_exit(&rw))
+HANDLER(ask_readers, bench_outcome("%d", rw_read_held(&rw) + rw_lock_held(&rw)))
+HANDLER(count_once, localcount_acquire(&local); localcount_release(&local, &cv, &lock))
+HANDLER(ask_count, bench_outcome("%u", localcount_debug_refcnt(&local)))
+HANDLER(end_cv, cv_destroy(&cv))
+HANDLER(ask_cv, bench_outcome("%d", cv_is_valid(&cv)))
 
 /* Adds to the part of CPU 0, and then to that of CPU 1. */
 static void add_to_parts(void *arg)
@@ -383,21 +339,11 @@ static void look_at(void *own, void *arg, struct cpu_info *cpu)
 		bench_outcome("%u", atomic_load_relaxed((unsigned *)own));
 }
 
-static void ask_parts(void *arg)
-{
-	percpu_foreach(parts, look_at, arg);
-}
+HANDLER(ask_parts, percpu_foreach(parts, look_at, arg))
 
 static bool ready;
 
-static void set_ready(void *arg)
-{
-	(void)arg;
-	mutex_enter(&lock);
-	ready = true;
-	cv_signal(&cv);
-	mutex_exit(&lock);
-}
+HANDLER(set_ready, mutex_enter(&lock); ready = true; cv_signal(&cv); mutex_exit(&lock))
 
 /* The time may be over before the wake-up, or not. */
 static void wait_for_a_tick(void *arg)
@@ -421,11 +367,7 @@ static void pause_for_a_tick(void *arg)
 
 static void *softint;
 
-static void handle(void *arg)
-{
-	(void)arg;
-	bench_outcome("%u", atomic_load_relaxed(&word));
-}
+HANDLER(handle, bench_outcome("%u", atomic_load_relaxed(&word)))
 
 /* The handler runs before the change, after it, or never: disestablishing it takes it off the queue. */
 static void schedule_and_end(void *arg)
@@ -453,10 +395,7 @@ static void raise_and_lower(void *arg)
 static void *peers[2];
 static callout_t callouts[2];
 
-static void tell(void *arg)
-{
-	bench_outcome("%u", *(unsigned *)arg);
-}
+HANDLER(tell, bench_outcome("%u", *(unsigned *)arg))
 
 /* Soft interrupts of one level run in the order in which they were scheduled. */
 static void schedule_two(void *arg)
@@ -518,18 +457,8 @@ static void set_two(void *arg)
 }
 
 /* Whoever has the lock, it is held. */
-static void write_once(void *arg)
-{
-	(void)arg;
-	rw_enter(&rw, RW_WRITER);
-	rw_exit(&rw);
-}
-
-static void ask_writer(void *arg)
-{
-	(void)arg;
-	bench_outcome("%d", rw_lock_held(&rw));
-}
+HANDLER(write_once, rw_enter(&rw, RW_WRITER); rw_exit(&rw))
+HANDLER(ask_writer, bench_outcome("%d", rw_lock_held(&rw)))
 
 static const struct question {
 	void (*change)(void *), (*ask)(void *);
@@ -631,10 +560,7 @@ static void make_binders(void)
 	bench_thread("seventh", bind_and_tell, &bound_to[1]);
 }
 
-static void tell_binders(void)
-{
-	bench_outcome("%u%u", bound_to[0], bound_to[1]);
-}
+static void tell_binders(void) { bench_outcome("%u%u", bound_to[0], bound_to[1]); }
 
 static void test_binds(void)
 {

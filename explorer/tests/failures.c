@@ -19,6 +19,7 @@
 #include <sys/workqueue.h>
 
 #include "../../c/examples/expect.h"
+#include "../../netbsd/tests/bodies.h"
 #include "../../netbsd/tests/places.h"
 #include "../bench.h"
 
@@ -27,22 +28,9 @@ static kcondvar_t cv;
 static bool ready;
 static unsigned count;
 
-static void begin_lock(void)
-{
-	mutex_init(&lock, MUTEX_DEFAULT, IPL_NONE);
-	cv_init(&cv, "cv");
-}
-
-static void end_lock(void)
-{
-	cv_destroy(&cv);
-	mutex_destroy(&lock);
-}
-
-static void nothing(void *arg)
-{
-	(void)arg;
-}
+static void begin_lock(void) { mutex_init(&lock, MUTEX_DEFAULT, IPL_NONE); cv_init(&cv, "cv"); }
+static void end_lock(void) { cv_destroy(&cv); mutex_destroy(&lock); }
+HANDLER(nothing, (void)0)
 
 /* ---- Calls that fail. ---- */
 
@@ -54,10 +42,7 @@ static void use_block(void *arg)
 	kmem_free(block, sizeof(*block));
 }
 
-static void begin_block(void)
-{
-	bench_thread("block", use_block, NULL);
-}
+static void begin_block(void) { bench_thread("block", use_block, NULL); }
 
 static void use_object(void *arg)
 {
@@ -70,16 +55,8 @@ static void use_object(void *arg)
 	pool_destroy(&pool);
 }
 
-static void begin_object(void)
-{
-	bench_thread("object", use_object, NULL);
-}
-
-static void end_at_once(void *arg)
-{
-	(void)arg;
-	kthread_exit(0);
-}
+static void begin_object(void) { bench_thread("object", use_object, NULL); }
+HANDLER(end_at_once, kthread_exit(0))
 
 static void make_thread(void *arg)
 {
@@ -87,10 +64,7 @@ static void make_thread(void *arg)
 	KASSERT(kthread_create(PRI_NONE, KTHREAD_MPSAFE, NULL, end_at_once, NULL, NULL, "made") == 0);
 }
 
-static void begin_thread(void)
-{
-	bench_thread("maker", make_thread, NULL);
-}
+static void begin_thread(void) { bench_thread("maker", make_thread, NULL); }
 
 static void make_softint(void *arg)
 {
@@ -100,10 +74,7 @@ static void make_softint(void *arg)
 	softint_disestablish(softint);
 }
 
-static void begin_softint(void)
-{
-	bench_thread("maker", make_softint, NULL);
-}
+static void begin_softint(void) { bench_thread("maker", make_softint, NULL); }
 
 static void do_no_work(struct work *work, void *arg)
 {
@@ -119,10 +90,7 @@ static void make_queue(void *arg)
 	workqueue_destroy(queue);
 }
 
-static void begin_queue(void)
-{
-	bench_thread("maker", make_queue, NULL);
-}
+static void begin_queue(void) { bench_thread("maker", make_queue, NULL); }
 
 /* Of two blocks only one may be missing. */
 static void use_two_blocks(void *arg)
@@ -136,10 +104,7 @@ static void use_two_blocks(void *arg)
 		kmem_free(two, 8);
 }
 
-static void begin_two_blocks(void)
-{
-	bench_thread("blocks", use_two_blocks, NULL);
-}
+static void begin_two_blocks(void) { bench_thread("blocks", use_two_blocks, NULL); }
 
 /* ---- Waits that end early. ---- */
 
@@ -185,14 +150,7 @@ static void pause_once(void *arg)
 	mutex_exit(&lock);
 }
 
-static void make_ready(void *arg)
-{
-	(void)arg;
-	mutex_enter(&lock);
-	ready = true;
-	cv_signal(&cv);
-	mutex_exit(&lock);
-}
+HANDLER(make_ready, mutex_enter(&lock); ready = true; cv_signal(&cv); mutex_exit(&lock))
 
 static void begin_waits(void (*waits)(void *))
 {
@@ -201,25 +159,10 @@ static void begin_waits(void (*waits)(void *))
 	bench_thread("waker", make_ready, NULL);
 }
 
-static void begin_once(void)
-{
-	begin_waits(wait_once);
-}
-
-static void begin_told(void)
-{
-	begin_waits(wait_as_told);
-}
-
-static void begin_timed(void)
-{
-	begin_waits(wait_for_time);
-}
-
-static void begin_pause(void)
-{
-	begin_waits(pause_once);
-}
+static void begin_once(void) { begin_waits(wait_once); }
+static void begin_told(void) { begin_waits(wait_as_told); }
+static void begin_timed(void) { begin_waits(wait_for_time); }
+static void begin_pause(void) { begin_waits(pause_once); }
 
 /* ---- What lies in memory that is given back. ---- */
 
@@ -239,10 +182,7 @@ static void free_callout(void *arg)
 	kmem_free(sc, sizeof(*sc));
 }
 
-static void begin_callout(void)
-{
-	bench_thread("free", free_callout, NULL);
-}
+static void begin_callout(void) { bench_thread("free", free_callout, NULL); }
 
 static void take_lock(struct work *work, void *arg)
 {
@@ -310,12 +250,7 @@ static void begin_works(void)
 	bench_thread("two", enqueue, &works[1]);
 }
 
-static void end_works(void)
-{
-	KASSERT(count == 2);
-	workqueue_destroy(queue);
-	end_lock();
-}
+static void end_works(void) { KASSERT(count == 2); workqueue_destroy(queue); end_lock(); }
 
 /* A queue for each CPU: its threads run works at the same time. */
 static void enqueue_on(void *arg)
@@ -352,18 +287,8 @@ static int touch_it(unsigned *at)
 	return (int)atomic_load_relaxed(at) + 1;
 }
 
-static void call_hook(void *at)
-{
-	int result;
-	MODULE_HOOK_CALL(touch_hook, (at), -1, result);
-	bench_outcome("%d", result);
-}
-
-static void unset_hook(void *at)
-{
-	MODULE_HOOK_UNSET(touch_hook);
-	kmem_free(at, sizeof(unsigned));
-}
+HANDLER(call_hook, int result; MODULE_HOOK_CALL(touch_hook, (arg), -1, result); bench_outcome("%d", result))
+HANDLER(unset_hook, MODULE_HOOK_UNSET(touch_hook); kmem_free(arg, sizeof(unsigned)))
 
 static void begin_hook(void)
 {
@@ -374,11 +299,7 @@ static void begin_hook(void)
 }
 
 /* It forgets the calls that are under way. */
-static void free_early(void *at)
-{
-	kmem_free(at, sizeof(unsigned));
-	MODULE_HOOK_UNSET(touch_hook);
-}
+HANDLER(free_early, kmem_free(arg, sizeof(unsigned)); MODULE_HOOK_UNSET(touch_hook))
 
 static void begin_early(void)
 {

@@ -37,69 +37,13 @@ static void make_things(void)
 	cv_init(&cv, "cv");
 }
 
-static void make_two(void (*first)(void *), void (*second)(void *))
-{
-	make_things();
-	bench_thread("first", first, NULL);
-	bench_thread("second", second, NULL);
-}
-
 /* ---- Locks. ---- */
 
-static void one_two(void *arg)
-{
-	(void)arg;
-	mutex_enter(&one);
-	mutex_enter(&two);
-	mutex_exit(&two);
-	mutex_exit(&one);
-}
-
-static void two_one(void *arg)
-{
-	(void)arg;
-	mutex_enter(&two);
-	mutex_enter(&one);
-	mutex_exit(&one);
-	mutex_exit(&two);
-}
-
-static void two_orders(void)
-{
-	make_two(one_two, two_one);
-}
-
-static void read_twice(void *arg)
-{
-	(void)arg;
-	rw_enter(&rw, RW_READER);
-	rw_enter(&rw, RW_READER);
-	rw_exit(&rw);
-	rw_exit(&rw);
-}
-
-static void write_once(void *arg)
-{
-	(void)arg;
-	rw_enter(&rw, RW_WRITER);
-	rw_exit(&rw);
-}
-
-static void reader_again(void)
-{
-	make_two(read_twice, write_once);
-}
-
-static void keep_lock(void *arg)
-{
-	(void)arg;
-	mutex_enter(&one);
-}
-
-static void lock_at_end(void)
-{
-	make_two(keep_lock, write_once);
-}
+HANDLER(one_two, mutex_enter(&one); mutex_enter(&two); mutex_exit(&two); mutex_exit(&one))
+HANDLER(two_one, mutex_enter(&two); mutex_enter(&one); mutex_exit(&one); mutex_exit(&two))
+HANDLER(read_twice, rw_enter(&rw, RW_READER); rw_enter(&rw, RW_READER); rw_exit(&rw); rw_exit(&rw))
+HANDLER(write_once, rw_enter(&rw, RW_WRITER); rw_exit(&rw))
+HANDLER(keep_lock, mutex_enter(&one))
 
 /* ---- Waking. ---- */
 
@@ -113,90 +57,24 @@ static void wait_carelessly(void *arg)
 	}
 }
 
-static void wake(void *arg)
-{
-	(void)arg;
-	atomic_store_relaxed(&flag, true);
-	mutex_enter(&one);
-	cv_broadcast(&cv);
-	mutex_exit(&one);
-}
-
-static void lost_wake(void)
-{
-	make_two(wait_carelessly, wake);
-}
+HANDLER(wake, atomic_store_relaxed(&flag, true); mutex_enter(&one); cv_broadcast(&cv); mutex_exit(&one))
 
 /* ---- Memory. ---- */
 
-static void use_block(void *arg)
-{
-	(void)arg;
-	atomic_inc_uint(block);
-}
-
-static void free_block(void *arg)
-{
-	(void)arg;
-	kmem_free(block, sizeof(*block));
-}
-
-static void make_block(void)
-{
-	block = kmem_zalloc(sizeof(*block), KM_SLEEP);
-}
-
-static void change_own_late(void *arg)
-{
-	free_block(arg);
-	use_block(arg);
-}
-
-static void changed_late(void)
-{
-	make_block();
-	make_two(change_own_late, write_once);
-}
-
-static void freed(void)
-{
-	make_block();
-	make_two(use_block, free_block);
-}
-
-static void free_twice(void)
-{
-	make_block();
-	make_two(free_block, free_block);
-}
+HANDLER(use_block, atomic_inc_uint(block))
+HANDLER(free_block, kmem_free(block, sizeof(*block)))
+static void make_block(void) { block = kmem_zalloc(sizeof(*block), KM_SLEEP); }
+HANDLER(change_own_late, free_block(arg); use_block(arg))
 
 static kmutex_t *locked_block;
 
-static void lock_block(void *arg)
-{
-	(void)arg;
-	mutex_enter(locked_block);
-	mutex_exit(locked_block);
-}
-
-static void free_locked(void *arg)
-{
-	(void)arg;
-	mutex_destroy(locked_block);
-	kmem_free(locked_block, sizeof(*locked_block));
-}
+HANDLER(lock_block, mutex_enter(locked_block); mutex_exit(locked_block))
+HANDLER(free_locked, mutex_destroy(locked_block); kmem_free(locked_block, sizeof(*locked_block)))
 
 static void freed_lock(void)
 {
 	locked_block = kmem_alloc(sizeof(*locked_block), KM_SLEEP);
 	mutex_init(locked_block, MUTEX_DEFAULT, IPL_NONE);
-	make_two(lock_block, free_locked);
-}
-
-static void leak(void)
-{
-	make_block();
-	make_two(use_block, use_block);
 }
 
 static void forget_lock(void *arg)
@@ -207,11 +85,6 @@ static void forget_lock(void *arg)
 	kmem_free(lock, sizeof(*lock));
 }
 
-static void forgotten_lock(void)
-{
-	make_two(forget_lock, write_once);
-}
-
 /* The compiler tells nothing of this access. */
 #define UNSEEN	__attribute__((noinline, no_sanitize("thread")))
 
@@ -220,31 +93,8 @@ UNSEEN static void write_unseen(unsigned *at)
 	*at = 1;
 }
 
-static void write_behind(void *arg)
-{
-	(void)arg;
-	write_unseen(block + 1);
-	kmem_free(block, sizeof(*block));
-}
-
-static void behind(void)
-{
-	make_block();
-	make_two(write_behind, write_once);
-}
-
-static void write_freed(void *arg)
-{
-	(void)arg;
-	kmem_free(block, sizeof(*block));
-	write_unseen(block);
-}
-
-static void written_after(void)
-{
-	make_block();
-	make_two(write_freed, write_once);
-}
+HANDLER(write_behind, write_unseen(block + 1); kmem_free(block, sizeof(*block)))
+HANDLER(write_freed, kmem_free(block, sizeof(*block)); write_unseen(block))
 
 /* ---- References and sections. ---- */
 
@@ -284,28 +134,11 @@ static void destroy_locked(void *arg)
 	pserialize_destroy(psz);
 }
 
-static void destroyed_locked(void)
-{
-	make_target();
-	make_two(hold_and_lock, destroy_locked);
-}
-
-static void left_target(void)
-{
-	make_target();
-	make_two(write_once, write_once);
-}
-
 static void never_ends(void *arg)
 {
 	(void)arg;
 	while (!atomic_load_relaxed(&flag))
 		;
-}
-
-static void spins(void)
-{
-	make_two(never_ends, write_once);
 }
 
 static unsigned *volatile nowhere;
@@ -317,16 +150,7 @@ static void spin_for_flag(void *arg)
 		;
 }
 
-static void set_flag(void *arg)
-{
-	(void)arg;
-	atomic_store_release(&flag, true);
-}
-
-static void spins_for_another(void)
-{
-	make_two(spin_for_flag, set_flag);
-}
+HANDLER(set_flag, atomic_store_release(&flag, true))
 
 /* The sanitizers, where the bench is built with them, leave the crash to it. */
 const char *__asan_default_options(void);
@@ -342,44 +166,10 @@ __attribute__((no_sanitize("undefined"))) static void crash(void *arg)
 		*(volatile unsigned *)nowhere = 1;
 }
 
-static void set_word(void *arg)
-{
-	(void)arg;
-	atomic_store_relaxed(&word, 1);
-}
-
-static void crashes(void)
-{
-	make_two(crash, set_word);
-}
-
-static void assert_it(void *arg)
-{
-	(void)arg;
-	KASSERTMSG(atomic_load_relaxed(&word) == 0, "word is %u", atomic_load_relaxed(&word));
-}
-
-static void asserts(void)
-{
-	make_two(assert_it, set_word);
-}
-
-static void dies(void *arg)
-{
-	(void)arg;
-	panic("out of %s", "luck");
-}
-
-static void panics(void)
-{
-	make_two(dies, set_word);
-}
-
-static void exit_at_once(void *arg)
-{
-	(void)arg;
-	kthread_exit(0);
-}
+HANDLER(set_word, atomic_store_relaxed(&word, 1))
+HANDLER(assert_it, KASSERTMSG(atomic_load_relaxed(&word) == 0, "word is %u", atomic_load_relaxed(&word)))
+HANDLER(dies, panic("out of %s", "luck"))
+HANDLER(exit_at_once, kthread_exit(0))
 
 static void join_never(void *arg)
 {
@@ -388,36 +178,14 @@ static void join_never(void *arg)
 	(void)kthread_create(PRI_NONE, KTHREAD_MUSTJOIN, NULL, exit_at_once, NULL, &made, "worker");
 }
 
-static void unjoined(void)
-{
-	make_two(join_never, write_once);
-}
-
-static void return_at_once(void *arg)
-{
-	(void)arg;
-}
-
-static void make_returning(void *arg)
-{
-	(void)arg;
-	(void)kthread_create(PRI_NONE, 0, NULL, return_at_once, NULL, NULL, "worker");
-}
-
-static void returning(void)
-{
-	make_two(make_returning, write_once);
-}
+HANDLER(return_at_once, (void)0)
+HANDLER(make_returning, (void)kthread_create(PRI_NONE, 0, NULL, return_at_once, NULL, NULL, "worker"))
 
 /* ---- Soft interrupts, drains. ---- */
 
 static void *softint;
 
-static void use_in_handler(void *arg)
-{
-	(void)arg;
-	atomic_inc_uint(block);
-}
+HANDLER(use_in_handler, atomic_inc_uint(block))
 
 /* The handler may run between the two. */
 static void free_and_disestablish(void *arg)
@@ -432,7 +200,6 @@ static void freed_before_disestablish(void)
 {
 	make_block();
 	softint = softint_establish(SOFTINT_NET | SOFTINT_MPSAFE, use_in_handler, NULL);
-	make_two(free_and_disestablish, write_once);
 }
 
 static struct localcount local;
@@ -465,12 +232,7 @@ static void attach_meanwhile(void *arg)
 	mutex_exit(&one);
 }
 
-static void cleared_after_drain(void)
-{
-	localcount_init(&local);
-	slot = 1;
-	make_two(clear_after_drain, attach_meanwhile);
-}
+static void cleared_after_drain(void) { localcount_init(&local); slot = 1; }
 
 static void use_argument(void *arg, void *other)
 {
@@ -479,12 +241,7 @@ static void use_argument(void *arg, void *other)
 }
 
 /* The call may still be made on some CPU. */
-static void wait_never(void *arg)
-{
-	(void)arg;
-	(void)xc_broadcast(0, use_argument, block, NULL);
-	kmem_free(block, sizeof(*block));
-}
+HANDLER(wait_never, (void)xc_broadcast(0, use_argument, block, NULL); kmem_free(block, sizeof(*block)))
 
 static void wait_for_call(void *arg)
 {
@@ -494,30 +251,9 @@ static void wait_for_call(void *arg)
 	kmem_free(block, sizeof(*block));
 }
 
-static void unwaited(void)
-{
-	make_block();
-	make_two(wait_never, write_once);
-}
-
-static void waited(void)
-{
-	make_block();
-	make_two(wait_for_call, write_once);
-}
-
 /* NetBSD's key.c releases so: a kernel takes the lock, and sleeps if it must. */
-static void release_in_handler(void *arg)
-{
-	(void)arg;
-	localcount_release(&local, &cv, &one);
-}
-
-static void schedule_release(void *arg)
-{
-	(void)arg;
-	softint_schedule(softint);
-}
+HANDLER(release_in_handler, localcount_release(&local, &cv, &one))
+HANDLER(schedule_release, softint_schedule(softint))
 
 static void drain_local(void *arg)
 {
@@ -534,25 +270,14 @@ static void released_in_handler(void)
 	localcount_init(&local);
 	localcount_acquire(&local);
 	softint = softint_establish(SOFTINT_NET | SOFTINT_MPSAFE, release_in_handler, NULL);
-	make_two(schedule_release, drain_local);
 }
 
 /* One level's handler waits for the lock of a thread, and the thread for another level's handler. */
 static kmutex_t soft_lock;
 static void *levels[2];
 
-static void lock_softly(void *arg)
-{
-	(void)arg;
-	mutex_enter(&soft_lock);
-	mutex_exit(&soft_lock);
-}
-
-static void wake_softly(void *arg)
-{
-	(void)arg;
-	atomic_store_relaxed(&flag, true);
-}
+HANDLER(lock_softly, mutex_enter(&soft_lock); mutex_exit(&soft_lock))
+HANDLER(wake_softly, atomic_store_relaxed(&flag, true))
 
 static void wait_for_level(void *arg)
 {
@@ -570,49 +295,22 @@ static void wait_for_level(void *arg)
 	kupaldiz_unbind();
 }
 
-static void set_up_levels(unsigned blocked, unsigned wakes)
+static void make_levels(unsigned blocked, unsigned wakes)
 {
 	mutex_init(&soft_lock, MUTEX_DEFAULT, IPL_SOFTCLOCK);
 	levels[0] = softint_establish(blocked | SOFTINT_MPSAFE, lock_softly, NULL);
 	levels[1] = softint_establish(wakes | SOFTINT_MPSAFE, wake_softly, NULL);
-	make_two(wait_for_level, write_once);
 }
 
-static void higher_waits(void)
-{
-	set_up_levels(SOFTINT_SERIAL, SOFTINT_CLOCK);
-}
-
-static void lower_waits(void)
-{
-	set_up_levels(SOFTINT_CLOCK, SOFTINT_NET);
-}
+static void higher_waits(void) { make_levels(SOFTINT_SERIAL, SOFTINT_CLOCK); }
+static void lower_waits(void) { make_levels(SOFTINT_CLOCK, SOFTINT_NET); }
 
 /* ---- What is left at the end. ---- */
 
-static void left_class(void)
-{
-	(void)psref_class_create("left", IPL_SOFTNET);
-	make_two(write_once, write_once);
-}
-
-static void left_pserialize(void)
-{
-	psz = pserialize_create();
-	make_two(write_once, write_once);
-}
-
-static void count_in(void *arg)
-{
-	(void)arg;
-	localcount_acquire(&local);
-}
-
-static void left_count(void)
-{
-	localcount_init(&local);
-	make_two(count_in, write_once);
-}
+static void left_class(void) { (void)psref_class_create("left", IPL_SOFTNET); }
+static void left_pserialize(void) { psz = pserialize_create(); }
+HANDLER(count_in, localcount_acquire(&local))
+static void left_count(void) { localcount_init(&local); }
 
 static void keep_reference(void *arg)
 {
@@ -622,28 +320,8 @@ static void keep_reference(void *arg)
 	psref_acquire(&psref, &target, things);
 }
 
-static void left_reference(void)
-{
-	make_target();
-	make_two(keep_reference, write_once);
-}
-
-static void keep_section(void *arg)
-{
-	(void)arg;
-	(void)pserialize_read_enter();
-}
-
-static void left_section(void)
-{
-	make_two(keep_section, write_once);
-}
-
-static void left_object(void)
-{
-	(void)mutex_obj_alloc(MUTEX_DEFAULT, IPL_NONE);
-	make_two(write_once, write_once);
-}
+HANDLER(keep_section, (void)pserialize_read_enter())
+static void left_object(void) { (void)mutex_obj_alloc(MUTEX_DEFAULT, IPL_NONE); }
 
 /* What ends a test, which takes down what make_things has made: all of it, all but one lock, or with a lock held. */
 static void destroy_things(void)
@@ -654,63 +332,52 @@ static void destroy_things(void)
 	cv_destroy(&cv);
 }
 
-static void destroy_some(void)
-{
-	mutex_destroy(&one);
-	rw_destroy(&rw);
-	cv_destroy(&cv);
-}
-
-static void end_locked(void)
-{
-	mutex_enter(&one);
-}
-
-static void two_writers(void)
-{
-	make_two(write_once, write_once);
-}
+static void destroy_some(void) { mutex_destroy(&one); rw_destroy(&rw); cv_destroy(&cv); }
+static void end_locked(void) { mutex_enter(&one); }
 
 /* ---- What is found. ---- */
 
 static const struct find finds[] = {
-	{"two orders", "deadlock: thread \"first\" waits in mutex_enter at", two_orders, NULL},
-	{"a reader that enters again behind a writer", "nobody can go on: thread \"first\" waits in rw_enter", reader_again, NULL},
-	{"a lock at the end of a thread", "pthread_exit: with a lock", lock_at_end, NULL},
-	{"a lost wake-up", "came while nobody waited", lost_wake, NULL},
-	{"freed memory", "data race: thread \"first\" writes at finds.c:*, and thread \"second\" frees at *finds.c:", freed, NULL},
-	{"freed memory by an atomic change of the thread itself", "atomic change at *: use of freed memory: thread \"first\" gave it back", changed_late, NULL},
-	{"a lock that is freed in use", "mutex_", freed_lock, NULL},
-	{"freed twice", "use of freed memory", free_twice, NULL},
-	{"a leak", "1 blocks of memory are left at the end, one of them taken by kmem_zalloc at", leak, NULL},
-	{"a lock that is never destroyed", "what mutex_init has made lies in it and was never destroyed", forgotten_lock, NULL},
-	{"a write behind a block", "written behind a block of", behind, NULL},
-	{"a write to freed memory", "something was written to freed memory", written_after, NULL},
-	{"a destroy with the holder's lock", "waits in psref_target_destroy at", destroyed_locked, NULL},
-	{"a target that is left", "a target or a local count is left at the end", left_target, NULL},
-	{"a thread that never ends", "the run doesn't end", spins, NULL},
-	{"a thread that spins for another", NULL, spins_for_another, NULL},
-	{"a crash", "the code ends by signal 11", crashes, NULL},
-	{"an assertion", "KASSERTMSG: not so: ", asserts, NULL},
-	{"a panic", "panic: out of luck, at", panics, NULL},
-	{"a thread that isn't joined", "taken by kthread_create", unjoined, NULL},
-	{"a thread that returns", "kthread_create: the body returned without kthread_exit", returning, NULL},
-	{"freed before its handler is ended", "use of freed memory", freed_before_disestablish, NULL},
-	{"an attach that a drain loses", "KASSERT: not so: !attached || slot == 2", cleared_after_drain, NULL},
-	{"a cross call that isn't waited for", "use of freed memory", unwaited, NULL},
-	{"a cross call that is", NULL, waited, NULL},
-	{"a release in a soft interrupt", NULL, released_in_handler, NULL},
-	{"a higher level's handler that waits", NULL, higher_waits, NULL},
-	{"a lower level's handler that waits", NULL, lower_waits, NULL},
-	{"a class that is left", "taken by psref_class_create", left_class, NULL},
-	{"a pserialize that is left", "taken by pserialize_create", left_pserialize, NULL},
-	{"a lock object that is left", "taken by mutex_obj_alloc", left_object, NULL},
-	{"a count with a reference that is left", "a local count with 1 references is left at the end", left_count, NULL},
-	{"a passive reference that is left", "pthread_exit: the thread has passive references", left_reference, NULL},
-	{"a section that is left", "pthread_exit: inside a read section", left_section, NULL},
-	{"locks that are destroyed", NULL, two_writers, destroy_things},
-	{"a lock that is left", "1 locks, condition variables or callouts are left at the end, one of them made by mutex_init", two_writers, destroy_some},
-	{"a lock that is held at the end", "pthread_exit: with a lock", two_writers, end_locked},
+	{"two orders", "deadlock: thread \"first\" waits in mutex_enter at", one_two, two_one},
+	{"a reader that enters again behind a writer", "nobody can go on: thread \"first\" waits in rw_enter", read_twice, write_once},
+	{"a lock at the end of a thread", "pthread_exit: with a lock", keep_lock, write_once},
+	{"a lost wake-up", "came while nobody waited", wait_carelessly, wake},
+	{"freed memory", "data race: thread \"first\" writes at finds.c:*, and thread \"second\" frees at *finds.c:",
+	    use_block, free_block, .make = make_block},
+	{"freed memory by an atomic change of the thread itself", "atomic change at *: use of freed memory: thread \"first\" gave it back",
+	    change_own_late, write_once, .make = make_block},
+	{"a lock that is freed in use", "mutex_", lock_block, free_locked, .make = freed_lock},
+	{"freed twice", "use of freed memory", free_block, free_block, .make = make_block},
+	{"a leak", "1 blocks of memory are left at the end, one of them taken by kmem_zalloc at", use_block, use_block, .make = make_block},
+	{"a lock that is never destroyed", "what mutex_init has made lies in it and was never destroyed", forget_lock, write_once},
+	{"a write behind a block", "written behind a block of", write_behind, write_once, .make = make_block},
+	{"a write to freed memory", "something was written to freed memory", write_freed, write_once, .make = make_block},
+	{"a destroy with the holder's lock", "waits in psref_target_destroy at", hold_and_lock, destroy_locked, .make = make_target},
+	{"a target that is left", "a target or a local count is left at the end", write_once, write_once, .make = make_target},
+	{"a thread that never ends", "the run doesn't end", never_ends, write_once},
+	{"a thread that spins for another", NULL, spin_for_flag, set_flag},
+	{"a crash", "the code ends by signal 11", crash, set_word},
+	{"an assertion", "KASSERTMSG: not so: ", assert_it, set_word},
+	{"a panic", "panic: out of luck, at", dies, set_word},
+	{"a thread that isn't joined", "taken by kthread_create", join_never, write_once},
+	{"a thread that returns", "kthread_create: the body returned without kthread_exit", make_returning, write_once},
+	{"freed before its handler is ended", "use of freed memory", free_and_disestablish, write_once, .make = freed_before_disestablish},
+	{"an attach that a drain loses", "KASSERT: not so: !attached || slot == 2", clear_after_drain, attach_meanwhile, .make = cleared_after_drain},
+	{"a cross call that isn't waited for", "use of freed memory", wait_never, write_once, .make = make_block},
+	{"a cross call that is", NULL, wait_for_call, write_once, .make = make_block},
+	{"a release in a soft interrupt", NULL, schedule_release, drain_local, .make = released_in_handler},
+	{"a higher level's handler that waits", NULL, wait_for_level, write_once, .make = higher_waits},
+	{"a lower level's handler that waits", NULL, wait_for_level, write_once, .make = lower_waits},
+	{"a class that is left", "taken by psref_class_create", write_once, write_once, .make = left_class},
+	{"a pserialize that is left", "taken by pserialize_create", write_once, write_once, .make = left_pserialize},
+	{"a lock object that is left", "taken by mutex_obj_alloc", write_once, write_once, .make = left_object},
+	{"a count with a reference that is left", "a local count with 1 references is left at the end", count_in, write_once, .make = left_count},
+	{"a passive reference that is left", "pthread_exit: the thread has passive references", keep_reference, write_once, .make = make_target},
+	{"a section that is left", "pthread_exit: inside a read section", keep_section, write_once},
+	{"locks that are destroyed", NULL, write_once, write_once, .finish = destroy_things},
+	{"a lock that is left", "1 locks, condition variables or callouts are left at the end, one of them made by mutex_init",
+	    write_once, write_once, .finish = destroy_some},
+	{"a lock that is held at the end", "pthread_exit: with a lock", write_once, write_once, .finish = end_locked},
 };
 
 int main(int count, char **words)

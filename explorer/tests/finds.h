@@ -6,12 +6,33 @@
 #include <stdio.h>
 #include <string.h>
 
+#include "../../netbsd/tests/bodies.h"
 #include "../bench.h"
+
+/* A row leaves out what its case doesn't have. */
+#pragma GCC diagnostic ignored "-Wmissing-field-initializers"
 
 struct find {
 	const char *name, *line;	/* NULL where nothing is wrong */
-	void (*setup)(void), (*finish)(void);
+	void (*first)(void *), (*second)(void *), (*third)(void *);
+	void (*make)(void), (*finish)(void);
 };
+
+/* What each case begins with. Whoever includes this file defines it. */
+static void make_things(void);
+
+static const struct find *found_now;
+
+static inline void begin_find(void)
+{
+	make_things();
+	if (found_now->make != NULL)
+		found_now->make();
+	bench_thread("first", found_now->first, NULL);
+	bench_thread("second", found_now->second, NULL);
+	if (found_now->third != NULL)
+		bench_thread("third", found_now->third, NULL);
+}
 
 /* Whether a line has a text in it, as fnmatch(3) has it. */
 static inline bool is_line(const char *said, const char *looked_for)
@@ -26,12 +47,13 @@ static inline bool is_found(const struct find *find)
 {
 	struct bench_found found, again;
 	struct bench_options options = {.quiet = true, .found = &found, .reliable = true, .finish = find->finish};
-	bool wrong = bench_explore(find->setup, &options) != 0;
+	found_now = find;
+	bool wrong = bench_explore(begin_find, &options) != 0;
 	if (find->line == NULL)
 		return !wrong && found.complete;
 	options.found = &again;
 	options.replay = found.schedule;
-	return wrong && is_line(found.line, find->line) && bench_explore(find->setup, &options) == 1 && strcmp(found.line, again.line) == 0;
+	return wrong && is_line(found.line, find->line) && bench_explore(begin_find, &options) == 1 && strcmp(found.line, again.line) == 0;
 }
 
 /* Runs the cases, and shows those that fail, or with `all` each. The last line counts them. */
@@ -45,7 +67,7 @@ static inline int run_finds(const struct find *finds, size_t count, bool all)
 		if (!right || all) {
 			const struct bench_options options = {.name = finds[at].name, .reliable = true, .finish = finds[at].finish};
 			printf("%s %s\n", right ? "ok" : "FAILED", finds[at].name);
-			bench_explore(finds[at].setup, &options);
+			bench_explore(begin_find, &options);
 		}
 	}
 	printf("%u passed, %u failed\n", passed, failed);

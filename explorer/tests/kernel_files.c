@@ -10,18 +10,14 @@
 #include "../../netbsd/examples/kernel/key.c"
 #include "../../netbsd/examples/kernel/subr_devsw.c"
 #include "../../c/examples/expect.h"
+#include "../../netbsd/tests/bodies.h"
 #include "../bench.h"
 
 /* ---- if.c: a packet goes by an interface, whose link changes, while it is detached. ---- */
 
 static struct ifnet *wm0;
 
-static void output_wm0(void *arg)
-{
-	int error = if_output_byname("wm0");
-	(void)arg;
-	KASSERT(error == 0 || error == ENXIO);
-}
+HANDLER(output_wm0, int error = if_output_byname("wm0"); KASSERT(error == 0 || error == ENXIO))
 
 static void detach_wm0(void *arg)
 {
@@ -42,16 +38,8 @@ static void begin_if(void)
 
 /* ---- key.c: packets are received while the association that they use is destroyed. ---- */
 
-static void receive(void *arg)
-{
-	(void)arg;
-	key_receive(256);
-}
-
-static void destroy_sav(void *sav)
-{
-	key_destroy_sav(sav);
-}
+HANDLER(receive, key_receive(256))
+HANDLER(destroy_sav, key_destroy_sav(arg))
 
 static void begin_key(void)
 {
@@ -62,11 +50,7 @@ static void begin_key(void)
 	bench_thread("destroy", destroy_sav, sav);
 }
 
-static void end_key(void)
-{
-	KASSERT(unrefs <= 1 && in_flight == NULL);
-	key_fini();
-}
+static void end_key(void) { KASSERT(unrefs <= 1 && in_flight == NULL); key_fini(); }
 
 /* ---- subr_devsw.c: a device is opened while its driver is detached, and another driver is attached, for which the table grows. ---- */
 
@@ -96,19 +80,8 @@ static void open_devices(void *arg)
 	}
 }
 
-static void detach_first(void *arg)
-{
-	(void)arg;
-	devsw_detach(&first_cdev);
-	KASSERT(atomic_load_relaxed(&in_first) == 0);
-}
-
-static void attach_second(void *arg)
-{
-	(void)arg;
-	attached = devsw_attach(&second_cdev, 5);
-	KASSERT(attached == 0 || attached == ENOMEM);
-}
+HANDLER(detach_first, devsw_detach(&first_cdev); KASSERT(atomic_load_relaxed(&in_first) == 0))
+HANDLER(attach_second, attached = devsw_attach(&second_cdev, 5); KASSERT(attached == 0 || attached == ENOMEM))
 
 static void begin_devsw(void)
 {
@@ -133,37 +106,11 @@ static void end_devsw(void)
 
 enum { ONE = 1, TWO = 2 };
 
-static void forward(void *arg)
-{
-	unsigned to = bridge_forward(ONE, 0x10, 0x20);
-	(void)arg;
-	KASSERT(to == 0 || to == TWO);
-}
-
-static void answer(void *arg)
-{
-	unsigned to = bridge_forward(TWO, 0x20, 0x10);
-	(void)arg;
-	KASSERT(to == 0 || to == ONE);
-}
-
-static void delete_two(void *arg)
-{
-	(void)arg;
-	bridge_delete(TWO);
-}
-
-static void stop_bridge(void *arg)
-{
-	(void)arg;
-	bridge_stop();
-	KASSERT(atomic_load_relaxed(&bridge.sc_rtage_scheduled) == 0);
-}
-
-static void do_nothing(void *arg)
-{
-	(void)arg;
-}
+HANDLER(forward, unsigned to = bridge_forward(ONE, 0x10, 0x20); KASSERT(to == 0 || to == TWO))
+HANDLER(answer, unsigned to = bridge_forward(TWO, 0x20, 0x10); KASSERT(to == 0 || to == ONE))
+HANDLER(delete_two, bridge_delete(TWO))
+HANDLER(stop_bridge, bridge_stop(); KASSERT(atomic_load_relaxed(&bridge.sc_rtage_scheduled) == 0))
+HANDLER(do_nothing, (void)0)
 
 static int no_bridge;
 

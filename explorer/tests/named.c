@@ -3,16 +3,8 @@
 
 #include "../bench.h"
 
-static void run_names(void *arg)
-{
-	(void)arg;
-	test_all();
-}
-
-static void begin(void)
-{
-	bench_thread("names", run_names, NULL);
-}
+HANDLER(run_names, test_all())
+static void begin(void) { bench_thread("names", run_names, NULL); }
 
 int main(void)
 {

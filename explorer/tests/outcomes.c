@@ -25,6 +25,7 @@
 
 #include "../bench.h"
 #include "../../c/examples/expect.h"
+#include "../../netbsd/tests/bodies.h"
 
 enum { MOST = 4, LONGEST = 16 };
 
@@ -75,23 +76,9 @@ static void store_both(unsigned value)
 	memset(plains, (int)value, sizeof(plains));
 }
 
-static void count_plainly(void *arg)
-{
-	(void)arg;
-	plains[0]++;
-}
-
-static void handle(void *arg)
-{
-	(void)arg;
-	atomic_store_relaxed(&words[1], 26);
-}
-
-static void ring(void *arg)
-{
-	(void)arg;
-	atomic_store_relaxed(&words[0], 25);
-}
+HANDLER(count_plainly, plains[0]++)
+HANDLER(handle, atomic_store_relaxed(&words[1], 26))
+HANDLER(ring, atomic_store_relaxed(&words[0], 25))
 
 UNSEEN static void change_block(void *arg)
 {
@@ -209,12 +196,7 @@ static void end_target(void)
 	psref_target_destroy(&target, things);
 }
 
-static void store_and_exit(void *arg)
-{
-	(void)arg;
-	atomic_store_relaxed(&words[1], 24);
-	kthread_exit(0);
-}
+HANDLER(store_and_exit, atomic_store_relaxed(&words[1], 24); kthread_exit(0))
 
 /* Has a thread that it makes store a word, and waits for its end, or for another word meanwhile. */
 static void make_thread(unsigned thread)
@@ -301,12 +283,7 @@ UNSEEN static void run_text(void *arg)
 #define PLAINLY		"xyXYz#p"
 
 /* A soft interrupt waits on CPU 0 from the beginning, and its thread is made before the others. */
-static void schedule_early(void)
-{
-	kupaldiz_bind(0);
-	softint_schedule(softint);
-	kupaldiz_unbind();
-}
+static void schedule_early(void) { kupaldiz_bind(0); softint_schedule(softint); kupaldiz_unbind(); }
 
 static void begin(void)
 {

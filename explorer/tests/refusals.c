@@ -7,32 +7,28 @@
 #include <sys/atomic.h>
 #include <sys/kmem.h>
 #include <sys/mutex.h>
-#include <sys/wait.h>
-#include <unistd.h>
 
 #include "../bench.h"
 #include "../../c/examples/expect.h"
+#include "../../netbsd/tests/bodies.h"
+#include "../../netbsd/tests/child.h"
 
 static kmutex_t one, two;
 static unsigned word, other;
 
-static void one_two(void *arg)
-{
-	(void)arg;
-	mutex_enter(&one);
-	mutex_enter(&two);
-	mutex_exit(&two);
-	mutex_exit(&one);
-}
+/* ---- What is called outside of bench_explore. ---- */
 
-static void two_one(void *arg)
-{
-	(void)arg;
-	mutex_enter(&two);
-	mutex_enter(&one);
-	mutex_exit(&one);
-	mutex_exit(&two);
-}
+HANDLER(one_two, mutex_enter(&one); mutex_enter(&two); mutex_exit(&two); mutex_exit(&one))
+HANDLER(two_one, mutex_enter(&two); mutex_enter(&one); mutex_exit(&one); mutex_exit(&two))
+
+static void call_outside(void) { mutex_init(&one, MUTEX_DEFAULT, IPL_NONE); mutex_enter(&one); }
+static void thread_outside(void) { bench_thread("lost", one_two, NULL); }
+static void point_outside(void) { bench_point(); }
+static void atomic_outside(void) { atomic_inc_uint(&word); }
+static void outcome_outside(void) { bench_outcome("%u", word); }
+static void no_setup(void) { bench_explore(NULL, NULL); }
+
+/* ---- Setups. ---- */
 
 static void two_orders(void)
 {
@@ -42,62 +38,23 @@ static void two_orders(void)
 	bench_thread("second", two_one, NULL);
 }
 
-static void set_word(void *arg)
+static void nobody(void) { }
+static void make_bodiless(void) { bench_thread("none", NULL, NULL); }
+
+HANDLER(explore_inside, bench_explore(two_orders, NULL))
+static void make_explorer(void) { bench_thread("explorer", explore_inside, NULL); }
+
+HANDLER(set_word, atomic_store_relaxed(&word, 1))
+static void make_many(void)
 {
-	(void)arg;
-	atomic_store_relaxed(&word, 1);
+	for (unsigned at = 0; at < BENCH_THREADS; at++)
+		bench_thread("one of many", set_word, NULL);
 }
 
-static void nobody(void)
-{
-}
+HANDLER(take_much, (void)kmem_alloc(5u << 20, KM_SLEEP))
+static void make_taker(void) { bench_thread("taker", take_much, NULL); }
 
-static void outside(void)
-{
-	mutex_init(&one, MUTEX_DEFAULT, IPL_NONE);
-	mutex_enter(&one);
-}
-
-static void no_thread(void)
-{
-	bench_explore(nobody, NULL);
-}
-
-static void bad_letter(void)
-{
-	const struct bench_options options = {.replay = "b3?"};
-	bench_explore(two_orders, &options);
-}
-
-static void bad_turn(void)
-{
-	const struct bench_options options = {.replay = "b2c99"};
-	bench_explore(two_orders, &options);
-}
-
-static void bad_count(void)
-{
-	const struct bench_options options = {.replay = "b0"};
-	bench_explore(two_orders, &options);
-}
-
-static void bad_failure(void)
-{
-	const struct bench_options options = {.replay = "b2!b0"};
-	bench_explore(two_orders, &options);
-}
-
-static void too_many_failures(void)
-{
-	const struct bench_options options = {.failures = 4};
-	bench_explore(two_orders, &options);
-}
-
-static void thread_outside(void)
-{
-	bench_thread("lost", one_two, NULL);
-}
-
+/* Its memory is no part of a run. */
 static unsigned *volatile shared;
 
 static void differ(void *arg)
@@ -114,155 +71,57 @@ static void differs(void)
 	bench_thread("second", set_word, NULL);
 }
 
-static void outside_of_schedule(void)
-{
-	shared = malloc(sizeof(*shared));
-	*shared = 0;
-	bench_explore(differs, NULL);
-}
-
-static void point_outside(void)
-{
-	bench_point();
-}
-
-static void atomic_outside(void)
-{
-	atomic_inc_uint(&word);
-}
-
-static void outcome_outside(void)
-{
-	bench_outcome("%u", word);
-}
-
-static void no_setup(void)
-{
-	bench_explore(NULL, NULL);
-}
-
-static void make_bodiless(void)
-{
-	bench_thread("none", NULL, NULL);
-}
-
-static void no_body(void)
-{
-	bench_explore(make_bodiless, NULL);
-}
-
-static void explore_inside(void *arg)
-{
-	(void)arg;
-	bench_explore(two_orders, NULL);
-}
-
-static void make_explorer(void)
-{
-	bench_thread("explorer", explore_inside, NULL);
-}
-
-static void inside_of_run(void)
-{
-	bench_explore(make_explorer, NULL);
-}
-
-static void too_long(void)
-{
-	const struct bench_options options = {.replay = "b2001"};
-	bench_explore(two_orders, &options);
-}
-
-static void huge_turn(void)
-{
-	const struct bench_options options = {.replay = "b99999999999999999999"};
-	bench_explore(two_orders, &options);
-}
-
-static void nowhere_to_draw(void)
-{
-	const struct bench_options options = {.quiet = true, .picture = "/no/such/folder/picture.svg"};
-	bench_explore(two_orders, &options);
-}
-
-static void make_many(void)
-{
-	for (unsigned at = 0; at < BENCH_THREADS; at++)
-		bench_thread("one of many", set_word, NULL);
-}
-
-static void too_many_threads(void)
-{
-	bench_explore(make_many, NULL);
-}
-
-static void take_much(void *arg)
-{
-	(void)arg;
-	(void)kmem_alloc(5u << 20, KM_SLEEP);
-}
-
-static void make_taker(void)
-{
-	bench_thread("taker", take_much, NULL);
-}
-
-static void too_many_bytes(void)
-{
-	bench_explore(make_taker, NULL);
-}
-
+/* A call, or a search: a setup with options. */
 static const struct refusal {
 	const char *name, *line;
-	void (*body)(void);
+	void (*call)(void), (*setup)(void);
+	struct bench_options options;
 } refusals[] = {
-	{"a call outside", "bench: mutex_enter outside of bench_explore\n", outside},
-	{"a thread outside", "bench: bench_thread outside of bench_explore\n", thread_outside},
-	{"a point outside", "bench: bench_point outside of bench_explore\n", point_outside},
-	{"an atomic access outside", "bench: atomic change outside of bench_explore\n", atomic_outside},
-	{"an outcome outside", "bench: bench_outcome outside of bench_explore\n", outcome_outside},
-	{"no thread", "bench: setup has made no thread\n", no_thread},
-	{"no setup", "bench: there is no setup\n", no_setup},
-	{"a thread without a body", "bench: bench_thread without a body\n", no_body},
-	{"a run inside of a run", "bench: bench_explore inside of a run\n", inside_of_run},
-	{"too many threads", "bench: there are more than 15 threads\n", too_many_threads},
-	{"too many bytes", "bench: the code takes more than 4194304 bytes in one run\n", too_many_bytes},
-	{"a picture that can't be written", "bench: /no/such/folder/picture.svg can't be written\n", nowhere_to_draw},
-	{"a schedule that is too long", "bench: the schedule is too long\n", too_long},
-	{"a schedule with a huge number", "bench: the schedule is too long\n", huge_turn},
-	{"no schedule", "bench: \"b3?\" is no schedule: ", bad_letter},
-	{"no points", "bench: \"b0\" is no schedule: ", bad_count},
-	{"no failure", "bench: \"!b0\" is no schedule: ", bad_failure},
-	{"too many failures", "bench: at most 3 failures in a run\n", too_many_failures},
-	{"a schedule that doesn't fit", "bench: the schedule doesn't fit: at point ", bad_turn},
-	{"code that depends on something else", "bench: two runs by one schedule differ at point ", outside_of_schedule},
+	{"a call outside", "bench: mutex_enter outside of bench_explore\n", .call = call_outside},
+	{"a thread outside", "bench: bench_thread outside of bench_explore\n", .call = thread_outside},
+	{"a point outside", "bench: bench_point outside of bench_explore\n", .call = point_outside},
+	{"an atomic access outside", "bench: atomic change outside of bench_explore\n", .call = atomic_outside},
+	{"an outcome outside", "bench: bench_outcome outside of bench_explore\n", .call = outcome_outside},
+	{"no setup", "bench: there is no setup\n", .call = no_setup},
+	{"no thread", "bench: setup has made no thread\n", .setup = nobody},
+	{"a thread without a body", "bench: bench_thread without a body\n", .setup = make_bodiless},
+	{"a run inside of a run", "bench: bench_explore inside of a run\n", .setup = make_explorer},
+	{"too many threads", "bench: there are more than 15 threads\n", .setup = make_many},
+	{"too many bytes", "bench: the code takes more than 4194304 bytes in one run\n", .setup = make_taker},
+	{"a picture that can't be written", "bench: /no/such/folder/picture.svg can't be written\n", .setup = two_orders,
+	    .options = {.quiet = true, .picture = "/no/such/folder/picture.svg"}},
+	{"a schedule that is too long", "bench: the schedule is too long\n", .setup = two_orders, .options = {.replay = "b2001"}},
+	{"a schedule with a huge number", "bench: the schedule is too long\n", .setup = two_orders, .options = {.replay = "b99999999999999999999"}},
+	{"no schedule", "bench: \"b3?\" is no schedule: ", .setup = two_orders, .options = {.replay = "b3?"}},
+	{"no points", "bench: \"b0\" is no schedule: ", .setup = two_orders, .options = {.replay = "b0"}},
+	{"no failure", "bench: \"!b0\" is no schedule: ", .setup = two_orders, .options = {.replay = "b2!b0"}},
+	{"too many failures", "bench: at most 3 failures in a run\n", .setup = two_orders, .options = {.failures = 4}},
+	{"a schedule that doesn't fit", "bench: the schedule doesn't fit: at point ", .setup = two_orders, .options = {.replay = "b2c99"}},
+	{"code that depends on something else", "bench: two runs by one schedule differ at point ", .setup = differs},
 };
+
+static const struct refusal *refused;
+
+static void begin(void) { shared = calloc(1, sizeof(*shared)); }
+
+static void run_refused(void)
+{
+	if (refused->call != NULL)
+		refused->call();
+	else
+		bench_explore(refused->setup, &refused->options);
+}
 
 /* Whether a process ends with status 2 after the line. */
 static bool is_refused(const struct refusal *refusal)
 {
-	int ends[2], status;
 	char said[512];
-	EXPECT(pipe(ends) == 0);
-	fflush(NULL);
-	pid_t child = fork();
-	EXPECT(child >= 0);
-	if (child == 0) {
-		dup2(ends[1], STDERR_FILENO);
-		refusal->body();
-		_exit(0);
-	}
-	close(ends[1]);
-	size_t length = 0;
-	for (ssize_t part; length < sizeof(said) - 1 && (part = read(ends[0], said + length, sizeof(said) - 1 - length)) > 0;)
-		length += (size_t)part;
-	said[length] = '\0';
-	close(ends[0]);
-	EXPECT(waitpid(child, &status, 0) == child);
+	refused = refusal;
+	int status = run_in_child(begin, run_refused, said, sizeof(said));
 	bool right = WIFEXITED(status) && WEXITSTATUS(status) == 2 && strncmp(said, refusal->line, strlen(refusal->line)) == 0 &&
-	    strchr(said, '\n') == said + length - 1;
+	    strchr(said, '\n') == said + strlen(said) - 1;
 	if (!right)
-		printf("status %d, and said: %s\n", status, said);
+		printf("FAILED %s: status %d, and said: %s\n", refusal->name, status, said);
 	return right;
 }
 
@@ -270,12 +129,8 @@ int main(void)
 {
 	const unsigned all = sizeof(refusals) / sizeof(refusals[0]);
 	unsigned passed = 0;
-	for (unsigned at = 0; at < all; at++) {
-		bool right = is_refused(&refusals[at]);
-		passed += right;
-		if (!right)
-			printf("FAILED %s\n", refusals[at].name);
-	}
+	for (unsigned at = 0; at < all; at++)
+		passed += is_refused(&refusals[at]);
 	printf("%u passed, %u failed\n", passed, all - passed);
 	return passed != all;
 }

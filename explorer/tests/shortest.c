@@ -16,6 +16,7 @@
 
 #include "../bench.h"
 #include "../../c/examples/expect.h"
+#include "../../netbsd/tests/bodies.h"
 
 enum { LONGEST = 9, FAULT = 10 };
 
@@ -102,14 +103,7 @@ static void wait_carelessly(void *arg)
 	}
 }
 
-static void wake(void *arg)
-{
-	(void)arg;
-	atomic_store_relaxed(&word, 1);
-	mutex_enter(&one);
-	cv_broadcast(&cv);
-	mutex_exit(&one);
-}
+HANDLER(wake, atomic_store_relaxed(&word, 1); mutex_enter(&one); cv_broadcast(&cv); mutex_exit(&one))
 
 static void lost_wake(void)
 {
@@ -129,17 +123,8 @@ static void change_and_back(void *arg)
 		atomic_store_relaxed(&other, 2);
 }
 
-static void look(void *arg)
-{
-	(void)arg;
-	KASSERT(atomic_load_relaxed(&word) == 0 && atomic_load_relaxed(&other) != 2);
-}
-
-static void come_first(void *arg)
-{
-	(void)arg;
-	atomic_store_relaxed(&other, 1);
-}
+HANDLER(look, KASSERT(atomic_load_relaxed(&word) == 0 && atomic_load_relaxed(&other) != 2))
+HANDLER(come_first, atomic_store_relaxed(&other, 1))
 
 static void two_ways(void)
 {

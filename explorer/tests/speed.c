@@ -14,11 +14,7 @@ static void change(void *arg)
 		atomic_inc_uint(&words[at % 2]);
 }
 
-static void begin(void)
-{
-	bench_thread("one", change, NULL);
-	bench_thread("two", change, NULL);
-}
+static void begin(void) { bench_thread("one", change, NULL); bench_thread("two", change, NULL); }
 
 /* Seconds of a processor that the children have taken. */
 static double seconds(void)

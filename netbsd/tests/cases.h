@@ -11,6 +11,7 @@
 #include <string.h>
 
 #include "../../c/examples/expect.h"
+#include "bodies.h"
 #include "places.h"
 
 struct stop_case {
@@ -37,10 +38,6 @@ static inline void add_case(void (*body)(void), const char *line, bool goes_on)
 	__attribute__((constructor)) static void NAMED(add_, __LINE__)(void) { add_case(NAMED(body_, __LINE__), line, goes_on); }
 #define STOPS(line, ...)	CASE(line, false, __VA_ARGS__)
 #define WAITS(line, ...)	CASE(line, true, __VA_ARGS__)
-
-/* What a thread does, and what a soft interrupt, a callout or a thread of kthread_create's does. */
-#define THREAD(name, ...)	static void *name(void *arg) { __VA_ARGS__; return arg; }
-#define HANDLER(name, ...)	static void name(void *arg) { (void)arg; __VA_ARGS__; }
 
 /* Runs a body on a thread of its own, which ends. */
 static inline void on_thread(void *(*body)(void *))

@@ -62,12 +62,7 @@ static void *call_tell(void *calls)
 	return NULL;
 }
 
-static void *let_go_on(void *arg)
-{
-	sleep_for(30000);
-	atomic_store(&go_on, true);
-	return arg;
-}
+THREAD(let_go_on, sleep_for(30000); atomic_store(&go_on, true))
 
 static void test_unset_waits(void)
 {
@@ -124,27 +119,10 @@ static void test_looked_at(void)
 
 /* ---- Misuses. ---- */
 
-static void begin(void)
-{
-	MODULE_HOOK_SET(sum_hook, sum);
-}
-
-static void set_twice(void)
-{
-	MODULE_HOOK_SET(sum_hook, sum);
-}
-
-static void unset_twice(void)
-{
-	MODULE_HOOK_UNSET(sum_hook);
-	MODULE_HOOK_UNSET(sum_hook);
-}
-
-static void unset_in_section(void)
-{
-	(void)pserialize_read_enter();
-	MODULE_HOOK_UNSET(sum_hook);
-}
+static void begin(void) { MODULE_HOOK_SET(sum_hook, sum); }
+static void set_twice(void) { MODULE_HOOK_SET(sum_hook, sum); }
+static void unset_twice(void) { MODULE_HOOK_UNSET(sum_hook); MODULE_HOOK_UNSET(sum_hook); }
+static void unset_in_section(void) { (void)pserialize_read_enter(); MODULE_HOOK_UNSET(sum_hook); }
 
 static void destroy_in_section(void)
 {

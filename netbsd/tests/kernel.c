@@ -258,11 +258,7 @@ static void exit_at_once(void *arg)
 	kthread_exit(0);
 }
 
-static void end_as(void *arg)
-{
-	atomic_fetch_add((atomic_uint *)arg, 1);
-	kthread_exit(0);
-}
+HANDLER(end_as, atomic_fetch_add((atomic_uint *)arg, 1); kthread_exit(0))
 
 /* Of threads that ended long ago each is joined once, by its own name. */
 static void test_joins(void)

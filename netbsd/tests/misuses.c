@@ -81,10 +81,7 @@ static void acquire(void)
 	pserialize_read_exit(s);
 }
 
-static void release(void)
-{
-	psref_release(&psref, &target, things);
-}
+static void release(void) { psref_release(&psref, &target, things); }
 
 static void count_in(void)
 {
@@ -93,10 +90,7 @@ static void count_in(void)
 	pserialize_read_exit(s);
 }
 
-static void count_out(void)
-{
-	localcount_release(&count, &cv, &lock);
-}
+static void count_out(void) { localcount_release(&count, &cv, &lock); }
 
 static void *drain(void *arg)
 {
@@ -135,11 +129,7 @@ static void on_two_threads(void *(*body)(void *))
 
 static void (*soft_body)(void *);
 
-static void run_softly(void *arg)
-{
-	atomic_store(&ready, true);
-	soft_body(arg);
-}
+HANDLER(run_softly, atomic_store(&ready, true); soft_body(arg))
 
 /* Runs a handler as a soft interrupt, which stops. If it doesn't, the case ends with it. */
 static void as_softint(void (*handler)(void *))
@@ -642,7 +632,6 @@ static void make_locked(void)
 }
 
 HANDLER(make_call, make_locked(); made->body())
-
 static void in_section(void) { make_locked(); (void)pserialize_read_enter(); made->body(); }
 static void with_spin(void) { make_locked(); mutex_enter(&spin); made->body(); }
 static void at_level(void) { make_locked(); (void)splnet(); made->body(); }
@@ -725,17 +714,8 @@ static const struct kind {
     [A_CALLOUT] = {"the callout ", destroy_callout},
 };
 
-static void use_never_made(void)
-{
-	make_locked();
-	made->body();
-}
-
-static void use_destroyed(void)
-{
-	kinds[made->what].destroy();
-	use_never_made();
-}
+static void use_never_made(void) { make_locked(); made->body(); }
+static void use_destroyed(void) { kinds[made->what].destroy(); use_never_made(); }
 
 static void judge_user(void)
 {

@@ -373,11 +373,7 @@ static void test_events(void)
 
 /* ---- kthread(9) and module(9). ---- */
 
-static void run_once(void *arg)
-{
-	atomic_inc_uint(arg);
-	kthread_exit(0);
-}
+HANDLER(run_once, atomic_inc_uint(arg); kthread_exit(0))
 
 static void test_threads(void)
 {

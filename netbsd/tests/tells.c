@@ -114,10 +114,7 @@ static void drain(void)
 	mutex_exit(&countlock);
 }
 
-static void release_count(void)
-{
-	localcount_release(&count, &cv, &countlock);
-}
+static void release_count(void) { localcount_release(&count, &cv, &countlock); }
 
 /* ---- Sections. ---- */
 

@@ -12,6 +12,7 @@
 #include <time.h>
 
 #include "../../c/examples/expect.h"
+#include "bodies.h"
 
 /* Sleeps, as the holder of a reference may. */
 static inline void sleep_for(long microseconds)

@@ -134,11 +134,7 @@ static void test_cpus(void)
 /* A soft interrupt enqueues, at the queue's level. */
 static atomic_bool was_enqueued;
 
-static void enqueue(void *work)
-{
-	workqueue_enqueue(queue, work, NULL);
-	atomic_store(&was_enqueued, true);
-}
+HANDLER(enqueue, workqueue_enqueue(queue, arg, NULL); atomic_store(&was_enqueued, true))
 
 static void test_softint(void)
 {
@@ -174,10 +170,7 @@ static void enqueue_twice(void)
 	workqueue_enqueue(queue, &one, NULL);
 }
 
-static void enqueue_on_cpu(void)
-{
-	workqueue_enqueue(queue, &one, kupaldiz_cpu(1));
-}
+static void enqueue_on_cpu(void) { workqueue_enqueue(queue, &one, kupaldiz_cpu(1)); }
 
 static void destroy_busy(void)
 {
@@ -193,11 +186,7 @@ static void enqueue_in_section(void)
 	workqueue_enqueue(queue, &one, NULL);
 }
 
-static void wait_in_section(void)
-{
-	(void)pserialize_read_enter();
-	workqueue_wait(queue, &one);
-}
+static void wait_in_section(void) { (void)pserialize_read_enter(); workqueue_wait(queue, &one); }
 
 /* Runs a function of a queue that ends the process. */
 static void run_in_queue(void (*body)(struct work *, void *))
@@ -214,10 +203,7 @@ static void destroy_own(struct work *work, void *of)
 	workqueue_destroy(*(struct workqueue **)of);
 }
 
-static void destroy_in_function(void)
-{
-	run_in_queue(destroy_own);
-}
+static void destroy_in_function(void) { run_in_queue(destroy_own); }
 
 static void return_raised(struct work *work, void *of)
 {
@@ -226,10 +212,7 @@ static void return_raised(struct work *work, void *of)
 	(void)splsoftnet();
 }
 
-static void return_at_level(void)
-{
-	run_in_queue(return_raised);
-}
+static void return_at_level(void) { run_in_queue(return_raised); }
 
 STOPS("workqueue_enqueue: the work is enqueued already, at PLACE", enqueue_twice())
 STOPS("workqueue_enqueue: a CPU is named, and the queue is without WQ_PERCPU, at PLACE", enqueue_on_cpu())

@@ -109,10 +109,7 @@ static void test_ticks(void)
 
 static long step;
 
-static void step_on(void)
-{
-	now += step;
-}
+static void step_on(void) { now += step; }
 
 /* A delay reads the clock after each yield, and is over when its time is: not before, and not a turn later. */
 static void test_delays(void)
@@ -208,12 +205,7 @@ static int64_t began;
 static atomic_uint runs;
 static atomic_bool goes;
 
-static void stay(void *arg)
-{
-	atomic_fetch_add(&runs, 1);
-	await_flag(&goes);
-	(void)arg;
-}
+HANDLER(stay, atomic_fetch_add(&runs, 1); await_flag(&goes))
 
 /* After some pauses more than there are moments the handler ends. */
 static void go_on(void)
@@ -226,11 +218,7 @@ static void go_on(void)
 		atomic_store(&goes, true);
 }
 
-static void go_on_at_once(void)
-{
-	EXPECT(last_pause == 0);
-	go_on();
-}
+static void go_on_at_once(void) { EXPECT(last_pause == 0); go_on(); }
 
 /* The pauses double, from some that are none up to a millisecond, and the time goes on by steps of the test. */
 static int go_on_longer(const struct timespec *time, struct timespec *rest)

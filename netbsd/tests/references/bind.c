@@ -107,12 +107,7 @@ static void test_locked(void)
 }
 
 /* Ends bound. */
-static void *end_bound(void *arg)
-{
-	kupaldiz_bind(3);
-	EXPECT((curlwp->l_pflag & LP_BOUND) != 0 && cpu_number() == 3);
-	return arg;
-}
+THREAD(end_bound, kupaldiz_bind(3); EXPECT((curlwp->l_pflag & LP_BOUND) != 0 && cpu_number() == 3))
 
 /* A thread that has just begun ran nowhere, and isn't bound: what the layer keeps of one that has ended is used again for it. */
 static void *begin_anew(void *arg)

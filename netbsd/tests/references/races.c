@@ -30,10 +30,7 @@ static void await_step(unsigned wanted)
 		sleep_for(50);
 }
 
-static void take_step(void)
-{
-	atomic_fetch_add_explicit(&step, 1, memory_order_relaxed);
-}
+static void take_step(void) { atomic_fetch_add_explicit(&step, 1, memory_order_relaxed); }
 
 /* Has the table's first place, until the other thread has asked. */
 static void *refer_first(void *arg)

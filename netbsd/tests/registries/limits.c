@@ -201,12 +201,7 @@ static void *read_moved(void *arg)
 	return arg;
 }
 
-static void *perform_it(void *arg)
-{
-	pserialize_perform(psz);
-	atomic_fetch_add(&performed, 1);
-	return arg;
-}
+THREAD(perform_it, pserialize_perform(psz); atomic_fetch_add(&performed, 1))
 
 /* A reader whose CPU takes another registry for its sections than the others: a perform waits for it. */
 static void test_moved(void)

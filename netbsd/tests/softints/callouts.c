@@ -420,11 +420,7 @@ static void test_no_wait(void)
 /* ---- What a halt says. ---- */
 
 /* The wait is over, for now by its time. */
-static void come_late(void)
-{
-	EXPECT(lines == 0);
-	wait_returns = ETIMEDOUT;
-}
+static void come_late(void) { EXPECT(lines == 0); wait_returns = ETIMEDOUT; }
 
 /* The wait is over before its time. */
 static void wake_early(void)
@@ -517,7 +513,7 @@ STOPS("callout_halt: in a soft interrupt, at PLACE", run_beside(halt_it))
 static void test_processes(void)
 {
 	char text[256];
-	EXPECT(run_case(nothing, first_inside, text, sizeof(text)) == 0 && text[0] == '\0');
+	EXPECT(run_in_child(nothing, first_inside, text, sizeof(text)) == 0 && text[0] == '\0');
 	judge_cases(nothing);
 	EXPECT(failed == 0);
 }

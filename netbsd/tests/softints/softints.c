@@ -91,10 +91,7 @@ static void test_own_level(void)
 	}
 }
 
-static void note(void *arg)
-{
-	order[ordered++] = *(unsigned *)arg;
-}
+HANDLER(note, order[ordered++] = *(unsigned *)arg)
 
 /* A level keeps off what isn't above it. What waits runs once the level is lower, the highest first. */
 static void test_levels(void)
@@ -181,10 +178,7 @@ static void test_blocked(void)
 	softint_disestablish(cookie);
 }
 
-static void count_run(void *arg)
-{
-	atomic_fetch_add((atomic_uint *)arg, 1);
-}
+HANDLER(count_run, atomic_fetch_add((atomic_uint *)arg, 1))
 
 /* While a handler waits for a lock, those of other levels run on its CPU, above and below; one of its own level waits. */
 static void test_levels_apart(void)
@@ -242,26 +236,9 @@ static void test_blocked_inside(void)
 static atomic_uint counted;
 static atomic_bool entered, let_go;
 
-static void count_and_stay(void *arg)
-{
-	(void)arg;
-	atomic_fetch_add(&counted, 1);
-	await_flag(&let_go);
-}
-
-static void *schedule_elsewhere(void *cookie)
-{
-	kupaldiz_bind(3);
-	softint_schedule(cookie);
-	return cookie;
-}
-
-static void *disestablish(void *cookie)
-{
-	atomic_store(&entered, true);
-	softint_disestablish(cookie);
-	return cookie;
-}
+HANDLER(count_and_stay, atomic_fetch_add(&counted, 1); await_flag(&let_go))
+THREAD(schedule_elsewhere, kupaldiz_bind(3); softint_schedule(arg))
+THREAD(disestablish, atomic_store(&entered, true); softint_disestablish(arg))
 
 /* It runs on CPU 3 and waits on another one when its end begins: there it doesn't run any more. */
 static void *end_while_waiting(void *of)
@@ -361,13 +338,7 @@ enum { STORMERS = 12, STORM = 200 };
 static void *cookies[4];
 static atomic_uint stormed;
 
-static void storm_handler(void *arg)
-{
-	handle(arg);
-	mutex_enter(&lock);
-	atomic_fetch_add(&stormed, 1);
-	mutex_exit(&lock);
-}
+HANDLER(storm_handler, handle(arg); mutex_enter(&lock); atomic_fetch_add(&stormed, 1); mutex_exit(&lock))
 
 /* Threads of all CPUs read, lock, and schedule. */
 static void *storm(void *arg)

@@ -148,12 +148,7 @@ static atomic_bool runs;
 
 /* Without a sleep, which would be taken for one of the call's. */
 static void await_runs(void) { while (!atomic_load(&runs)) { } }
-
-static void await_over(void)
-{
-	atomic_store(&runs, true);
-	await_flag(&over);
-}
+static void await_over(void) { atomic_store(&runs, true); await_flag(&over); }
 
 static void add_one(void *count_of, void *other)
 {
@@ -227,10 +222,7 @@ static void test_cancelled(void (**wait)(void))
 	pserialize_read_exit(pserialize_read_enter());
 }
 
-static void note_run(void *arg)
-{
-	atomic_fetch_add((atomic_uint *)arg, 1);
-}
+HANDLER(note_run, atomic_fetch_add((atomic_uint *)arg, 1))
 
 /* A thread that was cancelled before binds itself, and schedules the first soft interrupt of a CPU, whose thread begins then. */
 static void *schedule_cancelled(void *of)

@@ -54,10 +54,7 @@ void __wrap_free(void *block)
 		__real_free(block);
 }
 
-static void begin(void)
-{
-	kupaldiz_bind(0);
-}
+static void begin(void) { kupaldiz_bind(0); }
 
 /* ---- What is taken is given back. ---- */
 

@@ -29,15 +29,8 @@ static struct psref held, psrefs[MOST];
 static int sections[MOST];
 static unsigned made;	/* calls so far: so many references or sections are there */
 
-static void fire(void *arg)
-{
-	atomic_store((atomic_uint *)arg, 1);
-}
-
-static void nothing(void *arg)
-{
-	(void)arg;
-}
+HANDLER(fire, atomic_store((atomic_uint *)arg, 1))
+HANDLER(nothing, (void)0)
 
 /* ---- The calls, and what undoes them. ---- */
 

@@ -50,11 +50,7 @@ int __wrap_close(int old)
 	return __real_close(old);
 }
 
-static void begin(void)
-{
-	kupaldiz_bind(0);
-	mutex_init(&lock, MUTEX_DEFAULT, IPL_NONE);
-}
+static void begin(void) { kupaldiz_bind(0); mutex_init(&lock, MUTEX_DEFAULT, IPL_NONE); }
 
 /* ---- Lengths. ---- */
 
@@ -87,12 +83,7 @@ STOPS("KASSERT: No space left on device", is_full = true; kupaldiz_failed("KASSE
 
 HANDLER(keep_lock, mutex_enter(&lock); atomic_store(&ready, true); sleep_for(20000000))
 THREAD(name_and_keep, EXPECT(prctl(PR_SET_NAME, arg) == 0); keep_lock(NULL))
-
-static void destroy_taken(void)
-{
-	await_flag(&ready);
-	mutex_destroy(&lock);
-}
+static void destroy_taken(void) { await_flag(&ready); mutex_destroy(&lock); }
 
 static void destroy_of(const char *name)
 {

@@ -201,11 +201,7 @@ static void crowd(void)
 		send_off(&guests[i]);
 }
 
-static void have_nothing(void *arg)
-{
-	EXPECT(arg == NULL);
-	kthread_exit(0);
-}
+HANDLER(have_nothing, EXPECT(arg == NULL); kthread_exit(0))
 
 /* Threads take new memory only where more of them are there at once than ever before. */
 static void test_memory(void)
@@ -231,19 +227,8 @@ static struct guest beside;
 static lwp_t *again;	/* what the layer kept of the thread: it isn't given back */
 
 /* It calls once more after the layer has ended it. What it had is another's by then. */
-static void call_again(void)
-{
-	call_in(&beside);
-	again = curlwp;
-}
-
-static void *end_and_call(void *of)
-{
-	EXPECT(pthread_setspecific(late, of) == 0);
-	at_end = call_again;
-	*(lwp_t **)of = curlwp;
-	return of;
-}
+static void call_again(void) { call_in(&beside); again = curlwp; }
+THREAD(end_and_call, EXPECT(pthread_setspecific(late, arg) == 0); at_end = call_again; *(lwp_t **)arg = curlwp)
 
 static void test_call_after_end(void)
 {
@@ -368,10 +353,7 @@ static void *take_and_end(void *of)
 	return of;
 }
 
-static void await_gone(void)
-{
-	await_flag(&gone);
-}
+static void await_gone(void) { await_flag(&gone); }
 
 /* Whoever gives the lock back loses its processor at once, until the lock is gone. No level is left behind. */
 static void test_gone(int level)
@@ -395,13 +377,7 @@ static void test_gone(int level)
 
 /* ---- A lock that is passed. ---- */
 
-static void *take(void *lock)
-{
-	is_taker = true;
-	mutex_enter(lock);
-	mutex_exit(lock);
-	return lock;
-}
+THREAD(take, is_taker = true; mutex_enter(arg); mutex_exit(arg))
 
 /* A lock is free when it is given back, though another thread waits for it. If others were before that one often enough it is passed to it. */
 static void test_passed(void)
@@ -516,12 +492,7 @@ static void test_kept(unsigned last)
 
 static atomic_bool passed;
 
-static void *pass(void *arg)
-{
-	xc_barrier(0);
-	atomic_store(&passed, true);
-	return arg;
-}
+THREAD(pass, xc_barrier(0); atomic_store(&passed, true))
 
 /* A barrier waits for the one CPU that is kept, whichever it is. */
 static void test_barrier(unsigned cpu)

@@ -9,13 +9,7 @@
 static atomic_bool used, closed;
 static void (*use)(void);
 
-static void *call_it(void *arg)
-{
-	use();
-	atomic_store(&used, true);
-	await_flag(&closed);
-	return arg;
-}
+THREAD(call_it, use(); atomic_store(&used, true); await_flag(&closed))
 
 int main(int argc, char **argv)
 {
