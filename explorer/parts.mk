@@ -7,4 +7,4 @@ BENCH_STRICT = -std=gnu11 -D_GNU_SOURCE $(filter-out -Wpedantic,$(WARNINGS)) -fc
 BENCH_INSTEAD = lock pause softint_thread module_hook
 
 # Writes, for each call of the layer that the bench wraps, its name for the linker and what it is called in the bench: layer_ and the call's own name.
-BENCH_WRAPPED = sed -n 's/^LAYER([^,]*, \([a-z_]*\),.*/\1 layer_\1/p' $^ | sed '/^kupaldiz_/!s/^/kupaldiz_/' >$@
+BENCH_WRAPPED = sed -n 's/^\(LAYER\|WRAPPED\)([^,]*, \([a-z_]*\),.*/\2 layer_\2/p' $^ | sed '/^kupaldiz_/!s/^/kupaldiz_/' >$@

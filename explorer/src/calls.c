@@ -14,11 +14,17 @@ struct cpu *cpu_here(const struct routine *me)
 	return me->self->cpu;
 }
 
+/* A point that waits for nothing. */
+void at_call(const char *call)
+{
+	point(call, NULL, NULL, NULL);
+}
+
 /* ---- Calls that touch one thing. ---- */
 
 void at_thing(const char *call, enum kind kind, const void *thing, size_t size, unsigned how)
 {
-	point(call, NULL, NULL, NULL);
+	at_call(call);
 	if (thing != NULL)
 		check_live(call, thing, size);
 	touch(kind, thing, 0, how);
@@ -39,21 +45,14 @@ void at_cpu(const char *call, unsigned how)
 void leaving_cpu(const char *call)
 {
 	struct routine *me = here(call);
-	point(call, NULL, NULL, NULL);
+	at_call(call);
 	if (me->self->holds == 1)
 		touch(ON_LOCK, &cpu_here(me)->hold, 0, WRITES | RELEASES);
 }
 
 /* ---- mutex(9). ---- */
 
-LAYER(void, mutex_enter, (kmutex_t *mutex));
-LAYER(void, mutex_exit, (kmutex_t *mutex));
-LAYER(void, mutex_spin_enter, (kmutex_t *mutex));
-LAYER(void, mutex_spin_exit, (kmutex_t *mutex));
 LAYER(int, mutex_tryenter, (kmutex_t *mutex));
-LAYER(void, mutex_destroy, (kmutex_t *mutex));
-LAYER(void, mutex_obj_hold, (kmutex_t *mutex));
-LAYER(bool, mutex_obj_free, (kmutex_t *mutex));
 
 static bool is_mutex(const kmutex_t *mutex)
 {
@@ -86,57 +85,28 @@ static void at_mutex(const char *call, kmutex_t *mutex, guard_fn *guard, unsigne
 		touch(ON_LOCK, &cpu_here(me)->hold, 0, WRITES | how);
 }
 
-void mutex_enter(kmutex_t *mutex)
-{
-	at_mutex(__func__, mutex, can_take, ACQUIRES);
-	layer_mutex_enter(mutex);
-}
+WRAPPED(void, mutex_enter, (kmutex_t *mutex), (mutex), at_mutex(__func__, mutex, can_take, ACQUIRES))
+WRAPPED(void, mutex_spin_enter, (kmutex_t *mutex), (mutex), at_mutex(__func__, mutex, can_take, ACQUIRES))
+WRAPPED(void, mutex_exit, (kmutex_t *mutex), (mutex), at_mutex(__func__, mutex, NULL, RELEASES))
+WRAPPED(void, mutex_spin_exit, (kmutex_t *mutex), (mutex), at_mutex(__func__, mutex, NULL, RELEASES))
 
-void mutex_spin_enter(kmutex_t *mutex)
+/* What a call returns that may have taken a lock. */
+static int taken(const void *lock, int answer)
 {
-	at_mutex(__func__, mutex, can_take, ACQUIRES);
-	layer_mutex_spin_enter(mutex);
-}
-
-void mutex_exit(kmutex_t *mutex)
-{
-	at_mutex(__func__, mutex, NULL, RELEASES);
-	layer_mutex_exit(mutex);
-}
-
-void mutex_spin_exit(kmutex_t *mutex)
-{
-	at_mutex(__func__, mutex, NULL, RELEASES);
-	layer_mutex_spin_exit(mutex);
+	if (answer)
+		acquire_clock(ON_LOCK, lock, 0);
+	return answer;
 }
 
 int mutex_tryenter(kmutex_t *mutex)
 {
 	at_mutex(__func__, mutex, NULL, 0);
-	int taken = layer_mutex_tryenter(mutex);
-	if (taken)
-		acquire_clock(ON_LOCK, mutex, 0);
-	return taken;
+	return taken(mutex, layer_mutex_tryenter(mutex));
 }
 
-void mutex_destroy(kmutex_t *mutex)
-{
-	at_thing(__func__, ON_LOCK, mutex, sizeof(*mutex), WRITES);
-	track_ended(mutex);
-	layer_mutex_destroy(mutex);
-}
-
-void mutex_obj_hold(kmutex_t *mutex)
-{
-	at_thing(__func__, ON_LOCK, mutex, sizeof(*mutex), WRITES);
-	layer_mutex_obj_hold(mutex);
-}
-
-bool mutex_obj_free(kmutex_t *mutex)
-{
-	at_thing(__func__, ON_LOCK, mutex, sizeof(*mutex), WRITES);
-	return layer_mutex_obj_free(mutex);
-}
+WRAPPED(void, mutex_destroy, (kmutex_t *mutex), (mutex), AT(ON_LOCK, mutex, WRITES); track_ended(mutex))
+WRAPPED(void, mutex_obj_hold, (kmutex_t *mutex), (mutex), AT(ON_LOCK, mutex, WRITES))
+WRAPPED(bool, mutex_obj_free, (kmutex_t *mutex), (mutex), AT(ON_LOCK, mutex, WRITES))
 
 /* ---- condvar(9). ---- */
 
@@ -144,17 +114,12 @@ LAYER(void, cv_wait, (kcondvar_t *cv, kmutex_t *mutex));
 LAYER(int, cv_wait_sig, (kcondvar_t *cv, kmutex_t *mutex));
 LAYER(int, cv_timedwait, (kcondvar_t *cv, kmutex_t *mutex, int ticks));
 LAYER(int, cv_timedwait_sig, (kcondvar_t *cv, kmutex_t *mutex, int ticks));
-LAYER(void, cv_signal, (kcondvar_t *cv));
-LAYER(void, cv_broadcast, (kcondvar_t *cv));
-LAYER(bool, cv_has_waiters, (kcondvar_t *cv));
-LAYER(bool, cv_is_valid, (kcondvar_t *cv));
-LAYER(void, cv_destroy, (kcondvar_t *cv));
 
 /* A wait gives the lock back, and takes it again in the step in which the thread goes on. */
 static struct routine *begin_cv_wait(const char *call, kcondvar_t *cv, kmutex_t *mutex)
 {
 	struct routine *me = here(call);
-	point(call, NULL, NULL, NULL);
+	at_call(call);
 	check_live(call, cv, sizeof(*cv));
 	check_live(call, mutex, sizeof(*mutex));
 	touch(ON_CV, cv, 0, WRITES);
@@ -206,51 +171,21 @@ static void at_wake(const char *call, kcondvar_t *cv)
 	track_wake(call, run.current->place, cv, bucket_has(NULL, cv));
 }
 
-void cv_signal(kcondvar_t *cv)
-{
-	at_wake(__func__, cv);
-	layer_cv_signal(cv);
-}
-
-void cv_broadcast(kcondvar_t *cv)
-{
-	at_wake(__func__, cv);
-	layer_cv_broadcast(cv);
-}
-
-bool cv_has_waiters(kcondvar_t *cv)
-{
-	at_thing(__func__, ON_CV, cv, sizeof(*cv), 0);
-	return layer_cv_has_waiters(cv);
-}
-
-bool cv_is_valid(kcondvar_t *cv)
-{
-	at_thing(__func__, ON_CV, cv, sizeof(*cv), 0);
-	return layer_cv_is_valid(cv);
-}
-
-void cv_destroy(kcondvar_t *cv)
-{
-	at_thing(__func__, ON_CV, cv, sizeof(*cv), WRITES);
-	track_ended(cv);
-	layer_cv_destroy(cv);
-}
+WRAPPED(void, cv_signal, (kcondvar_t *cv), (cv), at_wake(__func__, cv))
+WRAPPED(void, cv_broadcast, (kcondvar_t *cv), (cv), at_wake(__func__, cv))
+WRAPPED(bool, cv_has_waiters, (kcondvar_t *cv), (cv), AT(ON_CV, cv, 0))
+WRAPPED(bool, cv_is_valid, (kcondvar_t *cv), (cv), AT(ON_CV, cv, 0))
+WRAPPED(void, cv_destroy, (kcondvar_t *cv), (cv), AT(ON_CV, cv, WRITES); track_ended(cv))
 
 /* ---- rwlock(9): a thread that waits for one is in the lock's own queue. ---- */
 
 LAYER(void, rw_enter, (krwlock_t *rw, const krw_t how));
 LAYER(int, rw_tryenter, (krwlock_t *rw, const krw_t how));
-LAYER(void, rw_exit, (krwlock_t *rw));
 LAYER(int, rw_tryupgrade, (krwlock_t *rw));
-LAYER(void, rw_downgrade, (krwlock_t *rw));
-LAYER(void, rw_destroy, (krwlock_t *rw));
-LAYER(int, rw_read_held, (krwlock_t *rw));
-LAYER(int, rw_lock_held, (krwlock_t *rw));
 
 void rw_enter(krwlock_t *rw, const krw_t how)
 {
-	at_thing(__func__, ON_LOCK, rw, sizeof(*rw), WRITES);
+	AT(ON_LOCK, rw, WRITES);
 	layer_rw_enter(rw, how);
 	touch(ON_LOCK, rw, 0, WRITES);
 	acquire_clock(ON_LOCK, rw, 0);
@@ -258,74 +193,31 @@ void rw_enter(krwlock_t *rw, const krw_t how)
 
 int rw_tryenter(krwlock_t *rw, const krw_t how)
 {
-	at_thing(__func__, ON_LOCK, rw, sizeof(*rw), WRITES);
-	int taken = layer_rw_tryenter(rw, how);
-	if (taken)
-		acquire_clock(ON_LOCK, rw, 0);
-	return taken;
+	AT(ON_LOCK, rw, WRITES);
+	return taken(rw, layer_rw_tryenter(rw, how));
 }
 
-void rw_exit(krwlock_t *rw)
-{
-	at_thing(__func__, ON_LOCK, rw, sizeof(*rw), WRITES);
-	release_clock(ON_LOCK, rw, 0);
-	layer_rw_exit(rw);
-}
+WRAPPED(void, rw_exit, (krwlock_t *rw), (rw), AT(ON_LOCK, rw, WRITES); release_clock(ON_LOCK, rw, 0))
 
 int rw_tryupgrade(krwlock_t *rw)
 {
-	at_thing(__func__, ON_LOCK, rw, sizeof(*rw), WRITES);
-	int upgraded = layer_rw_tryupgrade(rw);
-	if (upgraded)
-		acquire_clock(ON_LOCK, rw, 0);
-	return upgraded;
+	AT(ON_LOCK, rw, WRITES);
+	return taken(rw, layer_rw_tryupgrade(rw));
 }
 
-void rw_downgrade(krwlock_t *rw)
-{
-	at_thing(__func__, ON_LOCK, rw, sizeof(*rw), WRITES);
-	release_clock(ON_LOCK, rw, 0);
-	layer_rw_downgrade(rw);
-}
-
-void rw_destroy(krwlock_t *rw)
-{
-	at_thing(__func__, ON_LOCK, rw, sizeof(*rw), WRITES);
-	track_ended(rw);
-	layer_rw_destroy(rw);
-}
+WRAPPED(void, rw_downgrade, (krwlock_t *rw), (rw), AT(ON_LOCK, rw, WRITES); release_clock(ON_LOCK, rw, 0))
+WRAPPED(void, rw_destroy, (krwlock_t *rw), (rw), AT(ON_LOCK, rw, WRITES); track_ended(rw))
 
 /* Whether others read, which rw_write_held doesn't ask. */
-int rw_read_held(krwlock_t *rw)
-{
-	at_thing(__func__, ON_LOCK, rw, sizeof(*rw), 0);
-	return layer_rw_read_held(rw);
-}
-
-int rw_lock_held(krwlock_t *rw)
-{
-	at_thing(__func__, ON_LOCK, rw, sizeof(*rw), 0);
-	return layer_rw_lock_held(rw);
-}
+WRAPPED(int, rw_read_held, (krwlock_t *rw), (rw), AT(ON_LOCK, rw, 0))
+WRAPPED(int, rw_lock_held, (krwlock_t *rw), (rw), AT(ON_LOCK, rw, 0))
 
 /* ---- pserialize(9). ---- */
 
-LAYER(int, pserialize_read_enter, (void));
-LAYER(void, pserialize_read_exit, (int s));
 LAYER(void, pserialize_perform, (pserialize_t psz));
-LAYER(void, pserialize_destroy, (pserialize_t psz));
 
-int pserialize_read_enter(void)
-{
-	at_cpu(__func__, 0);
-	return layer_pserialize_read_enter();
-}
-
-void pserialize_read_exit(int s)
-{
-	leaving_cpu(__func__);
-	layer_pserialize_read_exit(s);
-}
+WRAPPED(int, pserialize_read_enter, (void), (), at_cpu(__func__, 0))
+WRAPPED(void, pserialize_read_exit, (int s), (s), leaving_cpu(__func__))
 
 void pserialize_perform(pserialize_t psz)
 {
@@ -334,40 +226,22 @@ void pserialize_perform(pserialize_t psz)
 	touch(ON_TARGET, psz, 0, 0);
 }
 
-void pserialize_destroy(pserialize_t psz)
-{
-	at_thing(__func__, ON_TARGET, psz, 1, WRITES);
-	layer_pserialize_destroy(psz);
-}
+WRAPPED(void, pserialize_destroy, (pserialize_t psz), (psz), at_thing(__func__, ON_TARGET, psz, 1, WRITES))
 
 /* ---- psref(9). ---- */
 
-LAYER(void, psref_class_destroy, (struct psref_class *psref_class));
-LAYER(void, psref_target_init, (struct psref_target *target, struct psref_class *psref_class));
 LAYER(void, psref_target_destroy, (struct psref_target *target, struct psref_class *psref_class));
-LAYER(void, psref_acquire, (struct psref *psref, const struct psref_target *target, struct psref_class *psref_class));
 LAYER(void, psref_release, (struct psref *psref, const struct psref_target *target, struct psref_class *psref_class));
-LAYER(void, psref_copy, (struct psref *to, const struct psref *from, struct psref_class *psref_class));
-LAYER(bool, psref_held, (const struct psref_target *target, struct psref_class *psref_class));
 
-void psref_class_destroy(struct psref_class *psref_class)
-{
-	at_thing(__func__, ON_TARGET, psref_class, 1, WRITES);
-	layer_psref_class_destroy(psref_class);
-}
-
-void psref_target_init(struct psref_target *target, struct psref_class *psref_class)
-{
-	at_thing(__func__, ON_TARGET, target, sizeof(*target), WRITES);
-	check_live(__func__, psref_class, 1);
-	touch(ON_TARGET, psref_class, 0, 0);
-	layer_psref_target_init(target, psref_class);
-}
+WRAPPED(void, psref_class_destroy, (struct psref_class *psref_class), (psref_class),
+    at_thing(__func__, ON_TARGET, psref_class, 1, WRITES))
+WRAPPED(void, psref_target_init, (struct psref_target *target, struct psref_class *psref_class), (target, psref_class),
+    AT(ON_TARGET, target, WRITES); check_live(__func__, psref_class, 1); touch(ON_TARGET, psref_class, 0, 0))
 
 void psref_target_destroy(struct psref_target *target, struct psref_class *psref_class)
 {
 	struct routine *me = here(__func__);
-	at_thing(__func__, ON_TARGET, target, sizeof(*target), WRITES);
+	AT(ON_TARGET, target, WRITES);
 	check_live(__func__, psref_class, 1);
 	touch(ON_TARGET, psref_class, 0, 0);
 	me->target = target;
@@ -377,67 +251,44 @@ void psref_target_destroy(struct psref_target *target, struct psref_class *psref
 	acquire_clock(ON_REFERENCES, target, 0);
 }
 
-/* A call with a reference of this CPU's to a target. */
-static void at_reference(const char *call, const struct psref_target *target, unsigned how)
+/* A call with a reference of this CPU's to a target or a count. */
+static void at_reference(const char *call, const void *target, size_t size, unsigned how)
 {
 	struct routine *me = here(call);
 	at_cpu(call, RELEASES);
-	check_live(call, target, sizeof(*target));
+	check_live(call, target, size);
 	touch(ON_REFERENCES, target, cpu_here(me)->info.ci_index, how);
 	touch(ON_TARGET, target, 0, 0);
 }
 
-void psref_acquire(struct psref *psref, const struct psref_target *target, struct psref_class *psref_class)
-{
-	at_reference(__func__, target, WRITES);
-	layer_psref_acquire(psref, target, psref_class);
-}
+WRAPPED(void, psref_acquire, (struct psref *psref, const struct psref_target *target, struct psref_class *psref_class), (psref, target, psref_class),
+    at_reference(__func__, target, sizeof(*target), WRITES))
 
 void psref_release(struct psref *psref, const struct psref_target *target, struct psref_class *psref_class)
 {
-	at_reference(__func__, target, WRITES);
+	at_reference(__func__, target, sizeof(*target), WRITES);
 	release_clock(ON_REFERENCES, target, 0);
 	layer_psref_release(psref, target, psref_class);
 	++*releases_of(target);
 }
 
-void psref_copy(struct psref *to, const struct psref *from, struct psref_class *psref_class)
-{
-	at_reference(__func__, from->psref_target, WRITES);
-	layer_psref_copy(to, from, psref_class);
-}
-
-bool psref_held(const struct psref_target *target, struct psref_class *psref_class)
-{
-	at_reference(__func__, target, 0);
-	return layer_psref_held(target, psref_class);
-}
+WRAPPED(void, psref_copy, (struct psref *to, const struct psref *from, struct psref_class *psref_class), (to, from, psref_class),
+    at_reference(__func__, from->psref_target, sizeof(*from->psref_target), WRITES))
+WRAPPED(bool, psref_held, (const struct psref_target *target, struct psref_class *psref_class), (target, psref_class),
+    at_reference(__func__, target, sizeof(*target), 0))
 
 /* ---- localcount(9). ---- */
 
-LAYER(void, localcount_init, (struct localcount *lc));
-LAYER(void, localcount_fini, (struct localcount *lc));
 LAYER(void, localcount_drain, (struct localcount *lc, kcondvar_t *cv, kmutex_t *interlock));
-LAYER(void, localcount_acquire, (struct localcount *lc));
 LAYER(void, localcount_release, (struct localcount *lc, kcondvar_t *cv, kmutex_t *interlock));
-LAYER(uint32_t, localcount_debug_refcnt, (const struct localcount *lc));
 
-void localcount_init(struct localcount *lc)
-{
-	at_thing(__func__, ON_TARGET, lc, sizeof(*lc), WRITES);
-	layer_localcount_init(lc);
-}
-
-void localcount_fini(struct localcount *lc)
-{
-	at_thing(__func__, ON_TARGET, lc, sizeof(*lc), WRITES);
-	layer_localcount_fini(lc);
-}
+WRAPPED(void, localcount_init, (struct localcount *lc), (lc), AT(ON_TARGET, lc, WRITES))
+WRAPPED(void, localcount_fini, (struct localcount *lc), (lc), AT(ON_TARGET, lc, WRITES))
 
 void localcount_drain(struct localcount *lc, kcondvar_t *cv, kmutex_t *interlock)
 {
 	struct routine *me = here(__func__);
-	at_thing(__func__, ON_TARGET, lc, sizeof(*lc), WRITES);
+	AT(ON_TARGET, lc, WRITES);
 	check_live(__func__, interlock, sizeof(*interlock));
 	touch(ON_LOCK, interlock, 0, WRITES | RELEASES);
 	me->target = lc;
@@ -448,31 +299,15 @@ void localcount_drain(struct localcount *lc, kcondvar_t *cv, kmutex_t *interlock
 	acquire_clock(ON_REFERENCES, lc, 0);
 }
 
-void localcount_acquire(struct localcount *lc)
-{
-	struct routine *me = here(__func__);
-	at_cpu(__func__, RELEASES);
-	check_live(__func__, lc, sizeof(*lc));
-	touch(ON_REFERENCES, lc, cpu_here(me)->info.ci_index, WRITES);
-	touch(ON_TARGET, lc, 0, 0);
-	layer_localcount_acquire(lc);
-}
+WRAPPED(void, localcount_acquire, (struct localcount *lc), (lc), at_reference(__func__, lc, sizeof(*lc), WRITES))
 
 void localcount_release(struct localcount *lc, kcondvar_t *cv, kmutex_t *interlock)
 {
-	struct routine *me = here(__func__);
-	at_cpu(__func__, RELEASES);
-	check_live(__func__, lc, sizeof(*lc));
-	touch(ON_REFERENCES, lc, cpu_here(me)->info.ci_index, WRITES);
-	touch(ON_TARGET, lc, 0, 0);
+	at_reference(__func__, lc, sizeof(*lc), WRITES);
 	release_clock(ON_REFERENCES, lc, 0);
 	layer_localcount_release(lc, cv, interlock);
 	++*releases_of(lc);
 }
 
-uint32_t localcount_debug_refcnt(const struct localcount *lc)
-{
-	at_thing(__func__, ON_TARGET, lc, sizeof(*lc), 0);
-	touch(ON_REFERENCES, lc, ANY, 0);
-	return layer_localcount_debug_refcnt(lc);
-}
+WRAPPED(uint32_t, localcount_debug_refcnt, (const struct localcount *lc), (lc),
+    AT(ON_TARGET, lc, 0); touch(ON_REFERENCES, lc, ANY, 0))

@@ -278,10 +278,23 @@ uint32_t enabled_now(void);
 /* LAYER - the layer's own call, whose name has layer_ before it in this library. */
 #define LAYER(type, name, parameters)	type layer_##name parameters
 
+/* WRAPPED - a call that begins with its point and what it touches, and then is the layer's own. Both return nothing where the type is void. */
+#define WRAPPED(type, name, parameters, arguments, ...) \
+	LAYER(type, name, parameters); \
+	type name parameters \
+	{ \
+		__VA_ARGS__; \
+		return layer_##name arguments; \
+	}
+
 struct cpu *cpu_here(const struct routine *me);
+void at_call(const char *call);
 void at_thing(const char *call, enum kind kind, const void *thing, size_t size, unsigned how);
 void at_cpu(const char *call, unsigned how);
 void leaving_cpu(const char *call);
+
+/* A call that touches one thing, whose size is known. */
+#define AT(kind, thing, how)	at_thing(__func__, kind, thing, sizeof(*(thing)), how)
 
 /* ---- failures.c: calls that fail, and waits that end early. ---- */
 

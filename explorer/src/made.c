@@ -4,10 +4,6 @@
 
 #include "inside.h"
 
-LAYER(void, mutex_init, (kmutex_t *mutex, kmutex_type_t type, int level));
-LAYER(void, cv_init, (kcondvar_t *cv, const char *name));
-LAYER(void, rw_init, (krwlock_t *rw));
-
 /* The row of a lock; NULL where it has none. */
 static struct made *row_of(const void *lock)
 {
@@ -65,23 +61,9 @@ void check_none_left(void)
 		fail("%u locks, condition variables or callouts are left at the end, one of them made by %s", left, call);
 }
 
-void mutex_init(kmutex_t *mutex, kmutex_type_t type, int level)
-{
-	track_made(__func__, mutex);
-	layer_mutex_init(mutex, type, level);
-}
-
-void cv_init(kcondvar_t *cv, const char *name)
-{
-	track_made(__func__, cv);
-	layer_cv_init(cv, name);
-}
-
-void rw_init(krwlock_t *rw)
-{
-	track_made(__func__, rw);
-	layer_rw_init(rw);
-}
+WRAPPED(void, mutex_init, (kmutex_t *mutex, kmutex_type_t type, int level), (mutex, type, level), track_made(__func__, mutex))
+WRAPPED(void, cv_init, (kcondvar_t *cv, const char *name), (cv, name), track_made(__func__, cv))
+WRAPPED(void, rw_init, (krwlock_t *rw), (rw), track_made(__func__, rw))
 
 /* ---- Wake-ups. ---- */
 

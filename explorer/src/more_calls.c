@@ -1,32 +1,16 @@
-/* more_calls.c - the layer's calls for memory, CPUs, soft interrupts, callouts, threads and time, each with its point */
+/* more_calls.c - the layer's calls for memory, CPUs, soft interrupts, callouts, threads, works and time, each with its point */
 #include "inside.h"
+#include "stand_ins.h"
 
 /* ---- kmem(9), pool(9), percpu(9). ---- */
 
-LAYER(void *, kmem_alloc, (size_t size, km_flag_t flags));
-LAYER(void *, kmem_zalloc, (size_t size, km_flag_t flags));
-LAYER(void *, kmem_intr_alloc, (size_t size, km_flag_t flags));
-LAYER(void *, kmem_intr_zalloc, (size_t size, km_flag_t flags));
-LAYER(char *, kmem_strdupsize, (const char *text, size_t *size, km_flag_t flags));
-LAYER(void, kmem_strfree, (char *text));
-LAYER(void *, pool_get, (struct pool *pool, int flags));
-LAYER(void *, pool_cache_get, (pool_cache_t cache, int flags));
-LAYER(void, pool_destroy, (struct pool *pool));
-LAYER(void, pool_cache_destroy, (pool_cache_t cache));
-LAYER(void, kmem_free, (void *block, size_t size));
-LAYER(void, kmem_intr_free, (void *block, size_t size));
-LAYER(void, pool_put, (struct pool *pool, void *object));
-LAYER(void, pool_cache_put, (pool_cache_t cache, void *object));
-LAYER(void, percpu_free, (percpu_t *percpu, size_t size));
 LAYER(void, percpu_foreach, (percpu_t *percpu, percpu_callback_t look, void *arg));
 LAYER(void, percpu_foreach_xcall, (percpu_t *percpu, unsigned flags, percpu_callback_t look, void *arg));
-LAYER(void *, percpu_getref, (percpu_t *percpu));
-LAYER(void, percpu_putref, (percpu_t *percpu));
 
 /* A call that gives memory back. */
 static void at_block(const char *call, const void *block, size_t size)
 {
-	point(call, NULL, NULL, NULL);
+	at_call(call);
 	if (block == NULL)
 		return;
 	const struct use use = {.verb = "frees", .place = run.current->place, .writes = true};
@@ -36,58 +20,19 @@ static void at_block(const char *call, const void *block, size_t size)
 	use_memory(block, size, &use);
 }
 
-void *kmem_alloc(size_t size, km_flag_t flags)
-{
-	point(__func__, NULL, NULL, NULL);
-	return layer_kmem_alloc(size, flags);
-}
-
-void *kmem_zalloc(size_t size, km_flag_t flags)
-{
-	point(__func__, NULL, NULL, NULL);
-	return layer_kmem_zalloc(size, flags);
-}
-
-void *kmem_intr_alloc(size_t size, km_flag_t flags)
-{
-	point(__func__, NULL, NULL, NULL);
-	return layer_kmem_intr_alloc(size, flags);
-}
-
-void *kmem_intr_zalloc(size_t size, km_flag_t flags)
-{
-	point(__func__, NULL, NULL, NULL);
-	return layer_kmem_intr_zalloc(size, flags);
-}
-
-char *kmem_strdupsize(const char *text, size_t *size, km_flag_t flags)
-{
-	point(__func__, NULL, NULL, NULL);
-	return layer_kmem_strdupsize(text, size, flags);
-}
-
-void kmem_strfree(char *text)
-{
-	at_block(__func__, text, size_of_block(text));
-	layer_kmem_strfree(text);
-}
-
-void kmem_free(void *block, size_t size)
-{
-	at_block(__func__, block, size);
-	layer_kmem_free(block, size);
-}
-
-void kmem_intr_free(void *block, size_t size)
-{
-	at_block(__func__, block, size);
-	layer_kmem_intr_free(block, size);
-}
+WRAPPED(void *, kmem_alloc, (size_t size, km_flag_t flags), (size, flags), at_call(__func__))
+WRAPPED(void *, kmem_zalloc, (size_t size, km_flag_t flags), (size, flags), at_call(__func__))
+WRAPPED(void *, kmem_intr_alloc, (size_t size, km_flag_t flags), (size, flags), at_call(__func__))
+WRAPPED(void *, kmem_intr_zalloc, (size_t size, km_flag_t flags), (size, flags), at_call(__func__))
+WRAPPED(char *, kmem_strdupsize, (const char *text, size_t *size, km_flag_t flags), (text, size, flags), at_call(__func__))
+WRAPPED(void, kmem_strfree, (char *text), (text), at_block(__func__, text, size_of_block(text)))
+WRAPPED(void, kmem_free, (void *block, size_t size), (block, size), at_block(__func__, block, size))
+WRAPPED(void, kmem_intr_free, (void *block, size_t size), (block, size), at_block(__func__, block, size))
 
 /* What a pool has out is one of its words. A cache gives out first what was given back last. */
 static void at_pool(const char *call, const struct pool *pool, unsigned how)
 {
-	point(call, NULL, NULL, NULL);
+	at_call(call);
 	check_live(call, pool, sizeof(*pool));
 	touch_memory(&pool->pr_out, sizeof(pool->pr_out), how);
 }
@@ -97,45 +42,16 @@ static struct pool *pool_of(pool_cache_t cache)
 	return (struct pool *)(void *)cache;
 }
 
-void *pool_get(struct pool *pool, int flags)
-{
-	at_pool(__func__, pool, 0);
-	return layer_pool_get(pool, flags);
-}
-
-void *pool_cache_get(pool_cache_t cache, int flags)
-{
-	at_pool(__func__, pool_of(cache), WRITES);
-	acquire_clock(ON_MEMORY, &pool_of(cache)->pr_out, 0);
-	return layer_pool_cache_get(cache, flags);
-}
-
-void pool_destroy(struct pool *pool)
-{
-	at_pool(__func__, pool, WRITES);
-	layer_pool_destroy(pool);
-}
-
-void pool_cache_destroy(pool_cache_t cache)
-{
-	at_pool(__func__, pool_of(cache), WRITES);
-	layer_pool_cache_destroy(cache);
-}
-
-void pool_put(struct pool *pool, void *object)
-{
-	at_block(__func__, object, pool->pr_size);
-	touch_memory(&pool->pr_out, sizeof(pool->pr_out), 0);
-	layer_pool_put(pool, object);
-}
-
-void pool_cache_put(pool_cache_t cache, void *object)
-{
-	at_block(__func__, object, pool_of(cache)->pr_size);
-	touch_memory(&pool_of(cache)->pr_out, sizeof(size_t), WRITES);
-	release_clock(ON_MEMORY, &pool_of(cache)->pr_out, 0);
-	layer_pool_cache_put(cache, object);
-}
+WRAPPED(void *, pool_get, (struct pool *pool, int flags), (pool, flags), at_pool(__func__, pool, 0))
+WRAPPED(void *, pool_cache_get, (pool_cache_t cache, int flags), (cache, flags),
+    at_pool(__func__, pool_of(cache), WRITES); acquire_clock(ON_MEMORY, &pool_of(cache)->pr_out, 0))
+WRAPPED(void, pool_destroy, (struct pool *pool), (pool), at_pool(__func__, pool, WRITES))
+WRAPPED(void, pool_cache_destroy, (pool_cache_t cache), (cache), at_pool(__func__, pool_of(cache), WRITES))
+WRAPPED(void, pool_put, (struct pool *pool, void *object), (pool, object),
+    at_block(__func__, object, pool->pr_size); touch_memory(&pool->pr_out, sizeof(pool->pr_out), 0))
+WRAPPED(void, pool_cache_put, (pool_cache_t cache, void *object), (cache, object),
+    at_block(__func__, object, pool_of(cache)->pr_size); touch_memory(&pool_of(cache)->pr_out, sizeof(size_t), WRITES);
+    release_clock(ON_MEMORY, &pool_of(cache)->pr_out, 0))
 
 /* This CPU's part, which is written from here on, or was. */
 static void at_part(const percpu_t *percpu)
@@ -143,19 +59,8 @@ static void at_part(const percpu_t *percpu)
 	touch(ON_TARGET, percpu, cpu_here(run.current)->info.ci_index, WRITES);
 }
 
-void *percpu_getref(percpu_t *percpu)
-{
-	at_cpu(__func__, 0);
-	at_part(percpu);
-	return layer_percpu_getref(percpu);
-}
-
-void percpu_putref(percpu_t *percpu)
-{
-	leaving_cpu(__func__);
-	at_part(percpu);
-	layer_percpu_putref(percpu);
-}
+WRAPPED(void *, percpu_getref, (percpu_t *percpu), (percpu), at_cpu(__func__, 0); at_part(percpu))
+WRAPPED(void, percpu_putref, (percpu_t *percpu), (percpu), leaving_cpu(__func__); at_part(percpu))
 
 /* What percpu_foreach has each part looked at by. */
 struct look {
@@ -179,11 +84,7 @@ void percpu_foreach(percpu_t *percpu, percpu_callback_t look, void *arg)
 	layer_percpu_foreach(percpu, look_at, &each);
 }
 
-void percpu_free(percpu_t *percpu, size_t size)
-{
-	at_thing(__func__, ON_TARGET, percpu, 1, WRITES);
-	layer_percpu_free(percpu, size);
-}
+WRAPPED(void, percpu_free, (percpu_t *percpu, size_t size), (percpu, size), at_thing(__func__, ON_TARGET, percpu, 1, WRITES))
 
 /* ---- CPUs, softint(9). ---- */
 
@@ -232,24 +133,10 @@ void kupaldiz_unbind(void)
 	layer_kupaldiz_unbind();
 }
 
-LAYER(void, kpreempt_disable, (void));
-LAYER(void, kpreempt_enable, (void));
-LAYER(int, kupaldiz_splraise, (int level));
-LAYER(void, splx, (int level));
-LAYER(void, softint_schedule, (void *cookie));
 LAYER(void, softint_disestablish, (void *cookie));
 
-void kpreempt_disable(void)
-{
-	at_cpu(__func__, 0);
-	layer_kpreempt_disable();
-}
-
-void kpreempt_enable(void)
-{
-	leaving_cpu(__func__);
-	layer_kpreempt_enable();
-}
+WRAPPED(void, kpreempt_disable, (void), (), at_cpu(__func__, 0))
+WRAPPED(void, kpreempt_enable, (void), (), leaving_cpu(__func__))
 
 /* A new level lets soft interrupts of the CPU go on, or keeps them off. */
 static void at_level(void)
@@ -257,31 +144,15 @@ static void at_level(void)
 	touch(ON_LOCK, &cpu_here(run.current)->hold, 0, WRITES);
 }
 
-int kupaldiz_splraise(int level)
-{
-	at_cpu("splraise", 0);
-	at_level();
-	acquire_clock(ON_LOCK, &cpu_here(run.current)->hold, 0);
-	return layer_kupaldiz_splraise(level);
-}
-
-void splx(int level)
-{
-	leaving_cpu(__func__);
-	at_level();
-	release_clock(ON_LOCK, &cpu_here(run.current)->hold, 0);
-	layer_splx(level);
-}
-
-void softint_schedule(void *cookie)
-{
-	at_cpu(__func__, RELEASES);
-	layer_softint_schedule(cookie);
-}
+WRAPPED(int, kupaldiz_splraise, (int level), (level),
+    at_cpu("splraise", 0); at_level(); acquire_clock(ON_LOCK, &cpu_here(run.current)->hold, 0))
+WRAPPED(void, splx, (int level), (level),
+    leaving_cpu(__func__); at_level(); release_clock(ON_LOCK, &cpu_here(run.current)->hold, 0))
+WRAPPED(void, softint_schedule, (void *cookie), (cookie), at_cpu(__func__, RELEASES))
 
 void softint_disestablish(void *cookie)
 {
-	point(__func__, NULL, NULL, NULL);
+	at_call(__func__);
 	touch(ON_PENDING, NULL, ANY, WRITES);
 	layer_softint_disestablish(cookie);
 	for (unsigned cpu = 0; cpu < KUPALDIZ_CPUS; cpu++)
@@ -292,7 +163,7 @@ void softint_disestablish(void *cookie)
 void percpu_foreach_xcall(percpu_t *percpu, unsigned flags, percpu_callback_t look, void *arg)
 {
 	struct routine *me = here(__func__);
-	point(__func__, NULL, NULL, NULL);
+	at_call(__func__);
 	me->visits = true;
 	layer_percpu_foreach_xcall(percpu, flags, look, arg);
 	me->visits = false;
@@ -301,30 +172,11 @@ void percpu_foreach_xcall(percpu_t *percpu, unsigned flags, percpu_callback_t lo
 /* ---- callout(9), kthread(9), time and copies. ---- */
 
 LAYER(void, callout_init, (callout_t *callout, unsigned flags));
-LAYER(void, callout_destroy, (callout_t *callout));
-LAYER(void, callout_setfunc, (callout_t *callout, void (*body)(void *), void *arg));
-LAYER(void, callout_reset, (callout_t *callout, int ticks, void (*body)(void *), void *arg));
-LAYER(void, callout_schedule, (callout_t *callout, int ticks));
-LAYER(bool, callout_stop, (callout_t *callout));
-LAYER(bool, callout_halt, (callout_t *callout, void *interlock));
-LAYER(bool, callout_pending, (callout_t *callout));
-LAYER(bool, callout_expired, (callout_t *callout));
-LAYER(bool, callout_active, (callout_t *callout));
-LAYER(bool, callout_invoking, (callout_t *callout));
-LAYER(void, callout_ack, (callout_t *callout));
-LAYER(int, getticks, (void));
-LAYER(time_t, getuptime, (void));
-LAYER(int, kthread_join, (lwp_t *thread));
-LAYER(int, kpause, (const char *name, bool interruptible, int ticks, kmutex_t *mutex));
 LAYER(void, delay, (unsigned microseconds));
-LAYER(int, copyinstr, (const void *user, void *kernel, size_t length, size_t *copied));
-LAYER(int, copyoutstr, (const void *kernel, void *user, size_t length, size_t *copied));
-LAYER(int, copyin, (const void *user, void *kernel, size_t length));
-LAYER(int, copyout, (const void *kernel, void *user, size_t length));
 
 static void at_callout(const char *call, callout_t *callout)
 {
-	point(call, NULL, NULL, NULL);
+	at_call(call);
 	check_live(call, callout, sizeof(*callout));
 }
 
@@ -337,123 +189,57 @@ void callout_init(callout_t *callout, unsigned flags)
 	run.own_memory = false;
 }
 
-void callout_destroy(callout_t *callout)
-{
-	at_callout(__func__, callout);
-	track_ended(callout);
-	layer_callout_destroy(callout);
-}
-
-void callout_setfunc(callout_t *callout, void (*body)(void *), void *arg)
-{
-	at_callout(__func__, callout);
-	layer_callout_setfunc(callout, body, arg);
-}
-
-void callout_reset(callout_t *callout, int ticks, void (*body)(void *), void *arg)
-{
-	at_callout(__func__, callout);
-	layer_callout_reset(callout, ticks, body, arg);
-}
-
-void callout_schedule(callout_t *callout, int ticks)
-{
-	at_callout(__func__, callout);
-	layer_callout_schedule(callout, ticks);
-}
-
-bool callout_stop(callout_t *callout)
-{
-	at_callout(__func__, callout);
-	return layer_callout_stop(callout);
-}
-
-bool callout_halt(callout_t *callout, void *interlock)
-{
-	at_callout(__func__, callout);
-	return layer_callout_halt(callout, interlock);
-}
-
-bool callout_pending(callout_t *callout)
-{
-	at_callout(__func__, callout);
-	return layer_callout_pending(callout);
-}
-
-bool callout_expired(callout_t *callout)
-{
-	at_callout(__func__, callout);
-	return layer_callout_expired(callout);
-}
-
-bool callout_active(callout_t *callout)
-{
-	at_callout(__func__, callout);
-	return layer_callout_active(callout);
-}
-
-bool callout_invoking(callout_t *callout)
-{
-	at_callout(__func__, callout);
-	return layer_callout_invoking(callout);
-}
-
-void callout_ack(callout_t *callout)
-{
-	at_callout(__func__, callout);
-	layer_callout_ack(callout);
-}
-
-int getticks(void)
-{
-	at_thing(__func__, ON_TIME, NULL, 0, 0);
-	return layer_getticks();
-}
-
-time_t getuptime(void)
-{
-	at_thing(__func__, ON_TIME, NULL, 0, 0);
-	return layer_getuptime();
-}
-
-int kthread_join(lwp_t *thread)
-{
-	point(__func__, NULL, NULL, NULL);
-	return layer_kthread_join(thread);
-}
-
-int kpause(const char *name, bool interruptible, int ticks, kmutex_t *mutex)
-{
-	point(__func__, NULL, NULL, NULL);
-	return layer_kpause(name, interruptible, ticks, mutex);
-}
+WRAPPED(void, callout_destroy, (callout_t *callout), (callout), at_callout(__func__, callout); track_ended(callout))
+WRAPPED(void, callout_setfunc, (callout_t *callout, void (*body)(void *), void *arg), (callout, body, arg),
+    at_callout(__func__, callout))
+WRAPPED(void, callout_reset, (callout_t *callout, int ticks, void (*body)(void *), void *arg), (callout, ticks, body, arg),
+    at_callout(__func__, callout))
+WRAPPED(void, callout_schedule, (callout_t *callout, int ticks), (callout, ticks), at_callout(__func__, callout))
+WRAPPED(bool, callout_stop, (callout_t *callout), (callout), at_callout(__func__, callout))
+WRAPPED(bool, callout_halt, (callout_t *callout, void *interlock), (callout, interlock), at_callout(__func__, callout))
+WRAPPED(bool, callout_pending, (callout_t *callout), (callout), at_callout(__func__, callout))
+WRAPPED(bool, callout_expired, (callout_t *callout), (callout), at_callout(__func__, callout))
+WRAPPED(bool, callout_active, (callout_t *callout), (callout), at_callout(__func__, callout))
+WRAPPED(bool, callout_invoking, (callout_t *callout), (callout), at_callout(__func__, callout))
+WRAPPED(void, callout_ack, (callout_t *callout), (callout), at_callout(__func__, callout))
+WRAPPED(int, getticks, (void), (), at_thing(__func__, ON_TIME, NULL, 0, 0))
+WRAPPED(time_t, getuptime, (void), (), at_thing(__func__, ON_TIME, NULL, 0, 0))
+WRAPPED(int, kthread_join, (lwp_t *thread), (thread), at_call(__func__))
+WRAPPED(int, kpause, (const char *name, bool interruptible, int ticks, kmutex_t *mutex), (name, interruptible, ticks, mutex),
+    at_call(__func__))
 
 void delay(unsigned microseconds)
 {
-	point(__func__, NULL, NULL, NULL);
+	at_call(__func__);
 	sleep_until(run.time + (int64_t)microseconds * 1000);
 }
 
-int copyin(const void *user, void *kernel, size_t length)
+WRAPPED(int, copyin, (const void *user, void *kernel, size_t length), (user, kernel, length), at_call(__func__))
+WRAPPED(int, copyout, (const void *kernel, void *user, size_t length), (kernel, user, length), at_call(__func__))
+WRAPPED(int, copyinstr, (const void *user, void *kernel, size_t length, size_t *copied), (user, kernel, length, copied),
+    at_call(__func__))
+WRAPPED(int, copyoutstr, (const void *kernel, void *user, size_t length, size_t *copied), (kernel, user, length, copied),
+    at_call(__func__))
+
+/* ---- workqueue(9): a queue's thread is the layer's own. ---- */
+
+LAYER(void, workqueue_enqueue, (struct workqueue *queue, struct work *work, struct cpu_info *cpu));
+
+/* Memory with a work isn't given back before the work's function is called. */
+void workqueue_enqueue(struct workqueue *queue, struct work *work, struct cpu_info *cpu)
 {
-	point(__func__, NULL, NULL, NULL);
-	return layer_copyin(user, kernel, length);
+	at_call(__func__);
+	check_live(__func__, queue, 1);
+	check_live(__func__, work, sizeof(*work));
+	layer_workqueue_enqueue(queue, work, cpu);
+	track_made(__func__, work);
 }
 
-int copyout(const void *kernel, void *user, size_t length)
+void bench_dequeued(const void *work)
 {
-	point(__func__, NULL, NULL, NULL);
-	return layer_copyout(kernel, user, length);
+	track_ended(work);
 }
 
-int copyinstr(const void *user, void *kernel, size_t length, size_t *copied)
-{
-	point(__func__, NULL, NULL, NULL);
-	return layer_copyinstr(user, kernel, length, copied);
-}
-
-int copyoutstr(const void *kernel, void *user, size_t length, size_t *copied)
-{
-	point(__func__, NULL, NULL, NULL);
-	return layer_copyoutstr(kernel, user, length, copied);
-}
+WRAPPED(void, workqueue_wait, (struct workqueue *queue, struct work *work), (queue, work),
+    at_call(__func__); check_live(__func__, queue, 1))
+WRAPPED(void, workqueue_destroy, (struct workqueue *queue), (queue), at_call(__func__); check_live(__func__, queue, 1))

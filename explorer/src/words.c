@@ -172,5 +172,5 @@ void kupaldiz_point(const volatile void *address, size_t size, unsigned how, con
 
 void bench_point(void)
 {
-	point("bench_point", NULL, NULL, NULL);
+	at_call("bench_point");
 }

@@ -86,7 +86,7 @@ static uint64_t ask(const struct xcall *asked_for)
 
 uint64_t xc_broadcast(unsigned flags, xcfunc_t body, void *arg_a, void *arg_b)
 {
-	point(__func__, NULL, NULL, NULL);
+	at_call(__func__);
 	const struct thread *me = begin_call(__func__);
 	want_sleepable(me);
 	return ask(&(struct xcall){.flags = flags, .body = body, .arg_a = arg_a, .arg_b = arg_b, .place = me->place});
@@ -94,7 +94,7 @@ uint64_t xc_broadcast(unsigned flags, xcfunc_t body, void *arg_a, void *arg_b)
 
 uint64_t xc_unicast(unsigned flags, xcfunc_t body, void *arg_a, void *arg_b, struct cpu_info *cpu)
 {
-	point(__func__, NULL, NULL, NULL);
+	at_call(__func__);
 	want_sleepable(begin_plain(__func__));
 	return ask(&(struct xcall){.flags = flags, .body = body, .arg_a = arg_a, .arg_b = arg_b, .cpu = cpu});
 }
@@ -115,7 +115,7 @@ void xc_wait(uint64_t ticket)
 void xc_barrier(unsigned flags)
 {
 	struct routine *me = here(__func__);
-	point(__func__, NULL, NULL, NULL);
+	at_call(__func__);
 	me->visits = true;
 	layer_xc_barrier(flags);
 	me->visits = false;
