@@ -2,7 +2,7 @@
  * names.h - what the linker calls the calls: each has `kupaldiz_` before its name
  *
  * So a program may have a function mutex_enter or delay of its own elsewhere, or a library that does: neither clashes with the layer's. A call that
- * is already named so has no line here. The pragma is one of gcc's and clang's; it takes effect for what is declared after it.
+ * is already named so isn't here. The pragma is one of gcc's and clang's; it takes effect for what is declared after it.
  */
 #ifndef KUPALDIZ_NETBSD_NAMES_H
 #define KUPALDIZ_NETBSD_NAMES_H
@@ -11,128 +11,41 @@
 #error "the compiler has no #pragma redefine_extname: gcc and clang have it"
 #endif
 
-#pragma redefine_extname callout_ack kupaldiz_callout_ack
-#pragma redefine_extname callout_active kupaldiz_callout_active
-#pragma redefine_extname callout_destroy kupaldiz_callout_destroy
-#pragma redefine_extname callout_expired kupaldiz_callout_expired
-#pragma redefine_extname callout_halt kupaldiz_callout_halt
-#pragma redefine_extname callout_init kupaldiz_callout_init
-#pragma redefine_extname callout_invoking kupaldiz_callout_invoking
-#pragma redefine_extname callout_pending kupaldiz_callout_pending
-#pragma redefine_extname callout_reset kupaldiz_callout_reset
-#pragma redefine_extname callout_schedule kupaldiz_callout_schedule
-#pragma redefine_extname callout_setfunc kupaldiz_callout_setfunc
-#pragma redefine_extname callout_stop kupaldiz_callout_stop
-#pragma redefine_extname copyin kupaldiz_copyin
-#pragma redefine_extname copyinstr kupaldiz_copyinstr
-#pragma redefine_extname copyout kupaldiz_copyout
-#pragma redefine_extname copyoutstr kupaldiz_copyoutstr
-#pragma redefine_extname cpu_softintr_p kupaldiz_cpu_softintr_p
-#pragma redefine_extname curcpu kupaldiz_curcpu
-#pragma redefine_extname curlwp_bind kupaldiz_curlwp_bind
-#pragma redefine_extname curlwp_bindx kupaldiz_curlwp_bindx
-#pragma redefine_extname cv_broadcast kupaldiz_cv_broadcast
-#pragma redefine_extname cv_destroy kupaldiz_cv_destroy
-#pragma redefine_extname cv_has_waiters kupaldiz_cv_has_waiters
-#pragma redefine_extname cv_init kupaldiz_cv_init
-#pragma redefine_extname cv_is_valid kupaldiz_cv_is_valid
-#pragma redefine_extname cv_signal kupaldiz_cv_signal
-#pragma redefine_extname cv_timedwait kupaldiz_cv_timedwait
-#pragma redefine_extname cv_timedwait_sig kupaldiz_cv_timedwait_sig
-#pragma redefine_extname cv_wait kupaldiz_cv_wait
-#pragma redefine_extname cv_wait_sig kupaldiz_cv_wait_sig
-#pragma redefine_extname delay kupaldiz_delay
-#pragma redefine_extname getticks kupaldiz_getticks
-#pragma redefine_extname getuptime kupaldiz_getuptime
-#pragma redefine_extname kmem_alloc kupaldiz_kmem_alloc
-#pragma redefine_extname kmem_free kupaldiz_kmem_free
-#pragma redefine_extname kmem_intr_alloc kupaldiz_kmem_intr_alloc
-#pragma redefine_extname kmem_intr_free kupaldiz_kmem_intr_free
-#pragma redefine_extname kmem_intr_zalloc kupaldiz_kmem_intr_zalloc
-#pragma redefine_extname kmem_strdupsize kupaldiz_kmem_strdupsize
-#pragma redefine_extname kmem_strfree kupaldiz_kmem_strfree
-#pragma redefine_extname kmem_zalloc kupaldiz_kmem_zalloc
-#pragma redefine_extname kpause kupaldiz_kpause
-#pragma redefine_extname kpreempt_disable kupaldiz_kpreempt_disable
-#pragma redefine_extname kpreempt_disabled kupaldiz_kpreempt_disabled
-#pragma redefine_extname kpreempt_enable kupaldiz_kpreempt_enable
-#pragma redefine_extname kthread_create kupaldiz_kthread_create
-#pragma redefine_extname kthread_exit kupaldiz_kthread_exit
-#pragma redefine_extname kthread_join kupaldiz_kthread_join
-#pragma redefine_extname localcount_acquire kupaldiz_localcount_acquire
-#pragma redefine_extname localcount_debug_refcnt kupaldiz_localcount_debug_refcnt
-#pragma redefine_extname localcount_drain kupaldiz_localcount_drain
-#pragma redefine_extname localcount_fini kupaldiz_localcount_fini
-#pragma redefine_extname localcount_init kupaldiz_localcount_init
-#pragma redefine_extname localcount_release kupaldiz_localcount_release
-#pragma redefine_extname module_hook_exit kupaldiz_module_hook_exit
-#pragma redefine_extname module_hook_set kupaldiz_module_hook_set
-#pragma redefine_extname module_hook_tryenter kupaldiz_module_hook_tryenter
-#pragma redefine_extname module_hook_unset kupaldiz_module_hook_unset
-#pragma redefine_extname mutex_destroy kupaldiz_mutex_destroy
-#pragma redefine_extname mutex_enter kupaldiz_mutex_enter
-#pragma redefine_extname mutex_exit kupaldiz_mutex_exit
-#pragma redefine_extname mutex_init kupaldiz_mutex_init
-#pragma redefine_extname mutex_obj_alloc kupaldiz_mutex_obj_alloc
-#pragma redefine_extname mutex_obj_free kupaldiz_mutex_obj_free
-#pragma redefine_extname mutex_obj_hold kupaldiz_mutex_obj_hold
-#pragma redefine_extname mutex_ownable kupaldiz_mutex_ownable
-#pragma redefine_extname mutex_owned kupaldiz_mutex_owned
-#pragma redefine_extname mutex_spin_enter kupaldiz_mutex_spin_enter
-#pragma redefine_extname mutex_spin_exit kupaldiz_mutex_spin_exit
-#pragma redefine_extname mutex_tryenter kupaldiz_mutex_tryenter
-#pragma redefine_extname panic kupaldiz_panic
-#pragma redefine_extname percpu_alloc kupaldiz_percpu_alloc
-#pragma redefine_extname percpu_create kupaldiz_percpu_create
-#pragma redefine_extname percpu_foreach kupaldiz_percpu_foreach
-#pragma redefine_extname percpu_foreach_xcall kupaldiz_percpu_foreach_xcall
-#pragma redefine_extname percpu_free kupaldiz_percpu_free
-#pragma redefine_extname percpu_getref kupaldiz_percpu_getref
-#pragma redefine_extname percpu_putref kupaldiz_percpu_putref
-#pragma redefine_extname pool_cache_destroy kupaldiz_pool_cache_destroy
-#pragma redefine_extname pool_cache_get kupaldiz_pool_cache_get
-#pragma redefine_extname pool_cache_init kupaldiz_pool_cache_init
-#pragma redefine_extname pool_cache_put kupaldiz_pool_cache_put
-#pragma redefine_extname pool_destroy kupaldiz_pool_destroy
-#pragma redefine_extname pool_get kupaldiz_pool_get
-#pragma redefine_extname pool_init kupaldiz_pool_init
-#pragma redefine_extname pool_put kupaldiz_pool_put
-#pragma redefine_extname pserialize_create kupaldiz_pserialize_create
-#pragma redefine_extname pserialize_destroy kupaldiz_pserialize_destroy
-#pragma redefine_extname pserialize_in_read_section kupaldiz_pserialize_in_read_section
-#pragma redefine_extname pserialize_not_in_read_section kupaldiz_pserialize_not_in_read_section
-#pragma redefine_extname pserialize_perform kupaldiz_pserialize_perform
-#pragma redefine_extname pserialize_read_enter kupaldiz_pserialize_read_enter
-#pragma redefine_extname pserialize_read_exit kupaldiz_pserialize_read_exit
-#pragma redefine_extname psref_acquire kupaldiz_psref_acquire
-#pragma redefine_extname psref_class_create kupaldiz_psref_class_create
-#pragma redefine_extname psref_class_destroy kupaldiz_psref_class_destroy
-#pragma redefine_extname psref_copy kupaldiz_psref_copy
-#pragma redefine_extname psref_held kupaldiz_psref_held
-#pragma redefine_extname psref_release kupaldiz_psref_release
-#pragma redefine_extname psref_target_destroy kupaldiz_psref_target_destroy
-#pragma redefine_extname psref_target_init kupaldiz_psref_target_init
-#pragma redefine_extname rw_destroy kupaldiz_rw_destroy
-#pragma redefine_extname rw_downgrade kupaldiz_rw_downgrade
-#pragma redefine_extname rw_enter kupaldiz_rw_enter
-#pragma redefine_extname rw_exit kupaldiz_rw_exit
-#pragma redefine_extname rw_init kupaldiz_rw_init
-#pragma redefine_extname rw_lock_held kupaldiz_rw_lock_held
-#pragma redefine_extname rw_read_held kupaldiz_rw_read_held
-#pragma redefine_extname rw_tryenter kupaldiz_rw_tryenter
-#pragma redefine_extname rw_tryupgrade kupaldiz_rw_tryupgrade
-#pragma redefine_extname rw_write_held kupaldiz_rw_write_held
-#pragma redefine_extname softint_disestablish kupaldiz_softint_disestablish
-#pragma redefine_extname softint_establish kupaldiz_softint_establish
-#pragma redefine_extname softint_schedule kupaldiz_softint_schedule
-#pragma redefine_extname splx kupaldiz_splx
-#pragma redefine_extname workqueue_create kupaldiz_workqueue_create
-#pragma redefine_extname workqueue_destroy kupaldiz_workqueue_destroy
-#pragma redefine_extname workqueue_enqueue kupaldiz_workqueue_enqueue
-#pragma redefine_extname workqueue_wait kupaldiz_workqueue_wait
-#pragma redefine_extname xc_barrier kupaldiz_xc_barrier
-#pragma redefine_extname xc_broadcast kupaldiz_xc_broadcast
-#pragma redefine_extname xc_unicast kupaldiz_xc_unicast
-#pragma redefine_extname xc_wait kupaldiz_xc_wait
+#define KUPALDIZ_PRAGMA(words)	_Pragma(#words)
+#define KUPALDIZ_NAME(call)	KUPALDIZ_PRAGMA(redefine_extname call kupaldiz_##call)
+
+KUPALDIZ_NAME(callout_ack) KUPALDIZ_NAME(callout_active) KUPALDIZ_NAME(callout_destroy) KUPALDIZ_NAME(callout_expired)
+KUPALDIZ_NAME(callout_halt) KUPALDIZ_NAME(callout_init) KUPALDIZ_NAME(callout_invoking) KUPALDIZ_NAME(callout_pending)
+KUPALDIZ_NAME(callout_reset) KUPALDIZ_NAME(callout_schedule) KUPALDIZ_NAME(callout_setfunc) KUPALDIZ_NAME(callout_stop)
+KUPALDIZ_NAME(copyin) KUPALDIZ_NAME(copyinstr) KUPALDIZ_NAME(copyout)
+KUPALDIZ_NAME(copyoutstr) KUPALDIZ_NAME(cpu_softintr_p) KUPALDIZ_NAME(curcpu)
+KUPALDIZ_NAME(curlwp_bind) KUPALDIZ_NAME(curlwp_bindx) KUPALDIZ_NAME(cv_broadcast) KUPALDIZ_NAME(cv_destroy) KUPALDIZ_NAME(cv_has_waiters)
+KUPALDIZ_NAME(cv_init) KUPALDIZ_NAME(cv_is_valid) KUPALDIZ_NAME(cv_signal) KUPALDIZ_NAME(cv_timedwait) KUPALDIZ_NAME(cv_timedwait_sig)
+KUPALDIZ_NAME(cv_wait) KUPALDIZ_NAME(cv_wait_sig) KUPALDIZ_NAME(delay)
+KUPALDIZ_NAME(getticks) KUPALDIZ_NAME(getuptime) KUPALDIZ_NAME(kmem_alloc) KUPALDIZ_NAME(kmem_free) KUPALDIZ_NAME(kmem_intr_alloc)
+KUPALDIZ_NAME(kmem_intr_free) KUPALDIZ_NAME(kmem_intr_zalloc) KUPALDIZ_NAME(kmem_strdupsize) KUPALDIZ_NAME(kmem_strfree)
+KUPALDIZ_NAME(kmem_zalloc) KUPALDIZ_NAME(kpause) KUPALDIZ_NAME(kpreempt_disable) KUPALDIZ_NAME(kpreempt_disabled) KUPALDIZ_NAME(kpreempt_enable)
+KUPALDIZ_NAME(kthread_create) KUPALDIZ_NAME(kthread_exit) KUPALDIZ_NAME(kthread_join)
+KUPALDIZ_NAME(localcount_acquire) KUPALDIZ_NAME(localcount_debug_refcnt) KUPALDIZ_NAME(localcount_drain) KUPALDIZ_NAME(localcount_fini)
+KUPALDIZ_NAME(localcount_init) KUPALDIZ_NAME(localcount_release) KUPALDIZ_NAME(module_hook_exit) KUPALDIZ_NAME(module_hook_set)
+KUPALDIZ_NAME(module_hook_tryenter) KUPALDIZ_NAME(module_hook_unset) KUPALDIZ_NAME(mutex_destroy) KUPALDIZ_NAME(mutex_enter)
+KUPALDIZ_NAME(mutex_exit) KUPALDIZ_NAME(mutex_init) KUPALDIZ_NAME(mutex_obj_alloc) KUPALDIZ_NAME(mutex_obj_free) KUPALDIZ_NAME(mutex_obj_hold)
+KUPALDIZ_NAME(mutex_ownable) KUPALDIZ_NAME(mutex_owned) KUPALDIZ_NAME(mutex_spin_enter) KUPALDIZ_NAME(mutex_spin_exit)
+KUPALDIZ_NAME(mutex_tryenter) KUPALDIZ_NAME(panic) KUPALDIZ_NAME(percpu_alloc) KUPALDIZ_NAME(percpu_create) KUPALDIZ_NAME(percpu_foreach)
+KUPALDIZ_NAME(percpu_foreach_xcall) KUPALDIZ_NAME(percpu_free) KUPALDIZ_NAME(percpu_getref) KUPALDIZ_NAME(percpu_putref)
+KUPALDIZ_NAME(pool_cache_destroy) KUPALDIZ_NAME(pool_cache_get) KUPALDIZ_NAME(pool_cache_init) KUPALDIZ_NAME(pool_cache_put)
+KUPALDIZ_NAME(pool_destroy) KUPALDIZ_NAME(pool_get) KUPALDIZ_NAME(pool_init) KUPALDIZ_NAME(pool_put)
+KUPALDIZ_NAME(pserialize_create) KUPALDIZ_NAME(pserialize_destroy) KUPALDIZ_NAME(pserialize_in_read_section)
+KUPALDIZ_NAME(pserialize_not_in_read_section) KUPALDIZ_NAME(pserialize_perform) KUPALDIZ_NAME(pserialize_read_enter)
+KUPALDIZ_NAME(pserialize_read_exit) KUPALDIZ_NAME(psref_acquire) KUPALDIZ_NAME(psref_class_create) KUPALDIZ_NAME(psref_class_destroy)
+KUPALDIZ_NAME(psref_copy) KUPALDIZ_NAME(psref_held) KUPALDIZ_NAME(psref_release) KUPALDIZ_NAME(psref_target_destroy)
+KUPALDIZ_NAME(psref_target_init) KUPALDIZ_NAME(rw_destroy) KUPALDIZ_NAME(rw_downgrade) KUPALDIZ_NAME(rw_enter) KUPALDIZ_NAME(rw_exit)
+KUPALDIZ_NAME(rw_init) KUPALDIZ_NAME(rw_lock_held) KUPALDIZ_NAME(rw_read_held) KUPALDIZ_NAME(rw_tryenter) KUPALDIZ_NAME(rw_tryupgrade)
+KUPALDIZ_NAME(rw_write_held) KUPALDIZ_NAME(softint_disestablish) KUPALDIZ_NAME(softint_establish) KUPALDIZ_NAME(softint_schedule)
+KUPALDIZ_NAME(splx) KUPALDIZ_NAME(workqueue_create) KUPALDIZ_NAME(workqueue_destroy) KUPALDIZ_NAME(workqueue_enqueue)
+KUPALDIZ_NAME(workqueue_wait) KUPALDIZ_NAME(xc_barrier) KUPALDIZ_NAME(xc_broadcast) KUPALDIZ_NAME(xc_unicast) KUPALDIZ_NAME(xc_wait)
+
+#undef KUPALDIZ_NAME
+#undef KUPALDIZ_PRAGMA
 
 #endif

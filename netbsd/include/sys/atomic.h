@@ -48,64 +48,26 @@ static inline void membar_sync(void)
 #define membar_exit()		membar_release()
 #define membar_datadep_consumer()	membar_acquire()
 
-/* The operations on a word of one type: what its names end with, the type, and the type of what is added. */
-#define KUPALDIZ_ATOMICS(name, type, number) \
-	static inline void atomic_add_##name(volatile type *at, number value) \
+/* An operation that returns nothing, and the one that returns the new value. */
+#define KUPALDIZ_CHANGE(name, type, parameters, change, value) \
+	static inline void atomic_##name parameters \
 	{ \
 		KUPALDIZ_POINT(at, KUPALDIZ_EXCHANGES); \
-		__atomic_fetch_add(at, (type)value, __ATOMIC_SEQ_CST); \
+		(void)change(at, value, __ATOMIC_SEQ_CST); \
 	} \
-	static inline type atomic_add_##name##_nv(volatile type *at, number value) \
+	static inline type atomic_##name##_nv parameters \
 	{ \
 		KUPALDIZ_POINT(at, KUPALDIZ_EXCHANGES); \
-		return (type)__atomic_add_fetch(at, (type)value, __ATOMIC_SEQ_CST); \
+		return (type)change(at, value, __ATOMIC_SEQ_CST); \
 	}
 
-#define KUPALDIZ_COUNTS(name, type) \
-	static inline void atomic_inc_##name(volatile type *at) \
-	{ \
-		KUPALDIZ_POINT(at, KUPALDIZ_EXCHANGES); \
-		__atomic_fetch_add(at, 1, __ATOMIC_SEQ_CST); \
-	} \
-	static inline type atomic_inc_##name##_nv(volatile type *at) \
-	{ \
-		KUPALDIZ_POINT(at, KUPALDIZ_EXCHANGES); \
-		return (type)__atomic_add_fetch(at, 1, __ATOMIC_SEQ_CST); \
-	} \
-	static inline void atomic_dec_##name(volatile type *at) \
-	{ \
-		KUPALDIZ_POINT(at, KUPALDIZ_EXCHANGES); \
-		__atomic_fetch_sub(at, 1, __ATOMIC_SEQ_CST); \
-	} \
-	static inline type atomic_dec_##name##_nv(volatile type *at) \
-	{ \
-		KUPALDIZ_POINT(at, KUPALDIZ_EXCHANGES); \
-		return (type)__atomic_sub_fetch(at, 1, __ATOMIC_SEQ_CST); \
-	}
-
-#define KUPALDIZ_BITS(name, type) \
-	static inline void atomic_or_##name(volatile type *at, type bits) \
-	{ \
-		KUPALDIZ_POINT(at, KUPALDIZ_EXCHANGES); \
-		__atomic_fetch_or(at, bits, __ATOMIC_SEQ_CST); \
-	} \
-	static inline type atomic_or_##name##_nv(volatile type *at, type bits) \
-	{ \
-		KUPALDIZ_POINT(at, KUPALDIZ_EXCHANGES); \
-		return __atomic_or_fetch(at, bits, __ATOMIC_SEQ_CST); \
-	} \
-	static inline void atomic_and_##name(volatile type *at, type bits) \
-	{ \
-		KUPALDIZ_POINT(at, KUPALDIZ_EXCHANGES); \
-		__atomic_fetch_and(at, bits, __ATOMIC_SEQ_CST); \
-	} \
-	static inline type atomic_and_##name##_nv(volatile type *at, type bits) \
-	{ \
-		KUPALDIZ_POINT(at, KUPALDIZ_EXCHANGES); \
-		return __atomic_and_fetch(at, bits, __ATOMIC_SEQ_CST); \
-	}
-
-#define KUPALDIZ_SWAPS(name, type) \
+/* All operations on a word of one type: what their names end with, the type; what that of an addition ends with, and the type of what is added. */
+#define KUPALDIZ_ATOMICS(name, type, added, number) \
+	KUPALDIZ_CHANGE(add_##added, type, (volatile type *at, number value), __atomic_add_fetch, (type)value) \
+	KUPALDIZ_CHANGE(inc_##name, type, (volatile type *at), __atomic_add_fetch, 1) \
+	KUPALDIZ_CHANGE(dec_##name, type, (volatile type *at), __atomic_sub_fetch, 1) \
+	KUPALDIZ_CHANGE(or_##name, type, (volatile type *at, type bits), __atomic_or_fetch, bits) \
+	KUPALDIZ_CHANGE(and_##name, type, (volatile type *at, type bits), __atomic_and_fetch, bits) \
 	static inline type atomic_swap_##name(volatile type *at, type value) \
 	{ \
 		KUPALDIZ_POINT(at, KUPALDIZ_EXCHANGES); \
@@ -122,22 +84,10 @@ static inline void membar_sync(void)
 		return atomic_cas_##name(at, expected, value); \
 	}
 
-KUPALDIZ_ATOMICS(int, unsigned, int)
-KUPALDIZ_ATOMICS(long, unsigned long, long)
-KUPALDIZ_ATOMICS(32, uint32_t, int32_t)
-KUPALDIZ_ATOMICS(64, uint64_t, int64_t)
-KUPALDIZ_COUNTS(uint, unsigned)
-KUPALDIZ_COUNTS(ulong, unsigned long)
-KUPALDIZ_COUNTS(32, uint32_t)
-KUPALDIZ_COUNTS(64, uint64_t)
-KUPALDIZ_BITS(uint, unsigned)
-KUPALDIZ_BITS(ulong, unsigned long)
-KUPALDIZ_BITS(32, uint32_t)
-KUPALDIZ_BITS(64, uint64_t)
-KUPALDIZ_SWAPS(uint, unsigned)
-KUPALDIZ_SWAPS(ulong, unsigned long)
-KUPALDIZ_SWAPS(32, uint32_t)
-KUPALDIZ_SWAPS(64, uint64_t)
+KUPALDIZ_ATOMICS(uint, unsigned, int, int)
+KUPALDIZ_ATOMICS(ulong, unsigned long, long, long)
+KUPALDIZ_ATOMICS(32, uint32_t, 32, int32_t)
+KUPALDIZ_ATOMICS(64, uint64_t, 64, int64_t)
 
 /* atomic_add_ptr, .. - of a word that holds an address, by bytes. */
 static inline void *atomic_add_ptr_nv(volatile void *at, ptrdiff_t bytes)
