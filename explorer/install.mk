@@ -32,16 +32,22 @@ $(BENCH_LAYER:netbsd/src/%.c=$(BENCH_FOLDER)/layer-%.o): $(BENCH_FOLDER)/layer-%
 	$(OBJCOPY) --redefine-syms=$(BENCH_FOLDER)/names $@.own $@
 	rm -f $@.own
 
+# The map of all that the library shows: in the node of each version the calls of the pages' names that it brought, too.
+$(BENCH_FOLDER)/map: netbsd/netbsd.map explorer/bench.map explorer/install.mk
+	mkdir -p $(BENCH_FOLDER)
+	awk '/^KUPALDIZ_/ { version = $$1; sub(/.*_/, "", version) } FNR == NR { if (/^\t\tkupaldiz_/) names[version] = names[version] $$0 "\n"; next } \
+	    { print } /^\tglobal:/ { printf "%s", names[version] }' netbsd/netbsd.map explorer/bench.map >$@
+
 # One object, from which the calls of its map are seen, and no other name.
-$(OUT)/libkupaldiz_bench.a: $(BENCH_OBJECTS) explorer/bench.map
+$(OUT)/libkupaldiz_bench.a: $(BENCH_OBJECTS) $(BENCH_FOLDER)/map
 	rm -f $@ $(OUT)/kupaldiz_bench.o
 	$(CC) -r -nostdlib -o $(OUT)/kupaldiz_bench.o $(BENCH_OBJECTS)
-	sed -n 's/^\t\t\([a-z_][a-z0-9_]*\*\?\);$$/\1/p' explorer/bench.map >$(BENCH_FOLDER)/shown
+	sed -n 's/^\t\t\([a-z_][a-z0-9_]*\*\?\);$$/\1/p' $(BENCH_FOLDER)/map >$(BENCH_FOLDER)/shown
 	$(OBJCOPY) --wildcard --keep-global-symbols=$(BENCH_FOLDER)/shown $(OUT)/kupaldiz_bench.o
 	$(AR) rcsD $@ $(OUT)/kupaldiz_bench.o
 
-$(OUT)/$(BENCH_SHARED): $(OUT)/libkupaldiz_bench.a $(OUT)/$(SHARED) explorer/bench.map $(BENCH_MADE_BY)
-	$(CC) $(BENCH_LINKED) $(if $(RUNPATH),-Wl$(comma)-rpath$(comma)'$(RUNPATH)') -o $@ -Wl,-soname,$(BENCH_SONAME) -Wl,--version-script=explorer/bench.map \
+$(OUT)/$(BENCH_SHARED): $(OUT)/libkupaldiz_bench.a $(OUT)/$(SHARED) $(BENCH_FOLDER)/map $(BENCH_MADE_BY)
+	$(CC) $(BENCH_LINKED) $(if $(RUNPATH),-Wl$(comma)-rpath$(comma)'$(RUNPATH)') -o $@ -Wl,-soname,$(BENCH_SONAME) -Wl,--version-script=$(BENCH_FOLDER)/map \
 	    -Wl,--whole-archive $(OUT)/libkupaldiz_bench.a -Wl,--no-whole-archive $(OUT)/$(SHARED) -pthread
 
 install_bench: library

@@ -76,7 +76,7 @@ same "the nodes of libkupaldiz_netbsd.so" "$(in_nodes netbsd/netbsd.map)" "$(sho
 same libkupaldiz_netbsd.a "$calls" "$(static "$out/libkupaldiz_netbsd.a" | grep -vxE 'kupaldiz_(self|places)')"
 if [ -f "$out/libkupaldiz_bench.a" ]; then
     calls=$(sort <<<"$pages"$'\n'"$(packaging/calls-of.sh explorer/bench.h)")
-    same bench.map "$(in_maps <<<"$calls")" "$(mapped explorer/bench.map)"
+    same "bench.map and netbsd.map" "$(in_maps <<<"$calls")" "$({ mapped explorer/bench.map; mapped netbsd/netbsd.map; } | sort)"
     same libkupaldiz_bench.so "$calls" "$(shared "$out/libkupaldiz_bench$suffix" | grep -v '^__tsan_')"
     same libkupaldiz_bench.a "$calls" "$(static "$out/libkupaldiz_bench.a" | grep -v '^__tsan_')"
 fi

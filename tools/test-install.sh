@@ -266,7 +266,7 @@ copy_top() {
 
 # mark FILE NAME: a function more, which the maps name.
 mark() {
-    sed -i "0,/^\tglobal:/s//\tglobal:\n\t\t$2;/" "$top/packaging/kupaldiz.map" "$top/netbsd/netbsd.map" "$top/explorer/bench.map"
+    sed -i "0,/^\tglobal:/s//\tglobal:\n\t\t$2;/" "$top/packaging/kupaldiz.map" "$top/netbsd/netbsd.map"
     printf '\nvoid %s(void);\nvoid %s(void)\n{\n}\n' "$2" "$2" >>"$1"
 }
 
