@@ -36,6 +36,9 @@ override CPPFLAGS += -include $(HEADER)/registry_limits.h
 endif
 ARCHIVE := $(firstword $(wildcard $(TOP)archive/$(PROCESSOR)/libregistry.a) $(OUT)/libregistry.a)
 
+# Headers of the pages' names that are made.
+$(shell $(TOP)netbsd/named.sh)
+
 # What hardens the libraries. Of CET it is the shadow stack: the archive's calls return where they were called from, but have no endbr64.
 HARDENING_x86_64 = -fcf-protection=full
 HARDENING_aarch64 = -mbranch-protection=standard

@@ -14,6 +14,7 @@ library=(netbsd/src/*.c out/libregistry.a -pthread)
 # shellcheck source=tools/checks.sh
 . tools/checks.sh
 trap forget_log EXIT
+netbsd/named.sh
 
 # Lists of source packages, from where the system's own lists have its packages, kept apart from them.
 write_lists() {

@@ -79,6 +79,7 @@ watched() {
     limited valgrind -q --fair-sched=try --error-exitcode=99 --leak-check=full --show-leak-kinds=definite --errors-for-leak-kinds=definite "$@"
 }
 
+$folder/named.sh
 for header in $(cd $folder/include && ls kupaldiz/*.h sys/*.h net/*.h); do
     check "$header alone, in four C standards" header_alone "$header"
 done

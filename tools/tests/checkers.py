@@ -1,6 +1,8 @@
 """Faults that the checkers beside the layer and the bench are to find, and tools/before-gate.py: lines.py and names.py of netbsd/tests, points.py
 and table.py of explorer/tests."""
-from .trees import Case, Fault, real
+import subprocess
+
+from .trees import ROOT, Case, Fault, real
 
 LINES = "netbsd/tests/lines.py"
 ASKED = [f"netbsd/tests/{name}.c" for name in ("misuses", "lacks", "tells")]
@@ -40,6 +42,7 @@ def names():
               ((LISTED, "sys/types.h macro ", "sys/types.h macro KUPALDIZ_NETBSD_SYS_TYPES_WRAPPED "),)),
         Fault("no compiler", "gone", command=[NAMES, "./gone"]),
     )
+    subprocess.run([ROOT / "netbsd/named.sh"], check=True)
     headers = [f"netbsd/include/{folder}/*.h" for folder in ("kupaldiz", "sys", "net")]
     tests = TESTS, "netbsd/examples/*.c", "explorer/tests/*.c", "explorer/tests/*.inc"
     tree = real(NAMES, LISTED, *headers, *tests)

@@ -1,2 +1,0 @@
-/* sys/callout.h - under the name that the pages give it */
-#include "../kupaldiz/softint.h"

@@ -1,2 +1,0 @@
-/* sys/condvar.h - under the name that the pages give it */
-#include "../kupaldiz/locks.h"

@@ -1,2 +1,0 @@
-/* sys/evcnt.h - under the name that the pages give it */
-#include "../kupaldiz/kernel.h"

@@ -1,2 +1,0 @@
-/* sys/lwp.h - under the name that the pages give it */
-#include "../kupaldiz/cpu.h"

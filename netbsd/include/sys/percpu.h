@@ -1,2 +1,0 @@
-/* sys/percpu.h - under the name that the pages give it */
-#include "../kupaldiz/memory.h"

@@ -1,2 +1,0 @@
-/* sys/pserialize.h - under the name that the pages give it */
-#include "../kupaldiz/pserialize.h"

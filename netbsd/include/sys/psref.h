@@ -1,2 +1,0 @@
-/* sys/psref.h - under the name that the pages give it */
-#include "../kupaldiz/psref.h"

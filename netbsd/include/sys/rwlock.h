@@ -1,2 +1,0 @@
-/* sys/rwlock.h - under the name that the pages give it */
-#include "../kupaldiz/locks.h"
