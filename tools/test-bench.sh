@@ -116,6 +116,7 @@ for way in plain sanitized; do
     check "counts, $way" "$out/$way/counts"
     [ "$way" = plain ] || check "the seven drivers in every order, $way" "$out/$way/drivers"
     counted "what it finds, $way" "$out/$way/finds"
+    counted "callouts, $way" "$out/$way/callouts"
     counted "failures, works, callouts and hooks, $way" "$out/$way/failures"
     check "four files in the idiom of the kernel's own, $way" "$out/$way/kernel_files"
     counted "data races, $way" "$out/$way/races"

@@ -14,7 +14,7 @@
 #include <sys/systm.h>
 #include <xmmintrin.h>
 
-#include "../bench.h"
+#include "found.h"
 #include "../../c/examples/expect.h"
 #include "../../netbsd/tests/bodies.h"
 
@@ -508,14 +508,6 @@ static void end_question(void)
 		softint_disestablish(softint);
 	for (unsigned at = 0; at < 2 && peers[at] != NULL; at++)
 		softint_disestablish(peers[at]);
-}
-
-static bool has_outcome(const struct bench_found *found, const char *text)
-{
-	for (unsigned at = 0; at < found->outcomes; at++)
-		if (strcmp(found->outcome[at].text, text) == 0)
-			return true;
-	return false;
 }
 
 static void test_question(const struct question *question, bool whole)

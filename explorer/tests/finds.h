@@ -7,7 +7,7 @@
 #include <string.h>
 
 #include "../../netbsd/tests/bodies.h"
-#include "../bench.h"
+#include "found.h"
 
 /* A row leaves out what its case doesn't have. */
 #pragma GCC diagnostic ignored "-Wmissing-field-initializers"
@@ -16,6 +16,7 @@ struct find {
 	const char *name, *line;	/* NULL where nothing is wrong */
 	void (*first)(void *), (*second)(void *), (*third)(void *);
 	void (*make)(void), (*finish)(void);
+	const char *outcome;		/* of some run */
 };
 
 /* What each case begins with. Whoever includes this file defines it. */
@@ -29,7 +30,8 @@ static inline void begin_find(void)
 	if (found_now->make != NULL)
 		found_now->make();
 	bench_thread("first", found_now->first, NULL);
-	bench_thread("second", found_now->second, NULL);
+	if (found_now->second != NULL)
+		bench_thread("second", found_now->second, NULL);
 	if (found_now->third != NULL)
 		bench_thread("third", found_now->third, NULL);
 }
@@ -50,7 +52,7 @@ static inline bool is_found(const struct find *find)
 	found_now = find;
 	bool wrong = bench_explore(begin_find, &options) != 0;
 	if (find->line == NULL)
-		return !wrong && found.complete;
+		return !wrong && found.complete && (find->outcome == NULL || has_outcome(&found, find->outcome));
 	options.found = &again;
 	options.replay = found.schedule;
 	return wrong && is_line(found.line, find->line) && bench_explore(begin_find, &options) == 1 && strcmp(found.line, again.line) == 0;

@@ -23,7 +23,7 @@
 #include <sys/systm.h>
 #include <time.h>
 
-#include "../bench.h"
+#include "found.h"
 #include "../../c/examples/expect.h"
 #include "../../netbsd/tests/bodies.h"
 
@@ -246,6 +246,7 @@ UNSEEN static void act(unsigned thread, char letter, unsigned value)
 	case 'O': (void)callout_halt(&callout, NULL); break;
 	case 'c': kupaldiz_bind(0); break;
 	case 'k': (void)kpause("outcomes", false, 1, NULL); break;
+	case 'v': see(thread, (unsigned)getticks()); break;
 	case 'T': wait_for_a_tick(thread); break;
 	case 'S': cv_signal(&cv); break;
 	case 'j': schedule_own(thread); break;
@@ -281,6 +282,7 @@ UNSEEN static void run_text(void *arg)
 #define WITH_CV		"wsTSqQ"
 #define WITH_SECTIONS	"<>PgDqQ"
 #define PLAINLY		"xyXYz#p"
+#define NOT_BESIDE	PLAINLY "v"	/* a processor may change the order of plain accesses, and real time is another one */
 
 /* A soft interrupt waits on CPU 0 from the beginning, and its thread is made before the others. */
 static void schedule_early(void) { kupaldiz_bind(0); softint_schedule(softint); kupaldiz_unbind(); }
@@ -379,14 +381,6 @@ static struct bench_found explore(bool whole)
 	return found;
 }
 
-static bool has_outcome(const struct bench_found *found, const char *text)
-{
-	for (unsigned at = 0; at < found->outcomes; at++)
-		if (strcmp(found->outcome[at].text, text) == 0)
-			return true;
-	return false;
-}
-
 static void show(const struct bench_found *found, const char *which)
 {
 	printf("%s: %llu schedules, %u outcomes, %s%s\n", which, (unsigned long long)found->schedules, found->outcomes, found->line,
@@ -420,10 +414,10 @@ static void print_outcomes(void)
 		printf("%s|%s|%s: LEFT OUT\n", texts[0], texts[1], texts[2]);
 }
 
-/* Compares the two ways of the search for the program that is written. A processor may change the order of plain accesses. */
+/* Compares the two ways of the search for the program that is written. */
 static void compare(void)
 {
-	if (prints && !does(PLAINLY))
+	if (prints && !does(NOT_BESIDE))
 		print_outcomes();
 	if (prints)
 		return;
@@ -483,7 +477,7 @@ static void make_text(char *text, unsigned parts)
 {
 	static const char *const pieces[] = {"a", "b", "A", "B", "+", "(a)", "[A]", "([B])", "t", "<a>", "<ab>", "P", "(A)", "r", "W", "AB", "ba", "s", "w", "g", "i",
 	    "k", "o", "oO", "<iab>", "<iA>", "<ib>", "T", "TS", "S", "j", "je", "jAe", "jf", "lAL", "lAjL", "q",
-	    "q", "(S)", "kA", "x", "X", "xy", "Y", "z", "(x)", "(X)", "[Y]", "#", "({#})", "{x}", "<y>", "lXL", "lpyL", "p", "n", "B(t)"};
+	    "q", "(S)", "kA", "x", "X", "xy", "Y", "z", "(x)", "(X)", "[Y]", "#", "({#})", "{x}", "<y>", "lXL", "lpyL", "p", "n", "B(t)", "v", "vS"};
 	for (unsigned at = 0; at < parts; at++)
 		add(text, pieces[pick(sizeof(pieces) / sizeof(pieces[0]))]);
 }
@@ -557,6 +551,7 @@ static void try_written(void)
 	try("T", "s", "");
 	try("T", "S", "s");
 	try("T", "T", "S");
+	try("T", "vS", "");
 	try("je", "a", "");
 	try("jf", "a", "");
 	try("jAe", "ab", "");

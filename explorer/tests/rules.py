@@ -37,6 +37,7 @@ RULES = [
     Rule("schedule", "a soft interrupt waits for its queue", ".kind = ON_PENDING, .cpu = cpu", ".kind = ON_NOTHING, .cpu = cpu"),
     Rule("schedule", "a tick may change places, as long as the clock may jump", "if (run.ticks == options.ticks)\n		make_barrier();", "make_barrier();"),
     Rule("locks", "a wake-up may come to a waiter whose time is over", "WRITES | (is_late(me) || ends_early(me) ? 0 : ACQUIRES)", "WRITES | ACQUIRES"),
+    Rule("locks", "a waiter whose time is over conflicts with wake-ups", "		touch(ON_CV, of, 0, WRITES);\n}\n\n/* Waits to be woken", "		;\n}\n\n/* Waits to be woken"),
     Rule("locks", "a section of a CPU conflicts with a wait", "	touch(ON_SECTION, NULL, ANY, 0);\n	acquire_sections();\n	for", "	acquire_sections();\n	for"),
     Rule("softints", "an interrupt conflicts with what has the CPU", "	touch(ON_LOCK, &me->cpu->hold, 0, WRITES);\n	acquire_clock", "	acquire_clock"),
     Rule("more_calls", "an end of a soft interrupt conflicts with its queues", "	touch(ON_PENDING, NULL, ANY, WRITES);\n", ""),
@@ -44,12 +45,11 @@ RULES = [
 
 # Those that the comparison doesn't tell, and why.
 SILENT = {
-    "a waiter whose time is over conflicts with wake-ups": "none is known: one that a wake-up meets late returns as one that was woken in time",
     "an acquire and a release of one step enable nobody alone": "such a step touches its CPU's queue or references, too, and there it conflicts by itself",
     "what enables a thread that was enabled races": "only a wake-up meets a thread that is enabled, one whose time is over: the clock's tick has the race then",
     "an initial leads to the later step": "the papers plan without it: it only has others planned, which lead to the same orders",
     "a race with a disabled thread covers nothing": "none is known: what is covered so is planned from the steps between",
-    "the clock that must go on isn't the one that sleeps": "none is known: it needs three waits whose times meet",
+    "the clock that must go on isn't the one that sleeps": "of what is planned at a step the clock is tried last, and so it sleeps nearly nowhere",
     "a soft interrupt comes before or after each step of a thread with the CPU": "the step that gives the CPU back conflicts with the interrupt, too",
     "a tick conflicts with deadlines": "who sets a deadline reads the time, which the tick writes",
 }

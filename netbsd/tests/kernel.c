@@ -229,27 +229,6 @@ static void test_callouts(void)
 	callout_destroy(&callout);
 }
 
-/* Halts its own callout without a wait, ends it, and frees it. */
-static void end_itself(void *of)
-{
-	EXPECT(callout_halt(of, NULL));
-	callout_destroy(of);
-	spoil(of, sizeof(callout_t));
-	free(of);
-	atomic_fetch_add(&fired, 1);
-}
-
-static void test_callout_ends_itself(void)
-{
-	callout_t *own = calloc(1, sizeof(*own));
-	unsigned before = atomic_load(&fired);
-	EXPECT(own != NULL);
-	callout_init(own, CALLOUT_MPSAFE);
-	callout_reset(own, 1, end_itself, own);
-	while (atomic_load(&fired) == before)
-		sleep_for(100);
-}
-
 static void exit_at_once(void *arg)
 {
 	EXPECT(curlwp->l_name != NULL && strcmp(curlwp->l_name, "worker7") == 0 && cpu_number() == 4);
@@ -368,7 +347,6 @@ int main(void)
 	test_back_from_calls();
 	test_depth();
 	test_callouts();
-	test_callout_ends_itself();
 	test_threads();
 	test_joins();
 	test_lists();

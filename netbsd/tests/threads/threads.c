@@ -6,6 +6,7 @@
  * given a lock back, while its call goes on.
  */
 #include <limits.h>
+#include <sys/callout.h>
 #include <sys/cpu.h>
 #include <sys/intr.h>
 #include <sys/kthread.h>
@@ -80,7 +81,8 @@ int __wrap_pthread_condattr_destroy(pthread_condattr_t *how)
 
 int __wrap_pthread_cond_init(pthread_cond_t *cond, const pthread_condattr_t *how)
 {
-	EXPECT(how != NULL && how == attributes);
+	clockid_t clock = CLOCK_REALTIME;
+	EXPECT(how != NULL && how == attributes && pthread_condattr_getclock(how, &clock) == 0 && clock == CLOCK_MONOTONIC);
 	return __real_pthread_cond_init(cond, how);
 }
 
@@ -546,6 +548,14 @@ static void test_cpus(void)
 	}
 }
 
+/* The first callout makes the condition variable of the callouts' clock. */
+static void test_clock(void)
+{
+	callout_t callout;
+	callout_init(&callout, CALLOUT_MPSAFE);
+	callout_destroy(&callout);
+}
+
 int main(void)
 {
 	EXPECT(curlwp != NULL);
@@ -559,6 +569,7 @@ int main(void)
 	test_gone(IPL_VM);
 	test_passed();
 	test_cpus();
+	test_clock();
 	test_call_after_end();
 	puts("each thread had memory and a CPU of its own");
 	return 0;

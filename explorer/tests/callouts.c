@@ -1,0 +1,299 @@
+/*
+ * callouts - callout(9) by the explorer's clock: when each callout runs and where, and what a halt waits for and ends, in every order of its threads
+ *
+ * The last line counts the cases.
+ */
+#include <errno.h>
+#include <limits.h>
+#include <sys/atomic.h>
+#include <sys/callout.h>
+#include <sys/intr.h>
+#include <sys/kernel.h>
+#include <sys/kmem.h>
+#include <sys/lwp.h>
+#include <sys/mutex.h>
+#include <sys/proc.h>
+#include <sys/pserialize.h>
+#include <sys/systm.h>
+
+#include "finds.h"
+
+/* What a program's own books say is no access of it. */
+#define UNSEEN	__attribute__((noinline, no_sanitize("thread")))
+
+enum { TIMERS = 4 };
+
+/* A callout, and of its runs: how many, when and where the last one was, and how many of other callouts came before it. */
+static struct timer {
+	callout_t callout;
+	unsigned runs, cpu, after;
+	int ran_at;
+} timers[TIMERS];
+static unsigned all_runs;
+
+UNSEEN static void note_run(void *of)
+{
+	struct timer *timer = of;
+	timer->cpu = cpu_number();
+	timer->ran_at = getticks();
+	timer->after = all_runs++;
+	timer->runs++;
+}
+
+UNSEEN static unsigned runs_of(const struct timer *timer)
+{
+	return timer->runs;
+}
+
+static void set_on(unsigned cpu, struct timer *timer, int ticks)
+{
+	kupaldiz_bind(cpu);
+	callout_reset(&timer->callout, ticks, note_run, timer);
+	kupaldiz_unbind();
+}
+
+static void begin_timers(void)
+{
+	for (unsigned at = 0; at < TIMERS; at++)
+		callout_init(&timers[at].callout, CALLOUT_MPSAFE);
+}
+
+static void end_timers(void)
+{
+	for (unsigned at = 0; at < TIMERS; at++) {
+		(void)callout_halt(&timers[at].callout, NULL);
+		callout_destroy(&timers[at].callout);
+	}
+}
+
+static bool late;	/* one of them, by the clock's leave to go on although a thread can */
+
+/* Waits for its next run, which comes so many ticks after it was set, between two times. */
+UNSEEN static void await_run(const struct timer *timer, unsigned runs, int from, int until, int ticks)
+{
+	(void)kpause("callouts", false, ticks, NULL);
+	while (timer->runs < runs)
+		delay(10000);
+	KASSERT(timer->runs == runs && timer->ran_at - from >= ticks);
+	late |= timer->ran_at - until > ticks;
+}
+
+/* ---- Times. ---- */
+
+/* Below one tick is one tick. */
+static void set_each(void *arg)
+{
+	static const struct {
+		int ticks, lasts;
+	} each[] = {{INT_MIN, 1}, {-1, 1}, {0, 1}, {1, 1}, {2, 2}, {99, 99}, {100, 100}, {101, 101}, {250, 250}};
+	(void)arg;
+	for (unsigned at = 0; at < __arraycount(each); at++) {
+		int from = getticks();
+		set_on(at % KUPALDIZ_CPUS, &timers[0], each[at].ticks);
+		await_run(&timers[0], at + 1, from, getticks(), each[at].lasts);
+		KASSERT(timers[0].cpu == at % KUPALDIZ_CPUS);
+	}
+}
+
+/* The most ticks are many. What is set again, or stopped, doesn't run at its first time, unless that has come before; the others do. */
+static void set_again(void *arg)
+{
+	int from = getticks();
+	(void)arg;
+	set_on(3, &timers[0], 200);
+	set_on(4, &timers[1], 100);
+	set_on(1, &timers[2], INT_MAX);
+	bool expired = callout_stop(&timers[1].callout);
+	set_on(6, &timers[0], 250);
+	late = getticks() > from;
+	if (late)
+		return;
+	await_run(&timers[0], 1, from, from, 250);
+	KASSERT(!expired && !callout_active(&timers[1].callout));
+	KASSERT(timers[0].cpu == 6 && runs_of(&timers[1]) == 0 && runs_of(&timers[2]) == 0 && callout_pending(&timers[2].callout));
+	KASSERT(callout_expired(&timers[0].callout) && callout_invoking(&timers[0].callout) && !callout_pending(&timers[0].callout));
+	KASSERT(callout_stop(&timers[0].callout) && !callout_expired(&timers[0].callout));
+	callout_schedule(&timers[0].callout, 1);
+	KASSERT(callout_active(&timers[0].callout));
+}
+
+/* Those of one CPU whose times have come run in the order of their times, however they were set. A CPU that is kept keeps no other one's off. */
+UNSEEN static void keep_cpu(void *arg)
+{
+	static const int ticks[] = {3, 1, 2};
+	(void)arg;
+	int from = getticks();
+	set_on(5, &timers[3], 2);
+	int until = getticks();
+	kupaldiz_bind(2);
+	int s = splhigh();
+	for (unsigned at = 0; at < 3; at++)
+		callout_reset(&timers[at].callout, ticks[at], note_run, &timers[at]);
+	bool at_once = getticks() == until;
+	delay(60000);
+	while (runs_of(&timers[3]) == 0)
+		delay(10000);
+	KASSERT(timers[3].ran_at - from >= 2);
+	late |= timers[3].ran_at - until > 2;
+	for (unsigned at = 0; at < 3; at++)
+		KASSERT(timers[at].runs == 0);
+	splx(s);
+	while (all_runs < 4)
+		delay(10000);
+	for (unsigned at = 0; at < 3; at++)
+		KASSERT(timers[at].runs == 1 && timers[at].cpu == 2 && (!at_once || timers[at].after == (unsigned)ticks[at]));
+	kupaldiz_unbind();
+}
+
+/* ---- Halts. ---- */
+
+/* The first call of all may be made anywhere, and a halt that doesn't have to wait is right anywhere, and keeps its lock. */
+static void use_inside(void *arg)
+{
+	callout_t callout;
+	kmutex_t spin;
+	(void)arg;
+	mutex_init(&spin, MUTEX_DEFAULT, IPL_VM);
+	int s = pserialize_read_enter();
+	mutex_enter(&spin);
+	callout_init(&callout, CALLOUT_MPSAFE);
+	callout_reset(&callout, 100, note_run, &timers[0]);
+	KASSERT(!callout_halt(&callout, &spin) && mutex_owned(&spin) && !callout_active(&callout));
+	mutex_exit(&spin);
+	KASSERT(!callout_halt(&callout, NULL));
+	callout_destroy(&callout);
+	pserialize_read_exit(s);
+	mutex_destroy(&spin);
+}
+
+/* A body that sets itself again: after a halt it neither runs nor is set. */
+UNSEEN static void run_again(void *of)
+{
+	struct timer *timer = of;
+	if (++timer->runs < 3)
+		callout_schedule(&timer->callout, 1);
+}
+
+static void set_running(void *arg)
+{
+	(void)arg;
+	kupaldiz_bind(1);
+	callout_reset(&timers[0].callout, 1, run_again, &timers[0]);
+	kupaldiz_unbind();
+	(void)kpause("callouts", false, 2, NULL);
+	callout_halt(&timers[0].callout, NULL);
+	unsigned runs = runs_of(&timers[0]);
+	KASSERT(!callout_active(&timers[0].callout));
+	(void)kpause("callouts", false, 4, NULL);
+	KASSERT(runs_of(&timers[0]) == runs);
+}
+
+/* Halts its own callout without a wait, ends it, and frees it. */
+static void end_itself(void *of)
+{
+	KASSERT(callout_halt(of, NULL));
+	callout_destroy(of);
+	kmem_intr_free(of, sizeof(callout_t));
+}
+
+static void set_to_end(void *arg)
+{
+	callout_t *own = kmem_intr_alloc(sizeof(*own), KM_NOSLEEP);
+	(void)arg;
+	callout_init(own, CALLOUT_MPSAFE);
+	callout_reset(own, 1, end_itself, own);
+	(void)kpause("callouts", false, 2, NULL);
+}
+
+static volatile bool was_set;
+static kmutex_t lock;
+
+UNSEEN static bool is_set(void)
+{
+	return was_set;
+}
+
+UNSEEN static void note_set(void)
+{
+	was_set = true;
+}
+
+/* It needs the lock of the halt. */
+HANDLER(lock_once, mutex_enter(&lock); mutex_exit(&lock))
+
+/* What others set while a halt waits doesn't run either. Nothing comes between the end of the halt and the look. */
+static void halt_locked(void *arg)
+{
+	(void)arg;
+	kupaldiz_bind(1);
+	callout_reset(&timers[0].callout, 1, lock_once, NULL);
+	kupaldiz_unbind();
+	mutex_enter(&lock);
+	(void)kpause("callouts", false, 1, NULL);
+	(void)callout_halt(&timers[0].callout, &lock);
+	bool set_before = is_set();
+	KASSERT(mutex_owned(&lock) && (!set_before || !callout_active(&timers[0].callout)));
+	mutex_exit(&lock);
+}
+
+static void set_meanwhile(void *arg)
+{
+	(void)arg;
+	(void)kpause("callouts", false, 1, NULL);
+	callout_reset(&timers[0].callout, 100, note_run, &timers[0]);
+	note_set();
+}
+
+/* ---- A body that two CPUs run. ---- */
+
+static void (*end_it)(callout_t *);
+
+static void halt_it(callout_t *callout) { (void)callout_halt(callout, NULL); }
+
+/* On CPU 1 it ends its callout once CPU 4 runs it, too. */
+UNSEEN static void end_beside(void *of)
+{
+	struct timer *timer = of;
+	timer->runs++;
+	while (cpu_number() != 1 || timer->runs < 2)
+		delay(10000);
+	end_it(&timer->callout);
+}
+
+static void run_beside(void *arg)
+{
+	(void)arg;
+	for (unsigned cpu = 1; cpu <= 4; cpu += 3) {
+		kupaldiz_bind(cpu);
+		callout_reset(&timers[0].callout, 1, end_beside, &timers[0]);
+		kupaldiz_unbind();
+		(void)kpause("callouts", false, 2, NULL);
+	}
+	(void)kpause("callouts", false, 100, NULL);
+}
+
+/* ---- All of them. ---- */
+
+static void make_things(void) { mutex_init(&lock, MUTEX_DEFAULT, IPL_SOFTCLOCK); }
+static void end_lock(void) { mutex_destroy(&lock); }
+static void end_all(void) { end_timers(); end_lock(); bench_outcome(late ? "late" : "exact"); }
+static void begin_destroyed(void) { begin_timers(); end_it = callout_destroy; }
+static void begin_halted(void) { begin_timers(); end_it = halt_it; }
+
+static const struct find finds[] = {
+	{"each time", NULL, set_each, .make = begin_timers, .finish = end_all, .outcome = "exact"},
+	{"set again", NULL, set_again, .make = begin_timers, .finish = end_all, .outcome = "exact"},
+	{"a CPU that is kept", NULL, keep_cpu, .make = begin_timers, .finish = end_all, .outcome = "exact"},
+	{"inside a section", NULL, use_inside, .finish = end_lock},
+	{"a body that sets itself", NULL, set_running, .make = begin_timers, .finish = end_all},
+	{"a body that ends its callout", NULL, set_to_end, .finish = end_lock},
+	{"set while a halt waits", NULL, halt_locked, set_meanwhile, .make = begin_timers, .finish = end_all},
+	{"destroyed while another CPU runs it", "callout_destroy: the callout runs", run_beside, .make = begin_destroyed},
+	{"halted while another CPU runs it", "callout_halt: in a soft interrupt", run_beside, .make = begin_halted},
+};
+
+int main(int count, char **words)
+{
+	(void)words;
+	return run_finds(finds, sizeof(finds) / sizeof(finds[0]), count > 1);
+}
