@@ -440,9 +440,7 @@ static void fill_options(const struct bench_options *given)
 
 static void make_search(void)
 {
-	search = mmap(NULL, sizeof(*search), PROT_READ | PROT_WRITE, MAP_SHARED | MAP_ANONYMOUS | MAP_NORESERVE, -1, 0);
-	if (search == MAP_FAILED)
-		refuse("out of memory");
+	search = map_pages(sizeof(*search), MAP_SHARED);
 	search->found.bound = -1;
 	search->seed = options.seed * 0x9e3779b97f4a7c15;
 	prepare_stacks();

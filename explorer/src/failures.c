@@ -41,9 +41,7 @@ static struct {
 
 void prepare_failures(void)
 {
-	plans = mmap(NULL, sizeof(*plans), PROT_READ | PROT_WRITE, MAP_SHARED | MAP_ANONYMOUS | MAP_NORESERVE, -1, 0);
-	if (plans == MAP_FAILED)
-		refuse("out of memory");
+	plans = map_pages(sizeof(*plans), MAP_SHARED);
 	plans->count = 1;
 }
 

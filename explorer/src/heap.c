@@ -23,11 +23,9 @@ struct scratch *scratch;
 
 void prepare_heap(void)
 {
-	parts = mmap(NULL, (size_t)THREADS * PART, PROT_READ | PROT_WRITE, MAP_PRIVATE | MAP_ANONYMOUS | MAP_NORESERVE, -1, 0);
-	owners = mmap(NULL, (size_t)THREADS * PART / SMALLEST * sizeof(*owners), PROT_READ | PROT_WRITE, MAP_PRIVATE | MAP_ANONYMOUS | MAP_NORESERVE, -1, 0);
-	scratch = mmap(NULL, sizeof(*scratch), PROT_READ | PROT_WRITE, MAP_PRIVATE | MAP_ANONYMOUS, -1, 0);
-	if (parts == MAP_FAILED || owners == MAP_FAILED || scratch == MAP_FAILED)
-		refuse("out of memory");
+	parts = map_pages((size_t)THREADS * PART, MAP_PRIVATE);
+	owners = map_pages((size_t)THREADS * PART / SMALLEST * sizeof(*owners), MAP_PRIVATE);
+	scratch = map_pages(sizeof(*scratch), MAP_PRIVATE);
 }
 
 void release_heap(void)

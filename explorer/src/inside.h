@@ -120,21 +120,27 @@ struct run {
 
 extern struct run run;
 
-/* A lock that was initialised and not destroyed; NULL where there is none. */
+/* What a row begins with that is looked up: its key, and the next row in its list, counted from 1; 0 for none. */
+struct keyed {
+	uintptr_t key;
+	uint32_t next;
+};
+
+/* By a lock, a callout or a work: the call that has made it. */
 struct made {
-	const void *lock;
-	const char *call;
+	struct keyed by;
+	const char *call;	/* NULL once it was ended */
 };
 
-/* The last wake-up that nobody waited for. */
+/* By a condition variable: the last wake-up that nobody waited for. */
 struct missed {
-	const void *cv;
-	const char *call, *place;
+	struct keyed by;
+	const char *call, *place;	/* NULL where somebody did */
 };
 
-/* How often a reference to a target was released. */
+/* By a target: how often a reference to it was released. */
 struct released {
-	const void *target;
+	struct keyed by;
 	uint64_t count;
 };
 
@@ -211,9 +217,9 @@ struct block {
 	const char *call, *place, *freed_call, *freed_place;
 };
 
-/* What was left at a thing. */
+/* By a thing: what was left at it. */
 struct sync {
-	uintptr_t of;		/* 0 where the row is free */
+	struct keyed by;
 	clocks clock;
 };
 
@@ -224,16 +230,15 @@ struct use {
 	bool writes, atomic;
 };
 
-/* Its use of some of eight bytes. */
+/* By the address of eight bytes: its use of some of them. */
 struct plain {
-	uintptr_t grain;	/* their address */
-	uint32_t next;		/* the row of the next one in its list, counted from 1; 0 for none */
+	struct keyed by;
 	uint32_t at;		/* the clock of the thread then */
 	uint8_t thread, bytes;	/* a bit for each byte */
 	struct use use;
 };
 
-enum { LISTS = 4096 };
+enum { LISTS = 1024 };
 
 struct scratch {
 	struct {
@@ -241,7 +246,7 @@ struct scratch {
 		size_t room;	/* in rows */
 	} tables[TABLES];
 	unsigned list[POINTS + 1], races[POINTS + 1];
-	uint32_t lists[LISTS];	/* of uses, by their bytes: the row of the first, counted from 1 */
+	uint32_t lists[TABLES][LISTS];	/* by their keys: the row of the first, counted from 1 */
 };
 
 extern struct scratch *scratch;
@@ -363,8 +368,13 @@ const char *place_of(const char *place, const void *pc);
 
 /* ---- tables.c ---- */
 
+void *map_pages(size_t size, int how);
 void *rows_of(enum table table);
 void *new_row(enum table table);
+void *row_with(enum table table, uintptr_t key);
+void *row_after(enum table table, const void *row);
+void *add_row(enum table table, uintptr_t key);
+void *row_for(enum table table, uintptr_t key);
 
 /* ---- heap.c ---- */
 

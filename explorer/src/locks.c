@@ -229,12 +229,7 @@ bool has_ended_section(const struct routine *me)
 /* How many references to a target were released. */
 uint64_t *releases_of(const void *target)
 {
-	struct released *rows = rows_of(RELEASED);
-	for (size_t at = 0; at < run.rows[RELEASED]; at++)
-		if (rows[at].target == target)
-			return &rows[at].count;
-	struct released *row = new_row(RELEASED);
-	row->target = target;
+	struct released *row = row_for(RELEASED, (uintptr_t)target);
 	return &row->count;
 }
 

@@ -4,33 +4,17 @@
 
 #include "inside.h"
 
-/* The row of a lock; NULL where it has none. */
-static struct made *row_of(const void *lock)
-{
-	struct made *rows = rows_of(MADE);
-	for (size_t at = 0; at < run.rows[MADE]; at++)
-		if (rows[at].lock == lock)
-			return &rows[at];
-	return NULL;
-}
-
 void track_made(const char *call, const void *lock)
 {
-	if (run.current == NULL)
-		return;
-	struct made *row = row_of(lock);
-	if (row == NULL)
-		row = row_of(NULL);
-	if (row == NULL)
-		row = new_row(MADE);
-	*row = (struct made){lock, call};
+	if (run.current != NULL)
+		((struct made *)row_for(MADE, (uintptr_t)lock))->call = call;
 }
 
 void track_ended(const void *lock)
 {
-	struct made *row = row_of(lock);
+	struct made *row = row_with(MADE, (uintptr_t)lock);
 	if (row != NULL)
-		row->lock = NULL;
+		row->call = NULL;
 }
 
 /* Stops where a lock lies in memory that is given back. */
@@ -38,8 +22,7 @@ void check_none_made(const char *call, const void *from, size_t size)
 {
 	const struct made *rows = rows_of(MADE);
 	for (size_t at = 0; at < run.rows[MADE]; at++) {
-		const char *lock = rows[at].lock;
-		if (lock != NULL && lock >= (const char *)from && lock < (const char *)from + size)
+		if (rows[at].call != NULL && rows[at].by.key - (uintptr_t)from < size)
 			fail("%s%s%s: what %s has made lies in it and was never destroyed", call, run.current->place == NULL ? "" : " at ",
 			    run.current->place == NULL ? "" : run.current->place, rows[at].call);
 	}
@@ -52,7 +35,7 @@ void check_none_left(void)
 	const char *call = NULL;
 	const struct made *rows = rows_of(MADE);
 	for (size_t at = 0; at < run.rows[MADE]; at++) {
-		if (rows[at].lock == NULL)
+		if (rows[at].call == NULL)
 			continue;
 		left++;
 		call = rows[at].call;
@@ -67,26 +50,16 @@ WRAPPED(void, rw_init, (krwlock_t *rw), (rw), track_made(__func__, rw))
 
 /* ---- Wake-ups. ---- */
 
-static struct missed *wakes_of(const void *cv)
-{
-	struct missed *rows = rows_of(MISSED);
-	for (size_t at = 0; at < run.rows[MISSED]; at++)
-		if (rows[at].cv == cv)
-			return &rows[at];
-	return NULL;
-}
-
 void track_wake(const char *call, const char *place, const void *cv, bool waited)
 {
-	struct missed *row = wakes_of(cv);
-	if (row == NULL)
-		row = new_row(MISSED);
-	*row = (struct missed){cv, waited ? NULL : call, place};
+	struct missed *row = row_for(MISSED, (uintptr_t)cv);
+	row->call = waited ? NULL : call;
+	row->place = place;
 }
 
 /* The last wake-up, where nobody waited for it; else NULL. */
 const struct missed *missed_by(const void *cv)
 {
-	const struct missed *row = wakes_of(cv);
+	const struct missed *row = row_with(MISSED, (uintptr_t)cv);
 	return row != NULL && row->call != NULL ? row : NULL;
 }

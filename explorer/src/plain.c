@@ -11,11 +11,6 @@
 
 enum { GRAIN = 8 };
 
-static uint32_t *list_of(uintptr_t grain)
-{
-	return &scratch->lists[(grain / GRAIN * 0x9e3779b97f4a7c15u >> 32) % LISTS];
-}
-
 static bool is_before(const struct plain *old, const struct routine *me)
 {
 	return me->clock[old->thread] >= old->at;
@@ -44,23 +39,17 @@ static bool is_again(const struct plain *old, const struct plain *now)
 /* A use of some of eight bytes: it takes the row of one that it stands for from now on. */
 static void record(const struct routine *me, struct plain now)
 {
-	struct plain *rows = rows_of(PLAIN), *row = NULL;
-	uint32_t *list = list_of(now.grain);
-	for (uint32_t at = *list; at != 0; at = rows[at - 1].next) {
-		struct plain *old = &rows[at - 1];
-		if (old->grain != now.grain)
-			continue;
+	struct plain *row = NULL;
+	for (struct plain *old = row_with(PLAIN, now.by.key); old != NULL; old = row_after(PLAIN, old)) {
 		if (is_again(old, &now))
 			return;
 		check_ordered(old, &now, me);
 		if (is_before(old, me) && covers(&now, old))
 			row = old;
 	}
-	now.next = row != NULL ? row->next : *list;
-	if (row == NULL) {
-		row = new_row(PLAIN);
-		*list = (uint32_t)run.rows[PLAIN];
-	}
+	if (row == NULL)
+		row = add_row(PLAIN, now.by.key);
+	now.by = row->by;
 	*row = now;
 }
 
@@ -78,10 +67,8 @@ void use_memory(const volatile void *address, size_t size, const struct use *use
 	uintptr_t from = (uintptr_t)address, to = from + size;
 	if (options.racy)
 		return;
-	if (run.rows[PLAIN] == 0)
-		memset(scratch->lists, 0, sizeof(scratch->lists));
 	for (uintptr_t grain = from & ~(uintptr_t)(GRAIN - 1); grain < to; grain += GRAIN)
-		record(me, (struct plain){.grain = grain, .at = me->clock[me->number], .thread = (uint8_t)me->number, .bytes = bytes_of(grain, from, to),
+		record(me, (struct plain){.by = {.key = grain}, .at = me->clock[me->number], .thread = (uint8_t)me->number, .bytes = bytes_of(grain, from, to),
 		    .use = *use});
 }
 

@@ -50,10 +50,7 @@ static void check_no_shadow_stack(void)
 void prepare_stacks(void)
 {
 	check_no_shadow_stack();
-	size_t size = (size_t)THREADS * 2 * STACK;
-	stacks = mmap(NULL, size, PROT_READ | PROT_WRITE, MAP_PRIVATE | MAP_ANONYMOUS | MAP_NORESERVE, -1, 0);
-	if (stacks == MAP_FAILED)
-		refuse("out of memory");
+	stacks = map_pages((size_t)THREADS * 2 * STACK, MAP_PRIVATE);
 	for (unsigned number = 0; number < THREADS; number++) {
 		mprotect(stack_of(number) - STACK, STACK, PROT_NONE);
 		known[number] = VALGRIND_STACK_REGISTER(stack_of(number), stack_of(number) + STACK);

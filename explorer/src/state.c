@@ -36,14 +36,6 @@ UNSEEN static void copy(char *to, const char *from, size_t size)
 			to_words[at] = words[at];
 }
 
-static void *pages(size_t size)
-{
-	void *at = mmap(NULL, size, PROT_READ | PROT_WRITE, MAP_PRIVATE | MAP_ANONYMOUS, -1, 0);
-	if (at == MAP_FAILED)
-		refuse("out of memory");
-	return at;
-}
-
 static void add_part(uintptr_t from, uintptr_t to)
 {
 	from = (from + 7) & ~(uintptr_t)7;
@@ -52,7 +44,7 @@ static void add_part(uintptr_t from, uintptr_t to)
 		return;
 	if (count == MOST_PARTS)
 		refuse("the program has too many parts");
-	parts[count++] = (struct part){.at = (char *)from, .kept = pages(to - from), .size = to - from};
+	parts[count++] = (struct part){.at = (char *)from, .kept = map_pages(to - from, MAP_PRIVATE), .size = to - from};
 }
 
 static uintptr_t page_of(uintptr_t address)
@@ -120,7 +112,7 @@ void save_state(void)
 {
 	bool first = true;
 	count = 0;
-	parts = pages(MOST_PARTS * sizeof(*parts));
+	parts = map_pages(MOST_PARTS * sizeof(*parts), MAP_PRIVATE);
 	dl_iterate_phdr(look_at, &first);
 	for (unsigned at = 0; at < count; at++)
 		copy(parts[at].kept, parts[at].at, parts[at].size);

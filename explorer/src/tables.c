@@ -1,4 +1,4 @@
-/* tables.c - tables that grow, in memory that no run begins anew */
+/* tables.c - memory that no run begins anew, and the tables in it: they grow, and some are looked up by a key */
 #include <string.h>
 #include <sys/mman.h>
 
@@ -15,6 +15,15 @@ static const size_t sizes[TABLES] = {
     [RELEASED] = sizeof(struct released),
 };
 
+/* Pages of zeros: MAP_PRIVATE, or MAP_SHARED with the processes that are made later. */
+void *map_pages(size_t size, int how)
+{
+	void *at = mmap(NULL, size, PROT_READ | PROT_WRITE, how | MAP_ANONYMOUS | MAP_NORESERVE, -1, 0);
+	if (at == MAP_FAILED)
+		refuse("out of memory");
+	return at;
+}
+
 /* The rows of a table: this run has filled run.rows[table] of them. A new row may move them. */
 void *rows_of(enum table table)
 {
@@ -24,9 +33,7 @@ void *rows_of(enum table table)
 static void extend(enum table table)
 {
 	size_t before = scratch->tables[table].room, room = before == 0 ? FIRST_ROOM : before * 2;
-	void *rows = mmap(NULL, room * sizes[table], PROT_READ | PROT_WRITE, MAP_PRIVATE | MAP_ANONYMOUS, -1, 0);
-	if (rows == MAP_FAILED)
-		refuse("out of memory");
+	void *rows = map_pages(room * sizes[table], MAP_PRIVATE);
 	if (before > 0) {
 		memcpy(rows, scratch->tables[table].rows, before * sizes[table]);
 		munmap(scratch->tables[table].rows, before * sizes[table]);
@@ -42,4 +49,55 @@ void *new_row(enum table table)
 		extend(table);
 	char *row = (char *)scratch->tables[table].rows + run.rows[table]++ * sizes[table];
 	return memset(row, 0, sizes[table]);
+}
+
+/* ---- Rows by a key: each begins with a struct keyed. ---- */
+
+/* The list of a key and of others: its first row. */
+static uint32_t *list_of(enum table table, uintptr_t key)
+{
+	if (run.rows[table] == 0)
+		memset(scratch->lists[table], 0, sizeof(scratch->lists[table]));
+	return &scratch->lists[table][(key * 0x9e3779b97f4a7c15u >> 32) % LISTS];
+}
+
+/* The first row with a key from one on, counted from 1; NULL where there is none. */
+static void *find_from(enum table table, uint32_t row, uintptr_t key)
+{
+	for (; row != 0;) {
+		struct keyed *found = (struct keyed *)(void *)((char *)rows_of(table) + (row - 1) * sizes[table]);
+		if (found->key == key)
+			return found;
+		row = found->next;
+	}
+	return NULL;
+}
+
+void *row_with(enum table table, uintptr_t key)
+{
+	return find_from(table, *list_of(table, key), key);
+}
+
+/* The next row with the same key. */
+void *row_after(enum table table, const void *row)
+{
+	const struct keyed *of = row;
+	return find_from(table, of->next, of->key);
+}
+
+/* One row more with a key. */
+void *add_row(enum table table, uintptr_t key)
+{
+	uint32_t *list = list_of(table, key);
+	struct keyed *row = new_row(table);
+	*row = (struct keyed){key, *list};
+	*list = (uint32_t)run.rows[table];
+	return row;
+}
+
+/* The row with a key, which is made where there is none. */
+void *row_for(enum table table, uintptr_t key)
+{
+	void *row = row_with(table, key);
+	return row != NULL ? row : add_row(table, key);
 }

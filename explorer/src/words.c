@@ -5,13 +5,8 @@
  * with its own. Two accesses are ordered where the later thread's clock has the earlier one's.
  */
 #include <string.h>
-#include <sys/mman.h>
 
 #include "inside.h"
-
-enum { FIRST_SYNCS = 64 };
-
-static size_t sync_room, sync_count;
 
 static void join(uint32_t *clock, const uint32_t *other)
 {
@@ -20,45 +15,11 @@ static void join(uint32_t *clock, const uint32_t *other)
 			clock[number] = other[number];
 }
 
-/* The row where a thing is, or where it belongs. */
-static struct sync *find_sync(uintptr_t of)
+/* What was left at a thing. */
+static uint32_t *left_at(enum kind kind, const volatile void *address, unsigned cpu)
 {
-	struct sync *rows = rows_of(SYNCS);
-	size_t at = (of * 0x9e3779b97f4a7c15u >> 32) % sync_room;
-	while (rows[at].of != 0 && rows[at].of != of)
-		at = (at + 1) % sync_room;
-	return &rows[at];
-}
-
-/* Twice as many rows as before, and those that are filled at their new places. */
-static void grow_syncs(void)
-{
-	size_t before = sync_room;
-	sync_room = before == 0 ? FIRST_SYNCS : before * 2;
-	struct sync *kept = before == 0 ? NULL : mmap(NULL, before * sizeof(*kept), PROT_READ | PROT_WRITE, MAP_PRIVATE | MAP_ANONYMOUS, -1, 0);
-	if (kept == MAP_FAILED)
-		refuse("out of memory");
-	if (before > 0)
-		memcpy(kept, rows_of(SYNCS), before * sizeof(*kept));
-	for (run.rows[SYNCS] = 0; run.rows[SYNCS] < sync_room;)
-		new_row(SYNCS);
-	for (size_t at = 0; at < before; at++)
-		if (kept[at].of != 0)
-			*find_sync(kept[at].of) = kept[at];
-	if (before > 0)
-		munmap(kept, before * sizeof(*kept));
-}
-
-/* What was left at a thing. At most half of the rows are filled. */
-static struct sync *sync_at(enum kind kind, const volatile void *address, unsigned cpu)
-{
-	uintptr_t of = ((uintptr_t)address * 31 + (uintptr_t)kind) * (UINT8_MAX + 1) + cpu % (UINT8_MAX + 1) + 1;
-	if (2 * sync_count >= sync_room)
-		grow_syncs();
-	struct sync *row = find_sync(of);
-	sync_count += row->of == 0;
-	row->of = of;
-	return row;
+	uintptr_t of = ((uintptr_t)address * 31 + (uintptr_t)kind) * (UINT8_MAX + 1) + cpu % (UINT8_MAX + 1);
+	return ((struct sync *)row_for(SYNCS, of))->clock;
 }
 
 void release_clock(enum kind kind, const volatile void *address, unsigned cpu)
@@ -66,14 +27,14 @@ void release_clock(enum kind kind, const volatile void *address, unsigned cpu)
 	struct routine *me = run.current;
 	if (me == NULL)
 		return;
-	join(sync_at(kind, address, cpu)->clock, me->clock);
+	join(left_at(kind, address, cpu), me->clock);
 	me->clock[me->number]++;
 }
 
 void acquire_clock(enum kind kind, const volatile void *address, unsigned cpu)
 {
 	if (run.current != NULL)
-		join(run.current->clock, sync_at(kind, address, cpu)->clock);
+		join(run.current->clock, left_at(kind, address, cpu));
 }
 
 /* The running thread comes after all that the others have done. */
@@ -130,17 +91,17 @@ static void pass_barrier(struct routine *me, unsigned how)
 /* A store that doesn't load ends what the stores before it have left. */
 static void order_access(struct routine *me, const volatile void *address, unsigned how)
 {
-	struct sync *at = sync_at(ON_MEMORY, address, 0);
+	uint32_t *left = left_at(ON_MEMORY, address, 0);
 	if ((how & KUPALDIZ_LOADS) != 0)
-		join((how & KUPALDIZ_ACQUIRES) != 0 ? me->clock : me->pending, at->clock);
+		join((how & KUPALDIZ_ACQUIRES) != 0 ? me->clock : me->pending, left);
 	if ((how & KUPALDIZ_STORES) == 0)
 		return;
 	if ((how & KUPALDIZ_LOADS) == 0)
-		memset(at->clock, 0, sizeof(at->clock));
+		memset(left, 0, sizeof(clocks));
 	if ((how & KUPALDIZ_RELEASES) != 0)
 		release_clock(ON_MEMORY, address, 0);
 	else
-		join(at->clock, me->released);
+		join(left, me->released);
 }
 
 /* An atomic access, or a barrier where there is no address. */
