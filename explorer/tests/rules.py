@@ -30,6 +30,7 @@ RULES = [
          "can & (step->backtrack | step->explored | step->sleeping | UINT32_C(1) << step->chosen)", "step->backtrack | step->explored"),
     Rule("commute", "a guard may have been false before its thread waited", "step->guarded ? WAS_ELSEWHERE : WAS_ENABLED", "WAS_ENABLED"),
     Rule("commute", "a thread that was disabled is looked for further back", "? WAS_ENABLED : WAS_DISABLED", "? WAS_ENABLED : WAS_ENABLED"),
+    Rule("commute", "a race with a disabled thread covers nothing", "		if (then == WAS_ENABLED)\n", "		if (then != WAS_ELSEWHERE)\n"),
     Rule("schedule", "a conflict wakes what sleeps", "if (do_conflict(set, &before->set))", "if (false && do_conflict(set, &before->set))"),
     Rule("schedule", "threads that are disabled at the end race", "	find_races_of_all_disabled(run.finish + 1);", "	;"),
     Rule("schedule", "threads that are disabled at a cut race", "			find_races_of_all_disabled(run.step);", "			;"),
@@ -48,8 +49,8 @@ SILENT = {
     "an acquire and a release of one step enable nobody alone": "such a step touches its CPU's queue or references, too, and there it conflicts by itself",
     "what enables a thread that was enabled races": "only a wake-up meets a thread that is enabled, one whose time is over: the clock's tick has the race then",
     "an initial leads to the later step": "the papers plan without it: it only has others planned, which lead to the same orders",
-    "a race with a disabled thread covers nothing": "none is known: what is covered so is planned from the steps between",
-    "the clock that must go on isn't the one that sleeps": "of what is planned at a step the clock is tried last, and so it sleeps nearly nowhere",
+    "the clock that must go on isn't the one that sleeps":
+        "a step tries the clock last, so the clock sleeps only below a thread that is planned there later, and few programs have such a one",
     "a soft interrupt comes before or after each step of a thread with the CPU": "the step that gives the CPU back conflicts with the interrupt, too",
     "a tick conflicts with deadlines": "who sets a deadline reads the time, which the tick writes",
 }

@@ -1,5 +1,5 @@
 /*
- * kernel - the calls beside the three pages, except locks: memory, counters of each CPU, cross-calls, callouts, threads, lists, copies
+ * kernel - the calls beside the three pages, except locks: memory, counters of each CPU, cross-calls, callouts, threads, copies
  */
 #include <sys/param.h>
 #include <sys/systm.h>
@@ -14,7 +14,6 @@
 #include <sys/pool.h>
 #include <sys/proc.h>
 #include <sys/pserialize.h>
-#include <sys/pslist.h>
 #include <sys/xcall.h>
 
 #include "test.h"
@@ -268,41 +267,7 @@ static void test_threads(void)
 	EXPECT(getticks() - before >= 1 && hz == 100);
 }
 
-/* ---- Lists, copies. ---- */
-
-struct item {
-	struct pslist_entry link;
-	unsigned value;
-};
-
-static void test_lists(void)
-{
-	struct pslist_head head = PSLIST_INITIALIZER;
-	struct item items[4], *at;
-	unsigned order = 0;
-	for (unsigned i = 0; i < 4; i++) {
-		items[i].value = i + 1;
-		PSLIST_ENTRY_INIT(&items[i], link);
-	}
-	EXPECT(PSLIST_READER_EMPTY(&head) && PSLIST_WRITER_EMPTY(&head) && PSLIST_READER_FIRST(&head, struct item, link) == NULL);
-	PSLIST_WRITER_INSERT_HEAD(&head, &items[1], link);
-	PSLIST_WRITER_INSERT_BEFORE(&items[1], &items[0], link);
-	PSLIST_WRITER_INSERT_AFTER(&items[1], &items[3], link);
-	PSLIST_WRITER_INSERT_AFTER(&items[1], &items[2], link);
-	PSLIST_READER_FOREACH(at, &head, struct item, link)
-		order = order * 10 + at->value;
-	EXPECT(order == 1234 && PSLIST_READER_NEXT(&items[3], struct item, link) == NULL);
-	/* Whoever has reached an entry goes on from it when it was removed. */
-	PSLIST_WRITER_REMOVE(&items[1], link);
-	EXPECT(PSLIST_READER_NEXT(&items[1], struct item, link) == &items[2]);
-	PSLIST_WRITER_FOREACH(at, &head, struct item, link)
-		order = order * 10 + at->value;
-	EXPECT(order == 1234134 && PSLIST_WRITER_NEXT(&items[0], struct item, link) == &items[2]);
-	PSLIST_ENTRY_DESTROY(&items[1], link);
-	while ((at = PSLIST_WRITER_FIRST(&head, struct item, link)) != NULL)
-		PSLIST_WRITER_REMOVE(at, link);
-	PSLIST_DESTROY(&head);
-}
+/* ---- Copies. ---- */
 
 static void test_copies(void)
 {
@@ -328,15 +293,6 @@ static void test_empty_copies(void)
 	EXPECT(copyin(NULL, first, 0) == 0 && copyout(&here, NULL, 0) == 0 && copyin(&here, NULL, 0) == 0 && copyout(NULL, first, 0) == 0);
 }
 
-static void test_strings(void)
-{
-	char text[5] = "";
-	EXPECT(strlcpy(text, "bridge", sizeof(text)) == 6 && strcmp(text, "brid") == 0 && strlcpy(text, "wm", sizeof(text)) == 2);
-	EXPECT(strlcat(text, "0123", sizeof(text)) == 6 && strcmp(text, "wm01") == 0 && strlcpy(text, "wm", 0) == 2);
-	EXPECT(imin(-1, 2) == -1 && imax(-1, 2) == 2 && min(1, 2) == 1 && ulmax(1, 2) == 2 && lmin(-3, 3) == -3);
-	EXPECT(__arraycount(text) == 5 && __BITS(4, 2) == 0x1c && __SHIFTOUT(0x1cul, __BITS(4, 2)) == 7 && howmany(9, 4) == 3);
-}
-
 int main(void)
 {
 	mutex_init(&lock, MUTEX_DEFAULT, IPL_SOFTCLOCK);
@@ -349,10 +305,8 @@ int main(void)
 	test_callouts();
 	test_threads();
 	test_joins();
-	test_lists();
 	test_copies();
 	test_empty_copies();
-	test_strings();
 	cv_destroy(&cv);
 	mutex_destroy(&lock);
 	puts("the calls beside the three pages did as they say");

@@ -222,13 +222,40 @@ static void test_tailq(void)
 	EXPECT(TAILQ_EMPTY(&head));
 }
 
+/* ---- pslist(9). ---- */
+
+struct item {
+	struct pslist_entry link;
+	unsigned value;
+};
+
 static void test_pslist(void)
 {
-	struct {
-		struct pslist_entry link;
-		unsigned value;
-	} only = {PSLIST_ENTRY_INITIALIZER, 7};
-	struct pslist_head head;
+	struct pslist_head head = PSLIST_INITIALIZER;
+	struct item items[4], only = {PSLIST_ENTRY_INITIALIZER, 7}, *at;
+	unsigned order = 0;
+	for (unsigned i = 0; i < 4; i++) {
+		items[i].value = i + 1;
+		PSLIST_ENTRY_INIT(&items[i], link);
+	}
+	EXPECT(PSLIST_READER_EMPTY(&head) && PSLIST_WRITER_EMPTY(&head) && PSLIST_READER_FIRST(&head, struct item, link) == NULL);
+	PSLIST_WRITER_INSERT_HEAD(&head, &items[1], link);
+	PSLIST_WRITER_INSERT_BEFORE(&items[1], &items[0], link);
+	PSLIST_WRITER_INSERT_AFTER(&items[1], &items[3], link);
+	PSLIST_WRITER_INSERT_AFTER(&items[1], &items[2], link);
+	PSLIST_READER_FOREACH(at, &head, struct item, link)
+		order = order * 10 + at->value;
+	EXPECT(order == 1234 && PSLIST_READER_NEXT(&items[3], struct item, link) == NULL);
+	/* Whoever has reached an entry goes on from it when it was removed. */
+	PSLIST_WRITER_REMOVE(&items[1], link);
+	EXPECT(PSLIST_READER_NEXT(&items[1], struct item, link) == &items[2]);
+	PSLIST_WRITER_FOREACH(at, &head, struct item, link)
+		order = order * 10 + at->value;
+	EXPECT(order == 1234134 && PSLIST_WRITER_NEXT(&items[0], struct item, link) == &items[2]);
+	PSLIST_ENTRY_DESTROY(&items[1], link);
+	while ((at = PSLIST_WRITER_FIRST(&head, struct item, link)) != NULL)
+		PSLIST_WRITER_REMOVE(at, link);
+	PSLIST_DESTROY(&head);
 	PSLIST_INIT(&head);
 	PSLIST_WRITER_INSERT_HEAD(&head, &only, link);
 	EXPECT(!PSLIST_READER_EMPTY(&head));
@@ -445,6 +472,11 @@ static void test_words(void)
 
 static void test_numbers(void)
 {
+	char text[5] = "";
+	EXPECT(strlcpy(text, "bridge", sizeof(text)) == 6 && strcmp(text, "brid") == 0 && strlcpy(text, "wm", sizeof(text)) == 2);
+	EXPECT(strlcat(text, "0123", sizeof(text)) == 6 && strcmp(text, "wm01") == 0 && strlcpy(text, "wm", 0) == 2);
+	EXPECT(imin(-1, 2) == -1 && imax(-1, 2) == 2 && min(1, 2) == 1 && ulmax(1, 2) == 2 && lmin(-3, 3) == -3);
+	EXPECT(__arraycount(text) == 5 && __BITS(4, 2) == 0x1c && __SHIFTOUT(0x1cul, __BITS(4, 2)) == 7 && howmany(9, 4) == 3);
 	EXPECT(MIN(2, 3) == 2 && MAX(2, 3) == 3 && uimin(2, 3) == 2 && uimax(2, 3) == 3 && ulmin(2, 3) == 2 && lmax(-2, 3) == 3);
 	EXPECT(roundup(9, 4) == 12 && rounddown(9, 4) == 8 && roundup2(9, 8) == 16 && rounddown2(15, 8) == 8 && powerof2(64) && !powerof2(65));
 	EXPECT(mstohz(21) == 3 && hztoms(3) == 30 && nullop(NULL) == 0);
