@@ -166,26 +166,36 @@ static void use_inside(void *arg)
 	mutex_destroy(&spin);
 }
 
-/* A body that sets itself again: after a halt it neither runs nor is set. */
-UNSEEN static void run_again(void *of)
+static bool stays;
+
+UNSEEN static bool has_stayed(void) { return stays; }
+
+/* Sets itself, and stays until its time has come. */
+UNSEEN static void set_and_stay(void *of)
 {
 	struct timer *timer = of;
-	if (++timer->runs < 3)
-		callout_schedule(&timer->callout, 1);
+	if (timer->runs++ > 0)
+		return;
+	callout_schedule(&timer->callout, 1);
+	stays = true;
+	delay(1000000);
 }
 
-static void set_running(void *arg)
+/* What a body sets while a halt waits doesn't run. After the halt it neither runs nor is set. */
+static void halt_staying(void *arg)
 {
 	(void)arg;
 	kupaldiz_bind(1);
-	callout_reset(&timers[0].callout, 1, run_again, &timers[0]);
+	callout_reset(&timers[0].callout, 1, set_and_stay, &timers[0]);
 	kupaldiz_unbind();
-	(void)kpause("callouts", false, 2, NULL);
+	while (!has_stayed())
+		(void)kpause("callouts", false, 1, NULL);
 	callout_halt(&timers[0].callout, NULL);
 	unsigned runs = runs_of(&timers[0]);
 	KASSERT(!callout_active(&timers[0].callout));
-	(void)kpause("callouts", false, 4, NULL);
+	(void)kpause("callouts", false, 200, NULL);
 	KASSERT(runs_of(&timers[0]) == runs);
+	bench_outcome("%u, ", runs);
 }
 
 /* Halts its own callout without a wait, ends it, and frees it. */
@@ -285,7 +295,7 @@ static const struct find finds[] = {
 	{"set again", NULL, set_again, .make = begin_timers, .finish = end_all, .outcome = "exact"},
 	{"a CPU that is kept", NULL, keep_cpu, .make = begin_timers, .finish = end_all, .outcome = "exact"},
 	{"inside a section", NULL, use_inside, .finish = end_lock},
-	{"a body that sets itself", NULL, set_running, .make = begin_timers, .finish = end_all},
+	{"a body that sets itself", NULL, halt_staying, .make = begin_timers, .finish = end_all, .outcome = "1, exact"},
 	{"a body that ends its callout", NULL, set_to_end, .finish = end_lock},
 	{"set while a halt waits", NULL, halt_locked, set_meanwhile, .make = begin_timers, .finish = end_all},
 	{"destroyed while another CPU runs it", "callout_destroy: the callout runs", run_beside, .make = begin_destroyed},

@@ -6,6 +6,10 @@
 #ifndef BENCH_CASES_H
 #define BENCH_CASES_H
 
+#include <stdio.h>
+#include <string.h>
+
+#include "../../c/examples/expect.h"
 #include "../../netbsd/tests/bodies.h"
 #include "../bench.h"
 
@@ -14,7 +18,26 @@ struct driver_case {
 	void (*setup)(void);
 	void (*finish)(void);
 	unsigned left;	/* blocks that the driver keeps for ever */
+	bool reliable;	/* no call fails */
 };
+
+/* Explores each case, or the one that a program's words name, or its schedule. Each is exhausted, and none is wrong. */
+static inline int try_cases(const struct driver_case *cases, unsigned all, int count, char **words)
+{
+	unsigned tried = 0;
+	for (const struct driver_case *it = cases; it < &cases[all]; it++) {
+		struct bench_found found;
+		const struct bench_options options = {.name = it->name, .finish = it->finish, .left = it->left, .reliable = it->reliable, .found = &found,
+		    .schedules = 200000, .replay = count > 2 ? words[2] : NULL};
+		if (count > 1 && strcmp(words[1], it->name) != 0)
+			continue;
+		tried++;
+		EXPECT(bench_explore(it->setup, &options) == 0 && (found.exhausted || options.replay != NULL));
+	}
+	EXPECT(tried > 0);
+	printf("%u cases were tried\n", tried);
+	return 0;
+}
 
 extern const struct driver_case driver_cases[];
 extern const unsigned driver_case_count;

@@ -3,15 +3,11 @@
  *
  *     kernel_files [CASE [SCHEDULE]]
  */
-#include <string.h>
-
 #include "../../netbsd/examples/kernel/if.c"
 #include "../../netbsd/examples/kernel/if_bridge.c"
 #include "../../netbsd/examples/kernel/key.c"
 #include "../../netbsd/examples/kernel/subr_devsw.c"
-#include "../../c/examples/expect.h"
-#include "../../netbsd/tests/bodies.h"
-#include "../bench.h"
+#include "cases.h"
 
 /* ---- if.c: a packet goes by an interface, whose link changes, while it is detached. ---- */
 
@@ -154,33 +150,15 @@ static void end_bridge(void)
 }
 
 /* Where the workqueue can't be made as the kernel starts, if.c panics. */
-static const struct {
-	const char *name;
-	void (*setup)(void), (*finish)(void);
-	bool reliable;
-} file_cases[] = {
-	{"if", begin_if, ifnet_fini, true},
-	{"key", begin_key, end_key, false},
-	{"subr_devsw", begin_devsw, end_devsw, false},
-	{"forward", begin_forward, end_bridge, false},
-	{"age", begin_age, end_bridge, false},
+static const struct driver_case file_cases[] = {
+	{"if", begin_if, ifnet_fini, 0, true},
+	{"key", begin_key, end_key, 0, false},
+	{"subr_devsw", begin_devsw, end_devsw, 0, false},
+	{"forward", begin_forward, end_bridge, 0, false},
+	{"age", begin_age, end_bridge, 0, false},
 };
 
 int main(int count, char **words)
 {
-	unsigned tried = 0;
-	for (unsigned at = 0; at < sizeof(file_cases) / sizeof(file_cases[0]); at++) {
-		struct bench_found found;
-		struct bench_options options = {.name = file_cases[at].name, .finish = file_cases[at].finish, .found = &found,
-		    .reliable = file_cases[at].reliable};
-		if (count > 1 && strcmp(words[1], file_cases[at].name) != 0)
-			continue;
-		options.replay = count > 2 ? words[2] : NULL;
-		tried++;
-		EXPECT(bench_explore(file_cases[at].setup, &options) == 0);
-		EXPECT(found.exhausted || options.replay != NULL);
-	}
-	EXPECT(tried > 0);
-	printf("%u cases were tried\n", tried);
-	return 0;
+	return try_cases(file_cases, sizeof(file_cases) / sizeof(file_cases[0]), count, words);
 }
