@@ -252,6 +252,25 @@ static void begin_works(void)
 
 static void end_works(void) { KASSERT(count == 2); workqueue_destroy(queue); end_lock(); }
 
+/* A work may be enqueued again by its own function, which may wait for it without a deadlock. A wait lasts until the last of these has returned. */
+static void do_again(struct work *work, void *arg)
+{
+	(void)arg;
+	workqueue_wait(queue, work);
+	if (++count < 3)
+		workqueue_enqueue(queue, work, NULL);
+}
+
+HANDLER(wait_again, workqueue_enqueue(queue, arg, NULL); workqueue_wait(queue, arg); bench_outcome("%u", count))
+
+static void begin_again(void)
+{
+	KASSERT(workqueue_create(&queue, "again", do_again, NULL, PRI_NONE, IPL_SOFTNET, 0) == 0);
+	bench_thread("wait", wait_again, &works[0]);
+}
+
+static void end_again(void) { workqueue_destroy(queue); }
+
 /* A queue for each CPU: its threads run works at the same time. */
 static void enqueue_on(void *arg)
 {
@@ -378,6 +397,7 @@ static const struct outcome_case {
 	{"timed", begin_timed, end_lock, false, {"EINTR after 1", "late after 1", "late after 2", "ready after 0", "ready after 1", "ready after 2"}},
 	{"pause", begin_pause, end_lock, false, {"EINTR not ready", "EINTR ready", "over not ready", "over ready"}},
 	{"works", begin_works, end_works, true, {"00", "01", "02", "11", "12", "22"}},
+	{"again", begin_again, end_again, true, {"3"}},
 	{"each", begin_each, end_works, true, {"01", "10"}},
 	{"hook", begin_hook, NULL, true, {"-1", "1"}},
 };

@@ -17,10 +17,8 @@
 MODULE_HOOK(sum_hook, int, (int, int));
 struct sum_hook_t sum_hook;
 
-MODULE_HOOK(tell_hook, void, (atomic_uint *));
+MODULE_HOOK(tell_hook, void, (void *));
 struct tell_hook_t tell_hook;
-
-static atomic_bool called, go_on;
 
 static int sum(int one, int two)
 {
@@ -34,6 +32,24 @@ static int call_sum(int one, int two)
 	return result;
 }
 
+HANDLER(tell, atomic_fetch_add((atomic_uint *)arg, 1))
+
+static unsigned call_tell(atomic_uint *calls)
+{
+	unsigned missed = 0;
+	MODULE_HOOK_CALL_VOID(tell_hook, (calls), missed++);
+	return missed;
+}
+
+static void test_void(void)
+{
+	atomic_uint calls = 0;
+	EXPECT(call_tell(&calls) == 1 && atomic_load(&calls) == 0);
+	MODULE_HOOK_SET(tell_hook, tell);
+	EXPECT(call_tell(&calls) == 0 && atomic_load(&calls) == 1);
+	MODULE_HOOK_UNSET(tell_hook);
+}
+
 static void test_calls(void)
 {
 	for (unsigned turn = 0; turn < 3; turn++) {
@@ -42,44 +58,6 @@ static void test_calls(void)
 		EXPECT(call_sum(2, 3) == 5);
 		MODULE_HOOK_UNSET(sum_hook);
 	}
-}
-
-/* ---- A hook isn't unset while its function runs. ---- */
-
-static void tell(atomic_uint *calls)
-{
-	atomic_store(&called, true);
-	while (!atomic_load(&go_on))
-		(void)kpause("tell", false, 1, NULL);
-	atomic_fetch_add(calls, 1);
-}
-
-static void *call_tell(void *calls)
-{
-	unsigned missed = 0;
-	MODULE_HOOK_CALL_VOID(tell_hook, (calls), missed++);
-	EXPECT(missed == 0);
-	return NULL;
-}
-
-THREAD(let_go_on, sleep_for(30000); atomic_store(&go_on, true))
-
-static void test_unset_waits(void)
-{
-	pthread_t caller, other;
-	atomic_uint calls = 0;
-	unsigned missed = 0;
-	MODULE_HOOK_SET(tell_hook, tell);
-	start_thread(&caller, call_tell, &calls);
-	while (!atomic_load(&called))
-		sleep_for(100);
-	start_thread(&other, let_go_on, NULL);
-	MODULE_HOOK_UNSET(tell_hook);
-	EXPECT(atomic_load(&calls) == 1);
-	MODULE_HOOK_CALL_VOID(tell_hook, (&calls), missed++);
-	EXPECT(missed == 1 && atomic_load(&calls) == 1);
-	end_thread(caller);
-	end_thread(other);
 }
 
 /* ---- Other names. ---- */
@@ -140,7 +118,7 @@ int main(void)
 {
 	int status = run_cases(begin);
 	test_calls();
-	test_unset_waits();
+	test_void();
 	test_names();
 	test_looked_at();
 	return status;

@@ -15,10 +15,10 @@
 
 #include "stops.h"
 
-enum { JOBS = 200, AGAIN = 3 };
+enum { JOBS = 200 };
 
 struct job {
-	unsigned number, turns;
+	unsigned number;
 	struct work work;
 	bool freed;	/* by its function */
 };
@@ -63,44 +63,12 @@ static void test_order(void)
 	workqueue_destroy(queue);
 }
 
-/* A work may be enqueued again by its own function, which may wait for it without a deadlock. */
-static void do_again(struct work *work, void *arg)
-{
-	struct job *job = job_of(work);
-	(void)arg;
-	workqueue_wait(queue, work);
-	if (++job->turns < AGAIN)
-		workqueue_enqueue(queue, work, NULL);
-}
-
-static void test_again(void)
-{
-	struct job job = {.turns = 0};
-	EXPECT(workqueue_create(&queue, "again", do_again, NULL, PRI_NONE, IPL_SOFTNET, 0) == 0);
-	workqueue_enqueue(queue, &job.work, NULL);
-	workqueue_wait(queue, &job.work);
-	EXPECT(job.turns == AGAIN);
-	workqueue_destroy(queue);
-}
-
-/* A wait for a work that is being done lasts until its function returns. */
+/* Lasts. */
 static void do_slowly(struct work *work, void *arg)
 {
 	(void)work;
 	(void)kpause("slow", false, 2, NULL);
 	*(bool *)arg = true;
-}
-
-static void test_wait(void)
-{
-	struct work work;
-	bool over = false;
-	EXPECT(workqueue_create(&queue, "slow", do_slowly, &over, PRI_BIO, IPL_VM, WQ_MPSAFE) == 0);
-	workqueue_enqueue(queue, &work, NULL);
-	(void)kpause("begun", false, 1, NULL);
-	workqueue_wait(queue, &work);
-	EXPECT(over);
-	workqueue_destroy(queue);
 }
 
 /* ---- A queue for each CPU. ---- */
@@ -226,8 +194,6 @@ int main(void)
 {
 	int status = run_cases(begin);
 	test_order();
-	test_again();
-	test_wait();
 	test_cpus();
 	test_softint();
 	return status;
