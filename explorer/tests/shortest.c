@@ -36,12 +36,6 @@ static void add_slowly(void *arg)
 	KASSERT(atomic_load_relaxed(&other) < 2 || atomic_load_relaxed(&word) == 2);
 }
 
-static void lose(void)
-{
-	bench_thread("one", add_slowly, NULL);
-	bench_thread("two", add_slowly, NULL);
-}
-
 /* The search comes first to an order in which each thread is left in the middle. */
 static void step_up(void *arg)
 {
@@ -56,12 +50,6 @@ static void look_twice(void *arg)
 	(void)arg;
 	bench_point();
 	KASSERT(first == 3 || atomic_load_relaxed(&word) == first || first == 0);
-}
-
-static void between(void)
-{
-	bench_thread("one", look_twice, NULL);
-	bench_thread("two", step_up, NULL);
 }
 
 static void one_two(void *arg)
@@ -84,14 +72,6 @@ static void two_one(void *arg)
 	mutex_exit(&two);
 }
 
-static void two_orders(void)
-{
-	mutex_init(&one, MUTEX_DEFAULT, IPL_NONE);
-	mutex_init(&two, MUTEX_DEFAULT, IPL_NONE);
-	bench_thread("one", one_two, NULL);
-	bench_thread("two", two_one, NULL);
-}
-
 /* The wake-up is lost where it comes between the look and the wait. */
 static void wait_carelessly(void *arg)
 {
@@ -104,14 +84,6 @@ static void wait_carelessly(void *arg)
 }
 
 HANDLER(wake, atomic_store_relaxed(&word, 1); mutex_enter(&one); cv_broadcast(&cv); mutex_exit(&one))
-
-static void lost_wake(void)
-{
-	mutex_init(&one, MUTEX_DEFAULT, IPL_NONE);
-	cv_init(&cv, "cv");
-	bench_thread("one", wait_carelessly, NULL);
-	bench_thread("two", wake, NULL);
-}
 
 /* With no preemption three threads must come in their order; with one, two are enough. */
 static void change_and_back(void *arg)
@@ -126,25 +98,32 @@ static void change_and_back(void *arg)
 HANDLER(look, KASSERT(atomic_load_relaxed(&word) == 0 && atomic_load_relaxed(&other) != 2))
 HANDLER(come_first, atomic_store_relaxed(&other, 1))
 
-static void two_ways(void)
-{
-	bench_thread("change", change_and_back, NULL);
-	bench_thread("look", look, NULL);
-	bench_thread("first", come_first, NULL);
-}
-
 static const struct piece {
 	const char *name;
-	void (*setup)(void);
-	char last;	/* thread */
+	void (*bodies[3])(void *);
 	unsigned switches;
 } pieces[] = {
-	{"a change that is lost", lose, 'c', 2},
-	{"a look between two steps", between, 'c', 3},
-	{"two locks in two orders", two_orders, 'c', 1},
-	{"a wake-up that is lost", lost_wake, 'c', 2},
-	{"a fault by two ways", two_ways, 'd', 1},
+	{"a change that is lost", {add_slowly, add_slowly}, 2},
+	{"a look between two steps", {look_twice, step_up}, 3},
+	{"two locks in two orders", {one_two, two_one}, 1},
+	{"a wake-up that is lost", {wait_carelessly, wake}, 2},
+	{"a fault by two ways", {change_and_back, look, come_first}, 1},
 };
+
+static const struct piece *tried_piece;
+
+static void begin(void)
+{
+	static const char *const names[] = {"one", "two", "three"};
+	mutex_init(&one, MUTEX_DEFAULT, IPL_NONE);
+	mutex_init(&two, MUTEX_DEFAULT, IPL_NONE);
+	cv_init(&cv, "cv");
+	for (unsigned at = 0; at < 3 && tried_piece->bodies[at] != NULL; at++)
+		bench_thread(names[at], tried_piece->bodies[at], NULL);
+}
+
+/* The letter of its last thread. */
+static char last_of(const struct piece *piece) { return piece->bodies[2] == NULL ? 'c' : 'd'; }
 
 /* ---- All shorter schedules. ---- */
 
@@ -158,7 +137,7 @@ static unsigned switches_of(const char *schedule)
 }
 
 /* Replays one in a process of its own: FAULT and its switches where it goes wrong, else less. */
-static unsigned replay(void (*setup)(void), const char *text)
+static unsigned replay(const char *text)
 {
 	int status;
 	fflush(NULL);
@@ -168,7 +147,7 @@ static unsigned replay(void (*setup)(void), const char *text)
 		struct bench_found found;
 		const struct bench_options options = {.quiet = true, .replay = text, .found = &found};
 		EXPECT(freopen("/dev/null", "w", stderr) != NULL);
-		bool wrong = bench_explore(setup, &options) != 0;
+		bool wrong = bench_explore(begin, &options) != 0;
 		_exit(wrong ? FAULT + (int)switches_of(found.schedule) : 0);
 	}
 	EXPECT(waitpid(child, &status, 0) == child && WIFEXITED(status));
@@ -185,7 +164,7 @@ static void try_turns(const struct piece *piece, const char *begun, char letter,
 	char text[64];
 	for (unsigned turns = 1; turns <= LONGEST; turns++) {
 		snprintf(text, sizeof(text), "%s%c%u", begun, letter, turns);
-		unsigned found = replay(piece->setup, text);
+		unsigned found = replay(text);
 		tried++;
 		EXPECT(found < FAULT || found - FAULT >= piece->switches);
 		if (found != 2 && more > 0)
@@ -195,7 +174,7 @@ static void try_turns(const struct piece *piece, const char *begun, char letter,
 
 static void try_others(const struct piece *piece, const char *begun, char before, unsigned more)
 {
-	for (char letter = 'b'; letter <= piece->last; letter++)
+	for (char letter = 'b'; letter <= last_of(piece); letter++)
 		if (letter != before)
 			try_turns(piece, begun, letter, more);
 }
@@ -204,7 +183,8 @@ static void test(const struct piece *piece)
 {
 	struct bench_found found;
 	const struct bench_options options = {.quiet = true, .found = &found};
-	EXPECT(bench_explore(piece->setup, &options) == 1 && found.changes == switches_of(found.schedule));
+	tried_piece = piece;
+	EXPECT(bench_explore(begin, &options) == 1 && found.changes == switches_of(found.schedule));
 	EXPECT(found.changes == piece->switches);
 	tried = 0;
 	try_others(piece, "", 'a', found.changes - 1);
