@@ -1,8 +1,8 @@
 /*
  * calls.c - the layer's calls for locks, sections and references, each with its point
  *
- * A call announces where it is and what must hold before it can go on, says what it touches, and then is the layer's own. Calls that only look at what
- * is the thread's have no point.
+ * A call announces where it is and what must hold before it can go on, says what it touches, and then is the layer's
+ * own. Calls that only look at what is the thread's have no point.
  */
 #include <stdio.h>
 #include <string.h>
@@ -261,8 +261,8 @@ static void at_reference(const char *call, const void *target, size_t size, unsi
 	touch(ON_TARGET, target, 0, 0);
 }
 
-WRAPPED(void, psref_acquire, (struct psref *psref, const struct psref_target *target, struct psref_class *psref_class), (psref, target, psref_class),
-    at_reference(__func__, target, sizeof(*target), WRITES))
+WRAPPED(void, psref_acquire, (struct psref *psref, const struct psref_target *target, struct psref_class *psref_class),
+    (psref, target, psref_class), at_reference(__func__, target, sizeof(*target), WRITES))
 
 void psref_release(struct psref *psref, const struct psref_target *target, struct psref_class *psref_class)
 {
@@ -272,8 +272,8 @@ void psref_release(struct psref *psref, const struct psref_target *target, struc
 	++*releases_of(target);
 }
 
-WRAPPED(void, psref_copy, (struct psref *to, const struct psref *from, struct psref_class *psref_class), (to, from, psref_class),
-    at_reference(__func__, from->psref_target, sizeof(*from->psref_target), WRITES))
+WRAPPED(void, psref_copy, (struct psref *to, const struct psref *from, struct psref_class *psref_class),
+    (to, from, psref_class), at_reference(__func__, from->psref_target, sizeof(*from->psref_target), WRITES))
 WRAPPED(bool, psref_held, (const struct psref_target *target, struct psref_class *psref_class), (target, psref_class),
     at_reference(__func__, target, sizeof(*target), 0))
 

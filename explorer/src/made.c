@@ -44,7 +44,8 @@ void check_none_left(void)
 		fail("%u locks, condition variables or callouts are left at the end, one of them made by %s", left, call);
 }
 
-WRAPPED(void, mutex_init, (kmutex_t *mutex, kmutex_type_t type, int level), (mutex, type, level), track_made(__func__, mutex))
+WRAPPED(void, mutex_init, (kmutex_t *mutex, kmutex_type_t type, int level), (mutex, type, level),
+    track_made(__func__, mutex))
 WRAPPED(void, cv_init, (kcondvar_t *cv, const char *name), (cv, name), track_made(__func__, cv))
 WRAPPED(void, rw_init, (krwlock_t *rw), (rw), track_made(__func__, rw))
 

@@ -1,4 +1,4 @@
-/* more_calls.c - the layer's calls for memory, CPUs, soft interrupts, callouts, threads, works and time, each with its point */
+/* more_calls.c - the layer's other calls: memory, CPUs, soft interrupts, callouts, threads, works, time */
 #include "inside.h"
 #include "stand_ins.h"
 
@@ -24,7 +24,8 @@ WRAPPED(void *, kmem_alloc, (size_t size, km_flag_t flags), (size, flags), at_ca
 WRAPPED(void *, kmem_zalloc, (size_t size, km_flag_t flags), (size, flags), at_call(__func__))
 WRAPPED(void *, kmem_intr_alloc, (size_t size, km_flag_t flags), (size, flags), at_call(__func__))
 WRAPPED(void *, kmem_intr_zalloc, (size_t size, km_flag_t flags), (size, flags), at_call(__func__))
-WRAPPED(char *, kmem_strdupsize, (const char *text, size_t *size, km_flag_t flags), (text, size, flags), at_call(__func__))
+WRAPPED(char *, kmem_strdupsize, (const char *text, size_t *size, km_flag_t flags), (text, size, flags),
+    at_call(__func__))
 WRAPPED(void, kmem_strfree, (char *text), (text), at_block(__func__, text, size_of_block(text)))
 WRAPPED(void, kmem_free, (void *block, size_t size), (block, size), at_block(__func__, block, size))
 WRAPPED(void, kmem_intr_free, (void *block, size_t size), (block, size), at_block(__func__, block, size))
@@ -84,7 +85,8 @@ void percpu_foreach(percpu_t *percpu, percpu_callback_t look, void *arg)
 	layer_percpu_foreach(percpu, look_at, &each);
 }
 
-WRAPPED(void, percpu_free, (percpu_t *percpu, size_t size), (percpu, size), at_thing(__func__, ON_TARGET, percpu, 1, WRITES))
+WRAPPED(void, percpu_free, (percpu_t *percpu, size_t size), (percpu, size),
+    at_thing(__func__, ON_TARGET, percpu, 1, WRITES))
 
 /* ---- CPUs, softint(9). ---- */
 
@@ -192,8 +194,8 @@ void callout_init(callout_t *callout, unsigned flags)
 WRAPPED(void, callout_destroy, (callout_t *callout), (callout), at_callout(__func__, callout); track_ended(callout))
 WRAPPED(void, callout_setfunc, (callout_t *callout, void (*body)(void *), void *arg), (callout, body, arg),
     at_callout(__func__, callout))
-WRAPPED(void, callout_reset, (callout_t *callout, int ticks, void (*body)(void *), void *arg), (callout, ticks, body, arg),
-    at_callout(__func__, callout))
+WRAPPED(void, callout_reset, (callout_t *callout, int ticks, void (*body)(void *), void *arg),
+    (callout, ticks, body, arg), at_callout(__func__, callout))
 WRAPPED(void, callout_schedule, (callout_t *callout, int ticks), (callout, ticks), at_callout(__func__, callout))
 WRAPPED(bool, callout_stop, (callout_t *callout), (callout), at_callout(__func__, callout))
 WRAPPED(bool, callout_halt, (callout_t *callout, void *interlock), (callout, interlock), at_callout(__func__, callout))
@@ -205,8 +207,8 @@ WRAPPED(void, callout_ack, (callout_t *callout), (callout), at_callout(__func__,
 WRAPPED(int, getticks, (void), (), at_thing(__func__, ON_TIME, NULL, 0, 0))
 WRAPPED(time_t, getuptime, (void), (), at_thing(__func__, ON_TIME, NULL, 0, 0))
 WRAPPED(int, kthread_join, (lwp_t *thread), (thread), at_call(__func__))
-WRAPPED(int, kpause, (const char *name, bool interruptible, int ticks, kmutex_t *mutex), (name, interruptible, ticks, mutex),
-    at_call(__func__))
+WRAPPED(int, kpause, (const char *name, bool interruptible, int ticks, kmutex_t *mutex),
+    (name, interruptible, ticks, mutex), at_call(__func__))
 
 void delay(unsigned microseconds)
 {
@@ -218,8 +220,8 @@ WRAPPED(int, copyin, (const void *user, void *kernel, size_t length), (user, ker
 WRAPPED(int, copyout, (const void *kernel, void *user, size_t length), (kernel, user, length), at_call(__func__))
 WRAPPED(int, copyinstr, (const void *user, void *kernel, size_t length, size_t *copied), (user, kernel, length, copied),
     at_call(__func__))
-WRAPPED(int, copyoutstr, (const void *kernel, void *user, size_t length, size_t *copied), (kernel, user, length, copied),
-    at_call(__func__))
+WRAPPED(int, copyoutstr, (const void *kernel, void *user, size_t length, size_t *copied),
+    (kernel, user, length, copied), at_call(__func__))
 
 /* ---- workqueue(9): a queue's thread is the layer's own. ---- */
 

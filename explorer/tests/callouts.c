@@ -1,5 +1,6 @@
 /*
- * callouts - callout(9) by the explorer's clock: when each callout runs and where, and what a halt waits for and ends, in every order of its threads
+ * callouts - callout(9) by the explorer's clock, in every order: when and where each callout runs, and what a halt waits
+ * for and ends
  *
  * The last line counts the cases.
  */
@@ -23,7 +24,7 @@
 
 enum { TIMERS = 4 };
 
-/* A callout, and of its runs: how many, when and where the last one was, and how many of other callouts came before it. */
+/* A callout, and of its runs: how many, when and where the last one was, and how many of all came before it. */
 static struct timer {
 	callout_t callout;
 	unsigned runs, cpu, after;
@@ -95,7 +96,7 @@ static void set_each(void *arg)
 	}
 }
 
-/* The most ticks are many. What is set again, or stopped, doesn't run at its first time, unless that has come before; the others do. */
+/* The most ticks are many. What is set again, or stopped, doesn't run at its first time, unless that has come before. */
 static void set_again(void *arg)
 {
 	int from = getticks();
@@ -110,14 +111,16 @@ static void set_again(void *arg)
 		return;
 	await_run(&timers[0], 1, from, from, 250);
 	KASSERT(!expired && !callout_active(&timers[1].callout));
-	KASSERT(timers[0].cpu == 6 && runs_of(&timers[1]) == 0 && runs_of(&timers[2]) == 0 && callout_pending(&timers[2].callout));
-	KASSERT(callout_expired(&timers[0].callout) && callout_invoking(&timers[0].callout) && !callout_pending(&timers[0].callout));
+	KASSERT(timers[0].cpu == 6 && runs_of(&timers[1]) == 0);
+	KASSERT(runs_of(&timers[2]) == 0 && callout_pending(&timers[2].callout));
+	KASSERT(callout_expired(&timers[0].callout) && callout_invoking(&timers[0].callout));
+	KASSERT(!callout_pending(&timers[0].callout));
 	KASSERT(callout_stop(&timers[0].callout) && !callout_expired(&timers[0].callout));
 	callout_schedule(&timers[0].callout, 1);
 	KASSERT(callout_active(&timers[0].callout));
 }
 
-/* Those of one CPU whose times have come run in the order of their times, however they were set. A CPU that is kept keeps no other one's off. */
+/* Those of one CPU whose times have come run in the order of their times. A CPU that is kept keeps no other one's off. */
 UNSEEN static void keep_cpu(void *arg)
 {
 	static const int ticks[] = {3, 1, 2};
@@ -147,7 +150,7 @@ UNSEEN static void keep_cpu(void *arg)
 
 /* ---- Halts. ---- */
 
-/* The first call of all may be made anywhere, and a halt that doesn't have to wait is right anywhere, and keeps its lock. */
+/* The first call may be made anywhere. So may a halt that doesn't have to wait, and it keeps its lock. */
 static void use_inside(void *arg)
 {
 	callout_t callout;

@@ -27,8 +27,8 @@ static inline int try_cases(const struct driver_case *cases, unsigned all, int c
 	unsigned tried = 0;
 	for (const struct driver_case *it = cases; it < &cases[all]; it++) {
 		struct bench_found found;
-		const struct bench_options options = {.name = it->name, .finish = it->finish, .left = it->left, .reliable = it->reliable, .found = &found,
-		    .schedules = 200000, .replay = count > 2 ? words[2] : NULL};
+		const struct bench_options options = {.name = it->name, .finish = it->finish, .left = it->left, .found = &found,
+		    .reliable = it->reliable, .schedules = 200000, .replay = count > 2 ? words[2] : NULL};
 		if (count > 1 && strcmp(words[1], it->name) != 0)
 			continue;
 		tried++;

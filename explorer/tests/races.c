@@ -98,9 +98,11 @@ HANDLER(write_behind_seen, *(volatile unsigned *)(block + 1) = 1)
 static const struct find finds[] = {
 	{"one variable under two locks", "data race: thread \"first\" writes at races.c:*, and thread \"second\" reads at races.c:",
 	    write_under_one, read_under_two},
-	{"a count without a lock", "data race: thread \"first\" writes at races.c:*, and thread \"second\" * at races.c:", count_plainly, count_plainly},
+	{"a count without a lock", "data race: thread \"first\" writes at races.c:*, and thread \"second\" * at races.c:",
+	    count_plainly, count_plainly},
 	{"a lock that comes too late", "data race: ", write_then_lock, lock_then_write},
-	{"copied bytes", "data race: thread \"first\" writes at races.c:*, and thread \"second\" reads at races.c:", copy_text, read_text},
+	{"copied bytes", "data race: thread \"first\" writes at races.c:*, and thread \"second\" reads at races.c:",
+	    copy_text, read_text},
 	{"bytes side by side", NULL, write_first_byte, write_second_byte},
 	{"atomics of the language", NULL, give_by_language, take_by_language},
 	{"a release that another store ends", "data race: ", store_state, end_release, .third = read_second_state},
@@ -112,8 +114,10 @@ static const struct find finds[] = {
 	    read_block, free_block, .make = make_block},
 	{"freed memory by the thread itself", "plain read at races.c:*: use of freed memory: thread \"first\" gave it back ",
 	    use_own_late, do_nothing, .make = make_block},
-	{"memory that is given without a release", "data race: thread \"first\" takes memory by kmem_zalloc at ", take_block, use_given_block},
-	{"an access behind a block", "plain write at races.c:*: beyond a block of ", write_behind_seen, do_nothing, .make = make_block},
+	{"memory that is given without a release", "data race: thread \"first\" takes memory by kmem_zalloc at ",
+	    take_block, use_given_block},
+	{"an access behind a block", "plain write at races.c:*: beyond a block of ",
+	    write_behind_seen, do_nothing, .make = make_block},
 };
 
 /* Whether the two places of a race are told by their lines. */

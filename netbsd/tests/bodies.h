@@ -2,7 +2,7 @@
 #ifndef NETBSD_BODIES_H
 #define NETBSD_BODIES_H
 
-/* What a thread does, and what a soft interrupt, a callout, a thread of kthread_create's or a thread of the explorer does. */
+/* What a thread does; and what a handler, a thread of kthread_create's or a thread of the explorer does. */
 #define THREAD(name, ...)	static void *name(void *arg) { __VA_ARGS__; return arg; }
 #define HANDLER(name, ...)	static void name(void *arg) { (void)arg; __VA_ARGS__; }
 
