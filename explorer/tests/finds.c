@@ -312,6 +312,34 @@ static void left_pserialize(void) { psz = pserialize_create(); }
 HANDLER(count_in, localcount_acquire(&local))
 static void left_count(void) { localcount_init(&local); }
 
+/* More than one registry takes. Only the last is left. */
+enum { MANY = REGISTRY_MOST_SLOTS + 8 };
+
+static struct psref_target targets[MANY];
+static struct localcount locals[MANY];
+
+static void make_targets(void)
+{
+	make_target();
+	for (unsigned at = 0; at < MANY; at++)
+		psref_target_init(&targets[at], things);
+	psref_target_destroy(&target, things);
+	for (unsigned at = 0; at + 1 < MANY; at++)
+		psref_target_destroy(&targets[at], things);
+}
+
+static void make_counts(void)
+{
+	for (unsigned at = 0; at < MANY; at++)
+		localcount_init(&locals[at]);
+	mutex_enter(&one);
+	for (unsigned at = 0; at + 1 < MANY; at++)
+		localcount_drain(&locals[at], &cv, &one);
+	mutex_exit(&one);
+}
+
+HANDLER(count_last, localcount_acquire(&locals[MANY - 1]))
+
 static void keep_reference(void *arg)
 {
 	static struct psref psref;
@@ -379,6 +407,10 @@ static const struct find finds[] = {
 	{"a lock object that is left", "taken by mutex_obj_alloc", write_once, write_once, .make = left_object},
 	{"a count with a reference that is left", "a local count with 1 references is left at the end",
 	    count_in, write_once, .make = left_count},
+	{"the last of many targets that is left", "a target or a local count is left at the end",
+	    write_once, write_once, .make = make_targets},
+	{"the last of many counts with references that are left", "a local count with 2 references is left at the end",
+	    count_last, count_last, .make = make_counts},
 	{"a passive reference that is left", "pthread_exit: the thread has passive references",
 	    keep_reference, write_once, .make = make_target},
 	{"a section that is left", "pthread_exit: inside a read section", keep_section, write_once},
