@@ -115,9 +115,31 @@ static void set_again(void *arg)
 	KASSERT(runs_of(&timers[2]) == 0 && callout_pending(&timers[2].callout));
 	KASSERT(callout_expired(&timers[0].callout) && callout_invoking(&timers[0].callout));
 	KASSERT(!callout_pending(&timers[0].callout));
-	KASSERT(callout_stop(&timers[0].callout) && !callout_expired(&timers[0].callout));
-	callout_schedule(&timers[0].callout, 1);
+	callout_schedule(&timers[0].callout, INT_MAX);
+	KASSERT(!callout_expired(&timers[0].callout) && !callout_invoking(&timers[0].callout));
+	KASSERT(!callout_stop(&timers[0].callout) && !callout_active(&timers[0].callout));
+	callout_schedule(&timers[0].callout, INT_MAX);
 	KASSERT(callout_active(&timers[0].callout));
+}
+
+static unsigned met;
+
+HANDLER(note_met, atomic_store_relaxed(&met, 1))
+
+/* A callout and a pause of one time, once the clock has hurried: either may be the first, to the nanosecond. */
+static void meet(void *arg)
+{
+	(void)arg;
+	(void)kpause("callouts", false, 300, NULL);
+	int from = getticks();
+	set_on(2, &timers[1], 1);
+	if (getticks() == from)
+		return;
+	await_run(&timers[1], 1, from, from, 1);
+	callout_setfunc(&timers[0].callout, note_met, &timers[0]);
+	callout_schedule(&timers[0].callout, 1);
+	(void)kpause("callouts", false, 1, NULL);
+	bench_outcome("%u, ", atomic_load_relaxed(&met));
 }
 
 /* Those of one CPU whose times have come run in the order of their times. A CPU that is kept keeps no other one's off. */
@@ -173,15 +195,16 @@ static bool stays;
 
 UNSEEN static bool has_stayed(void) { return stays; }
 
-/* Sets itself, and stays until its time has come. */
-UNSEEN static void set_and_stay(void *of)
+/* Stays for long, sets itself, and stays until its time has come. */
+UNSEEN static void stay_and_set(void *of)
 {
 	struct timer *timer = of;
 	if (timer->runs++ > 0)
 		return;
-	callout_schedule(&timer->callout, 1);
 	stays = true;
 	delay(1000000);
+	callout_schedule(&timer->callout, 1);
+	delay(20000);
 }
 
 /* What a body sets while a halt waits doesn't run. After the halt it neither runs nor is set. */
@@ -189,7 +212,7 @@ static void halt_staying(void *arg)
 {
 	(void)arg;
 	kupaldiz_bind(1);
-	callout_reset(&timers[0].callout, 1, set_and_stay, &timers[0]);
+	callout_reset(&timers[0].callout, 1, stay_and_set, &timers[0]);
 	kupaldiz_unbind();
 	while (!has_stayed())
 		(void)kpause("callouts", false, 1, NULL);
@@ -296,6 +319,8 @@ static void begin_halted(void) { begin_timers(); end_it = halt_it; }
 static const struct find finds[] = {
 	{"each time", NULL, set_each, .make = begin_timers, .finish = end_all, .outcome = "exact"},
 	{"set again", NULL, set_again, .make = begin_timers, .finish = end_all, .outcome = "exact"},
+	{"before a pause", NULL, meet, .make = begin_timers, .finish = end_all, .outcome = "1, exact"},
+	{"after a pause", NULL, meet, .make = begin_timers, .finish = end_all, .outcome = "0, exact"},
 	{"a CPU that is kept", NULL, keep_cpu, .make = begin_timers, .finish = end_all, .outcome = "exact"},
 	{"inside a section", NULL, use_inside, .finish = end_lock},
 	{"a body that sets itself", NULL, halt_staying, .make = begin_timers, .finish = end_all, .outcome = "1, exact"},

@@ -216,6 +216,7 @@ static void test_callouts(void)
 	await_least(&fired, 1);
 	EXPECT(callout_expired(&callout) && !callout_pending(&callout) && !callout_invoking(&callout));
 	EXPECT(callout_stop(&callout) && !callout_expired(&callout));
+	callout_setfunc(&callout, fire, &fired);
 	callout_schedule(&callout, 100000);
 	EXPECT(!callout_stop(&callout) && !callout_pending(&callout));
 	/* It runs, and waits for the lock that the halt lets go of. */

@@ -1,5 +1,5 @@
 /*
- * closing - the end of all registries, for a process that begins anew with them: the owner of each live row is found, and everything is closed
+ * closing - the end of all registries, for a process that begins anew with them: everything is closed
  *
  * The bench ends each run so. This test looks into the layer, whose registries have four rows. The linker leads here (--wrap) what opens, what closes
  * and what forgets a reference.
@@ -10,11 +10,7 @@
 
 enum { LIVE = 2 * ROWS + 1, LEFT = 3 };
 
-static struct psref_class *things;
-static struct psref_target targets[LIVE];
 static struct localcount counts[LIVE];
-static kmutex_t lock;
-static kcondvar_t cv;
 static unsigned opened, closed_cpus, closed_keepers, forgotten;
 static atomic_bool inside;
 
@@ -43,46 +39,6 @@ uint32_t __wrap_registry_local_forget(struct registry_local *local)
 	uint32_t answer = __real_registry_local_forget(local);
 	forgotten += answer == REGISTRY_DONE;
 	return answer;
-}
-
-static void end_count(unsigned place)
-{
-	mutex_enter(&lock);
-	localcount_drain(&counts[place], &cv, &lock);
-	mutex_exit(&lock);
-	localcount_fini(&counts[place]);
-}
-
-/* Of so many targets one is live still, in any row. */
-static void test_target(unsigned left)
-{
-	size_t held = 77;
-	for (unsigned i = 0; i < LIVE; i++)
-		psref_target_init(&targets[i], things);
-	for (unsigned i = 0; i < LIVE; i++)
-		if (i != left)
-			psref_target_destroy(&targets[i], things);
-	EXPECT(live_owner(&held) == &targets[left] && held == 0);
-	psref_target_destroy(&targets[left], things);
-	EXPECT(live_owner(&held) == NULL);
-}
-
-/* The same of counts, with references to it. */
-static void test_count(unsigned left)
-{
-	size_t held = 77;
-	for (unsigned i = 0; i < LIVE; i++)
-		localcount_init(&counts[i]);
-	for (unsigned i = 0; i < LIVE; i++)
-		if (i != left)
-			end_count(i);
-	localcount_acquire(&counts[left]);
-	localcount_acquire(&counts[left]);
-	EXPECT(live_owner(&held) == &counts[left] && held == 2);
-	localcount_release(&counts[left], &cv, &lock);
-	localcount_release(&counts[left], &cv, &lock);
-	end_count(left);
-	EXPECT(live_owner(&held) == NULL);
 }
 
 static void *stay_inside(void *arg)
@@ -123,15 +79,6 @@ static void test_close(void)
 
 int main(void)
 {
-	size_t held = 0;
-	things = psref_class_create("thing", IPL_NONE);
-	mutex_init(&lock, MUTEX_DEFAULT, IPL_NONE);
-	cv_init(&cv, "count");
-	EXPECT(live_owner(&held) == NULL);
-	for (unsigned left = 0; left < LIVE; left++) {
-		test_target(left);
-		test_count(left);
-	}
 	test_close();
 	printf("%u registries were opened and closed, and %u references forgotten\n", opened, forgotten);
 	return 0;
