@@ -26,7 +26,7 @@ PRIVATE = ((r"\b(?:seats?|ledgers?|deeds?|hears?|heard)\b", "no private word"),)
 
 # Pages for users, headers and manual pages among them: neither sort is accepted. Pages that explain the protocol: only private words are.
 USERS = ("README.md", "bench/README.md", "packaging/CHANGELOG.md", "packaging/INSTALL.md", "docs/C.md", "packaging/RELEASE.md", "c/include/*.h",
-         "man/kupaldiz_*.7", "man/registry*.in", "netbsd/include/kupaldiz/*.h", "rust/README.md", "crates/registry_c/include/registry.h",
+         "man/*.7", "man/registry*.in", "netbsd/include/kupaldiz/*.h", "rust/README.md", "crates/registry_c/include/registry.h",
          "docs/CHOOSING.md", "docs/SCRIPTS.md")
 EXPLAINING = ("docs/ARCHITECTURE.md", "docs/DRIVERS.md", "docs/GUARANTEES.md", "docs/NETBSD.md", "docs/RATTLE.md", "docs/TOUR.md")
 

@@ -48,6 +48,11 @@ make_clients() {
     make LIMITS="$limits" "$@"
 }
 
+# A header fits a window beside another one.
+header_is_narrow() {
+    ! expand "$header" c/include/waiting.h | grep -nE '.{101}'
+}
+
 # The most CPUs of the build.
 most_cpus() {
     sed -nE 's/^#define REGISTRY_MOST_CPUS[[:blank:]]+//p' "${header%.h}_limits.h"
@@ -168,6 +173,7 @@ test_page() {
     check "the page: mandoc -T lint says nothing" page_lints
     check "the page names the header's calls" names "$header" "$page"
     check "the page of the waits names their calls" names c/include/waiting.h man/registry_waiting.3
+    check "no line of the headers has more than 100 columns" header_is_narrow
     check "the header alone, in four C standards" header_alone
     check "an answer that has to be looked at, and isn't, is warned of" warned unused-result '(void)entry; registry_enter(cpu);'
     check "a reference that isn't looked at is warned of" warned unused-result 'registry_acquire_entry(cpu, entry);'
