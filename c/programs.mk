@@ -70,7 +70,7 @@ $(PROGRAMS:%=$(OUT)/%): c/examples/client.h c/examples/expect.h c/examples/edges
 	$(CC) $(STRICT) $(CPPFLAGS) $(CFLAGS) $(INCLUDES) $(LDFLAGS) -o $@ $(filter %.c,$^) $(ARCHIVE) -pthread $(LINK)
 
 # The checking build: the test of what it tells, and programs that it says nothing of.
-CHECKING = smallest row packet shared storm walk entries crowd forwarder device_switch together interrupted
+CHECKING = smallest row packet shared storm walk entries crowd forwarder device_switch together
 
 $(OUT)/checked: c/tests/checked.c
 $(OUT)/checked: LINK = -Wl,--wrap=registry_find
