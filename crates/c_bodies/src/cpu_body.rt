@@ -1,10 +1,10 @@
 //! The body of a CPU's handle.
 
-ghost use Rattle.std.specs.Prelude.{◌≡◌, ◌≢◌, ◌↔◌, ◌<◌, ◌++◌, IsTrue, None, IfErr, IfSome, is_some};
+ghost use Rattle.std.specs.Prelude.{◌≡◌, ◌≢◌, ◌↔◌, ◌<◌, ◌++◌, IsTrue, None, false, IfErr, IfSome, is_some};
 ghost use Rattle.registry_values.specs.Common.{Answers};
 ghost use Rattle.cpu_words.specs.Common.{AreWordsOf, key_with, references_to};
 ghost use mathlib.Core.List.{IsPrefix};
-ghost use Rattle.passive_list.specs.Common.{FindsInside, FindsWhatStays, HasFoundByMemory, HasHeardOn, WasShown, has_heard, has_told, entry_seen, AnswersEnter, HasExitedOn, may_begin};
+ghost use Rattle.passive_list.specs.Common.{FindsInside, FindsWhatStays, HasFoundAnew, HasFoundByMemory, HasHeardOn, HasRecalledByMemory, WasShown, has_heard, has_told, entry_seen, AnswersEnter, HasExitedOn, may_begin};
 ghost use Rattle.passive_ref.specs.Gets.{HasGotByMemory};
 ghost use Rattle.passive_ref.specs.Psrefs.{GivesBack, HasOneLess, IsAcquired, IsCopied, IsReadAs, why_not_acquired, why_not_copied, why_unusable};
 
@@ -13,10 +13,12 @@ use crate::local_body::LocalBody;
 use cpu_words::{NoteSeat, Words};
 use held::Spare;
 use passive_list::{
-    PlainCpu, Seen, enter_on, exit_on, find_by_memory, find_inside_on, hear_on, may_begin_on,
-    tell_on,
+    PlainCpu, Seen, enter_on, exit_on, find_anew, find_by_memory, find_inside_on, hear_on,
+    may_begin_on, recall_remembered, tell_on,
 };
-use passive_ref::{Psref, acquire_on, copy_on, get_by_memory, held_on, read_entry_on, release_on};
+use passive_ref::{
+    Psref, acquire_on, copy_on, get_by_memory, held_on, read_entry_on, release_at, release_on,
+};
 use registry_values::{Entry, Kind, MOST_SLOTS, Name, Record, Refusal};
 use std::alloc::{AllocError, Global};
 use std::marker::Model;
@@ -32,7 +34,7 @@ pub struct CpuBody {
     spare: Spare<LocalBody>,
     /// The row of a walk: it lies here, and not on the walk's stack. Between two walks nothing is said of it.
     pub walked: [Entry; MOST_SLOTS],
-    /// The passive references that were acquired here last, for the next calls with their numbers. It comes last, for the room at its end.
+    /// The slots of the passive references that were acquired here last. It comes last, for the room at its end.
     acquired: LastAcquired,
 }
 
@@ -95,14 +97,15 @@ impl CpuBody {
     pub fn own(&self, number: u64) -> Psref
         ensures { result ≡ record { cpu = self.now.cpu.view.id; number = number } }
     {
-        Psref::remembered(self.cpu.id(), number)
+        Psref::at(self.cpu.id(), number, self.acquired.slot(number))
     }
 
-    /// Keeps a passive reference that was acquired here, for the next call with its number.
+    /// Keeps the slot of a passive reference that was acquired here, for the next call with its number. The reference stays held.
     pub fn keep(&mut self, psref: Psref)
         ensures { self.new ≡ self.old }
     {
-        self.acquired.put(psref);
+        self.acquired.put(psref.number(), psref.hint());
+        psref.forget();
     }
 
     /// Whether the CPU is inside a section.
@@ -188,6 +191,26 @@ impl CpuBody {
         find_by_memory(&self.words, &mut self.cpu, kind, name)
     }
 
+    /// The entry that the CPU remembers with this kind and name, if it is live, by one load. `None` says nothing.
+    #[inline(always)]
+    pub fn recall(&mut self, kind: Kind, name: Name) -> Option<Seen>
+        ensures found { HasRecalledByMemory (key_with kind name) self.old.cpu self.new.cpu result }
+        ensures words { self.new.words ≡ self.old.words }
+    {
+        recall_remembered(&self.words, &mut self.cpu, kind, name)
+    }
+
+    /// Looks an entry up without such a load: it is absent as the CPU remembers, or is sought in a section. Conditions: outside; a section is left.
+    #[inline(always)]
+    pub fn find_anew(&mut self, kind: Kind, name: Name) -> Option<Seen>
+        requires outside { self.old.cpu.depth ≡ 0 }
+        requires room { IsTrue (may_begin self.old.cpu.view) }
+        ensures found { HasFoundAnew (key_with kind name) self.old.cpu self.new.cpu result }
+        ensures words { self.new.words ≡ self.old.words }
+    {
+        find_anew(&self.words, &mut self.cpu, kind, name)
+    }
+
     /// Acquires a passive reference to the entry that the CPU remembers with this kind and name, if it is live, by one addition and one load.
     /// Returns the entry's words, too. `None`: nothing is acquired.
     #[inline(always)]
@@ -224,9 +247,6 @@ impl CpuBody {
         ensures refused { IfErr result (λ _. self.new ≡ self.old) }
         ensures words { self.new.words ≡ self.old.words }
     {
-        if let Some(kept) = self.acquired.at(self.cpu.id(), number) {
-            return copy_on(&self.words, &mut self.cpu, kept);
-        }
         let own = self.own(number);
         let made = self.copy(&own);
         own.forget();
@@ -256,9 +276,6 @@ impl CpuBody {
         ensures refused { IfErr result (λ _. self.new ≡ self.old) }
         ensures words { self.new.words ≡ self.old.words }
     {
-        if let Some(kept) = self.acquired.at(self.cpu.id(), number) {
-            return read_entry_on(&self.words, &mut self.cpu, kept);
-        }
         let own = self.own(number);
         let answer = self.read(&own);
         own.forget();
@@ -275,13 +292,24 @@ impl CpuBody {
         release_on(&self.words, &mut self.cpu, psref)
     }
 
+    /// Releases the CPU's own passive reference to that number, if its slot is kept here, and returns whether it did. `false` says nothing.
+    #[inline(always)]
+    pub fn release_kept(&mut self, number: u64) -> bool
+        ensures released { IsTrue result → (0 < references_to number self.old.cpu.view.references) × HasOneLess number self.old.cpu self.new.cpu }
+        ensures refused { result ≡ false → self.new ≡ self.old }
+        ensures words { self.new.words ≡ self.old.words }
+    {
+        let hint = self.acquired.slot(number);
+        release_at(&self.words, &mut self.cpu, hint, number)
+    }
+
     /// The same, by its number: `release` of the CPU's own passive reference to it.
     pub fn release_own(&mut self, number: u64) -> Result<(), Refusal>
         ensures answer { Answers (why_unusable self.old.cpu.view (record { cpu = self.old.cpu.view.id; number = number })) (λ _. HasOneLess number self.old.cpu self.new.cpu) result }
         ensures refused { IfErr result (λ _. self.new ≡ self.old) }
         ensures words { self.new.words ≡ self.old.words }
     {
-        let own = self.acquired.take(self.cpu.id(), number);
+        let own = self.own(number);
         match release_on(&self.words, &mut self.cpu, own) {
             Ok(()) => Ok(()),
             Err((refusal, back)) => {

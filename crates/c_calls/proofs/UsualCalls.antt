@@ -1,22 +1,28 @@
 -- The calls of the usual path: which of them go by memory, and that a section that one has entered is still open as it exits.
 use Rattle.std.proofs.Common.{◌≡◌, ◌≢◌, ℕ, Bool, true, false, if◌then◌else◌, Option, Some, None, Result, Ok, Err, IfErr, inl, inr, refl, sym, ap, subst, ◌∙◌}
-use Rattle.std.specs.Prelude.{◌↔◌, ◌==◌}
-use Rattle.std.proofs.lemmas.Bool.{eqb-true}
+use Rattle.std.specs.Prelude.{◌↔◌, ◌<◌, ◌==◌}
+use Rattle.std.proofs.lemmas.Bool.{eq-eqb, eqb-true, lt-ltb}
 use Rattle.std.proofs.lemmas.Option.{same_Some}
 use mathlib.Core.Logic.{dite}
 use native.Mathlib.Decide.{ℕ_discrete}
 use Rattle.c_calls.specs.Types.{Entry, Key, Kind, Iface, Driver, Name, Refusal, CpuView, Seen}
+use Rattle.registry_values.specs.Answers as answers
 use Rattle.registry_values.specs.Common.{kind_word, Answers}
-use Rattle.cpu_words.specs.Common.{key_with}
+use Rattle.cpu_words.specs.Common.{key_with, references_to}
 use Rattle.passive_list.specs.Common.{OnCpu, OnPlainCpu, HasFoundInside, HasFoundKept, FindsInsideBy, AnswersEnter, entry_seen}
+use Rattle.passive_list.proofs.ByMemory.{anew_after, by_load}
 use Rattle.passive_ref.specs.Gets.{HasGotByMemory}
-use Rattle.passive_ref.specs.Psrefs.{IsAcquired, OnPsref, why_not_acquired}
+use Rattle.passive_ref.specs.Psrefs.{HasOneLess, IsAcquired, OnPsref, why_not_acquired, why_unusable}
 use Rattle.c_values.specs.declared.values.TheConstants.{DONE}
 use Rattle.c_values.specs.declared.values.CEntry.{CEntry}
 use Rattle.c_values.specs.declared.values.CName.{CName}
-use Rattle.c_calls.specs.Calls.{Acquires, Enters, Exits, Finds, FindsNamed, TellsFound, WritesFound}
+use Rattle.c_values.specs.declared.answer.EntryAnswer.{EntryAnswer}
+use Rattle.c_values.specs.declared.answer.NamedAnswer.{NamedAnswer}
+use Rattle.c_values.specs.declared.given.GivenName.{GivenName}
+use Rattle.c_values.specs.declared.place.EntryPlace.{EntryPlace}
+use Rattle.c_calls.specs.Calls.{Acquires, Enters, Exits, Finds, FindsNamed, Releases, TellsFound, WritesFound, own}
 use Rattle.c_values.specs.Places.{put}
-use Rattle.c_calls.specs.UsualCalls.{Between, EntersAndFinds, FindsAndAcquires, Gets, GetsByMemory, GetsInSection, LooksUp, LooksUpByMemory, LooksUpInSection, Seeks, TriedSo, Tries, TriesOnce, key_in}
+use Rattle.c_calls.specs.UsualCalls.{Between, EntersAndFinds, FindsAndAcquires, Gets, GetsByMemory, GetsInSection, LooksUp, LooksUpAnew, LooksUpByMemory, LooksUpInSection, RecallsByMemory, Seeks, TriedSo, Tries, TriesOnce, key_in}
 use Rattle.c_values.specs.Values.{entry_out, kind_in, name_in, number_of}
 use Rattle.c_calls.proofs.Gone.{refused_not}
 
@@ -121,6 +127,30 @@ got kind k m name a b n old new seeks had = record {
 pub got_by_calls : (kind : ℕ) (name : Option CName) (a b : OnPlainCpu) (n : ℕ) (old new : Option CEntry) → Seeks kind name a None → GetsInSection kind name a b n old new → Gets kind name a b n old new
 got_by_calls kind name a b n old new not had = record { by_memory = λ may. absurd (not may); by_calls = λ _. had }
 
+-- what a call returns, with the place and the name
+pub answered : (P : ℕ → Option CEntry → Type 0) (n : ℕ) (p : EntryPlace) (g : GivenName) (x : EntryAnswer) (r : NamedAnswer) → x ≡ record { number = n; place = p }
+    → r ≡ record { number = x.number; place = x.place; name = g } → P n p.value → P r.number r.place.value
+answered P n p g x r is also had = subst (λ (y : NamedAnswer). P y.number y.place.value) (sym also) (subst (λ (y : EntryAnswer). P y.number y.place.value) (sym is) had)
+
+-- A lookup by memory
+
+-- what is written of a find's answer
+abbrev pub writes : Kind → CName → Option Seen → ℕ → Option CEntry → Option CEntry → Type 0
+writes k m s n old new = WritesFound (entry_seen (key_with k (name_in m)) s) n old new
+
+-- by the load alone
+pub recalled_at_once : (k : Kind) (m : CName) (a b : OnPlainCpu) (s : Seen) (n : ℕ) (old new : Option CEntry) → RecallsByMemory k m a b (Some s) → writes k m (Some s) n old new → LooksUpByMemory k m a b n old new
+recalled_at_once k m a b s n old new had written =
+    let found = by_load (key_in k m) a.cpu b.cpu s had.recalls in
+    record { seen = Some s; finds = found.0; stays = found.1; words = had.words; written = written }
+
+-- anew, after a load that told nothing
+pub looked_anew : (k : Kind) (m : CName) (a c b : OnPlainCpu) (n : ℕ) (old new : Option CEntry) → RecallsByMemory k m a c None → LooksUpAnew k m c b n old new → a.cpu.depth ≡ 0
+    → LooksUpByMemory k m a b n old new
+looked_anew k m a c b n old new had anew outside =
+    let found = anew_after (key_in k m) a.cpu c.cpu b.cpu anew.seen had.recalls anew.finds outside in
+    record { seen = anew.seen; finds = found.0; stays = found.1; words = anew.words ∙ had.words; written = anew.written }
+
 -- A try by memory
 
 pub tries_done : (k : Kind) (m : CName) (a b : OnPlainCpu) (n : ℕ) (old new : Option CEntry) (P : OnPlainCpu → Type 0) → TriesOnce k m a b (Some n) old new → Tries k m a b n old new P
@@ -151,10 +181,6 @@ vain_by k m a b old new (Some g) gets so = let clash : ◌≡◌ {A = Option ℕ
 -- one that got nothing
 pub got_nothing : (k : Kind) (m : CName) (a b : OnPlainCpu) (old new : Option CEntry) → TriesOnce k m a b None old new → HasGotByMemory (key_in k m) a.cpu b.cpu None × (new ≡ old)
 got_nothing k m a b old new had = vain_by k m a b old new had.got had.gets had.so
-
--- what is written of a find's answer
-abbrev pub writes : Kind → CName → Option Seen → ℕ → Option CEntry → Option CEntry → Type 0
-writes k m s n old new = WritesFound (entry_seen (key_with k (name_in m)) s) n old new
 
 -- what C is told of an entry by its words
 abbrev pub told : CName → Seen → ℕ → CEntry
@@ -217,3 +243,12 @@ pub exited : (kind : ℕ) (name : Option CName) (first last b : OnPlainCpu) (n l
 exited kind name first last b n left old new inside finds exits =
     let same = found_same kind name first last n old new finds in
     subst (λ (k : ℕ). Exits last b k) (exits.inside (λ none. inside (sym same ∙ none))).0 exits
+
+-- A release of a reference that the CPU has
+
+own_held : (n : ℕ) (a : OnPlainCpu) → 0 < references_to n a.cpu.view.references → why_unusable a.cpu.view (own a n) ≡ None
+own_held n a some = λ i. answers.why_unusable (eq-eqb a.cpu.view.id a.cpu.view.id refl i) (lt-ltb 0 (references_to n a.cpu.view.references) some i)
+
+pub released_kept : (n : ℕ) (a b : OnPlainCpu) → b.words ≡ a.words → (0 < references_to n a.cpu.view.references) × HasOneLess n a.cpu b.cpu → Releases n a b DONE
+released_kept n a b words had =
+    record { r = Ok tt; is = refl; answer = (own_held n a had.0, had.1); refused = tt; words = words }

@@ -4,7 +4,7 @@ use Rattle.passive_ref.specs.Gets.{HasGotByMemory}
 use Rattle.passive_ref.specs.Psrefs.{OnPsref}
 use Rattle.c_calls.specs.Types.{Key, Kind, Seen}
 use Rattle.cpu_words.specs.Common.{key_with}
-use Rattle.passive_list.specs.Common.{FindsWhatStays, HasFoundByMemory, OnPlainCpu, may_begin, entry_seen}
+use Rattle.passive_list.specs.Common.{FindsWhatStays, HasFoundAnew, HasFoundByMemory, HasRecalledByMemory, OnPlainCpu, may_begin, entry_seen}
 use Rattle.c_values.specs.declared.values.TheConstants.{DONE}
 use Rattle.c_values.specs.declared.values.CEntry.{CEntry}
 use Rattle.c_values.specs.declared.values.CName.{CName}
@@ -49,6 +49,18 @@ Seeks kind name a (Some sought) = (kind_in kind ≡ Some sought.0) × (name ≡ 
 
 abbrev pub key_in : Kind → CName → Key
 key_in k m = key_with k (name_in m)
+
+-- by one load, if the CPU remembers a live entry with the key
+pub record RecallsByMemory (k : Kind) (m : CName) (a b : OnPlainCpu) (seen : Option Seen) : Type 0 where
+  pub recalls : HasRecalledByMemory (key_in k m) a.cpu b.cpu seen
+  pub words : b.words ≡ a.words
+
+-- without such a load
+pub record LooksUpAnew (k : Kind) (m : CName) (a b : OnPlainCpu) (n : ℕ) (old new : Option CEntry) : Type 0 where
+  pub seen : Option Seen
+  pub finds : HasFoundAnew (key_in k m) a.cpu b.cpu seen
+  pub words : b.words ≡ a.words
+  pub written : WritesFound (entry_seen (key_in k m) seen) n old new
 
 -- By one load, if the CPU remembers a live entry with the key; else in a section of the call's own.
 pub record LooksUpByMemory (k : Kind) (m : CName) (a b : OnPlainCpu) (n : ℕ) (old new : Option CEntry) : Type 0 where

@@ -172,7 +172,19 @@ pub fn read(cpu: &mut CpuBody, number: u64, entry: &mut EntryPlace) -> u32
 }
 
 /// Releases a passive reference.
+#[inline(always)]
 pub fn release(cpu: &mut CpuBody, number: u64) -> u32
+    ensures { Releases number cpu.old cpu.new result }
+{
+    if cpu.release_kept(number) {
+        return DONE;
+    }
+    release_sought(cpu, number)
+}
+
+/// Releases a passive reference whose slot is sought. It stands apart, so that the others save no register for it.
+#[inline(never)]
+fn release_sought(cpu: &mut CpuBody, number: u64) -> u32
     ensures { Releases number cpu.old cpu.new result }
 {
     answered(cpu.release_own(number))

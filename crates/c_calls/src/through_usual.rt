@@ -1,24 +1,28 @@
 //! The calls of the usual path, through a CPU's handle.
 
-ghost use Rattle.std.specs.Prelude.{◌≡◌};
+ghost use Rattle.std.specs.Prelude.{◌≡◌, ℕ, IsTrue, Some};
+ghost use Rattle.passive_list.specs.Common.{may_begin};
 ghost use Rattle.c_calls.specs.Calls.{Through};
-ghost use Rattle.c_calls.specs.UsualCalls.{EntersAndFinds, Gets, GetsInSection, LooksUp, LooksUpInSection};
+ghost use Rattle.c_calls.specs.UsualCalls.{EntersAndFinds, Gets, GetsAnew, GetsByMemory, GetsInSection, LooksUp, LooksUpAnew, LooksUpByMemory, LooksUpInSection};
+ghost use Rattle.c_values.specs.Values.{kind_in};
 
+use crate::cpu_calls::put_seen;
 use crate::usual_calls;
 use c_bodies::CpuBody;
 use c_bodies::handle::CpuHandle;
 use c_values::answer::NamedAnswer;
 use c_values::given::GivenName;
 use c_values::place::EntryPlace;
-use c_values::values::EMPTY_HANDLE;
+use c_values::values::{CName, EMPTY_HANDLE};
 use held::CHandle;
+use registry_values::Kind;
 
 /// `registry_look_up` of the header.
 pub fn look_up(
     cpu: &mut CpuHandle,
     kind: u64,
     mut name: GivenName,
-    mut found: EntryPlace,
+    found: EntryPlace,
 ) -> NamedAnswer
     ensures places { (result.name ≡ name) × (result.place.at ≡ found.at) }
     ensures call { Through cpu.old.body cpu.new.body result.number (result.place.value ≡ found.value)
@@ -28,12 +32,48 @@ pub fn look_up(
         return found.answer(EMPTY_HANDLE).with_name(name);
     };
     match usual_calls::sought(body, kind, name.name()) {
-        Some((kind, sought)) => {
-            let answer = usual_calls::look_by_memory(body, kind, sought, &mut found);
-            found.answer(answer).with_name(name)
-        }
+        Some((kind, sought)) => look_by_memory(body, kind, sought, name, found),
         None => look_up_by_calls(body, kind, name, found),
     }
+}
+
+/// What `registry_look_up` does outside, where it may begin a section: it recalls the entry, and looks up anew if that tells nothing.
+#[inline(always)]
+fn look_by_memory(
+    cpu: &mut CpuBody,
+    kind: Kind,
+    sought: CName,
+    name: GivenName,
+    mut found: EntryPlace,
+) -> NamedAnswer
+    requires outside { cpu.old.cpu.depth ≡ 0 }
+    requires room { IsTrue (may_begin cpu.old.cpu.view) }
+    ensures places { (result.name ≡ name) × (result.place.at ≡ found.at) }
+    ensures call { LooksUpByMemory kind sought cpu.old cpu.new result.number found.value result.place.value }
+{
+    let Some(seen) = usual_calls::recall(cpu, kind, sought) else {
+        return look_anew(cpu, kind, sought, name, found);
+    };
+    let answer = put_seen(Some(seen), kind, sought, &mut found);
+    found.answer(answer).with_name(name)
+}
+
+/// It stands apart, and takes all its caller's arguments: a lookup by memory saves no register for it.
+#[inline(never)]
+fn look_anew(
+    cpu: &mut CpuBody,
+    kind: Kind,
+    sought: CName,
+    name: GivenName,
+    mut found: EntryPlace,
+) -> NamedAnswer
+    requires outside { cpu.old.cpu.depth ≡ 0 }
+    requires room { IsTrue (may_begin cpu.old.cpu.view) }
+    ensures places { (result.name ≡ name) × (result.place.at ≡ found.at) }
+    ensures call { LooksUpAnew kind sought cpu.old cpu.new result.number found.value result.place.value }
+{
+    let answer = usual_calls::look_anew(cpu, kind, sought, &mut found);
+    found.answer(answer).with_name(name)
 }
 
 /// What `registry_look_up` does in an open section, or where it is refused: an enter, a find and an exit. It stands apart, so that a lookup by
@@ -53,12 +93,7 @@ fn look_up_by_calls(
 }
 
 /// `registry_get` of the header.
-pub fn get(
-    cpu: &mut CpuHandle,
-    kind: u64,
-    mut name: GivenName,
-    mut found: EntryPlace,
-) -> NamedAnswer
+pub fn get(cpu: &mut CpuHandle, kind: u64, mut name: GivenName, found: EntryPlace) -> NamedAnswer
     ensures places { (result.name ≡ name) × (result.place.at ≡ found.at) }
     ensures call { Through cpu.old.body cpu.new.body result.number (result.place.value ≡ found.value)
         (λ a b. Gets kind name.name a b result.number found.value result.place.value) }
@@ -67,12 +102,47 @@ pub fn get(
         return found.answer(EMPTY_HANDLE).with_name(name);
     };
     match usual_calls::sought(body, kind, name.name()) {
-        Some((kind, sought)) => {
-            let answer = usual_calls::get_by_memory(body, kind, sought, &mut found);
-            found.answer(answer).with_name(name)
-        }
+        Some((kind, sought)) => get_by_memory(body, kind, sought, name, found),
         None => get_by_calls(body, kind, name, found),
     }
+}
+
+/// What `registry_get` does outside, where it may begin a section: one try, and if that gets none, a lookup, and one try more where it finds one.
+#[inline(always)]
+fn get_by_memory(
+    cpu: &mut CpuBody,
+    kind: Kind,
+    sought: CName,
+    name: GivenName,
+    mut found: EntryPlace,
+) -> NamedAnswer
+    requires outside { cpu.old.cpu.depth ≡ 0 }
+    requires room { IsTrue (may_begin cpu.old.cpu.view) }
+    ensures places { (result.name ≡ name) × (result.place.at ≡ found.at) }
+    ensures call { (word : ℕ) → kind_in word ≡ Some kind → GetsByMemory word kind sought cpu.old cpu.new result.number found.value result.place.value }
+{
+    match usual_calls::try_memory(cpu, kind, sought, &mut found) {
+        Some(answer) => found.answer(answer).with_name(name),
+        None => get_anew(cpu, kind, sought, name, found),
+    }
+}
+
+/// It stands apart, as `look_anew`.
+#[inline(never)]
+fn get_anew(
+    cpu: &mut CpuBody,
+    kind: Kind,
+    sought: CName,
+    name: GivenName,
+    mut found: EntryPlace,
+) -> NamedAnswer
+    requires outside { cpu.old.cpu.depth ≡ 0 }
+    requires room { IsTrue (may_begin cpu.old.cpu.view) }
+    ensures places { (result.name ≡ name) × (result.place.at ≡ found.at) }
+    ensures call { (word : ℕ) → kind_in word ≡ Some kind → GetsAnew word kind sought cpu.old cpu.new result.number found.value result.place.value }
+{
+    let answer = usual_calls::get_anew(cpu, kind, sought, &mut found);
+    found.answer(answer).with_name(name)
 }
 
 /// What `registry_get` does in an open section, or where it is refused: an enter, a find, an acquire and an exit. It stands apart, so that a get

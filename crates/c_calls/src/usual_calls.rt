@@ -8,13 +8,14 @@ ghost use Rattle.passive_list.specs.Common.{may_begin};
 ghost use Rattle.c_values.specs.declared.values.CEntry.{CEntry};
 ghost use Rattle.c_values.specs.declared.values.TheConstants.{DONE};
 ghost use Rattle.c_calls.specs.Calls.{Enters, TellsFound};
-ghost use Rattle.c_calls.specs.UsualCalls.{EntersAndFinds, FindsAndAcquires, GetsAnew, GetsByMemory, GetsFound, GetsInSection, LooksUpByMemory, LooksUpInSection, Seeks, TriesOnce};
+ghost use Rattle.c_calls.specs.UsualCalls.{EntersAndFinds, FindsAndAcquires, GetsAnew, GetsFound, GetsInSection, LooksUpAnew, LooksUpInSection, RecallsByMemory, Seeks, TriesOnce};
 ghost use Rattle.c_values.specs.Values.{kind_in};
 
 use crate::cpu_calls::{enter, exit, find_named, look, put_seen, tell};
 use c_bodies::CpuBody;
 use c_values::place::EntryPlace;
 use c_values::values::{CName, DONE, kind_in, name_in, refused};
+use passive_list::Seen;
 use registry_values::{Entry, Kind, Refusal, kind_word};
 
 /// The kind and the name to look up, if the call may go by memory: both are given, and the CPU is outside and has a section left.
@@ -31,15 +32,23 @@ pub fn sought(cpu: &CpuBody, kind: u64, name: Option<CName>) -> Option<(Kind, CN
     }
 }
 
-/// Looks an entry up by memory, or in a section of the call's own. Conditions: outside; a section is left.
+/// The entry that the CPU remembers, if it is live, by one load. `None` says nothing.
 #[inline(always)]
-pub fn look_by_memory(cpu: &mut CpuBody, kind: Kind, name: CName, found: &mut EntryPlace) -> u32
+pub fn recall(cpu: &mut CpuBody, kind: Kind, name: CName) -> Option<Seen>
+    ensures { RecallsByMemory kind name cpu.old cpu.new result }
+{
+    cpu.recall(kind, name_in(&name))
+}
+
+/// Looks an entry up without such a load, and writes it. Conditions: outside; a section is left.
+#[inline(always)]
+pub fn look_anew(cpu: &mut CpuBody, kind: Kind, name: CName, found: &mut EntryPlace) -> u32
     requires outside { cpu.old.cpu.depth ≡ 0 }
     requires room { IsTrue (may_begin cpu.old.cpu.view) }
     ensures place { found.new.at ≡ found.old.at }
-    ensures call { LooksUpByMemory kind name cpu.old cpu.new result found.old.value found.new.value }
+    ensures call { LooksUpAnew kind name cpu.old cpu.new result found.old.value found.new.value }
 {
-    let seen = cpu.find_by_memory(kind, name_in(&name));
+    let seen = cpu.find_anew(kind, name_in(&name));
     put_seen(seen, kind, name, found)
 }
 
@@ -57,24 +66,10 @@ pub fn look_up(cpu: &mut CpuBody, kind: u64, name: Option<CName>, found: &mut En
     tell(looked, found)
 }
 
-/// Acquires a passive reference to the entry that the CPU remembers, by one addition and one load. If that gets none, looks the entry up and tries
-/// once more, and then in a section of the call's own. Conditions: outside; a section is left.
+/// Acquires a passive reference to the entry that the CPU remembers, if it is live, by one addition and one load, and writes the entry. `None`:
+/// nothing is acquired.
 #[inline(always)]
-pub fn get_by_memory(cpu: &mut CpuBody, kind: Kind, name: CName, found: &mut EntryPlace) -> u32
-    requires outside { cpu.old.cpu.depth ≡ 0 }
-    requires room { IsTrue (may_begin cpu.old.cpu.view) }
-    ensures place { found.new.at ≡ found.old.at }
-    ensures call { (word : ℕ) → kind_in word ≡ Some kind → GetsByMemory word kind name cpu.old cpu.new result found.old.value found.new.value }
-{
-    match try_memory(cpu, kind, name, found) {
-        Some(answer) => answer,
-        None => get_anew(cpu, kind, name, found),
-    }
-}
-
-/// Acquires it so, and writes the entry. `None`: nothing is acquired.
-#[inline(always)]
-fn try_memory(cpu: &mut CpuBody, kind: Kind, name: CName, found: &mut EntryPlace) -> Option<u32>
+pub fn try_memory(cpu: &mut CpuBody, kind: Kind, name: CName, found: &mut EntryPlace) -> Option<u32>
     ensures place { found.new.at ≡ found.old.at }
     ensures call { TriesOnce kind name cpu.old cpu.new result found.old.value found.new.value }
 {
@@ -85,9 +80,8 @@ fn try_memory(cpu: &mut CpuBody, kind: Kind, name: CName, found: &mut EntryPlace
     Some(put_seen(Some(seen), kind, name, found))
 }
 
-/// Looks an entry up, and gets it if there is one. It stands apart, so that a get by memory saves no register for it.
-#[inline(never)]
-fn get_anew(cpu: &mut CpuBody, kind: Kind, name: CName, found: &mut EntryPlace) -> u32
+/// Looks an entry up, and gets it if there is one. Conditions: outside; a section is left.
+pub fn get_anew(cpu: &mut CpuBody, kind: Kind, name: CName, found: &mut EntryPlace) -> u32
     requires outside { cpu.old.cpu.depth ≡ 0 }
     requires room { IsTrue (may_begin cpu.old.cpu.view) }
     ensures place { found.new.at ≡ found.old.at }

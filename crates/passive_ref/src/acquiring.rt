@@ -1,11 +1,11 @@
 //! Passive references (psref(9)): acquired, copied and released on one CPU, by one step each on a word of its own.
 
-ghost use Rattle.std.specs.Prelude.{◌≡◌, ◌<◌, IfErr};
+ghost use Rattle.std.specs.Prelude.{◌≡◌, ◌<◌, IfErr, IsTrue, false};
 ghost use Rattle.registry_values.specs.Common.{Answers};
-ghost use Rattle.cpu_words.specs.Common.{AreWordsOf};
+ghost use Rattle.cpu_words.specs.Common.{AreWordsOf, references_to};
 ghost use Rattle.passive_ref.specs.Psrefs.{MayRefer, IsHeldAt, IsAcquired, IsCopied, IsAdded, HasOneLess, GivesBack, why_full, why_unusable, why_not_acquired, why_not_copied};
 
-use crate::holding::{count_of, usable_slot};
+use crate::holding::{count_of, counts_at, usable_slot};
 use crate::psref::Psref;
 use cpu_words::{Domain, Words, steps};
 use passive_list::{Cpu, NumberedCount, PlainCpu};
@@ -89,6 +89,22 @@ pub fn release_on(words: &Words, cpu: &mut PlainCpu, psref: Psref) -> Result<(),
         }
         Err(refusal) => Err((refusal, psref)),
     }
+}
+
+/// Releases a reference to that number if the slot `hint` has the entry that it is to, and returns whether it did. `false` says nothing, and nothing
+/// has changed. Condition: the words are the CPU's table's.
+#[inline(always)]
+pub fn release_at(words: &Words, cpu: &mut PlainCpu, hint: u8, number: u64) -> bool
+    requires words { AreWordsOf words.now cpu.old.words.table cpu.old.words.settings }
+    ensures released { IsTrue result → (0 < references_to number cpu.old.cpu.view.references) × HasOneLess number cpu.old.cpu cpu.new.cpu }
+    ensures refused { result ≡ false → cpu.new ≡ cpu.old }
+    ensures words { cpu.new.words ≡ cpu.old.words }
+{
+    if counts_at(cpu, hint, number) {
+        subtract(words, cpu, hint, number);
+        return true;
+    }
+    false
 }
 
 /// Adds one reference to an entry that this CPU found last or refers to, unless it has as many as it may.

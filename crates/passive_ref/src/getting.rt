@@ -28,12 +28,13 @@ pub fn get_on(words: &Words, cpu: &mut PlainCpu, slot: u8, number: u64) -> Optio
     ensures got { HasGotOn slot number cpu.old.cpu cpu.new.cpu result }
     ensures words { cpu.new.words ≡ cpu.old.words }
 {
-    let place = cpu.passive[slot as usize];
-    if place.count >= words.settings().passive_limit {
+    if cpu.passive[slot as usize].count >= words.settings().passive_limit {
         return None;
     }
     let done = try_on_seat(words, &mut cpu.seat, cpu.id, slot, number);
     if done {
+        // Loaded anew: a register that is kept over the addition costs more.
+        let place = cpu.passive[slot as usize];
         cpu.passive[slot as usize] = NumberedCount {
             number,
             count: counted_for(place, number) + 1,

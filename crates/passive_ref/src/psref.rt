@@ -43,11 +43,19 @@ impl Psref {
     pub fn remembered(cpu: u8, number: u64) -> Psref
         ensures { result ≡ record { cpu = cpu; number = number } }
     {
-        Psref {
-            cpu,
-            hint: 0,
-            number,
-        }
+        Psref::at(cpu, number, 0)
+    }
+
+    /// The same, whose CPU looks at the slot `hint` first.
+    pub fn at(cpu: u8, number: u64, hint: u8) -> Psref
+        ensures { result ≡ record { cpu = cpu; number = number } }
+    {
+        Psref { cpu, hint, number }
+    }
+
+    /// The slot that its CPU looks at first: for a reference just acquired, its entry's.
+    pub fn hint(&self) -> u8 {
+        self.hint
     }
 
     /// Gives the value up and leaves the reference held: the entry keeps its slot until its CPU releases one that `remembered` made again.

@@ -20,8 +20,8 @@ invariant_of-cpu-else-done c =
     let had = subst (HasTriedOnSeat c.args.slot c.args.number _ _ _ _) c.if-done.false c.try_on_seat-done.ensures.tried in
     vain_agrees _ _ _ _ _ _ _ _ _ _ _ _ _ c.cpu.invariant c.try_on_seat-done.ensures.is_shown c.try_on_seat-done.ensures.table had.0
 
-pub returns-then-place-settings-clause-got : goal.returns-then-place-settings-clause-got
-returns-then-place-settings-clause-got c =
+pub returns-then-cpu-slot-clause-got : goal.returns-then-cpu-slot-clause-got
+returns-then-cpu-slot-clause-got c =
     let i = c.cpu.inside in
     inl (refl, subst (λ (o : OnPlainCpu). IsFullAt o.cpu.view c.args.slot) c.cpu.view_is (full_at i.seat.view i.passive c.args.slot c.cpu.invariant.passive (search rules)))
 
