@@ -48,8 +48,12 @@ static const struct form {
 static struct table {
 	char *seen;
 	char *behind;
+	size_t bytes;
 	bool closed;	/* its pages can't be accessed any more */
 } tables[MOST_TABLES];
+
+/* The bytes of the table of the opening under way; 0 while there is none. */
+static size_t table_bytes;
 
 static unsigned long counts[KINDS];
 
@@ -66,17 +70,17 @@ extern const char __executable_start[];
 registry_answer __real_registry_open(const struct registry_settings *settings, struct registry_keeper *keeper, struct registry_cpu *cpus, size_t count);
 registry_answer __wrap_registry_open(const struct registry_settings *settings, struct registry_keeper *keeper, struct registry_cpu *cpus, size_t count);
 
-static size_t table_pages(void)
+static size_t table_pages(const struct table *table)
 {
 	size_t page = (size_t)sysconf(_SC_PAGESIZE);
-	return (TABLE_BYTES + page - 1) / page * page;
+	return (table->bytes + page - 1) / page * page;
 }
 
 /* The table that has this address, or NULL. */
 static struct table *table_at(const void *address)
 {
 	for (unsigned i = 0; i < MOST_TABLES; i++)
-		if (tables[i].seen != NULL && (uintptr_t)address - (uintptr_t)tables[i].seen < TABLE_BYTES)
+		if (tables[i].seen != NULL && (uintptr_t)address - (uintptr_t)tables[i].seen < tables[i].bytes)
 			return &tables[i];
 	return NULL;
 }
@@ -94,9 +98,10 @@ static struct table *unused_table(void)
 static char *map_table(struct table *table)
 {
 	FILE *file = tmpfile();
-	EXPECT(file != NULL && ftruncate(fileno(file), (off_t)table_pages()) == 0);
-	table->seen = mmap(NULL, table_pages(), PROT_READ | PROT_WRITE, MAP_SHARED, fileno(file), 0);
-	table->behind = mmap(NULL, table_pages(), PROT_READ | PROT_WRITE, MAP_SHARED, fileno(file), 0);
+	table->bytes = table_bytes;
+	EXPECT(file != NULL && ftruncate(fileno(file), (off_t)table_pages(table)) == 0);
+	table->seen = mmap(NULL, table_pages(table), PROT_READ | PROT_WRITE, MAP_SHARED, fileno(file), 0);
+	table->behind = mmap(NULL, table_pages(table), PROT_READ | PROT_WRITE, MAP_SHARED, fileno(file), 0);
 	EXPECT(table->seen != MAP_FAILED && table->behind != MAP_FAILED);
 	table->closed = false;
 	fclose(file);
@@ -105,7 +110,7 @@ static char *map_table(struct table *table)
 
 void *__wrap_malloc(size_t size)
 {
-	return size == TABLE_BYTES ? map_table(unused_table()) : __real_malloc(size);
+	return size != 0 && size == table_bytes ? map_table(unused_table()) : __real_malloc(size);
 }
 
 void __wrap_free(void *block)
@@ -115,8 +120,8 @@ void __wrap_free(void *block)
 		__real_free(block);
 		return;
 	}
-	munmap(table->seen, table_pages());
-	munmap(table->behind, table_pages());
+	munmap(table->seen, table_pages(table));
+	munmap(table->behind, table_pages(table));
 	table->seen = NULL;
 }
 
@@ -221,7 +226,7 @@ static unsigned close_tables(void)
 	unsigned made = 0;
 	for (unsigned i = 0; i < MOST_TABLES; i++)
 		if (tables[i].seen != NULL && !tables[i].closed) {
-			EXPECT(mprotect(tables[i].seen, table_pages(), PROT_NONE) == 0);
+			EXPECT(mprotect(tables[i].seen, table_pages(&tables[i]), PROT_NONE) == 0);
 			tables[i].closed = true;
 			made++;
 			if (getenv("ORDERED_PLANT") != NULL)
@@ -233,7 +238,9 @@ static unsigned close_tables(void)
 registry_answer __wrap_registry_open(const struct registry_settings *settings, struct registry_keeper *keeper, struct registry_cpu *cpus, size_t count)
 {
 	home = outermost();
+	table_bytes = settings != NULL ? TABLE_BYTES(settings->slots, settings->cpus) : 0;
 	registry_answer answer = __real_registry_open(settings, keeper, cpus, count);
+	table_bytes = 0;
 	EXPECT(close_tables() == (answer == REGISTRY_DONE ? 1 : 0));
 	return answer;
 }

@@ -38,8 +38,8 @@ enum { SLOTS = 2, TRAP_FLAG = 0x100, PATIENCE = 5000, NEVER = 1000000, AT_ITS_EN
 /* The two threads, and the CPU of each. The looker has a second CPU, the witness. */
 enum { CHANGER, LOOKER, WITNESS, CPUS };
 
-/* In the table, the section word of the looker's CPU, which its passive words follow. */
-enum { OWN_WORDS = 16 + TABLE_ROW * LOOKER };
+/* In the table, the section word of the looker's CPU, which its passive words follow; and the table's bytes. */
+enum { OWN_WORDS = TABLE_ROW(SLOTS, LOOKER), BYTES = TABLE_BYTES(SLOTS, CPUS) };
 
 static struct registry_keeper keeper;
 static struct registry_cpu cpus[CPUS];
@@ -80,12 +80,12 @@ static uint64_t lookups, recalled, moved, reused, holds[2];
 static size_t table_pages(void)
 {
 	size_t page = (size_t)sysconf(_SC_PAGESIZE);
-	return (TABLE_BYTES + page - 1) / page * page;
+	return (BYTES + page - 1) / page * page;
 }
 
 void *__wrap_malloc(size_t size)
 {
-	if (size != TABLE_BYTES || ++table_blocks != 2)
+	if (size != BYTES || ++table_blocks != 2)
 		return __real_malloc(size);
 	table = mmap(NULL, table_pages(), PROT_READ | PROT_WRITE, MAP_PRIVATE | MAP_ANONYMOUS, -1, 0);
 	EXPECT(table != MAP_FAILED);
@@ -145,7 +145,7 @@ static void set_trap(void *context, bool on)
 /* The looker writes to a word of the table: its CPU's section word, or a passive word. */
 static void note_write(size_t place)
 {
-	EXPECT(place >= OWN_WORDS && place <= OWN_WORDS + REGISTRY_MOST_SLOTS);
+	EXPECT(place >= OWN_WORDS && place <= OWN_WORDS + SLOTS);
 	if (place == OWN_WORDS)
 		section_writes++;
 	else
@@ -156,7 +156,7 @@ static void note_write(size_t place)
 static void on_write(int number, siginfo_t *info, void *context)
 {
 	uintptr_t distance = (uintptr_t)info->si_addr - (uintptr_t)table;
-	if (writes_now || distance >= TABLE_BYTES) {
+	if (writes_now || distance >= BYTES) {
 		signal(number, SIG_DFL);
 		return;
 	}

@@ -9,14 +9,12 @@
 
 #include <stddef.h>
 
-#include "registry.h"
-
-/* The words of a registry's table, for any settings: `WORDS` of cpu_words. They are one block. No other is as long, except the one in which they are made. */
-enum {
-	TABLE_ROW = 16 + 2 * REGISTRY_MOST_SLOTS,
-	TABLE_WORDS = 32 + TABLE_ROW * REGISTRY_MOST_CPUS + 9 * REGISTRY_MOST_SLOTS,
-	TABLE_BYTES = 8 * TABLE_WORDS
-};
+/*
+ * The words of a registry's table by its settings, as `words_of` of cpu_words has them: where the row of a CPU begins, and how many bytes there are. They
+ * are one block. No other is as long, except the one in which they are made.
+ */
+#define TABLE_ROW(slots, cpu) (32 + 8 * (slots) + (cpu) * (16 + 2 * (slots)))
+#define TABLE_BYTES(slots, cpus) (8 * TABLE_ROW(slots, cpus))
 
 void *__real_malloc(size_t size);
 void *__real_realloc(void *block, size_t size);

@@ -2,6 +2,7 @@
 use Rattle.std.specs.Prelude.{◌≡◌, ◌<◌, ℕ, Option, None, Some}
 use Rattle.atomic_table.specs.Seated.{TableId}
 use Rattle.c_bodies.specs.Types.{ReferenceView, MOST_SLOTS}
+use Rattle.cpu_words.specs.Common.{Named}
 use Rattle.c_values.specs.declared.values.CEntry.{CEntry}
 use Rattle.c_values.specs.Values.{entry_out}
 
@@ -9,6 +10,10 @@ use Rattle.c_values.specs.Values.{entry_out}
 pub record OnLocalBody : Type 0 where
   pub table : TableId
   pub reference : ReferenceView
+
+-- it is of the registry with these words: its table is theirs, and its entry is in one of their slots
+abbrev pub IsReferenceOf : Named → OnLocalBody → Type 0
+IsReferenceOf w v = (v.table ≡ w.table) × (v.reference.entry.slot < w.settings.slots)
 
 -- 1 where a release found its CPU's count collected, and else 0
 abbrev pub back_word : Option ℕ → ℕ

@@ -1,28 +1,27 @@
 -- Handles stay of their registry.
 use Rattle.std.proofs.Common.{◌≡◌, ◌∙◌, ⊎_elim, inl, inr, ℕ, Option, Some, None, Result, Ok, Err, refl, sym, ap, subst}
 use Rattle.std.proofs.lemmas.Option.{none-some, same_Some}
-use Rattle.atomic_table.specs.Seated.{TableId}
 use Rattle.c_calls.specs.Types.{Refusal}
 use Rattle.cpu_words.specs.Common.{Named}
 use Rattle.passive_list.specs.Common.{HasGivenUp, OnPlainCpu, OnPlainKeeper}
-use Rattle.c_bodies.specs.Bodies.{OnLocalBody}
+use Rattle.c_bodies.specs.Bodies.{IsReferenceOf, OnLocalBody}
 use Rattle.c_calls.specs.Calls.{Exits, IsOfCpu, Through}
 use Rattle.c_values.specs.declared.values.TheConstants.{DONE, NOT_COLLECTED}
 use Rattle.c_calls.specs.LocalCalls.{AnswersAcquireInMemory, IsUncollected, LocalAcquireAnswers, LocalGivesUp, ThroughLocal, some_of}
 use Rattle.c_call_tests.specs.Handles.{IsCpuOf, IsLocalOf}
 
-table_of : (a b : OnPlainCpu) (r : Result OnLocalBody Refusal) → AnswersAcquireInMemory a b r (λ v. v) → (v : OnLocalBody) → some_of r ≡ Some v → v.table ≡ a.words.table
-table_of a b (Ok u) is v at = ap (λ (o : OnLocalBody). o.table) (sym (same_Some u v at)) ∙ is.answer.1.1
-table_of a b (Err f) is v at = absurd (none-some v at)
+its_words : (a b : OnPlainCpu) (r : Result OnLocalBody Refusal) → AnswersAcquireInMemory a b r (λ v. v) → (v : OnLocalBody) → some_of r ≡ Some v → IsReferenceOf a.words v
+its_words a b (Ok u) is v at = subst (IsReferenceOf a.words) (same_Some u v at) is.answer.1.1
+its_words a b (Err f) is v at = absurd (none-some v at)
 
-pub acquired_here : (w : Named) (c c' : Option OnPlainCpu) (l l' : Option OnLocalBody) (n : ℕ) → IsCpuOf w c → l ≡ None → LocalAcquireAnswers c c' l l' n → IsCpuOf w c' × IsLocalOf w.table l'
+pub acquired_here : (w : Named) (c c' : Option OnPlainCpu) (l l' : Option OnLocalBody) (n : ℕ) → IsCpuOf w c → l ≡ None → LocalAcquireAnswers c c' l l' n → IsCpuOf w c' × IsLocalOf w l'
 acquired_here w None c' l l' n of none is =
     let same = is.empty refl in
     (λ x at. absurd (none-some x (sym same.1 ∙ at)), λ v at. absurd (none-some v (sym none ∙ (sym same.2 ∙ at))))
 acquired_here w (Some a) c' l l' n of none is =
     let made = is.made a refl none in (
       λ x at. ap (λ (o : OnPlainCpu). o.words) (sym (same_Some made.0 x (sym made.1 ∙ at))) ∙ (made.2.acquired.words ∙ of a refl),
-      λ v at. table_of a made.0 made.2.r made.2.acquired v (sym made.2.handle ∙ at) ∙ ap (λ (o : Named). o.table) (of a refl),
+      λ v at. subst (λ (o : Named). IsReferenceOf o v) (of a refl) (its_words a made.0 made.2.r made.2.acquired v (sym made.2.handle ∙ at)),
     )
 
 exits_words : (a b : OnPlainCpu) (n : ℕ) (o : Option ℕ) → a.cpu.view.begin ≡ o → Exits a b n → b.words ≡ a.words
@@ -35,19 +34,19 @@ exited_here w (Some a) c' n of is =
     let made = is.full a refl in
     λ x at. ap (λ (o : OnPlainCpu). o.words) (sym (same_Some made.0 x (sym made.1 ∙ at))) ∙ (exits_words a made.0 n a.cpu.view.begin refl made.2 ∙ of a refl)
 
-left_here : (z : TableId) (k j : OnPlainKeeper) (v : OnLocalBody) (l : Option OnLocalBody) (n : ℕ) → v.table ≡ z → LocalGivesUp k v j n l → IsLocalOf z l
-left_here z k j v l n of is = λ u at. ⊎_elim
+left_here : (w : Named) (k j : OnPlainKeeper) (v : OnLocalBody) (l : Option OnLocalBody) (n : ℕ) → IsReferenceOf w v → LocalGivesUp k v j n l → IsLocalOf w l
+left_here w k j v l n of is = λ u at. ⊎_elim
     (λ (done : (n ≡ DONE) × HasGivenUp k.keeper v.reference j.keeper × (l ≡ None)). absurd (none-some u (sym done.2 ∙ at)))
-    (λ (kept : (n ≡ NOT_COLLECTED) × (j ≡ k) × (l ≡ Some v) × IsUncollected k v.reference). ap (λ (o : OnLocalBody). o.table) (sym (same_Some v u (sym kept.2 ∙ at))) ∙ of)
+    (λ (kept : (n ≡ NOT_COLLECTED) × (j ≡ k) × (l ≡ Some v) × IsUncollected k v.reference). subst (IsReferenceOf w) (same_Some v u (sym kept.2 ∙ at)) of)
     is.how
 
-pub given_up_here : (z : TableId) (k k' : Option OnPlainKeeper) (l l' : Option OnLocalBody) (n : ℕ) → IsLocalOf z l → ThroughLocal k k' l l' n (λ a v b m. LocalGivesUp a v b n m) → IsLocalOf z l'
-given_up_here z None k' l l' n of is = subst (IsLocalOf z) (sym (is.empty (inl refl)).2) of
-given_up_here z (Some a) k' None l' n of is = subst (IsLocalOf z) (sym (is.empty (inr refl)).2) of
-given_up_here z (Some a) k' (Some v) l' n of is = let made = is.full a v refl refl in left_here z a made.0 v l' n (of v refl) made.2
+pub given_up_here : (w : Named) (k k' : Option OnPlainKeeper) (l l' : Option OnLocalBody) (n : ℕ) → IsLocalOf w l → ThroughLocal k k' l l' n (λ a v b m. LocalGivesUp a v b n m) → IsLocalOf w l'
+given_up_here w None k' l l' n of is = subst (IsLocalOf w) (sym (is.empty (inl refl)).2) of
+given_up_here w (Some a) k' None l' n of is = subst (IsLocalOf w) (sym (is.empty (inr refl)).2) of
+given_up_here w (Some a) k' (Some v) l' n of is = let made = is.full a v refl refl in left_here w a made.0 v l' n (of v refl) made.2
 
 pub here : (w : Named) (c : Option OnPlainCpu) (x : OnPlainCpu) → c ≡ Some x → x.words ≡ w → IsCpuOf w c
 here w c x is of = λ y at. ap (λ (o : OnPlainCpu). o.words) (sym (same_Some x y (sym is ∙ at))) ∙ of
 
-pub of_cpu : (w : Named) (c : Option OnPlainCpu) (l : Option OnLocalBody) → IsCpuOf w c → IsLocalOf w.table l → IsOfCpu c l
-of_cpu w c l of at = λ x v has is. at v is ∙ ap (λ (o : Named). o.table) (sym (of x has))
+pub of_cpu : (w : Named) (c : Option OnPlainCpu) (l : Option OnLocalBody) → IsCpuOf w c → IsLocalOf w l → IsOfCpu c l
+of_cpu w c l of at = λ x v has is. subst (λ (o : Named). IsReferenceOf o v) (sym (of x has)) (at v is)

@@ -9,7 +9,7 @@ use Rattle.passive_ref.specs.Psrefs.{HasOneLess, IsAcquired, IsCopied, IsReadAs,
 use Rattle.c_values.specs.declared.values.TheConstants.{DONE, OUTSIDE, EMPTY_HANDLE, BAD_KIND, NULL}
 use Rattle.c_values.specs.declared.values.CEntry.{CEntry}
 use Rattle.c_values.specs.declared.values.CName.{CName}
-use Rattle.c_bodies.specs.Bodies.{OnLocalBody}
+use Rattle.c_bodies.specs.Bodies.{IsReferenceOf, OnLocalBody}
 use Rattle.c_values.specs.Places.{put}
 use Rattle.c_values.specs.Values.{entry_out, kind_in, name_in, number_of}
 
@@ -33,10 +33,10 @@ abbrev pub AreOfOne : Option OnPlainKeeper → Option OnPlainCpu → Type 0
 AreOfOne k c = (a : OnPlainKeeper) (x : OnPlainCpu) → k ≡ Some a → c ≡ Some x → x.words ≡ a.words
 
 abbrev pub IsOfCpu : Option OnPlainCpu → Option OnLocalBody → Type 0
-IsOfCpu c l = (x : OnPlainCpu) (v : OnLocalBody) → c ≡ Some x → l ≡ Some v → v.table ≡ x.words.table
+IsOfCpu c l = (x : OnPlainCpu) (v : OnLocalBody) → c ≡ Some x → l ≡ Some v → IsReferenceOf x.words v
 
 abbrev pub IsOfKeeper : Option OnPlainKeeper → Option OnLocalBody → Type 0
-IsOfKeeper k l = (a : OnPlainKeeper) (v : OnLocalBody) → k ≡ Some a → l ≡ Some v → v.table ≡ a.words.table
+IsOfKeeper k l = (a : OnPlainKeeper) (v : OnLocalBody) → k ≡ Some a → l ≡ Some v → IsReferenceOf a.words v
 
 -- what is written to a place of C's of an answer: nothing of a refusal
 abbrev pub Puts : {X Y : Type 0} → (X → Y) → Result X Refusal → Option Y → Option Y → Type 0

@@ -7,7 +7,7 @@ use Rattle.local_count.specs.References.{HasAcquired, HasComeBack, HasReleased, 
 use Rattle.c_values.specs.declared.values.TheConstants.{DONE, EMPTY_HANDLE, FULL_HANDLE, BAD_NAME, COLLECTED, NOT_COLLECTED, NULL}
 use Rattle.c_values.specs.declared.values.CEntry.{CEntry}
 use Rattle.c_values.specs.declared.values.CName.{CName}
-use Rattle.c_bodies.specs.Bodies.{OnLocalBody}
+use Rattle.c_bodies.specs.Bodies.{IsReferenceOf, OnLocalBody}
 use Rattle.c_calls.specs.Collected.{are_collected_for}
 use Rattle.c_calls.specs.KeeperCalls.{AttachesIface, record_of, words_name}
 use Rattle.c_values.specs.Places.{put}
@@ -27,7 +27,7 @@ AnswersOrNoMemory refusal P (Err f) = (refusal ≡ Some f) ⊎ ((refusal ≡ Non
 
 -- what an acquire that takes memory answers, whose reference is `of` what it gives; a refused one changes nothing
 pub record AnswersAcquireInMemory {X : Type 0} (a b : OnPlainCpu) (r : Result X Refusal) (of : X → OnLocalBody) : Type 0 where
-  pub answer : AnswersOrNoMemory (why_not_acquired_local a.cpu.view a.cpu.view.found) (λ x. HasAcquired a.cpu b.cpu (of x).reference × ((of x).table ≡ a.words.table)) r
+  pub answer : AnswersOrNoMemory (why_not_acquired_local a.cpu.view a.cpu.view.found) (λ x. HasAcquired a.cpu b.cpu (of x).reference × IsReferenceOf a.words (of x)) r
   pub refused : IfErr r (λ _. b ≡ a)
   pub words : b.words ≡ a.words
 

@@ -4,6 +4,7 @@ ghost use Rattle.std.specs.Prelude.{◌≡◌, IfOk, IfErr, IsTrue, Ok, Err};
 ghost use Rattle.c_calls.specs.Types.{Iface};
 ghost use Rattle.registry_values.specs.Common.{is_lawful};
 ghost use Rattle.name_registry.specs.Common.{HasAttachedFor, HasAttachedIfaceFor, attach_answer, attach_iface_answer, HasDetachedFor, IsDetachAnswer, KeepsWords};
+ghost use Rattle.c_bodies.specs.Bodies.{IsReferenceOf};
 ghost use Rattle.c_calls.specs.KeeperCalls.{Advances, AdvancesFor};
 
 use c_bodies::{CpuBody, KeeperBody, LocalBody};
@@ -30,7 +31,8 @@ pub fn attach_iface(
     rec: Record,
     local: LocalBody,
 ) -> Result<Entry, (Refusal, LocalBody)>
-    requires same { (cpu.old.words ≡ keeper.old.words) × (local.table ≡ keeper.old.words.table) }
+    requires same { cpu.old.words ≡ keeper.old.words }
+    requires local { IsReferenceOf keeper.old.words local }
     requires kind { rec.kind ≡ Iface }
     requires name { IsTrue (is_lawful rec.name) }
     ensures answer { IfOk result (λ e. attach_iface_answer keeper.old.words.settings keeper.old.keeper cpu.old.cpu rec local.reference ≡ Ok e) }

@@ -1,6 +1,7 @@
 //! The calls of local references on one CPU's body.
 
-ghost use Rattle.std.specs.Prelude.{◌≡◌};
+ghost use Rattle.std.specs.Prelude.{◌≡◌, ◌<◌};
+ghost use Rattle.c_bodies.specs.Bodies.{IsReferenceOf};
 ghost use Rattle.c_calls.specs.LocalCalls.{AnswersAcquireInMemory, LocalReleases};
 ghost use Rattle.c_values.specs.Values.{entry_out};
 
@@ -41,7 +42,7 @@ pub fn acquire_local(
 
 /// The entry that a reference is to, as C has it: three loads.
 fn read_entry(words: &Words, reference: &mut PlainRef) -> CEntry
-    requires words { words.now.table ≡ reference.old.table }
+    requires words { (words.now.table ≡ reference.old.table) × (reference.old.reference.entry.slot < words.now.settings.slots) }
     ensures same { reference.new ≡ reference.old }
     ensures entry { result ≡ entry_out reference.old.reference.entry }
 {
@@ -62,7 +63,7 @@ fn read_entry(words: &Words, reference: &mut PlainRef) -> CEntry
 /// release that is done carries no entry past its step.
 /// Condition: both are of one registry.
 pub fn release_local(cpu: &mut CpuBody, local: LocalBody) -> (u32, Option<LocalBody>)
-    requires { local.table ≡ cpu.old.words.table }
+    requires { IsReferenceOf cpu.old.words local }
     ensures { LocalReleases cpu.old local cpu.new result.0 result.1 }
 {
     let reference = local.into_reference();

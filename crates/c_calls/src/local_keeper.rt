@@ -2,6 +2,7 @@
 
 ghost use Rattle.std.specs.Prelude.{◌≡◌, ◌<◌, None};
 ghost use Rattle.cpu_words.specs.Common.{IsFoundCollected};
+ghost use Rattle.c_bodies.specs.Bodies.{IsReferenceOf};
 ghost use Rattle.passive_list.specs.Common.{HasGivenUp};
 ghost use Rattle.c_calls.specs.Collected.{are_collected_for};
 ghost use Rattle.c_calls.specs.LocalCalls.{AttachIfaceAnswers, AttachesIfaceNamed, LocalGivesUp};
@@ -17,7 +18,7 @@ use registry_values::{Kind, MOST_SLOTS, Name, Record, is_retired_as};
 /// Releases the reference under the interlock, where a count of its entry was collected. It comes back where none was.
 /// Condition: both are of one registry.
 pub fn give_up(keeper: &mut KeeperBody, local: LocalBody) -> (u32, Option<LocalBody>)
-    requires { local.table ≡ keeper.old.words.table }
+    requires { IsReferenceOf keeper.old.words local }
     ensures { LocalGivesUp keeper.old local keeper.new result.0 result.1 }
 {
     if local.is_back() {
@@ -31,7 +32,7 @@ pub fn give_up(keeper: &mut KeeperBody, local: LocalBody) -> (u32, Option<LocalB
 
 /// Releases the reference. Conditions: both are of one registry; a count of its entry was collected.
 fn spend(keeper: &mut KeeperBody, local: LocalBody) -> (u32, Option<LocalBody>)
-    requires same { local.table ≡ keeper.old.words.table }
+    requires same { IsReferenceOf keeper.old.words local }
     requires collected { IsFoundCollected keeper.old.keeper.slots keeper.old.keeper.view.marks local.reference }
     ensures words { keeper.new.words ≡ keeper.old.words }
     ensures done { (result.0 ≡ DONE) × HasGivenUp keeper.old.keeper local.reference keeper.new.keeper × (result.1 ≡ None) }
@@ -67,7 +68,8 @@ pub fn attach_iface_named(
     value: u64,
     made: &mut EntryPlace,
 ) -> (u32, Option<LocalBody>)
-    requires same { (cpu.old.words ≡ keeper.old.words) × (local.table ≡ keeper.old.words.table) }
+    requires same { cpu.old.words ≡ keeper.old.words }
+    requires local { IsReferenceOf keeper.old.words local }
     ensures place { made.new.at ≡ made.old.at }
     ensures call { AttachesIfaceNamed name value keeper.old cpu.old local keeper.new cpu.new result.1 result.0 made.old.value made.new.value }
 {
@@ -86,7 +88,8 @@ fn attach_iface(
     value: u64,
     made: &mut EntryPlace,
 ) -> (u32, Option<LocalBody>)
-    requires same { (cpu.old.words ≡ keeper.old.words) × (local.table ≡ keeper.old.words.table) }
+    requires same { cpu.old.words ≡ keeper.old.words }
+    requires local { IsReferenceOf keeper.old.words local }
     ensures place { made.new.at ≡ made.old.at }
     ensures call { AttachIfaceAnswers name.now value keeper.old cpu.old local keeper.new cpu.new result.1 result.0 made.old.value made.new.value }
 {

@@ -19,11 +19,11 @@ use Rattle.cpu_words.specs.Rule.{Ruled, reference_to}
 
 -- the words of the slot t: the CPU c's count word, and the total
 
-abbrev pub count_word : List ℕ → ℕ → ℕ → ℕ
-count_word words t c = slice_index words (index (count_of c t))
+abbrev pub count_word : Settings → List ℕ → ℕ → ℕ → ℕ
+count_word z words t c = slice_index words (index z (count_of c t))
 
-abbrev pub total_word : List ℕ → ℕ → ℕ
-total_word words t = slice_index words (index (total_of t))
+abbrev pub total_word : Settings → List ℕ → ℕ → ℕ
+total_word z words t = slice_index words (index z (total_of t))
 
 -- 1 where a local reference to n is in the hand
 abbrev pub in_hand_to : ℕ → InHand → ℕ
@@ -54,11 +54,11 @@ pub record HasOneSeat (views : List View) (c : ℕ) : Type 0 where
   pub only : (j : ℕ) (x : CpuView) → get_elem? views j ≡ some (Cpu x) → x.id ≡ c → j ≡ place
 
 -- Of the entry n in the slot t: the count words of all CPUs and the total, less the bias of the total and of each count word that isn't 0, are the references held.
-pub record IsBalanced (cpus : ℕ) (words : List ℕ) (views : List View) (k : KeeperView) (t n : ℕ) : Type 0 where
+pub record IsBalanced (z : Settings) (cpus : ℕ) (words : List ℕ) (views : List View) (k : KeeperView) (t n : ℕ) : Type 0 where
   -- where the keeper is half way: a word that it has collected, and its bias, it still has to add to the total; a reference that it has joined it still has to subtract
-  pub balance : sum_below (count_word words t) cpus + total_word words t + addition_due_at t k.due
-      ≡ held_by_seats views k n + subtraction_due_at t k.due + bias * (1 + sum_below (λ c. one_if_used (count_word words t c)) cpus + is_adding_at t k.due)
-  pub at_rest : k.due ≡ Rest → sum_below (count_word words t) cpus + total_word words t ≡ held_by_seats views k n + bias * (1 + sum_below (λ c. one_if_used (count_word words t c)) cpus)
+  pub balance : sum_below (count_word z words t) cpus + total_word z words t + addition_due_at t k.due
+      ≡ held_by_seats views k n + subtraction_due_at t k.due + bias * (1 + sum_below (λ c. one_if_used (count_word z words t c)) cpus + is_adding_at t k.due)
+  pub at_rest : k.due ≡ Rest → sum_below (count_word z words t) cpus + total_word z words t ≡ held_by_seats views k n + bias * (1 + sum_below (λ c. one_if_used (count_word z words t c)) cpus)
   -- the hands are those of all CPUs that the keeper has seated, each once
   pub hands : (c : ℕ) → c < k.seated → HasOneSeat views c
   pub seated : (j : ℕ) (x : CpuView) → get_elem? views j ≡ some (Cpu x) → x.id < k.seated
@@ -66,4 +66,4 @@ pub record IsBalanced (cpus : ℕ) (words : List ℕ) (views : List View) (k : K
 -- so it is of each live or retired entry of any table under the rule
 abbrev pub SeatsBalance : Type 0
 SeatsBalance = (z : Settings) (s : Table ℕ View) (i t : ℕ) (k : KeeperView) (e : Entry) → Ruled z s → get_elem? s.views i ≡ some (Keeper k) → IsIn e (slot_at k.slots t)
-    → IsBalanced z.cpus s.words s.views k t e.number
+    → IsBalanced z z.cpus s.words s.views k t e.number

@@ -16,6 +16,11 @@ use Rattle.cpu_words.specs.Acts.{part}
 use Rattle.cpu_words.specs.KeeperLog.{IsFreedFrom}
 use Rattle.cpu_words.specs.Logs.{events_of, LoggedRuled}
 
+-- the last words, and the settings by which they have their places
+pub record LastView : Type 0 where
+  pub words : List ℕ
+  pub settings : Settings
+
 -- the words are those of a table under the rule, in which the keeper's seat has this view and did just this
 pub record HasClosed (z : Settings) (k : KeeperView) (log : List LogItem) (last : List ℕ) : Type 0 where
   pub table : Table ℕ Logged
@@ -31,7 +36,7 @@ pub record HasClosed (z : Settings) (k : KeeperView) (log : List LogItem) (last 
 pub record IsGoneFrom (z : Settings) (g : State) (last : List ℕ) (n : ℕ) : Type 0 where
   pub slotless : (t : ℕ) → occupant_of g t ≡ Some n → ⊥
   pub unheld : IsUnheld (picture g) n
-  pub unlisted : (t : ℕ) → t < z.slots → slice_index last (index (live_of t)) ≡ n → ⊥
+  pub unlisted : (t : ℕ) → t < z.slots → slice_index last (index z (live_of t)) ≡ n → ⊥
 
 -- a list of events leads from the opening to the last words: each was made, with its reply, by the seat at its place
 pub record EndsRun (z : Settings) (k : KeeperView) (log : List LogItem) (last : List ℕ) : Type 0 where
@@ -40,7 +45,7 @@ pub record EndsRun (z : Settings) (k : KeeperView) (log : List LogItem) (last : 
   pub are : events_of acts ≡ log_of_events z events
   pub all : length acts ≡ length events
   -- the words are those of the state that the events lead to
-  pub words : Agrees last (after (opening z) events)
+  pub words : Agrees z last (after (opening z) events)
   -- it has the core invariant, a run of the model reaches its picture, and all laws of the protocol hold of it
   pub holds : Holds (after (opening z) events)
   pub modelled : IsModelRun (HasConfirm events) empty_model (picture (after (opening z) events))

@@ -31,7 +31,7 @@ pub record RunsLawfully (z : Settings) (s : Table ℕ View) : Type 0 where
   pub seat : ℕ → ℕ
   -- the words and the views of all seats show the state
   pub settings : (after (opening z) events).settings ≡ z
-  pub words : Agrees s.words (after (opening z) events)
+  pub words : Agrees z s.words (after (opening z) events)
   pub shows : ShowsViews (after (opening z) events) seat s.views
   -- it has the core invariant, and a CPU without a seat has made no step
   pub good : Good (after (opening z) events)
@@ -107,16 +107,16 @@ DrainedIsFree = (z : Settings) (s : Table ℕ View) (i t : ℕ) (k : KeeperView)
     → (drained : IsDrained k t) → IsFree z s k.history drained.retired.0
 
 -- what the mark m of one CPU at the slot t of e tells: of its view, and of its own words for the slot
-pub record MarkTells (words : List ℕ) (h : List Change) (t : ℕ) (e : Entry) (m : Mark) (x : CpuView) : Type 0 where
+pub record MarkTells (z : Settings) (words : List ℕ) (h : List Change) (t : ℕ) (e : Entry) (m : Mark) (x : CpuView) : Type 0 where
   pub passed : m.passed ≡ true → SectionMayHold h e x → ⊥
   -- the passive word counts what the CPU is trying there, and no reference
-  pub clear : m.clear ≡ true → (m.passed ≡ true) × (references_to e.number x.references ≡ 0) × (slice_index words (index (passive_of x.id t)) ≡ trying_in t x.hand)
-  pub collected : m.collected ≡ true → (m.clear ≡ true) × (slice_index words (index (count_of x.id t)) ≡ 0)
+  pub clear : m.clear ≡ true → (m.passed ≡ true) × (references_to e.number x.references ≡ 0) × (slice_index words (index z (passive_of x.id t)) ≡ trying_in t x.hand)
+  pub collected : m.collected ≡ true → (m.clear ≡ true) × (slice_index words (index z (count_of x.id t)) ≡ 0)
 
 -- each mark of a retired entry's slot is so of its CPU
 abbrev pub MarksAreHonest : Type 0
 MarksAreHonest = (z : Settings) (s : Table ℕ View) (i j t : ℕ) (k : KeeperView) (x : CpuView) (e : Entry) → Ruled z s → get_elem? s.views i ≡ some (Keeper k) → get_elem? s.views j ≡ some (Cpu x)
-    → slot_at k.slots t ≡ Retired e → MarkTells s.words k.history t e (mark_at k.marks t x.id) x
+    → slot_at k.slots t ≡ Retired e → MarkTells z s.words k.history t e (mark_at k.marks t x.id) x
 
 -- what a CPU found last its open section may hold
 abbrev pub FoundIsHeld : Type 0

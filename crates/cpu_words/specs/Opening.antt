@@ -3,14 +3,13 @@ use Rattle.std.specs.Prelude.{◌≡◌, ℕ, ◌+◌, ◌<◌, List, [], length
 use mathlib.Core.Option.{some}
 use lib.ListN.{get_elem?}
 use Rattle.atomic_table.specs.Seated.{TableId}
-use Rattle.cpu_words.specs.Types.{Settings, MOST_SLOTS, Rest}
+use Rattle.cpu_words.specs.Types.{Settings, Rest}
 use Rattle.registry_values.specs.Common.{bias}
 use Rattle.cpu_words.specs.declared.view.CpuView.{CpuView}
 use Rattle.cpu_words.specs.declared.view.KeeperView.{KeeperView}
 use Rattle.cpu_words.specs.declared.view.View.{View}
 use Rattle.cpu_words.specs.declared.view.View.TheVariants.{Keeper, Cpu}
-use Rattle.cpu_words.specs.declared.layout.TheConstants.{TOTALS, WORDS}
-use Rattle.cpu_words.specs.Spots.{total_of, index}
+use Rattle.cpu_words.specs.Spots.{total_of, index, words_of}
 use Rattle.cpu_words.specs.Views.{Seated, new_keeper, new_cpu, keeper_of}
 
 -- the keeper is at rest, and a CPU has no seat yet
@@ -31,10 +30,10 @@ abbrev pub next_seat : View → View
 next_seat v = Cpu (new_cpu (keeper_of v).settings (keeper_of v).seated)
 
 -- all words are 0 but the totals, which are the bias
-pub record AreOpening (words : List ℕ) : Type 0 where
-  pub size : length words ≡ WORDS
-  pub unused : (i : ℕ) → i < TOTALS → slice_index words i ≡ 0
-  pub totals : (t : ℕ) → t < MOST_SLOTS → slice_index words (index (total_of t)) ≡ bias
+pub record AreOpening (z : Settings) (words : List ℕ) : Type 0 where
+  pub size : length words ≡ words_of z
+  pub unused : (i : ℕ) → i < words_of z → ((t : ℕ) → t < z.slots → index z (total_of t) ≡ i → ⊥) → slice_index words i ≡ 0
+  pub totals : (t : ℕ) → t < z.slots → slice_index words (index z (total_of t)) ≡ bias
 
 -- the seat that CPU n gets, which did nothing and heard nothing
 abbrev pub cpu_seat : TableId → Settings → ℕ → Seated CpuView

@@ -1,7 +1,7 @@
 -- Passive references by a CPU's seat: where it may make the step, and what changes in its view.
-use Rattle.std.specs.Prelude.{◌≡◌, ◌⊎◌, ℕ, ◌<◌, ◌∷◌, Some, true}
+use Rattle.std.specs.Prelude.{◌≡◌, ◌⊎◌, ℕ, ◌+◌, ◌*◌, ◌<◌, ◌∷◌, Some, true}
 use Rattle.std.specs.List.{Contains}
-use Rattle.cpu_words.specs.Types.{MOST_SLOTS, Entry, Event, PassiveAdd, PassiveSub, LoadRecord, Passive, Word}
+use Rattle.cpu_words.specs.Types.{MOST_SLOTS, Settings, Entry, Event, PassiveAdd, PassiveSub, LoadRecord, Passive, Word}
 use Rattle.registry_values.specs.Names.{are_name_words}
 use Rattle.protocol.specs.Common.{IsAttached, word, words_of}
 use Rattle.cpu_words.specs.declared.view.CpuView.{CpuView}
@@ -9,7 +9,8 @@ use Rattle.cpu_words.specs.declared.view.View.TheVariants.{Cpu}
 use Rattle.cpu_words.specs.Views.{references_to, without}
 use Rattle.cpu_words.specs.Steps.{Makes}
 use Rattle.cpu_words.specs.Sections.{IsIdle}
-use Rattle.cpu_words.specs.Spots.{passive_of, record_of, index}
+use Rattle.cpu_words.specs.Spots.{passive_of, index}
+use Rattle.cpu_words.specs.declared.layout.TheConstants.{RECORDS, STRIDE}
 
 -- the entry has this slot and this number
 pub record IsAt (e : Entry) (t n : ℕ) : Type 0 where
@@ -53,14 +54,14 @@ IsAloneAt x t n = (f : Entry) → Contains x.references f → f.slot ≡ t → f
 
 -- What the inner steps are told: of the event and the word's place
 
-abbrev pub tells_added : Event → ℕ → CpuView → ℕ → CpuView → Type 0
-tells_added event i x m y = Makes event (Word m) (Cpu x) (Cpu y)
-    × ((c t n : ℕ) → event ≡ PassiveAdd c n → i ≡ index (passive_of c t) → HasAdded x t n y × (t < MOST_SLOTS) × (m ≡ references_to n x.references) × IsAloneAt x t n)
+abbrev pub tells_added : Settings → Event → ℕ → CpuView → ℕ → CpuView → Type 0
+tells_added z event i x m y = Makes event (Word m) (Cpu x) (Cpu y)
+    × ((c t n : ℕ) → event ≡ PassiveAdd c n → i ≡ index z (passive_of c t) → HasAdded x t n y × (t < MOST_SLOTS) × (m ≡ references_to n x.references) × IsAloneAt x t n)
 
-abbrev pub tells_subtracted : Event → ℕ → CpuView → ℕ → CpuView → Type 0
-tells_subtracted event i x m y = Makes event (Word m) (Cpu x) (Cpu y)
-    × ((c t n : ℕ) → event ≡ PassiveSub c n → i ≡ index (passive_of c t) → HasSubtracted x n y × (m ≡ references_to n x.references) × IsAloneAt x t n)
+abbrev pub tells_subtracted : Settings → Event → ℕ → CpuView → ℕ → CpuView → Type 0
+tells_subtracted z event i x m y = Makes event (Word m) (Cpu x) (Cpu y)
+    × ((c t n : ℕ) → event ≡ PassiveSub c n → i ≡ index z (passive_of c t) → HasSubtracted x n y × (m ≡ references_to n x.references) × IsAloneAt x t n)
 
 abbrev pub tells_passive : Event → ℕ → CpuView → ℕ → CpuView → Type 0
 tells_passive event i x m y = Makes event (Word m) (Cpu x) (Cpu y)
-    × (y ≡ x) × ((c t n k : ℕ) → event ≡ LoadRecord (Passive c n k) → i ≡ index (record_of t k) → IsWordOf x t n k m × IsAloneAt x t n × IsNamed x t n)
+    × (y ≡ x) × ((c t n k : ℕ) → event ≡ LoadRecord (Passive c n k) → i ≡ RECORDS + STRIDE * t + k → IsWordOf x t n k m × IsAloneAt x t n × IsNamed x t n)

@@ -1,10 +1,10 @@
 -- Publish and Unpublish by the keeper's seat: one store of a link each, which the keeper knows from the live numbers of its own view.
-use Rattle.std.specs.Prelude.{◌≡◌, ℕ, suc, ◌+◌, ◌<◌, ◌≤◌, true, false, List, length, replicate, slice_index_or, slice_set, Option, Some, None}
-use Rattle.cpu_words.specs.Types.{MOST_CPUS, MOST_SLOTS, Entry, Attach, Detach, Event, Publish, Unpublish, Slot, Vacant, Live, Retired, Rest, Snapshots}
+use Rattle.std.specs.Prelude.{◌≡◌, ℕ, suc, ◌+◌, ◌*◌, ◌<◌, ◌≤◌, true, false, List, length, replicate, slice_index_or, slice_set, Option, Some, None}
+use Rattle.cpu_words.specs.Types.{MOST_CPUS, Entry, Attach, Detach, Event, Publish, Unpublish, Slot, Vacant, Live, Retired, Rest, Snapshots}
 use Rattle.protocol.specs.Common.{after_change, row_at, count_at, total_at, live_at, kept_at, entry_of, keeps_rightly}
 use Rattle.registry_values.specs.Common.{key_of, slot_at, is_taken, live_count, bias, no_mark}
 use Rattle.cpu_words.specs.declared.view.KeeperView.{KeeperView}
-use Rattle.cpu_words.specs.Spots.{head_word, next_of, index}
+use Rattle.cpu_words.specs.declared.layout.TheConstants.{HEAD, NEXTS, STRIDE}
 
 -- the link x leads to the greatest live number below n, or to the end where there is none
 pub data LeadsBelow (slots : List Slot) (n : ℕ) : ℕ → Type 0 where
@@ -45,13 +45,13 @@ PublishTold e k l = ⊥
 
 -- the link of the entry before, or the head where there is none
 abbrev pub link_index : Option ℕ → ℕ
-link_index None = index head_word
-link_index (Some q) = index (next_of q)
+link_index None = HEAD
+link_index (Some q) = NEXTS + STRIDE * q
 
--- the slot is one that a table can have
-abbrev pub IsLinkPlace : Option ℕ → Type 0
-IsLinkPlace None = Unit {0}
-IsLinkPlace (Some q) = q < MOST_SLOTS
+-- the slot is one of a table with so many
+abbrev pub IsLinkPlace : ℕ → Option ℕ → Type 0
+IsLinkPlace slots None = Unit {0}
+IsLinkPlace slots (Some q) = q < slots
 
 -- the slot t is live, p is the slot before it, and the link v leads to what is below it; and its live word is 0
 pub record MayUnpublish (k : KeeperView) (t : ℕ) (p : Option ℕ) (v : ℕ) : Type 0 where

@@ -7,24 +7,24 @@ use Rattle.cpu_words.specs.Types.{Entry, Settings, Event, LoadRecord, JoinRef, J
 use Rattle.protocol.specs.Common.{Outcome, number_standing, step, Run, empty_run, run_with_event, State, opening, section_at, depth_at, seen_at, passive_at, count_at, local_at, IsIn, one_if}
 use Rattle.protocol.specs.Common.{standing_of, Holds, after}
 use Rattle.registry_values.specs.Common.{bias, slot_at}
-use Rattle.cpu_words.specs.Spots.{Spot, index, IsSpot, word_at}
+use Rattle.cpu_words.specs.Spots.{Spot, index, IsSpot, word_at, words_of}
 use Rattle.cpu_words.specs.Views.{Shown, is_to}
 use Rattle.cpu_words.specs.declared.view.CpuView.{CpuView}
 use Rattle.cpu_words.specs.declared.view.KeeperView.{KeeperView}
 use Rattle.cpu_words.specs.declared.view.LogItem.{LogItem}
 use Rattle.cpu_words.specs.declared.view.View.{View}
 use Rattle.cpu_words.specs.declared.view.View.TheVariants.{Keeper, Cpu, Reference, Note, Spent}
-use Rattle.cpu_words.specs.declared.layout.TheConstants.{TOTALS, WORDS}
 
--- none of the words is at that place, which lies before the totals
+-- none of the words is at that place
 abbrev pub IsUnused : Settings → ℕ → Type 0
-IsUnused z i = (i < TOTALS) × ((p : Spot) → IsSpot z p → index p ≡ i → ⊥)
+IsUnused z i = (i < words_of z) × ((p : Spot) → IsSpot z p → index z p ≡ i → ⊥)
 
--- the table has the words of the core, and 0 at each other place before the totals: no step writes anything else there
-pub record Agrees (words : List ℕ) (g : State) : Type 0 where
-  pub size : length words ≡ WORDS
-  pub at : (p : Spot) → IsSpot g.settings p → slice_index words (index p) ≡ word_at g p
-  pub unused : (i : ℕ) → IsUnused g.settings i → slice_index words i ≡ 0
+-- the table has the words of the core, and 0 at each other place: no step writes anything else there
+pub record Agrees (z : Settings) (words : List ℕ) (g : State) : Type 0 where
+  pub settings : g.settings ≡ z
+  pub size : length words ≡ words_of z
+  pub at : (p : Spot) → IsSpot g.settings p → slice_index words (index z p) ≡ word_at g p
+  pub unused : (i : ℕ) → IsUnused z i → slice_index words i ≡ 0
 
 -- the keeper has the first seat, and each CPU one
 abbrev pub Sits : (ℕ → ℕ) → ℕ → View → Type 0
@@ -139,7 +139,7 @@ pub record Ruled (z : Settings) (s : Table ℕ View) : Type 0 where
   pub settings : g.settings ≡ z
   pub good : Good g
   pub reached : Reached z g
-  pub words : Agrees s.words g
+  pub words : Agrees z s.words g
   pub shows : ShowsViews g seat s.views
 
 -- the table t is shown by a run that goes on with just these events and replies, and no CPU's seat is another

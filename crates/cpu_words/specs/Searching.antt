@@ -1,5 +1,5 @@
 -- Searches by a CPU's seat: from the head along the links, and in each slot over its record words.
-use Rattle.std.specs.Prelude.{◌≡◌, ℕ, zero, suc, ◌<◌, ◌≤◌, List, [], ◌++◌, length, Option, Some, None, true}
+use Rattle.std.specs.Prelude.{◌≡◌, ℕ, zero, suc, ◌+◌, ◌*◌, ◌<◌, ◌≤◌, List, [], ◌++◌, length, Option, Some, None, true}
 use mathlib.Core.List.{IsPrefix}
 use Rattle.cpu_words.specs.Types.{Name, Kind, Entry, Change, Settings, MOST_SLOTS, Event, Seek, LoadLink, Reply, Done, Word, Found, Missed, Key, SearchPlace, AtHead, AtNext, AtNumber, AtKind, AtHigh}
 use Rattle.cpu_words.specs.Types.{AtLow, AtValue, RecordWords, Search, Loaded, On, Over}
@@ -11,7 +11,7 @@ use Rattle.cpu_words.specs.declared.view.LogItem.{LogItem}
 use Rattle.cpu_words.specs.Rule.{did}
 use Rattle.cpu_words.specs.Steps.{Makes}
 use Rattle.cpu_words.specs.Sections.{IsIdle}
-use Rattle.cpu_words.specs.Spots.{index, record_of}
+use Rattle.cpu_words.specs.declared.layout.TheConstants.{RECORDS, STRIDE}
 
 -- Links
 
@@ -165,4 +165,4 @@ IsValueThere x t n = (q : Search) (e : Entry) → x.search ≡ Some q → MaySta
 
 -- what the inner step is told: of the event and the word's place
 abbrev pub tells_compared : Event → ℕ → CpuView → ℕ → CpuView → Type 0
-tells_compared event i x n y = Makes event (Word n) (Cpu x) (Cpu y) × (y ≡ x) × ((t : ℕ) → i ≡ index (record_of t 4) → IsValueThere x t n)
+tells_compared event i x n y = Makes event (Word n) (Cpu x) (Cpu y) × (y ≡ x) × ((t : ℕ) → i ≡ RECORDS + STRIDE * t + 4 → IsValueThere x t n)

@@ -1,9 +1,8 @@
 -- Where the words lie: which words there are, and the place of each, by the constants of src/layout.rt.
-use Rattle.std.specs.Prelude.{◌≡◌, ℕ, ◌+◌, ◌*◌, ◌<◌, ◌≤◌, ◌⊎◌, IsTrue, slice_index_or, Option, Some, None}
+use Rattle.std.specs.Prelude.{◌≡◌, ℕ, ◌+◌, ◌*◌, ◌<◌, ◌≤◌, ◌⊎◌, slice_index_or, Option, Some, None}
 use Rattle.cpu_words.specs.Types.{Settings}
-use Rattle.registry_values.specs.Common.{are_fit}
 use Rattle.protocol.specs.Common.{State, section_at, row_at, passive_at, count_at, total_at, live_at, word}
-use Rattle.cpu_words.specs.declared.layout.TheConstants.{ROWS, ROW, PASSIVES, COUNTS, HEAD, NEXTS, RECORDS, LIVES, STRIDE, TOTALS}
+use Rattle.cpu_words.specs.declared.layout.TheConstants.{LINE, PASSIVES, APART, HEAD, NEXTS, RECORDS, LIVES, STRIDE, TOTALS}
 
 -- a word of the table: a CPU's section, its passive and count words for each slot, the head, and a slot's link, record words, live word and total
 pub data Spot : Type 0 where
@@ -16,16 +15,30 @@ pub data Spot : Type 0 where
   record_of : ℕ → ℕ → Spot
   total_of : ℕ → Spot
 
--- A CPU's words lie side by side in its row; the shared ones lie behind the rows, a slot's link, record words and live word side by side, 8 words from the next slot's, the totals last.
-abbrev pub index : Spot → ℕ
-index (section_of c) = ROWS + ROW * c
-index (passive_of c t) = ROWS + ROW * c + PASSIVES + t
-index (count_of c t) = ROWS + ROW * c + COUNTS + t
-index head_word = HEAD
-index (live_of t) = LIVES + STRIDE * t
-index (next_of t) = NEXTS + STRIDE * t
-index (record_of t k) = RECORDS + STRIDE * t + k
-index (total_of t) = TOTALS + t
+-- The shared words come first, a slot's link, record words, live word and total on one line of 8 words. Behind them lie the rows, a CPU's words side by side.
+
+-- the row of CPU 0, by how many slots there are
+abbrev pub rows_from : ℕ → ℕ
+rows_from slots = NEXTS + STRIDE * slots + LINE
+
+-- from a CPU's row to the next one
+abbrev pub stride_of : ℕ → ℕ
+stride_of slots = 2 * slots + APART
+
+-- how many words a table has
+abbrev pub words_of : Settings → ℕ
+words_of z = rows_from z.slots + z.cpus * stride_of z.slots
+
+-- the place of a word
+abbrev pub index : Settings → Spot → ℕ
+index z (section_of c) = rows_from z.slots + c * stride_of z.slots
+index z (passive_of c t) = rows_from z.slots + c * stride_of z.slots + PASSIVES + t
+index z (count_of c t) = rows_from z.slots + c * stride_of z.slots + PASSIVES + z.slots + t
+index z head_word = HEAD
+index z (live_of t) = LIVES + STRIDE * t
+index z (next_of t) = NEXTS + STRIDE * t
+index z (record_of t k) = RECORDS + STRIDE * t + k
+index z (total_of t) = TOTALS + STRIDE * t
 
 -- the settings have such a word
 abbrev pub IsSpot : Settings → Spot → Type 0
@@ -64,14 +77,18 @@ owner (total_of t) = None
 abbrev pub AreApart : ℕ → ℕ → Type 0
 AreApart i j = (i + 9 ≤ j) ⊎ (j + 9 ≤ i)
 
--- The words of two CPUs, and a CPU's and the shared ones, are so apart, for all settings that are fit.
+-- The words of two CPUs, and a CPU's and the shared ones, are so apart.
 abbrev pub LinesApart : Type 0
-LinesApart = (z : Settings) → IsTrue (are_fit z) → (p q : Spot) → IsSpot z p → IsSpot z q → (owner p ≡ owner q → ⊥) → AreApart (index p) (index q)
+LinesApart = (z : Settings) (p q : Spot) → IsSpot z p → IsSpot z q → (owner p ≡ owner q → ⊥) → AreApart (index z p) (index z q)
 
 -- None of these is among the first sixteen words, two lines of eight.
 abbrev pub FirstWordsFree : Type 0
-FirstWordsFree = (z : Settings) → IsTrue (are_fit z) → (p : Spot) → IsSpot z p → 16 ≤ index p
+FirstWordsFree = (z : Settings) (p : Spot) → IsSpot z p → 16 ≤ index z p
 
 -- Two different words are at different places.
 abbrev pub OnePlace : Type 0
-OnePlace = (z : Settings) → IsTrue (are_fit z) → (p q : Spot) → IsSpot z p → IsSpot z q → (p ≡ q → ⊥) → index p ≡ index q → ⊥
+OnePlace = (z : Settings) (p q : Spot) → IsSpot z p → IsSpot z q → (p ≡ q → ⊥) → index z p ≡ index z q → ⊥
+
+-- Each is a word of the table.
+abbrev pub AllBelow : Type 0
+AllBelow = (z : Settings) (p : Spot) → IsSpot z p → index z p < words_of z

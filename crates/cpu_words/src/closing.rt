@@ -8,25 +8,27 @@ use crate::law::Words;
 use crate::layout::live_place;
 use crate::seat::KeeperSeat;
 use atomic_table::Closed;
-use registry_values::MOST_SLOTS;
+use registry_values::Settings;
 use std::alloc::Global;
 use std::marker::Model;
 
-/// The words of a registry that has ended, as the last step of any seat left them. To a contract they are their list.
+/// The words of a registry that has ended, as the last step of any seat left them. To a contract they are their list, and its settings.
 pub struct LastWords {
     closed: Closed<u8, Global>,
+    settings: Settings,
 }
 
 impl Model for LastWords {
-    ghost use Rattle.std.specs.Prelude.{◌≡◌, ℕ, List};
+    ghost use Rattle.std.specs.Prelude.{◌≡◌};
     ghost use Rattle.core.specs.Mem.Slots.{slots_items, slots_len, IsFull};
-    ghost use Rattle.cpu_words.specs.declared.layout.TheConstants.{WORDS};
+    ghost use Rattle.cpu_words.specs.Ended.{LastView};
+    ghost use Rattle.cpu_words.specs.Spots.{words_of};
 
-    ghost Value = { List ℕ };
+    ghost Value = { LastView };
 
-    ghost view = { λ w. slots_items w.closed.words };
+    ghost view = { λ w. record { words = slots_items w.closed.words; settings = w.settings } };
 
-    ghost invariant = { λ w. IsFull w.closed.words × (slots_len w.closed.words ≡ WORDS) × (slots_len w.closed.slots ≡ 0) };
+    ghost invariant = { λ w. IsFull w.closed.words × (slots_len w.closed.words ≡ words_of w.settings) × (slots_len w.closed.slots ≡ 0) };
 }
 
 impl Words {
@@ -35,12 +37,14 @@ impl Words {
     /// of events that led to them, is `ended_run`.
     pub fn close(self, keeper: KeeperSeat) -> LastWords
         requires table { keeper.table ≡ self.table }
-        ensures ended { HasClosed self.settings keeper.view keeper.log result }
+        ensures settings { result.settings ≡ self.settings }
+        ensures ended { HasClosed self.settings keeper.view keeper.log result.words }
     {
-        let Words { table, settings: _ } = self;
+        let Words { table, settings } = self;
         let KeeperSeat { token } = keeper;
         LastWords {
             closed: table.close_with(token),
+            settings,
         }
     }
 }
@@ -48,8 +52,8 @@ impl Words {
 impl LastWords {
     /// The live word of a slot: 0, or the number of the slot's live entry.
     pub fn live(&self, slot: u8) -> u64
-        requires { slot < MOST_SLOTS }
-        ensures { result ≡ slice_index self.now (index (live_of slot)) }
+        requires slot { slot < self.now.settings.slots }
+        ensures { result ≡ slice_index self.now.words (index self.now.settings (live_of slot)) }
     {
         self.closed.word(live_place(slot))
     }
@@ -57,7 +61,7 @@ impl LastWords {
 
 impl Drop for LastWords {
     fn drop(self) {
-        let LastWords { closed } = self;
+        let LastWords { closed, settings: _ } = self;
         closed.free();
     }
 }

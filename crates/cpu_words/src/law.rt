@@ -33,14 +33,14 @@ pub struct Words {
 
 impl Model for Words {
     ghost use Rattle.std.specs.Prelude.{◌≡◌};
-    ghost use Rattle.cpu_words.specs.declared.layout.TheConstants.{WORDS};
+    ghost use Rattle.cpu_words.specs.Spots.{words_of};
     ghost use Rattle.cpu_words.specs.Views.{Named};
 
     ghost Value = { Named };
 
     ghost view = { λ w. record { table = w.table.shared.table_id; settings = w.settings } };
 
-    ghost invariant = { λ w. (w.settings ≡ w.table.shared.key) × (w.table.shared.table_id.words ≡ WORDS) × (w.table.shared.table_id.slots ≡ 0) };
+    ghost invariant = { λ w. (w.settings ≡ w.table.shared.key) × (w.table.shared.table_id.words ≡ words_of w.settings) × (w.table.shared.table_id.slots ≡ 0) };
 }
 
 impl Words {

@@ -1,44 +1,29 @@
-//! The place of each word of the table. Code, specs (`index` in specs/Spots.antt) and proofs speak of places by what is named here.
+//! The place of each word of the table, by the settings.
 //!
 //! ```text
 //! place                              word                                              written by
 //! 0 to 15                            none                                              no one, once the table is made
-//! ROWS + ROW * c                     section of CPU c                                  CPU c
-//! ROWS + ROW * c + PASSIVES + t      passive references of CPU c to slot t's entry     CPU c
-//! ROWS + ROW * c + COUNTS + t        count of CPU c for slot t                         CPU c, the keeper
 //! HEAD                               slot of the newest live entry plus 1, or 0        the keeper
 //! NEXTS + STRIDE * t                 slot of the next older entry plus 1, or 0         the keeper
 //! RECORDS + STRIDE * t + k           word k of the record in slot t                    the keeper
 //! LIVES + STRIDE * t                 number of slot t's live entry, or 0               the keeper
-//! TOTALS + t                         total of slot t                                   the keeper
+//! TOTALS + STRIDE * t                total of slot t                                   the keeper
+//! rows + row * c                     section of CPU c                                  CPU c
+//! rows + row * c + PASSIVES + t      passive references of CPU c to slot t's entry     CPU c
+//! rows + row * c + PASSIVES + s + t  count of CPU c for slot t                         CPU c, the keeper
 //! ```
-//!
-//! CPUs c and slots t count from 0. A table has room for the most CPUs and slots that settings may have: no place depends on them. What lies
-//! between these words stays 0 (`unused` of `Agrees`, specs/Rule.antt).
 
-ghost use Rattle.std.specs.Prelude.{◌≡◌, ◌<◌, ◌≤◌, ◌-◌};
-ghost use Rattle.cpu_words.specs.Spots.{section_of, passive_of, count_of, next_of, record_of, live_of, total_of, index, LinesApart, OnePlace, FirstWordsFree};
+ghost use Rattle.std.specs.Prelude.{◌≡◌, ◌<◌, ◌≤◌, ◌+◌, ◌*◌, ◌-◌};
+ghost use Rattle.cpu_words.specs.Spots.{rows_from, stride_of, words_of, section_of, passive_of, count_of, index, LinesApart, OnePlace, FirstWordsFree, AllBelow};
 
-use registry_values::{MOST_CPUS, MOST_SLOTS};
+use crate::law::Words;
+use registry_values::{MOST_SLOTS, Settings};
 
 /// The words of a line of 64 bytes.
 const LINE: usize = 8;
 
-/// The row of CPU 0. Whoever cuts a seat in two or joins two loads word 0, so that its line is in many caches: none of the words lies on
-/// it, nor on the next one, which a processor may fetch with it.
-const ROWS: usize = 2 * LINE;
-
-/// In a row, the passive word of slot 0.
-const PASSIVES: usize = 1;
-
-/// In a row, the count word of slot 0.
-const COUNTS: usize = PASSIVES + MOST_SLOTS;
-
-/// From a CPU's row to the next one: its words, and 15 that no one writes.
-const ROW: usize = COUNTS + MOST_SLOTS + 15;
-
-/// The head of the list: a line behind the rows, and a line before the links.
-pub(crate) const HEAD: usize = ROWS + ROW * MOST_CPUS + LINE;
+/// The head of the list: behind two lines on which no word is.
+pub(crate) const HEAD: usize = 2 * LINE;
 
 /// The link of slot 0.
 const NEXTS: usize = HEAD + LINE;
@@ -47,83 +32,116 @@ const NEXTS: usize = HEAD + LINE;
 const RECORDS: usize = NEXTS + 1;
 
 /// The live word of slot 0, on the line of its link and its record.
-const LIVES: usize = RECORDS + 5;
-
-/// From a slot's link, record and live word to the next one's: 7 words, and 1 that no one writes.
-const STRIDE: usize = LINE;
+const LIVES: usize = NEXTS + 6;
 
 /// The total of slot 0.
-pub(crate) const TOTALS: usize = NEXTS + STRIDE * MOST_SLOTS;
+pub(crate) const TOTALS: usize = NEXTS + 7;
+
+/// From a slot's words to the next one's.
+pub(crate) const STRIDE: usize = LINE;
+
+/// In a row, the passive word of slot 0.
+const PASSIVES: usize = 1;
+
+/// In a row, the words that no one writes, and the section's.
+const APART: usize = 2 * LINE;
+
+/// The row of CPU 0: a line behind the slots.
+fn rows_place(slots: u8) -> usize
+    ensures { result ≡ rows_from slots }
+{
+    NEXTS + STRIDE * slots as usize + LINE
+}
+
+/// From a CPU's row to the next one.
+fn row_size(slots: u8) -> usize
+    ensures { result ≡ stride_of slots }
+{
+    2 * slots as usize + APART
+}
 
 /// How many words a table has.
-pub(crate) const WORDS: usize = TOTALS + MOST_SLOTS;
+pub(crate) fn words_of(settings: Settings) -> usize
+    ensures { result ≡ words_of settings }
+{
+    rows_place(settings.slots) + settings.cpus as usize * row_size(settings.slots)
+}
 
 /// The place of a CPU's section word.
-pub(crate) fn section_place(cpu: u8) -> usize
-    ensures place { result ≡ index (section_of cpu) }
+pub(crate) fn section_place(words: &Words, cpu: u8) -> usize
+    requires cpu { cpu < words.now.settings.cpus }
+    ensures place { result ≡ index words.now.settings (section_of cpu) }
+    ensures below { result < words_of words.now.settings }
 {
-    ROWS + ROW * cpu as usize
+    let slots = words.settings().slots;
+    rows_place(slots) + cpu as usize * row_size(slots)
 }
 
 /// The place of a CPU's passive word for a slot.
-pub(crate) fn passive_place(cpu: u8, slot: u8) -> usize
-    ensures place { result ≡ index (passive_of cpu slot) }
+pub(crate) fn passive_place(words: &Words, cpu: u8, slot: u8) -> usize
+    requires word { (cpu < words.now.settings.cpus) × (slot < words.now.settings.slots) }
+    ensures place { result ≡ index words.now.settings (passive_of cpu slot) }
+    ensures below { result < words_of words.now.settings }
 {
-    ROWS + ROW * cpu as usize + PASSIVES + slot as usize
+    let slots = words.settings().slots;
+    rows_place(slots) + cpu as usize * row_size(slots) + PASSIVES + slot as usize
 }
 
 /// The place of a CPU's count word for a slot.
-pub(crate) fn count_place(cpu: u8, slot: u8) -> usize
-    ensures place { result ≡ index (count_of cpu slot) }
+pub(crate) fn count_place(words: &Words, cpu: u8, slot: u8) -> usize
+    requires word { (cpu < words.now.settings.cpus) × (slot < words.now.settings.slots) }
+    ensures place { result ≡ index words.now.settings (count_of cpu slot) }
+    ensures below { result < words_of words.now.settings }
 {
-    ROWS + ROW * cpu as usize + COUNTS + slot as usize
+    section_place(words, cpu) + PASSIVES + words.settings().slots as usize + slot as usize
 }
 
 /// The place of a slot's link.
 pub(crate) fn next_place(slot: u8) -> usize
-    ensures place { result ≡ index (next_of slot) }
+    ensures place { result ≡ NEXTS + STRIDE * slot }
 {
     NEXTS + STRIDE * slot as usize
 }
 
-/// The place of the link of the slot that `link` leads to, `link - 1`. By the link, so that no subtraction stands before the load (`load_link`).
+/// The place of the link of the slot that `link` leads to, `link - 1`.
 pub(crate) fn linked_place(link: u64) -> usize
     requires slot { (0 < link) × (link ≤ MOST_SLOTS) }
-    ensures place { result ≡ index (next_of (link - 1)) }
+    ensures place { result ≡ NEXTS + STRIDE * (link - 1) }
 {
     NEXTS - STRIDE + STRIDE * link as usize
 }
 
-/// The place of word `k` of a slot's record. The slot is as wide as an address, as a search has it.
+/// The place of word `k` of a slot's record.
 pub(crate) fn record_place(slot: usize, k: u8) -> usize
-    requires slot { slot < MOST_SLOTS }
-    ensures place { result ≡ index (record_of slot k) }
+    requires slot { slot < 256 }
+    ensures place { result ≡ RECORDS + STRIDE * slot + k }
 {
     RECORDS + STRIDE * slot + k as usize
 }
 
 /// The place of a slot's live word.
 pub(crate) fn live_place(slot: u8) -> usize
-    ensures place { result ≡ index (live_of slot) }
+    ensures place { result ≡ LIVES + STRIDE * slot }
 {
     LIVES + STRIDE * slot as usize
 }
 
 /// The place of a slot's total.
 pub(crate) fn total_place(slot: u8) -> usize
-    ensures place { result ≡ index (total_of slot) }
+    ensures place { result ≡ TOTALS + STRIDE * slot }
 {
-    TOTALS + slot as usize
+    TOTALS + STRIDE * slot as usize
 }
 
-/// Theorem, no effect at run time: where the words are, for all settings that are fit.
+/// Theorem, no effect at run time: where the words are.
 ///
-/// - `lines_apart`: a CPU's words are at least nine words from another CPU's and from the shared ones. So they share no line of 64 bytes
-///   with them, wherever the block begins.
+/// - `lines_apart`: a CPU's words share no line of 64 bytes with another CPU's or with the shared ones, wherever the block begins.
 /// - `one_place`: two different words are at different places.
-/// - `first_words_free`: none is among the first sixteen. Word 0 is loaded as a seat is cut in two or two are joined.
+/// - `first_words_free`: none is among the first sixteen.
+/// - `all_below`: each is a word of the table.
 pub fn layout_law()
     ensures lines_apart { LinesApart }
     ensures one_place { OnePlace }
     ensures first_words_free { FirstWordsFree }
+    ensures all_below { AllBelow }
 {}

@@ -6,11 +6,11 @@ ghost use Rattle.cpu_words.specs.Views.{new_keeper};
 ghost use Rattle.cpu_words.specs.Opening.{AreOpening, AreSeats, keeper_with};
 
 use crate::law::Words;
-use crate::layout::{TOTALS, WORDS};
+use crate::layout::{total_place, words_of};
 use crate::seat::{CpuSeat, KeeperSeat};
 use crate::steps::seat;
 use atomic_table::Table;
-use registry_values::{BIAS, MOST_SLOTS, Refusal, Settings};
+use registry_values::{BIAS, Refusal, Settings};
 use std::alloc::{AllocError, Global};
 
 impl Words {
@@ -46,7 +46,7 @@ impl Words {
         ensures seats { IfOk result (λ made. AreSeats made.0.table settings settings.cpus made.2.items) }
     {
         let mut seats = Vec::with_capacity(alloc, settings.cpus as usize)?;
-        let row = opening_words(alloc)?;
+        let row = opening_words(alloc, settings)?;
         let (table, token) = Table::of_words(alloc, row.as_slice(), &settings)?;
         let words = Words { table, settings };
         let mut keeper = KeeperSeat { token };
@@ -56,12 +56,12 @@ impl Words {
 }
 
 /// The words at the start: all 0 but the totals. They lie on the heap: with many CPUs and slots they are too many for the stack.
-fn opening_words(alloc: Global) -> Result<Vec<u64>, AllocError>
-    ensures { IfOk result (λ words. AreOpening words.items) }
+fn opening_words(alloc: Global, settings: Settings) -> Result<Vec<u64>, AllocError>
+    ensures { IfOk result (λ words. AreOpening settings words.items) }
 {
-    let mut words = vec![in alloc; 0; WORDS]?;
-    for t in 0..MOST_SLOTS {
-        words[TOTALS + t] = BIAS;
+    let mut words = vec![in alloc; 0; words_of(settings)]?;
+    for t in 0..settings.slots {
+        words[total_place(t)] = BIAS;
     }
     Ok(words)
 }

@@ -1,6 +1,6 @@
 //! Acquiring a local reference (localcount(9)).
 
-ghost use Rattle.std.specs.Prelude.{◌≡◌, IfOk, IsTrue};
+ghost use Rattle.std.specs.Prelude.{◌≡◌, ◌<◌, IfOk, IsTrue};
 ghost use Rattle.registry_values.specs.Common.{are_fit};
 ghost use Rattle.cpu_words.specs.Common.{AreWordsOf};
 ghost use Rattle.local_count.specs.References.{AnswersAcquireLocal, why_not_acquired_local};
@@ -32,6 +32,7 @@ pub fn acquire_local_on(words: &Words, cpu: &mut PlainCpu) -> Result<PlainRef, R
     requires words { AreWordsOf words.now cpu.old.words.table cpu.old.words.settings }
     ensures acquired { AnswersAcquireLocal cpu.old.cpu cpu.new.cpu result (λ v. v.reference) }
     ensures table { IfOk result (λ v. v.table ≡ cpu.old.words.table) }
+    ensures slot { IfOk result (λ v. v.reference.entry.slot < cpu.old.words.settings.slots) }
     ensures fit { IsTrue (are_fit cpu.old.words.settings) }
     ensures words { cpu.new.words ≡ cpu.old.words }
 {

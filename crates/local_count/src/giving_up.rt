@@ -1,6 +1,6 @@
 //! Giving a local reference up under the interlock (localcount(9)), where its CPU's count word was collected.
 
-ghost use Rattle.std.specs.Prelude.{◌≡◌};
+ghost use Rattle.std.specs.Prelude.{◌≡◌, ◌<◌};
 ghost use Rattle.cpu_words.specs.Common.{AreWordsOf, IsFoundCollected};
 ghost use Rattle.passive_list.specs.Common.{HasGivenUp};
 
@@ -14,7 +14,7 @@ use passive_list::{Keeper, give_up};
 /// keeper's table.
 pub fn release_under(words: &Words, keeper: &mut Keeper, reference: PlainRef)
     requires words { AreWordsOf words.now keeper.old.words.table keeper.old.words.settings }
-    requires reference { reference.table ≡ keeper.old.words.table }
+    requires reference { (reference.table ≡ keeper.old.words.table) × (reference.reference.entry.slot < keeper.old.words.settings.slots) }
     requires collected { IsFoundCollected keeper.old.keeper.slots keeper.old.keeper.view.marks reference.reference }
     ensures change { HasGivenUp keeper.old.keeper reference.reference keeper.new.keeper }
     ensures words { keeper.new.words ≡ keeper.old.words }

@@ -1,6 +1,7 @@
 //! A local reference of a table that a type names.
 
 ghost use Rattle.std.specs.Prelude.{◌≡◌};
+ghost use Rattle.cpu_words.specs.Common.{AreWordsOf};
 
 use crate::plain_ref::PlainRef;
 use cpu_words::{Domain, Words};
@@ -16,7 +17,7 @@ pub struct LocalRef<D: Domain> {
 }
 
 impl<D: Domain> Model for LocalRef<D> {
-    ghost use Rattle.std.specs.Prelude.{◌≡◌, IsTrue};
+    ghost use Rattle.std.specs.Prelude.{◌≡◌, ◌<◌, IsTrue};
     ghost use Rattle.registry_values.specs.Common.{are_fit};
     ghost use Rattle.passive_list.specs.Types.{ReferenceView};
 
@@ -24,7 +25,7 @@ impl<D: Domain> Model for LocalRef<D> {
 
     ghost view = { λ r. r.plain.reference };
 
-    ghost invariant = { λ r. (r.plain.table ≡ D.table) × IsTrue (are_fit D.settings) };
+    ghost invariant = { λ r. (r.plain.table ≡ D.table) × IsTrue (are_fit D.settings) × (r.plain.reference.entry.slot < D.settings.slots) };
 }
 
 impl<D: Domain> LocalRef<D> {
@@ -44,7 +45,7 @@ impl<D: Domain> LocalRef<D> {
 
     /// The record of the reference's entry as it was published, also once the entry is detached: four loads.
     pub fn record(&mut self, words: &Words) -> Record
-        requires words { words.now.table ≡ D.table }
+        requires words { AreWordsOf words.now D.table D.settings }
         ensures same { self.new ≡ self.old }
         ensures value { result ≡ self.old.entry.rec }
     {

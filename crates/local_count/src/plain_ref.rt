@@ -1,6 +1,6 @@
 //! A local reference that names its table by its own seat: a seat, and plain data that agree with what the seat knows.
 
-ghost use Rattle.std.specs.Prelude.{◌≡◌};
+ghost use Rattle.std.specs.Prelude.{◌≡◌, ◌<◌};
 
 use cpu_words::{ReferenceSeat, Words, steps};
 use registry_values::{Kind, Record, record_from};
@@ -52,7 +52,7 @@ impl PlainRef {
 
     /// The record of the reference's entry as it was published, also once the entry is detached: four loads.
     pub fn record(&mut self, words: &Words) -> Record
-        requires words { words.now.table ≡ self.old.table }
+        requires words { (words.now.table ≡ self.old.table) × (self.old.reference.entry.slot < words.now.settings.slots) }
         ensures same { self.new ≡ self.old }
         ensures value { result ≡ self.old.reference.entry.rec }
     {

@@ -1,6 +1,6 @@
 //! Releasing a local reference by a CPU's own count (localcount(9)).
 
-ghost use Rattle.std.specs.Prelude.{◌≡◌, IfOk, IfErr};
+ghost use Rattle.std.specs.Prelude.{◌≡◌, ◌<◌, IfOk, IfErr};
 ghost use Rattle.cpu_words.specs.Common.{AreWordsOf};
 ghost use Rattle.local_count.specs.References.{HasReleased, HasComeBack};
 
@@ -29,14 +29,15 @@ pub fn try_release<D: Domain>(
     }
 }
 
-/// `try_release` on a CPU that names its own table. Condition: the words and the reference are of its table.
+/// `try_release` on a CPU that names its own table. Conditions: the words and the reference are of its table, and so is the slot of the reference's
+/// entry.
 pub fn try_release_on(
     words: &Words,
     cpu: &mut PlainCpu,
     reference: PlainRef,
 ) -> Result<(), PlainRef>
     requires words { AreWordsOf words.now cpu.old.words.table cpu.old.words.settings }
-    requires reference { reference.table ≡ cpu.old.words.table }
+    requires reference { (reference.table ≡ cpu.old.words.table) × (reference.reference.entry.slot < cpu.old.words.settings.slots) }
     ensures ok { IfOk result (λ _. HasReleased cpu.old.cpu reference.reference cpu.new.cpu) }
     ensures back { IfErr result (λ v. HasComeBack cpu.old.cpu reference.reference cpu.new.cpu v.reference) }
     ensures table { IfErr result (λ v. v.table ≡ reference.table) }

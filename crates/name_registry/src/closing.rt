@@ -1,5 +1,6 @@
 //! The end of a registry.
 
+ghost use Rattle.std.specs.Prelude.{◌≡◌};
 ghost use Rattle.name_registry.specs.Closing.{ClosesRun};
 
 use crate::interlock::Interlock;
@@ -15,7 +16,8 @@ impl<D: Domain> Registry<D> {
     /// The contract is the main theorem of a whole run: a list of events leads from the opening to these words, on any schedule,
     /// and all laws of the protocol hold of it. It has all that the CPU knows: an entry that was destroyed for it is gone (`gone`).
     pub fn close(self, cpu: Cpu<D>) -> LastWords
-        ensures { ClosesRun D.settings cpu result }
+        ensures settings { result.settings ≡ D.settings }
+        ensures run { ClosesRun D.settings cpu result.words }
     {
         let Registry { words, interlock } = self;
         let Interlock {

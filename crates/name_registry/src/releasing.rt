@@ -1,6 +1,6 @@
 //! Releasing a local reference, where that must succeed.
 
-ghost use Rattle.std.specs.Prelude.{◌≡◌};
+ghost use Rattle.std.specs.Prelude.{◌≡◌, ◌<◌};
 ghost use Rattle.cpu_words.specs.Common.{AreWordsOf, IsFoundCollected};
 ghost use Rattle.name_registry.specs.Meeting.{KeepsWords};
 ghost use Rattle.name_registry.specs.Releasing.{HasGivenUpFor, IsLetGo, IsLetGoAndHeard, KnowsGivenUp};
@@ -46,7 +46,7 @@ impl<D: Domain> Registry<D> {
 pub fn release_for(words: &Words, keeper: &mut Keeper, cpu: &mut PlainCpu, reference: PlainRef)
     requires words { AreWordsOf words.now keeper.old.words.table keeper.old.words.settings }
     requires cpu { AreWordsOf words.now cpu.old.words.table cpu.old.words.settings }
-    requires reference { reference.table ≡ keeper.old.words.table }
+    requires reference { (reference.table ≡ keeper.old.words.table) × (reference.reference.entry.slot < keeper.old.words.settings.slots) }
     requires collected { IsFoundCollected keeper.old.keeper.slots keeper.old.keeper.view.marks reference.reference }
     ensures change { HasGivenUpFor keeper.old.keeper cpu.old.cpu reference.reference keeper.new.keeper cpu.new.cpu }
     ensures known { KnowsGivenUp reference.reference.entry cpu.old.cpu cpu.new.cpu }

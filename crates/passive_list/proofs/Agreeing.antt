@@ -1,5 +1,5 @@
 -- A CPU's plain data agree with its view on: as it is made, and over its sections.
-use Rattle.std.proofs.Common.{◌≡◌, ◌≢◌, ℕ, ◌+◌, ◌*◌, ◌<◌, ◌≤◌, List, [], length, replicate, IsTrue, Option, Some, None, refl, sym, ap, ◌∙◌, subst, arith}
+use Rattle.std.proofs.Common.{◌≡◌, ◌≢◌, ◌⊎◌, inl, ℕ, ◌+◌, ◌*◌, ◌<◌, ◌≤◌, List, [], length, replicate, IsTrue, Option, Some, None, refl, sym, ap, ◌∙◌, subst, arith}
 use Rattle.std.proofs.lemmas.List.{append-nil}
 use Rattle.std.proofs.lemmas.Option.{none-some}
 use Rattle.std.specs.List.{Contains}
@@ -16,6 +16,8 @@ use Rattle.protocol.proofs.history.History.{at_within}
 use Rattle.cpu_words.specs.Common.{IsShownCpu, number_at, references_to, depth_of, new_cpu, HasEntered, HasExited}
 use Rattle.cpu_words.proofs.shown.CpusShown.{found_is_in, new_cpu_is_shown}
 use Rattle.cpu_words.proofs.shown.Passes.{attached_prefix}
+use Rattle.cpu_words.proofs.shown.Seeing.{seen_of}
+use Rattle.cpu_words.proofs.by_cpu.Passives.{known_of}
 use Rattle.passive_list.proofs.Memories.{stays}
 use Rattle.passive_list.specs.Common.{Found, NumberedCount, HasLookedUp, no_place, no_found, place_at, PassiveAgree, NetAgree, DepthAgrees, SectionAgrees, IsKept, HoldsFound, IsOurCpu, Remembers}
 
@@ -46,7 +48,7 @@ new_agrees z a t c table fit lt ms none = record {
   settings = refl;
   fit = fit;
   id = refl;
-  few = let most = (ranges a fit).cpus in omega (arith, lt, most);
+  few = lt;
   section = record { word = refl; limit = omega arith };
   idle = record { search = refl; hand = refl };
   depth = outside;
@@ -177,7 +179,7 @@ own_agrees z a t x c w d e ps ns ms our = record {
   settings = refl;
   fit = subst (λ (s : Settings). IsTrue (are_fit s)) (sym our.settings) our.fit;
   id = our.id;
-  few = our.few;
+  few = subst (λ (s : Settings). c < s.cpus) (sym our.settings) our.few;
   section = subst (λ (s : Settings). SectionAgrees s x w) (sym our.settings) our.section;
   idle = our.idle;
   depth = our.depth;
@@ -207,6 +209,12 @@ memory_agrees z a t x c w d e ps ns ms m our kept = record {
   is_shown = our.is_shown;
 }
 
+-- an entry that it found last or refers to is in a slot of its table
+pub slot_within : (x : CpuView) (e : Entry) → IsShownCpu x → (x.found ≡ Some e) ⊎ Contains x.references e → e.slot < x.settings.slots
+slot_within x e shown has =
+    let seen = seen_of shown.g x shown.good shown.shown in
+    subst (λ (z : Settings). e.slot < z.slots) (sym seen.settings) (known_of shown.g x e shown.good shown.shown has).lt
+
 -- The last found entry, by what is kept of it
 
 pub record IsFoundAs (x : CpuView) (k : Found) : Type 0 where
@@ -216,6 +224,7 @@ pub record IsFoundAs (x : CpuView) (k : Found) : Type 0 where
   pub slot : k.slot ≡ entry.slot
   pub kind : k.kind ≡ entry.rec.kind
   pub few : k.slot < MOST_SLOTS
+  pub within : k.slot < x.settings.slots
   pub attached : IsAttached x.pass entry
 
 pub found_as : (x : CpuView) (k : Found) → IsShownCpu x → IsKept k x.found → k.number ≢ 0 → IsFoundAs x k
@@ -227,7 +236,7 @@ found_as x k shown kept some = by_cases x.found kept refl
         let within = in_within shown.g.slots e.slot e (found_is_in x e shown is).1 in
         let most = (ranges shown.g.settings shown.good.holds.fit).slots in
         let size = shown.good.holds.shape.slots in
-        record { entry = e; found = is; number = kept.0; slot = kept.1; kind = kept.2; few = omega (arith, kept.1, within, most, size); attached = shown.shown.found e is }
+        record { entry = e; found = is; number = kept.0; slot = kept.1; kind = kept.2; few = omega (arith, kept.1, within, most, size); within = omega (arith, kept.1, slot_within x e shown (inl is)); attached = shown.shown.found e is }
 
 pub found_none : (x : CpuView) (k : Found) → IsShownCpu x → IsKept k x.found → k.number ≡ 0 → x.found ≡ None
 found_none x k shown kept none = by_cases x.found kept refl

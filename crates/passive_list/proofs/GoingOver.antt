@@ -317,8 +317,8 @@ on_next x y es (suc t) some at = let same : suc t ≡ suc (suc t - 1) = omega ar
 pub on_slot : (x y : CpuView) (row : List Entry) (count m : ℕ) → m ≢ 0 → IsGoingOver x (take count row) m y → IsGoingOver x (take count row) (suc (m - 1)) y
 on_slot x y row count m some at = on_next x y (take count row) m some at
 
-pub slot_within : (x y : CpuView) (es : List Entry) (t : ℕ) → IsGoingOver x es (suc t) y → t < MOST_SLOTS
-slot_within x y es t at = at.goes_on.0.1
+pub slot_within : (x y : CpuView) (es : List Entry) (t : ℕ) → IsGoingOver x es (suc t) y → (t < MOST_SLOTS) × (t < x.settings.slots)
+slot_within x y es t at = (at.goes_on.0.1, at.goes_on.0.0)
 
 pub may_go_by : (x y : CpuView) (es : List Entry) (t : ℕ) → IsGoingOver x es (suc t) y → MayGoBy y t
 may_go_by x y es t at = record { from = length x.pass; under_way = going_on x y es t at; tells = tells_on x y es t at }

@@ -123,17 +123,18 @@ newest_is : (rows : List KeptSlot) (n d : ℕ) → Newest (states_of rows) n d (
 newest_is rows n zero = λ u h lt live below. omega (arith, lt)
 newest_is rows n (suc d) = newest_more (states_of rows) n d (row_at rows d).state (newest_to rows n d) (state_at rows d) (newest_is rows n d)
 
--- a live slot has a row
-live_within : (rows : List KeptSlot) → length rows ≡ MOST_SLOTS → (u : ℕ) (h : Entry) → slot_at (states_of rows) u ≡ Live h → u < MOST_SLOTS
-live_within rows size u h live = let lt = in_within (states_of rows) u h (inl live) in let long = length-map rows state_of in omega (arith, lt, long, size)
-
 -- a live slot is among the first d, where those past them are vacant
+
+live_within : (rows : List KeptSlot) (d : ℕ) → ((t : ℕ) → d ≤ t → (row_at rows t).state ≡ Vacant) → (u : ℕ) (h : Entry) → slot_at (states_of rows) u ≡ Live h → u < d
+live_within rows d beyond u h live =
+    ⊎_elim (λ (lt : u < d). lt) (λ (ge : d ≤ u). let wrong : Vacant ≡ Live h = sym (beyond u ge) ∙ sym (state_at rows u) ∙ live in cc) (cases_lt u d)
+
 leads_from : (slots : List Slot) (n d : ℕ) (best : Option At) → ((u : ℕ) (h : Entry) → slot_at slots u ≡ Live h → u < d) → Newest slots n d best → LeadsBelow slots n (link_to best)
 leads_from slots n d None all had = To_end (λ u h live below. had u h (all u h live) live below)
 leads_from slots n d (Some at) all had = rw add-one (To_slot at.slot had.f had.live had.below (λ u h live below. had.most u h (all u h live) live below))
 
-pub newest_leads : (rows : List KeptSlot) (n : ℕ) → length rows ≡ MOST_SLOTS → LeadsBelow (states_of rows) n (link_to (newest_to rows n MOST_SLOTS))
-newest_leads rows n size = leads_from (states_of rows) n MOST_SLOTS (newest_to rows n MOST_SLOTS) (live_within rows size) (newest_is rows n MOST_SLOTS)
+pub newest_leads : (rows : List KeptSlot) (n d : ℕ) → ((t : ℕ) → d ≤ t → (row_at rows t).state ≡ Vacant) → LeadsBelow (states_of rows) n (link_to (newest_to rows n d))
+newest_leads rows n d beyond = leads_from (states_of rows) n d (newest_to rows n d) (live_within rows d beyond) (newest_is rows n d)
 
 -- The oldest above
 
@@ -209,13 +210,13 @@ before_from : (slots : List Slot) (n d : ℕ) (best : Option At) → ((u : ℕ) 
 before_from slots n d None all had = λ u h live. ⊎_elim (λ (lt : n < h.number). absurd (had u h (all u h live) live lt)) (λ (le : h.number ≤ n). le) (cases_lt n h.number)
 before_from slots n d (Some at) all had = (had.f, had.live, had.above, λ u h live above. had.least u h (all u h live) live above)
 
-place_from : (slots : List Slot) (n : ℕ) (best : Option At) → Oldest slots n MOST_SLOTS best → IsLinkPlace (place_of best)
-place_from slots n None had = tt
-place_from slots n (Some at) had = had.within
+place_from : (slots : List Slot) (n d : ℕ) (best : Option At) → Oldest slots n d best → IsLinkPlace d (place_of best)
+place_from slots n d None had = tt
+place_from slots n d (Some at) had = had.within
 
-pub oldest_before : (rows : List KeptSlot) (n : ℕ) → length rows ≡ MOST_SLOTS
-    → IsBefore (states_of rows) n (place_of (oldest_to rows n MOST_SLOTS)) × IsLinkPlace (place_of (oldest_to rows n MOST_SLOTS))
-oldest_before rows n size = (
-  before_from (states_of rows) n MOST_SLOTS (oldest_to rows n MOST_SLOTS) (live_within rows size) (oldest_is rows n MOST_SLOTS),
-  place_from (states_of rows) n (oldest_to rows n MOST_SLOTS) (oldest_is rows n MOST_SLOTS),
+pub oldest_before : (rows : List KeptSlot) (n d : ℕ) → ((t : ℕ) → d ≤ t → (row_at rows t).state ≡ Vacant)
+    → IsBefore (states_of rows) n (place_of (oldest_to rows n d)) × IsLinkPlace d (place_of (oldest_to rows n d))
+oldest_before rows n d beyond = (
+  before_from (states_of rows) n d (oldest_to rows n d) (live_within rows d beyond) (oldest_is rows n d),
+  place_from (states_of rows) n d (oldest_to rows n d) (oldest_is rows n d),
 )

@@ -83,7 +83,7 @@ pub record IsOurCpu (z : TableId) (a : Settings) (t : TableId) (x : CpuView) (c 
   pub settings : x.settings ≡ a
   pub fit : IsTrue (are_fit a)
   pub id : x.id ≡ c
-  pub few : c < MOST_CPUS
+  pub few : c < a.cpus
   pub section : SectionAgrees a x ended
   pub idle : IsIdle x
   pub depth : DepthAgrees x.begin deep

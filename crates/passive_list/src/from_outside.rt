@@ -10,7 +10,7 @@ ghost use Rattle.passive_list.specs.Walking.{entry_seen};
 use crate::lookup::{Seen, look_up};
 use crate::plain_cpu::PlainCpu;
 use cpu_words::{CpuSeat, Words, steps};
-use registry_values::{Kind, MOST_CPUS, MOST_SLOTS, Name};
+use registry_values::{Kind, MOST_SLOTS, Name};
 
 /// Looks an entry up in a read section of its own (pserialize(9)), and returns its words, or `None` if none was found: an enter, a find and
 /// an exit in one. It doesn't write the depth and the last found entry, which a CPU keeps for calls in a section. Each result has an exit
@@ -37,7 +37,7 @@ pub fn find_from_outside(words: &Words, cpu: &mut PlainCpu, kind: Kind, name: Na
 /// Ends the section by the CPU's seat, and counts it as ended.
 fn exit_counted(words: &Words, seat: &mut CpuSeat, cpu: u8, ended: &mut u64)
     requires table { seat.old.table ≡ words.now.table }
-    requires cpu { (cpu < MOST_CPUS) × (seat.old.view.id ≡ cpu) }
+    requires cpu { (cpu < words.now.settings.cpus) × (seat.old.view.id ≡ cpu) }
     requires may { MayExit seat.old.view }
     requires room { ended.old < 2 ^ 63 }
     ensures step { SeatMakes Cpu (Exit cpu) Done seat.old seat.new }

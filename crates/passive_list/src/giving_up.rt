@@ -6,7 +6,6 @@ ghost use Rattle.passive_list.specs.Draining.{HasGivenUp};
 
 use crate::keeper::Keeper;
 use cpu_words::{ReferenceSeat, Words, steps};
-use registry_values::MOST_SLOTS;
 
 /// Gives up the local reference whose seat this is, to the entry in `slot`: the seat is spent, and the total of the slot is one less.
 /// Condition: some count word of the slot was collected. A release found it so, or the keeper has an entry with the reference's number
@@ -15,7 +14,7 @@ use registry_values::MOST_SLOTS;
 pub fn give_up(words: &Words, keeper: &mut Keeper, reference: ReferenceSeat, slot: u8)
     requires words { AreWordsOf words.now keeper.old.words.table keeper.old.words.settings }
     requires reference { reference.table ≡ keeper.old.words.table }
-    requires slot { (slot < MOST_SLOTS) × (reference.view.entry.slot ≡ slot) }
+    requires slot { (slot < keeper.old.words.settings.slots) × (reference.view.entry.slot ≡ slot) }
     requires collected { IsFoundCollected keeper.old.keeper.slots keeper.old.keeper.view.marks reference.view }
     ensures change { HasGivenUp keeper.old.keeper reference.view keeper.new.keeper }
     ensures words { keeper.new.words ≡ keeper.old.words }

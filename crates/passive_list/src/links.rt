@@ -1,8 +1,9 @@
 //! The live entries by number: the list is newest first, so they say where each link leads.
 
-ghost use Rattle.std.specs.Prelude.{◌≡◌};
+ghost use Rattle.std.specs.Prelude.{◌≡◌, ◌≤◌, ℕ};
+ghost use Rattle.passive_list.specs.Types.{Vacant};
 ghost use Rattle.cpu_words.specs.Common.{LeadsBelow, IsBefore, IsLinkPlace};
-ghost use Rattle.passive_list.specs.Keepers.{states_of};
+ghost use Rattle.passive_list.specs.Keepers.{row_at, states_of};
 ghost use Rattle.passive_list.specs.Links.{is_newer, newer_of, is_older, older_of, link_to, place_of};
 
 use crate::keeper::{KeptSlot, SlotState};
@@ -16,23 +17,29 @@ pub(crate) struct At {
 }
 
 /// The link that leads to the live entry with the greatest number below `number`: its slot plus 1, or 0 where there is none.
-pub(crate) fn link_below(rows: &[KeptSlot; MOST_SLOTS], number: u64) -> u64
+/// Condition: the slots from `slots` on are vacant.
+pub(crate) fn link_below(rows: &[KeptSlot; MOST_SLOTS], slots: u8, number: u64) -> u64
+    requires slots { slots ≤ MOST_SLOTS }
+    requires beyond { (t : ℕ) → slots ≤ t → (row_at rows.now t).state ≡ Vacant }
     ensures { LeadsBelow (states_of rows.now) number result }
 {
     let mut best = None;
-    for t in 0..MOST_SLOTS as u8 {
+    for t in 0..slots {
         best = newer_of(number, t, best, rows[t as usize].state);
     }
     link_to(best)
 }
 
 /// The slot of the live entry with the least number above `number`.
-pub(crate) fn slot_above(rows: &[KeptSlot; MOST_SLOTS], number: u64) -> Option<u8>
+/// Condition: the slots from `slots` on are vacant.
+pub(crate) fn slot_above(rows: &[KeptSlot; MOST_SLOTS], slots: u8, number: u64) -> Option<u8>
+    requires slots { slots ≤ MOST_SLOTS }
+    requires beyond { (t : ℕ) → slots ≤ t → (row_at rows.now t).state ≡ Vacant }
     ensures before { IsBefore (states_of rows.now) number result }
-    ensures place { IsLinkPlace result }
+    ensures place { IsLinkPlace slots result }
 {
     let mut best = None;
-    for t in 0..MOST_SLOTS as u8 {
+    for t in 0..slots {
         best = older_of(number, t, best, rows[t as usize].state);
     }
     place_of(best)

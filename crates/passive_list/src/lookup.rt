@@ -12,7 +12,7 @@ use crate::place::Found;
 use crate::plain_cpu::PlainCpu;
 use cpu_words::{CpuSeat, Domain, Words, steps};
 use registry_values::{
-    Entry, Key, Kind, MOST_CHANGES, MOST_CPUS, MOST_SLOTS, Name, Record, are_words_of,
+    Entry, Key, Kind, MOST_CHANGES, MOST_SLOTS, Name, Record, are_words_of,
 };
 
 /// Above every number that an entry can have.
@@ -109,7 +109,8 @@ pub fn entry_of(seen: Option<Seen>, kind: Kind, name: Name) -> Option<Entry>
 /// The whole search, by the CPU's seat.
 pub fn look_up(words: &Words, seat: &mut CpuSeat, cpu: u8, kind: Kind, name: Name) -> Option<Seen>
     requires table { seat.old.table ≡ words.now.table }
-    requires cpu { (cpu < MOST_CPUS) × (seat.old.view.id ≡ cpu) }
+    requires cpu { (cpu < words.now.settings.cpus) × (seat.old.view.id ≡ cpu) }
+    requires settings { seat.old.view.settings ≡ words.now.settings }
     requires may { MaySeek seat.old.view }
     ensures table { seat.new.table ≡ seat.old.table }
     ensures change { HasLookedUp (key_with kind name) seat.old.view seat.new.view (entry_seen (key_with kind name) result) }
@@ -146,8 +147,8 @@ fn visit(
     name: Name,
 ) -> (u64, bool)
     requires table { seat.old.table ≡ words.now.table }
-    requires cpu { (cpu < MOST_CPUS) × (seat.old.view.id ≡ cpu) }
-    requires slot { slot < MOST_SLOTS }
+    requires cpu { (cpu < words.now.settings.cpus) × (seat.old.view.id ≡ cpu) }
+    requires slot { (slot < MOST_SLOTS) × (slot < words.now.settings.slots) }
     requires may { MayVisit seat.old.view (key_with kind name) slot }
     ensures table { seat.new.table ≡ seat.old.table }
     ensures change { HasVisited seat.old.view (key_with kind name) slot result.0 result.1 seat.new.view }

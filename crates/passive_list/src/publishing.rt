@@ -60,8 +60,9 @@ pub(crate) fn publish_entry(
     ensures log { LogsAttach seat.old.view entry.now seat.old.log seat.new.log }
     ensures attached { (d : ℕ) → kept_at seat.old.view.keeps entry.now.slot ≡ Some d → IsAttachedKeeping entry.now.slot entry.now.number d seat.new.log }
 {
-    let link = link_below(rows, entry.number);
-    prepare(words, seat, entry, words.settings().cpus, link);
+    let settings = words.settings();
+    let link = link_below(rows, settings.slots, entry.number);
+    prepare(words, seat, entry, settings.cpus, link);
     steps::publish(words, seat, entry.slot);
     steps::show(words, seat, entry.slot, entry.number);
 }
@@ -71,7 +72,8 @@ fn prepare(words: &Words, seat: &mut KeeperSeat, entry: &Entry, cpus: u8, link: 
     requires table { seat.old.table ≡ words.now.table }
     requires may { MayWrite seat.old.view entry.now.slot }
     requires sized { AreSized seat.old.view.settings.slots seat.old.view }
-    requires fit { (seat.old.view.settings.slots ≤ MOST_SLOTS) × (cpus ≡ seat.old.view.settings.cpus) × (cpus ≤ MOST_CPUS) }
+    requires place { entry.now.slot < words.now.settings.slots }
+    requires fit { (cpus ≤ words.now.settings.cpus) × (cpus ≡ seat.old.view.settings.cpus) × (cpus ≤ MOST_CPUS) }
     requires link { link ≤ seat.old.view.settings.slots }
     ensures table { seat.new.table ≡ seat.old.table }
     ensures prepared { seat.new.view ≡ keeper_after_stores seat.old.view entry.now link }
@@ -85,7 +87,7 @@ fn prepare(words: &Words, seat: &mut KeeperSeat, entry: &Entry, cpus: u8, link: 
 fn store_row(words: &Words, seat: &mut KeeperSeat, entry: &Entry)
     requires table { seat.old.table ≡ words.now.table }
     requires may { MayWrite seat.old.view entry.now.slot }
-    requires fit { seat.old.view.settings.slots ≤ MOST_SLOTS }
+    requires place { entry.now.slot < words.now.settings.slots }
     ensures table { seat.new.table ≡ seat.old.table }
     ensures row { seat.new.view ≡ with_row seat.old.view entry.now.slot (words_of entry.now) }
     ensures log { seat.new.log ≡ logged_row entry.now seat.old.log }
@@ -104,7 +106,8 @@ fn store_counts(words: &Words, seat: &mut KeeperSeat, slot: u8, cpus: u8)
     requires table { seat.old.table ≡ words.now.table }
     requires may { MayWrite seat.old.view slot }
     requires sized { AreSized seat.old.view.settings.slots seat.old.view }
-    requires fit { (seat.old.view.settings.slots ≤ MOST_SLOTS) × (cpus ≡ seat.old.view.settings.cpus) × (cpus ≤ MOST_CPUS) }
+    requires place { slot < words.now.settings.slots }
+    requires fit { (cpus ≤ words.now.settings.cpus) × (cpus ≡ seat.old.view.settings.cpus) × (cpus ≤ MOST_CPUS) }
     ensures table { seat.new.table ≡ seat.old.table }
     ensures counts { seat.new.view ≡ with_counts seat.old.view slot cpus }
     ensures log { seat.new.log ≡ logged_counts slot cpus seat.old.log }

@@ -27,8 +27,9 @@ pub fn retire(words: &Words, keeper: &mut Keeper, slot: u8) -> Entry
         unreachable!()
     };
     steps::hide(words, &mut keeper.seat, slot);
-    let before = slot_above(&keeper.rows, entry.number);
-    let link = link_below(&keeper.rows, entry.number);
+    let slots = keeper.settings.slots;
+    let before = slot_above(&keeper.rows, slots, entry.number);
+    let link = link_below(&keeper.rows, slots, entry.number);
     steps::unpublish(words, &mut keeper.seat, slot, before, link);
     let marks = snapshots(words, &mut keeper.seat, slot, keeper.settings.cpus);
     keeper.rows[slot as usize] = KeptSlot {
@@ -46,7 +47,7 @@ fn snapshots(words: &Words, seat: &mut KeeperSeat, slot: u8, cpus: u8) -> [Mark;
     requires due { seat.old.view.due ≡ Snapshots slot 0 }
     requires fresh { AreFresh seat.old.view slot }
     requires is_shown { IsShown seat.old.view }
-    requires fit { (cpus ≡ seat.old.view.settings.cpus) × (1 ≤ cpus) × (cpus ≤ MOST_CPUS) }
+    requires fit { (cpus ≡ seat.old.view.settings.cpus) × (1 ≤ cpus) × (cpus ≤ MOST_CPUS) × (cpus ≤ words.now.settings.cpus) }
     ensures table { seat.new.table ≡ seat.old.table }
     ensures marks { AreSnapshots cpus result }
     ensures view { seat.new.view ≡ with_snapshots seat.old.view slot result }

@@ -14,7 +14,7 @@ ghost use Rattle.passive_list.specs.Walks.{HasWalked};
 use crate::cpu::Cpu;
 use crate::plain_cpu::PlainCpu;
 use cpu_words::{CpuSeat, Domain, Words, steps};
-use registry_values::{Entry, Kind, MOST_CPUS, MOST_SLOTS, Name, Record};
+use registry_values::{Entry, Kind, MOST_SLOTS, Name, Record};
 
 /// Walks over all entries: writes the live ones into the row, the newest first, and returns how many there are. The rest of the row stays.
 /// The last found entry is cleared. It takes no memory.
@@ -52,7 +52,8 @@ pub fn walk_on(words: &Words, cpu: &mut PlainCpu, row: &mut [Entry; MOST_SLOTS])
 /// The whole walk, by the CPU's seat. Its search finds nothing, so the last found entry is cleared.
 fn go_over(words: &Words, seat: &mut CpuSeat, cpu: u8, row: &mut [Entry; MOST_SLOTS]) -> usize
     requires table { seat.old.table ≡ words.now.table }
-    requires cpu { (cpu < MOST_CPUS) × (seat.old.view.id ≡ cpu) }
+    requires cpu { (cpu < words.now.settings.cpus) × (seat.old.view.id ≡ cpu) }
+    requires settings { seat.old.view.settings ≡ words.now.settings }
     requires may { MaySeek seat.old.view }
     ensures table { seat.new.table ≡ seat.old.table }
     ensures count { result ≤ MOST_SLOTS }
@@ -88,8 +89,8 @@ fn put(place: &mut Entry, entry: Entry)
 /// Loads all words of the entry in a slot.
 fn go_by(words: &Words, seat: &mut CpuSeat, cpu: u8, slot: usize) -> Entry
     requires table { seat.old.table ≡ words.now.table }
-    requires cpu { (cpu < MOST_CPUS) × (seat.old.view.id ≡ cpu) }
-    requires slot { slot < MOST_SLOTS }
+    requires cpu { (cpu < words.now.settings.cpus) × (seat.old.view.id ≡ cpu) }
+    requires slot { (slot < MOST_SLOTS) × (slot < words.now.settings.slots) }
     requires may { MayGoBy seat.old.view slot }
     ensures table { seat.new.table ≡ seat.old.table }
     ensures change { HasGoneByOne seat.old.view slot result seat.new.view }

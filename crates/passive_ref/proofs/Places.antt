@@ -1,18 +1,19 @@
 -- What a CPU's places say of its references: where the entry of a number is, and how many references are to it.
-use Rattle.std.proofs.Common.{◌≡◌, ◌≢◌, ◌⊎◌, ⊎_elim, ℕ, ◌<◌, List, true, false, Some, None, nat_lt, ◌==◌, refl, sym, ap, ◌∙◌, arith}
+use Rattle.std.proofs.Common.{◌≡◌, ◌≢◌, ◌⊎◌, ⊎_elim, ℕ, ◌<◌, List, true, false, Some, None, nat_lt, ◌==◌, refl, sym, ap, ◌∙◌, subst, arith}
 use Rattle.std.proofs.lemmas.Bool.{eq-eqb, eqb-true, lt-ltb, ltb-true, ltb-false, cases_Bool, and_parts}
 use Rattle.std.proofs.lemmas.Option.{none-some}
 use Rattle.std.proofs.lemmas.List.Quantifiers.{position-Some}
 use Rattle.std.specs.Prelude.{position}
 use Rattle.std.specs.List.{Contains}
-use Rattle.passive_list.specs.Types.{Entry, MOST_SLOTS, CpuView}
+use Rattle.passive_list.specs.Types.{Entry, Settings, MOST_SLOTS, CpuView}
 use Rattle.protocol.specs.Common.{IsAttached}
 use Rattle.protocol.proofs.history.History.{one_entry, at_within}
 use Rattle.protocol.proofs.slots.Numbers.{position_passes}
-use Rattle.cpu_words.specs.Common.{references_to, IsAt}
+use Rattle.cpu_words.specs.Common.{references_to, IsAt, IsShownCpu}
 use Rattle.cpu_words.proofs.shown.ReferenceLists.{some_of}
 use Rattle.passive_list.specs.declared.place.NumberedCount.{NumberedCount}
 use Rattle.passive_list.specs.Common.{no_place, place_at, PassiveAgree}
+use Rattle.passive_list.proofs.Agreeing.{slot_within}
 use Rattle.passive_ref.specs.Psrefs.{IsHeldAt, counts_for}
 
 -- an entry of the pass with the number of a place was attached in its slot
@@ -63,6 +64,10 @@ none_here x ps n agree is = ⊎_elim
 pub known_attached : (x : CpuView) (ps : List NumberedCount) (e : Entry) → PassiveAgree x ps → ((f : Entry) → x.found ≡ Some f → IsAttached x.pass f) → (x.found ≡ Some e) ⊎ Contains x.references e
     → IsAttached x.pass e
 known_attached x ps e agree seen known = ⊎_elim (λ (found : x.found ≡ Some e). seen e found) (λ (among : Contains x.references e). (agree.each e among).1) known
+
+-- an entry that the CPU found last or refers to is in a slot of its table
+pub within : (x : CpuView) (z : Settings) (t n : ℕ) (e : Entry) → IsShownCpu x → x.settings ≡ z → IsAt e t n → (x.found ≡ Some e) ⊎ Contains x.references e → t < z.slots
+within x z t n e shown same at has = subst (λ (y : Settings). t < y.slots) same (subst (λ (u : ℕ). u < x.settings.slots) at.slot (slot_within x e shown has))
 
 -- where the place of an entry's slot is of another number, the CPU has no reference to that entry
 pub uncounted_here : (x : CpuView) (ps : List NumberedCount) (t n : ℕ) (e : Entry) → PassiveAgree x ps → IsAt e t n → IsAttached x.pass e → (place_at ps t).number ≢ n

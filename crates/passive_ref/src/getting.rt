@@ -11,7 +11,7 @@ ghost use Rattle.passive_ref.specs.Gets.{counted_for, entry_got, HasGotByMemory,
 use crate::psref::Psref;
 use cpu_words::{CpuSeat, Domain, Words, steps};
 use passive_list::{Cpu, NumberedCount, PlainCpu, Seen, remembered};
-use registry_values::{Entry, Kind, MOST_CPUS, MOST_SLOTS, Name, Record};
+use registry_values::{Entry, Kind, MOST_SLOTS, Name, Record};
 
 /// Acquires a passive reference to the entry with `number`, which this CPU has seen in `slot`, inside a section or outside, if it is live: at
 /// the load it is the registry's answer at that very point of the history.
@@ -123,8 +123,8 @@ fn get_seen(words: &Words, cpu: &mut PlainCpu, kind: Kind, name: Name, seen: See
 #[inline(always)]
 fn try_on_seat(words: &Words, seat: &mut CpuSeat, cpu: u8, slot: u8, number: u64) -> bool
     requires table { seat.old.table ≡ words.now.table }
-    requires cpu { (cpu < MOST_CPUS) × (seat.old.view.id ≡ cpu) }
-    requires slot { slot < MOST_SLOTS }
+    requires cpu { (cpu < words.now.settings.cpus) × (seat.old.view.id ≡ cpu) }
+    requires slot { slot < words.now.settings.slots }
     requires may { MayTry seat.old.view slot number }
     ensures table { seat.new.table ≡ seat.old.table }
     ensures tried { HasTriedOnSeat slot number seat.old.view seat.new.view seat.old.log seat.new.log result }

@@ -6,7 +6,7 @@ use Rattle.std.proofs.lemmas.List.{length-replicate}
 use Rattle.std.proofs.lemmas.List.Sums.{sum_by-cons}
 use mathlib.Core.Logic.{dite}
 use native.Mathlib.Decide.{ℕ_discrete}
-use Rattle.cpu_words.specs.Types.{MOST_CPUS, Entry, Change, Attach, Live, Retired, Mark, Hand, Empty, LocalPlace}
+use Rattle.cpu_words.specs.Types.{Settings, MOST_CPUS, Entry, Change, Attach, Live, Retired, Mark, Hand, Empty, LocalPlace}
 use Rattle.protocol.specs.Common.{IsAttached, State, with_cell, mark_at, count_at, total_at, IsIn, IsCounting, subtraction_due_at, addition_due_at, is_adding_at}
 use Rattle.registry_values.specs.Common.{bias, no_mark, slot_at}
 use Rattle.registry_values.proofs.Fit.{ranges}
@@ -121,16 +121,16 @@ leaves_counts g c t w v h locals e good here lt counting =
     }
 
 -- the words after a step on a count word
-pub count_words : (words : List ℕ) (g : State) (c t w v : ℕ) (h : Hand) (locals : List LocalPlace) → Good g → Agrees words g → c < g.settings.cpus → t < g.settings.slots
-    → Agrees (set words (index (count_of c t)) w) (with_lists g (count_lists g c t w v h locals))
-count_words words g c t w v h locals good agrees lt there =
+pub count_words : (z : Settings) (words : List ℕ) (g : State) (c t w v : ℕ) (h : Hand) (locals : List LocalPlace) → Good g → Agrees z words g → c < g.settings.cpus → t < g.settings.slots
+    → Agrees z (set words (index z (count_of c t)) w) (with_lists g (count_lists g c t w v h locals))
+count_words z words g c t w v h locals good agrees lt there =
     let size : length g.counts ≡ g.settings.slots = good.holds.shape.counts in
     let in_rows : t < length g.counts = omega arith in
     let fit = ranges g.settings good.holds.fit in
     let most : g.settings.cpus ≤ MOST_CPUS = fit.cpus in
     let row : length (get_or g.counts t []) ≡ MOST_CPUS = good.holds.shape.count_rows t in_rows in
     let in_row : c < length (get_or g.counts t []) = omega arith in
-    agrees_set words g (with_lists g (count_lists g c t w v h locals)) (count_of c t) w good.holds.fit agrees refl (lt, there) (cell_here 0 g.counts t c w in_rows in_row) (λ q is ne. other q ne)
+    agrees_set z words g (with_lists g (count_lists g c t w v h locals)) (count_of c t) w agrees refl (lt, there) (cell_here 0 g.counts t c w in_rows in_row) (λ q is ne. other q ne)
   where
     other : (q : Spot) → (q ≡ count_of c t → ⊥) → word_at (with_lists g (count_lists g c t w v h locals)) q ≡ word_at g q
     other (section_of d) ne = refl

@@ -143,7 +143,7 @@ good_after g l c e r good leaves lt made = record {
 pub cpu_makes : (z : Settings) (s : Table ℕ View) (r : Ruled z s) (i : ℕ) (x : CpuView) (word m : ℕ) (l : CpuLists) (e : Event) (rep : Reply) (own : CpuOwn)
     → get_elem? s.views i ≡ some (Cpu x) → step r.g e ≡ Some (record { state = with_lists r.g l; reply = rep }) → LeavesOthers r.g x.id l
     → ((n : ℕ) → sum_by (standing_of n) l.locals ≡ standing_in n r.g) → own.noted_pass ≡ x.noted_pass → CpuShown (with_lists r.g l) (cpu_view (with_lists r.g l) x.id own)
-    → Agrees (set s.words word m) (with_lists r.g l)
+    → Agrees z (set s.words word m) (with_lists r.g l)
     → GoesOn z s r (did (by_number r.g e) rep) (stepped s word m i [] (Cpu (cpu_view (with_lists r.g l) x.id own)) keeps) × Makes e rep (Cpu x) (Cpu (cpu_view (with_lists r.g l) x.id own))
 cpu_makes z s r i x word m l e rep own at made leaves count noted_pass shown words =
     let g = r.g in

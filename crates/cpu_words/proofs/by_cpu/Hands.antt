@@ -171,7 +171,7 @@ splits z i x e leaves s r at =
         settings = r.settings;
         good = good_after g l x.id e p.r r.good after had.1.seated m.made;
         reached = (more z g (with_lists g l) e p.r r.reached m.made).0;
-        words = agrees_same s.words g (with_lists g l) r.words refl (λ q there. same_words g x.id m.h m.locals q);
+        words = agrees_same z s.words g (with_lists g l) r.words refl (λ q there. same_words g x.id m.h m.locals q);
         shows = shows_split g (with_lists g l) r.seat s.views i (Cpu x) (with_empty_hand (Cpu x)) (reference_of_hand (Cpu x)) r.shows at (cpu_stays g l x.id r.seat i after had.0)
             (had.0, shown_hand g x m.h m.locals NoEntry r.good had.1 m.same m.fits m.tries) (tt, record { attached = p.right.attached; collected = p.right.collected }) (λ c lt. inl lt) refl
             (λ n. let h = p.count n in omega arith);
@@ -338,7 +338,7 @@ joins z i o x v idle s r at apart there =
         settings = r.settings;
         good = good_after g l x.id (JoinRef x.id p.id) Done r.good after had.1.seated m.made;
         reached = (more z g (with_lists g l) (JoinRef x.id p.id) Done r.reached m.made).0;
-        words = agrees_same s.words g (with_lists g l) r.words refl (λ q there. same_words g x.id m.h m.locals q);
+        words = agrees_same z s.words g (with_lists g l) r.words refl (λ q there. same_words g x.id m.h m.locals q);
         shows = shows_join g (with_lists g l) r.seat s.views i (Cpu x) o (Reference v) both r.shows at apart was (cpu_stays g l x.id r.seat i after had.0)
             (had.0, shown_hand g x m.h m.locals (GivingEntry v.entry) r.good had.1 m.same m.fits m.tries) refl (refl, refl) (λ n. let h = p.count n in omega arith) there;
       };

@@ -37,7 +37,7 @@ found_counts g c e good found =
     (slot, there, (held_counting g c e.slot e holds found slot).1)
 
 count_add_at : (z : Settings) (x : CpuView) (e : Entry) → MayCount x e.slot e.number → x.found ≡ Some e
-    → CpuMay z x (index (count_of x.id e.slot)) (λ m. (m + 1) % 2 ^ 64) (λ m. did (CountAdd x.id) (Word m)) (λ v m y. Makes (CountAdd x.id) (Word m) (Cpu v) (Cpu y) × CountTold v m y)
+    → CpuMay z x (index z (count_of x.id e.slot)) (λ m. (m + 1) % 2 ^ 64) (λ m. did (CountAdd x.id) (Word m)) (λ v m y. Makes (CountAdd x.id) (Word m) (Cpu v) (Cpu y) × CountTold v m y)
 count_add_at z x e may is s r i at fits =
     let g = r.g in
     let c = x.id in
@@ -48,7 +48,7 @@ count_add_at z x e may is s r i at fits =
     let found : found_at g c ≡ Some e = sym seen.found ∙ is in
     let counts = found_counts g c e r.good found in
     let there : t < g.settings.slots = omega (arith, in_within g.slots t e counts.1, r.good.holds.shape.slots) in
-    let word = slice_index s.words (index (count_of c t)) in
+    let word = slice_index s.words (index z (count_of c t)) in
     let has : word ≡ count_at g.counts c t = r.words.at (count_of c t) (seen.lt, there) in
     let same : count_at g.counts c t ≡ count_at g.nets c t = (r.good.holds.balance.counted c t seen.lt counts.2).0 in
     let net : count_at g.nets c t + number_at x.released n ≡ bias + number_at x.acquired n = had.nets t e counts.1 in
@@ -70,9 +70,9 @@ count_add_at z x e may is s r i at fits =
     (λ u. sym (idle_tries x u may.idle)) in
     let made : step g (CountAdd c) ≡ Some (record { state = with_lists g l; reply = Word word }) =
     rw (found, counts.0, idle_of g x seen had may.idle, lt-ltb (count_at g.nets c t) (bias + g.settings.count_limit) room, has) refl in
-    let words = subst (λ m. Agrees (set s.words (index (count_of c t)) m) (with_lists g l)) (sym next)
-    (count_words s.words g c t (count_at g.counts c t + 1) (count_at g.nets c t + 1) (Taking n) g.locals r.good r.words seen.lt there) in
-    let done = cpu_makes z s r i x (index (count_of c t)) ((word + 1) % 2 ^ 64) l (CountAdd c) (Word word)
+    let words = subst (λ m. Agrees z (set s.words (index z (count_of c t)) m) (with_lists g l)) (sym next)
+    (count_words z s.words g c t (count_at g.counts c t + 1) (count_at g.nets c t + 1) (Taking n) g.locals r.good r.words seen.lt there) in
+    let done = cpu_makes z s r i x (index z (count_of c t)) ((word + 1) % 2 ^ 64) l (CountAdd c) (Word word)
     (record (own_of x) { hand = TakingEntry e; acquired = acquired; met = with_number x.met t n }) at made
     (leaves_counts g c t (count_at g.counts c t + 1) (count_at g.nets c t + 1) (Taking n) g.locals e r.good counts.1 there counts.2) (λ k. refl) refl shown words in
     let y = recounted g x t n l (TakingEntry e) acquired x.released in
@@ -98,8 +98,8 @@ place_at : (x : CpuView) (e : Entry) (t n w : ℕ) → e.slot ≡ t → e.number
 place_at x e t n w slot number place = subst (λ (p : ℕ × ℕ). IsPlaceCount x p.0 p.1 w) (λ k. (sym slot k, sym number k)) place
 
 pub count_add_may : (z : Settings) (x : CpuView) (c t n : ℕ) → x.id ≡ c → MayCount x t n
-    → CpuMay z x (index (count_of c t)) (λ m. (m + 1) % 2 ^ 64) (λ m. did (CountAdd c) (Word m)) (λ v m y. Makes (CountAdd c) (Word m) (Cpu v) (Cpu y) × CountTold v m y)
-count_add_may z x c t n id may = subst (λ (p : ℕ × ℕ). CpuMay z x (index (count_of p.0 p.1)) (λ m. (m + 1) % 2 ^ 64) (λ m. did (CountAdd p.0) (Word m))
+    → CpuMay z x (index z (count_of c t)) (λ m. (m + 1) % 2 ^ 64) (λ m. did (CountAdd c) (Word m)) (λ v m y. Makes (CountAdd c) (Word m) (Cpu v) (Cpu y) × CountTold v m y)
+count_add_may z x c t n id may = subst (λ (p : ℕ × ℕ). CpuMay z x (index z (count_of p.0 p.1)) (λ m. (m + 1) % 2 ^ 64) (λ m. did (CountAdd p.0) (Word m))
     (λ v m y. Makes (CountAdd p.0) (Word m) (Cpu v) (Cpu y) × CountTold v m y)) (λ k. (id k, may.slot k))
     (count_add_at z x may.entry (record {
       idle = may.idle;
@@ -163,19 +163,19 @@ giver g x e old good had is place =
 
 -- what the step from `old` must leave and tell, where it found w
 abbrev Down : (z : Settings) (s : Table ℕ View) → Ruled z s → ℕ → CpuView → Entry → ℕ → ℕ → ℕ → Type 0
-Down z s r i x e old w m = (y : CpuView) × GoesOn z s r (did (CountDown x.id) (down_reply old w)) (stepped s (index (count_of x.id e.slot)) m i [] (Cpu y) keeps)
+Down z s r i x e old w m = (y : CpuView) × GoesOn z s r (did (CountDown x.id) (down_reply old w)) (stepped s (index z (count_of x.id e.slot)) m i [] (Cpu y) keeps)
     × (w ≡ old → Makes (CountDown x.id) (Word w) (Cpu x) (Cpu y) × HasCountedDown x e.slot e.number y)
     × ((w ≡ old → ⊥) → Makes (CountDown x.id) Collected (Cpu x) (Cpu y) × HasFoundCollected x e.number y)
 
 -- the word is the net count: one reference is released
 down_counted : (z : Settings) (s : Table ℕ View) (r : Ruled z s) (i : ℕ) (x : CpuView) (e : Entry) (old : ℕ) → get_elem? s.views i ≡ some (Cpu x) → x.hand ≡ GivingEntry e → Giver r.g x e old
-    → slice_index s.words (index (count_of x.id e.slot)) ≡ old → Down z s r i x e old (slice_index s.words (index (count_of x.id e.slot))) (old - 1)
+    → slice_index s.words (index z (count_of x.id e.slot)) ≡ old → Down z s r i x e old (slice_index s.words (index z (count_of x.id e.slot))) (old - 1)
 down_counted z s r i x e old at is p found =
     let g = r.g in
     let c = x.id in
     let t = e.slot in
     let n = e.number in
-    let word = slice_index s.words (index (count_of c t)) in
+    let word = slice_index s.words (index z (count_of c t)) in
     let has : word ≡ count_at g.counts c t = r.words.at (count_of c t) (p.seen.lt, p.there) in
     let same : count_at g.counts c t ≡ count_at g.nets c t = sym has ∙ found ∙ sym p.net in
     let counting = is_counting r.good.holds.balance c t e p.seen.lt p.here same in
@@ -196,9 +196,9 @@ down_counted z s r i x e old at is p found =
     (λ u. sym (ap (trying_in u) is)) in
     let made : step g (CountDown c) ≡ Some (record { state = with_lists g l; reply = Word word }) = rw (p.hand, p.slot, eq-eqb (count_at g.counts c t) (count_at g.nets c t) same, has) refl in
     let next : count_at g.counts c t - 1 ≡ old - 1 = ap (λ k. k - 1) (same ∙ net) in
-    let words = subst (λ m. Agrees (set s.words (index (count_of c t)) m) (with_lists g l)) next
-    (count_words s.words g c t (count_at g.counts c t - 1) (count_at g.nets c t - 1) Empty locals r.good r.words p.seen.lt p.there) in
-    let done = cpu_makes z s r i x (index (count_of c t)) (old - 1) l (CountDown c) (Word word) (record (own_of x) { hand = NoEntry; released = released; met = with_number x.met t n }) at made
+    let words = subst (λ m. Agrees z (set s.words (index z (count_of c t)) m) (with_lists g l)) next
+    (count_words z s.words g c t (count_at g.counts c t - 1) (count_at g.nets c t - 1) Empty locals r.good r.words p.seen.lt p.there) in
+    let done = cpu_makes z s r i x (index z (count_of c t)) (old - 1) l (CountDown c) (Word word) (record (own_of x) { hand = NoEntry; released = released; met = with_number x.met t n }) at made
     (leaves_counts g c t (count_at g.counts c t - 1) (count_at g.nets c t - 1) Empty locals e r.good p.here p.there counting)
     (λ k. let a = local_changed k g.locals p.id (Lifted c) Free within lifted in omega arith) refl shown words in
     let y = recounted g x t n l NoEntry x.acquired released in
@@ -206,20 +206,20 @@ down_counted z s r i x e old at is p found =
     ap (λ (v : CpuView). record v { hand = NoEntry; released = released; met = with_number x.met t n }) (sym p.had.is) in
     let replied : Word word ≡ down_reply old word = sym (ap (λ b. if b then Word word else Collected) (eq-eqb word old found)) in (
       y,
-      subst (λ (a : Reply). GoesOn z s r (did (CountDown c) a) (stepped s (index (count_of c t)) (old - 1) i [] (Cpu y) keeps)) replied done.0,
+      subst (λ (a : Reply). GoesOn z s r (did (CountDown c) a) (stepped s (index z (count_of c t)) (old - 1) i [] (Cpu y) keeps)) replied done.0,
       (λ _. (done.1, (e, is, refl, refl, change))),
       (λ ne. absurd (ne found)),
     )
 
 -- the word isn't the net count: it was collected, and the reference goes back
 down_collected : (z : Settings) (s : Table ℕ View) (r : Ruled z s) (i : ℕ) (x : CpuView) (e : Entry) (old : ℕ) → get_elem? s.views i ≡ some (Cpu x) → x.hand ≡ GivingEntry e → Giver r.g x e old
-    → slice_index s.words (index (count_of x.id e.slot)) ≢ old → Down z s r i x e old (slice_index s.words (index (count_of x.id e.slot))) (slice_index s.words (index (count_of x.id e.slot)))
+    → slice_index s.words (index z (count_of x.id e.slot)) ≢ old → Down z s r i x e old (slice_index s.words (index z (count_of x.id e.slot))) (slice_index s.words (index z (count_of x.id e.slot)))
 down_collected z s r i x e old at is p off =
     let g = r.g in
     let c = x.id in
     let t = e.slot in
     let n = e.number in
-    let word = slice_index s.words (index (count_of c t)) in
+    let word = slice_index s.words (index z (count_of c t)) in
     let has : word ≡ count_at g.counts c t = r.words.at (count_of c t) (p.seen.lt, p.there) in
     let differs : count_at g.counts c t ≢ count_at g.nets c t = λ same. off (has ∙ same ∙ p.net) in
     let gone : IsCollectedFor g.slots g.marks e c = ⊎_elim
@@ -230,24 +230,24 @@ down_collected z s r i x e old at is p off =
     let shown = shown_hand g x (Back n p.id) g.locals (BackEntry e) r.good p.had refl (p.attached, gone) (λ u. sym (ap (trying_in u) is)) in
     let view : with_hand x (BackEntry e) ≡ cpu_view (with_lists g l) c (record (own_of x) { hand = BackEntry e }) = ap (λ (v : CpuView). with_hand v (BackEntry e)) p.had.is in
     let made : step g (CountDown c) ≡ Some (record { state = with_lists g l; reply = Collected }) = rw (p.hand, p.slot, ne_eqb (count_at g.counts c t) (count_at g.nets c t) differs) refl in
-    let words = agrees_set s.words g (with_lists g l) (count_of c t) word r.good.holds.fit r.words refl (p.seen.lt, p.there) (sym has) (λ q there ne. same_words g c (Back n p.id) g.locals q) in
-    let done = cpu_makes z s r i x (index (count_of c t)) word l (CountDown c) Collected (record (own_of x) { hand = BackEntry e }) at made (leaves_hands g c (Back n p.id) g.locals) (λ k. refl) refl
+    let words = agrees_set z s.words g (with_lists g l) (count_of c t) word r.words refl (p.seen.lt, p.there) (sym has) (λ q there ne. same_words g c (Back n p.id) g.locals q) in
+    let done = cpu_makes z s r i x (index z (count_of c t)) word l (CountDown c) Collected (record (own_of x) { hand = BackEntry e }) at made (leaves_hands g c (Back n p.id) g.locals) (λ k. refl) refl
     (subst (CpuShown (with_lists g l)) view shown) words in
     let replied : Collected ≡ down_reply old word = sym (ap (λ b. if b then Word word else Collected) (ne_eqb word old off)) in
     let y = cpu_view (with_lists g l) c (record (own_of x) { hand = BackEntry e }) in (
       y,
-      subst (λ (a : Reply). GoesOn z s r (did (CountDown c) a) (stepped s (index (count_of c t)) word i [] (Cpu y) keeps)) replied done.0,
+      subst (λ (a : Reply). GoesOn z s r (did (CountDown c) a) (stepped s (index z (count_of c t)) word i [] (Cpu y) keeps)) replied done.0,
       (λ same. absurd (off same)),
       (λ _. (done.1, (e, is, refl, sym view))),
     )
 
 count_down_at : (z : Settings) (x : CpuView) (e : Entry) (old new : ℕ) → x.hand ≡ GivingEntry e → IsPlaceCount x e.slot e.number old → old < 2 ^ 64 → new ≡ (old + (2 ^ 64 - 1)) % 2 ^ 64
-    → CpuMay z x (index (count_of x.id e.slot)) (λ m. either (m == old) new m) (λ m. did (CountDown x.id) (down_reply old m)) (DownTold (CountDown x.id) old)
+    → CpuMay z x (index z (count_of x.id e.slot)) (λ m. either (m == old) new m) (λ m. did (CountDown x.id) (down_reply old m)) (DownTold (CountDown x.id) old)
 count_down_at z x e old new is place fits is_new s r i at within =
     let p = giver r.g x e old r.good (r.shows.fits i (Cpu x) at).1 is place in
     let floor : 0 < old = p.floor in
     let less : old - 1 ≡ new = omega arith in
-    let word = slice_index s.words (index (count_of x.id e.slot)) in
+    let word = slice_index s.words (index z (count_of x.id e.slot)) in
     ⊎_elim
     (λ (same : word ≡ old). finish word _ (subst (Down z s r i x e old word) (less ∙ sym (ap (λ b. either b new word) (eq-eqb word old same))) (down_counted z s r i x e old at is p same)) p.floor
     p.low (met_alone r.g x e p.had p.attached))
@@ -256,7 +256,7 @@ count_down_at z x e old new is place fits is_new s r i at within =
     (cases_eq word old)
   where
     Goal : ℕ → ℕ → Type 0
-    Goal w m = (v : View) × GoesOn z s r (did (CountDown x.id) (down_reply old w)) (stepped s (index (count_of x.id e.slot)) m i [] v keeps)
+    Goal w m = (v : View) × GoesOn z s r (did (CountDown x.id) (down_reply old w)) (stepped s (index z (count_of x.id e.slot)) m i [] v keeps)
         × ((v ≡ Cpu (cpu_of v)) × DownTold (CountDown x.id) old x w (cpu_of v))
 
     same_giving_entry : (a b : Entry) → GivingEntry a ≡ GivingEntry b → a ≡ b
@@ -282,7 +282,7 @@ count_down_at z x e old new is place fits is_new s r i at within =
     )
 
 pub count_down_may : (z : Settings) (x : CpuView) (c t n old new : ℕ) → x.id ≡ c → MayCountDown x t n old → old < 2 ^ 64 → new ≡ (old + (2 ^ 64 - 1)) % 2 ^ 64
-    → CpuMay z x (index (count_of c t)) (λ m. either (m == old) new m) (λ m. did (CountDown c) (down_reply old m)) (DownTold (CountDown c) old)
+    → CpuMay z x (index z (count_of c t)) (λ m. either (m == old) new m) (λ m. did (CountDown c) (down_reply old m)) (DownTold (CountDown c) old)
 count_down_may z x c t n old new id may fits is_new =
-    subst (λ (p : ℕ × ℕ). CpuMay z x (index (count_of p.0 p.1)) (λ m. either (m == old) new m) (λ m. did (CountDown p.0) (down_reply old m)) (DownTold (CountDown p.0) old)) (λ k. (id k, may.slot k))
+    subst (λ (p : ℕ × ℕ). CpuMay z x (index z (count_of p.0 p.1)) (λ m. either (m == old) new m) (λ m. did (CountDown p.0) (down_reply old m)) (DownTold (CountDown p.0) old)) (λ k. (id k, may.slot k))
     (count_down_at z x may.entry old new may.giving (place_at x may.entry t n old may.slot may.number may.place) fits is_new)

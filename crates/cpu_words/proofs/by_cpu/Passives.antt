@@ -109,9 +109,9 @@ put_leaves g c t m = record {
 }
 
 -- one word changes
-pub put_words : (words : List ℕ) (g : State) (c t m : ℕ) → Good g → c < g.settings.cpus → t < g.settings.slots → passive_at (with_cell g.passive t c m) c t ≡ m → Agrees words g
-    → Agrees (set words (index (passive_of c t)) m) (with_lists g (put g c t m))
-put_words words g c t m good lt within is agrees = agrees_set words g (with_lists g (put g c t m)) (passive_of c t) m good.holds.fit agrees refl (lt, within) is (λ q there ne. other q ne)
+pub put_words : (z : Settings) (words : List ℕ) (g : State) (c t m : ℕ) → Good g → c < g.settings.cpus → t < g.settings.slots → passive_at (with_cell g.passive t c m) c t ≡ m → Agrees z words g
+    → Agrees z (set words (index z (passive_of c t)) m) (with_lists g (put g c t m))
+put_words z words g c t m good lt within is agrees = agrees_set z words g (with_lists g (put g c t m)) (passive_of c t) m agrees refl (lt, within) is (λ q there ne. other q ne)
   where
     other : (q : Spot) → (q ≡ passive_of c t → ⊥) → word_at (with_lists g (put g c t m)) q ≡ word_at g q
     other (section_of d) ne = refl
@@ -177,9 +177,9 @@ put_shown g x e references m good had idle known is others attached = record {
         (cases_eq t e.slot)
 
 -- the word as it is in the table
-put_word : (words : List ℕ) (g : State) (x : CpuView) (e : Entry) → Good g → CpuShown g x → Known g x e → Agrees words g
-    → slice_index words (index (passive_of x.id e.slot)) ≡ passive_at g.passive x.id e.slot
-put_word words g x e good had known agrees = agrees.at (passive_of x.id e.slot) ((seen_of g x good had).lt, known.lt)
+put_word : (z : Settings) (words : List ℕ) (g : State) (x : CpuView) (e : Entry) → Good g → CpuShown g x → Known g x e → Agrees z words g
+    → slice_index words (index z (passive_of x.id e.slot)) ≡ passive_at g.passive x.id e.slot
+put_word z words g x e good had known agrees = agrees.at (passive_of x.id e.slot) ((seen_of g x good had).lt, known.lt)
 
 -- such a step keeps the rule, and is its event
 put_makes : (z : Settings) (s : Table ℕ View) (r : Ruled z s) (i : ℕ) (x : CpuView) (e : Entry) (references : List Entry) (m : ℕ) (event : Event)
@@ -187,8 +187,8 @@ put_makes : (z : Settings) (s : Table ℕ View) (r : Ruled z s) (i : ℕ) (x : C
     → ((n : ℕ) → (e.number ≡ n → ⊥) → references_to n references ≡ references_to n x.references) → ((f : Entry) → Contains references f → IsAttached x.pass f)
     → step r.g event ≡ Some (record { state = with_lists r.g (put r.g x.id e.slot m); reply = Word (passive_at r.g.passive x.id e.slot) })
     → (y : CpuView) × (y ≡ record x { references = references })
-    × GoesOn z s r (did (by_number r.g event) (Word (slice_index s.words (index (passive_of x.id e.slot))))) (stepped s (index (passive_of x.id e.slot)) m i [] (Cpu y) keeps)
-    × Makes event (Word (slice_index s.words (index (passive_of x.id e.slot)))) (Cpu x) (Cpu y)
+    × GoesOn z s r (did (by_number r.g event) (Word (slice_index s.words (index z (passive_of x.id e.slot))))) (stepped s (index z (passive_of x.id e.slot)) m i [] (Cpu y) keeps)
+    × Makes event (Word (slice_index s.words (index z (passive_of x.id e.slot)))) (Cpu x) (Cpu y)
 put_makes z s r i x e references m event at idle known is others attached made =
     let g = r.g in
     let had : CpuShown g x = (r.shows.fits i (Cpu x) at).1 in
@@ -196,11 +196,11 @@ put_makes z s r i x e references m event at idle known is others attached made =
     let l = put g x.id e.slot m in
     let own : CpuOwn = record (own_of x) { references = references } in
     let shown = put_shown g x e references m r.good had idle known is others attached in
-    let words = put_words s.words g x.id e.slot m r.good seen.lt known.lt (put_here g x e.slot m r.good seen known.lt) r.words in
-    let stands = put_word s.words g x e r.good had known r.words in
-    let made' : step g event ≡ Some (record { state = with_lists g l; reply = Word (slice_index s.words (index (passive_of x.id e.slot))) }) =
+    let words = put_words z s.words g x.id e.slot m r.good seen.lt known.lt (put_here g x e.slot m r.good seen known.lt) r.words in
+    let stands = put_word z s.words g x e r.good had known r.words in
+    let made' : step g event ≡ Some (record { state = with_lists g l; reply = Word (slice_index s.words (index z (passive_of x.id e.slot))) }) =
     made ∙ (λ k. Some (record { state = with_lists g l; reply = Word (sym stands k) })) in
-    let done = cpu_makes z s r i x (index (passive_of x.id e.slot)) m l event _ own at made' (put_leaves g x.id e.slot m) (λ k. refl) refl shown words in
+    let done = cpu_makes z s r i x (index z (passive_of x.id e.slot)) m l event _ own at made' (put_leaves g x.id e.slot m) (λ k. refl) refl shown words in
     let change : cpu_view (with_lists g l) x.id own ≡ record x { references = references } = ap (λ (v : CpuView). record v { references = references }) (sym had.is) in
     (cpu_view (with_lists g l) x.id own, change, done.0, done.1)
 
@@ -228,19 +228,19 @@ add_allowed g x e good had known idle has room =
     rw (known.of, idle_of g x seen had idle, known_to, lt-ltb (passive_at g.passive x.id e.slot) g.settings.passive_limit below) refl
 
 -- an entry that was found last, or that the CPU refers to
-known_of : (g : State) (x : CpuView) (e : Entry) → Good g → CpuShown g x → (x.found ≡ Some e) ⊎ Contains x.references e → Known g x e
+pub known_of : (g : State) (x : CpuView) (e : Entry) → Good g → CpuShown g x → (x.found ≡ Some e) ⊎ Contains x.references e → Known g x e
 known_of g x e good had has = ⊎_elim (found_known g x e good had) (held_known g x e good had) has
 
 -- the step, for an entry
 add_at : (z : Settings) (x : CpuView) (e : Entry) → IsIdle x → (x.found ≡ Some e) ⊎ Contains x.references e → references_to e.number x.references < x.settings.passive_limit
-    → CpuMay z x (index (passive_of x.id e.slot)) (λ m. (m + 1) % 2 ^ 64) (λ m. did (PassiveAdd x.id e.number) (Word m)) (tells_added (PassiveAdd x.id e.number) (index (passive_of x.id e.slot)))
+    → CpuMay z x (index z (passive_of x.id e.slot)) (λ m. (m + 1) % 2 ^ 64) (λ m. did (PassiveAdd x.id e.number) (Word m)) (tells_added z (PassiveAdd x.id e.number) (index z (passive_of x.id e.slot)))
 add_at z x e idle has room s r i at fits =
     let g = r.g in
     let had : CpuShown g x = (r.shows.fits i (Cpu x) at).1 in
     let seen = seen_of g x r.good had in
     let known = known_of g x e r.good had has in
-    let word = slice_index s.words (index (passive_of x.id e.slot)) in
-    let stands : word ≡ passive_at g.passive x.id e.slot = put_word s.words g x e r.good had known r.words in
+    let word = slice_index s.words (index z (passive_of x.id e.slot)) in
+    let stands : word ≡ passive_at g.passive x.id e.slot = put_word z s.words g x e r.good had known r.words in
     let count = counted_idle g x e known idle in
     let limit = ap (λ (a : Settings). a.passive_limit) seen.settings in
     let more = to_same e.number e x.references refl in
@@ -249,13 +249,13 @@ add_at z x e idle has room s r i at fits =
     let made = add_allowed g x e r.good had known idle has room ∙ (λ k. Some (record { state = with_lists g (put g x.id e.slot (sym next k)); reply = Word (passive_at g.passive x.id e.slot) })) in
     let done = put_makes z s r i x e (e ∷ x.references) ((word + 1) % 2 ^ 64) (PassiveAdd x.id e.number) at idle known is (λ n off. to_other n e x.references off)
     (λ f among. ⊎_elim (λ (here : e ≡ f). subst (IsAttached x.pass) here known.attached) (λ (later : Contains x.references f). had.references f later) (in_cons e f x.references among)) made in
-    moved z s r (did (PassiveAdd x.id e.number) (Word word)) i x (index (passive_of x.id e.slot)) ((word + 1) % 2 ^ 64)
-    (tells_added (PassiveAdd x.id e.number) (index (passive_of x.id e.slot))) done.0 done.2 (
+    moved z s r (did (PassiveAdd x.id e.number) (Word word)) i x (index z (passive_of x.id e.slot)) ((word + 1) % 2 ^ 64)
+    (tells_added z (PassiveAdd x.id e.number) (index z (passive_of x.id e.slot))) done.0 done.2 (
       done.3,
       λ c t n event place.
           let number : e.number ≡ n = cc in
           let cpu : x.id ≡ c = cc in
-          let slot : e.slot ≡ t = omega (arith, cpu, place) in (
+          let slot : e.slot ≡ t = omega (arith, subst (λ (d : ℕ). index z (passive_of x.id e.slot) ≡ index z (passive_of d t)) (sym cpu) place) in (
             (e, record { slot = slot; number = number }, known.attached, done.1),
             omega (arith, slot, known.few),
             stands ∙ count ∙ ap (λ (k : ℕ). references_to k x.references) number,
@@ -265,9 +265,9 @@ add_at z x e idle has room s r i at fits =
 
 -- the step, for a slot and a number
 pub add_may : (z : Settings) (x : CpuView) (c t n : ℕ) → x.id ≡ c → MayAdd x t n
-    → CpuMay z x (index (passive_of c t)) (λ m. (m + 1) % 2 ^ 64) (λ m. did (PassiveAdd c n) (Word m)) (tells_added (PassiveAdd c n) (index (passive_of c t)))
-add_may z x c t n id may = subst (λ (p : ℕ × ℕ × ℕ). CpuMay z x (index (passive_of p.0 p.1)) (λ m. (m + 1) % 2 ^ 64) (λ m. did (PassiveAdd p.0 p.2) (Word m))
-    (tells_added (PassiveAdd p.0 p.2) (index (passive_of p.0 p.1)))) (λ k. (id k, may.at.slot k, may.at.number k))
+    → CpuMay z x (index z (passive_of c t)) (λ m. (m + 1) % 2 ^ 64) (λ m. did (PassiveAdd c n) (Word m)) (tells_added z (PassiveAdd c n) (index z (passive_of c t)))
+add_may z x c t n id may = subst (λ (p : ℕ × ℕ × ℕ). CpuMay z x (index z (passive_of p.0 p.1)) (λ m. (m + 1) % 2 ^ 64) (λ m. did (PassiveAdd p.0 p.2) (Word m))
+    (tells_added z (PassiveAdd p.0 p.2) (index z (passive_of p.0 p.1)))) (λ k. (id k, may.at.slot k, may.at.number k))
     (add_at z x may.entry may.idle may.known (subst (λ (k : ℕ). references_to k x.references < x.settings.passive_limit) (sym may.at.number) may.room))
 
 -- One reference less
@@ -286,15 +286,15 @@ less_of x y m n same is = is ∙ ap (λ (k : ℕ). record x { references = witho
 
 -- the step, for an entry
 sub_at : (z : Settings) (x : CpuView) (e : Entry) → IsIdle x → Contains x.references e
-    → CpuMay z x (index (passive_of x.id e.slot)) (λ m. (m + (2 ^ 64 - 1)) % 2 ^ 64) (λ m. did (PassiveSub x.id e.number) (Word m))
-    (tells_subtracted (PassiveSub x.id e.number) (index (passive_of x.id e.slot)))
+    → CpuMay z x (index z (passive_of x.id e.slot)) (λ m. (m + (2 ^ 64 - 1)) % 2 ^ 64) (λ m. did (PassiveSub x.id e.number) (Word m))
+    (tells_subtracted z (PassiveSub x.id e.number) (index z (passive_of x.id e.slot)))
 sub_at z x e idle among s r i at fits =
     let g = r.g in
     let had : CpuShown g x = (r.shows.fits i (Cpu x) at).1 in
     let seen = seen_of g x r.good had in
     let known = held_known g x e r.good had among in
-    let word = slice_index s.words (index (passive_of x.id e.slot)) in
-    let stands : word ≡ passive_at g.passive x.id e.slot = put_word s.words g x e r.good had known r.words in
+    let word = slice_index s.words (index z (passive_of x.id e.slot)) in
+    let stands : word ≡ passive_at g.passive x.id e.slot = put_word z s.words g x e r.good had known r.words in
     let count = counted_idle g x e known idle in
     let one = counts x.references e e.number among refl in
     let limited = r.good.holds.passive.limited x.id e.slot in
@@ -305,34 +305,34 @@ sub_at z x e idle among s r i at fits =
     let done = put_makes z s r i x e (without e.number x.references) ((word + (2 ^ 64 - 1)) % 2 ^ 64) (PassiveSub x.id e.number) at idle known is
     (λ n off. others_stay e.number n x.references (λ same. off (sym same)))
     (λ f left. had.references f (was_in e.number x.references f left)) made in
-    moved z s r (did (PassiveSub x.id e.number) (Word word)) i x (index (passive_of x.id e.slot)) ((word + (2 ^ 64 - 1)) % 2 ^ 64)
-    (tells_subtracted (PassiveSub x.id e.number) (index (passive_of x.id e.slot))) done.0 done.2 (
+    moved z s r (did (PassiveSub x.id e.number) (Word word)) i x (index z (passive_of x.id e.slot)) ((word + (2 ^ 64 - 1)) % 2 ^ 64)
+    (tells_subtracted z (PassiveSub x.id e.number) (index z (passive_of x.id e.slot))) done.0 done.2 (
       done.3,
       λ c t n event place.
           let number : e.number ≡ n = cc in
           let cpu : x.id ≡ c = cc in
-          let slot : e.slot ≡ t = omega (arith, cpu, place) in
+          let slot : e.slot ≡ t = omega (arith, subst (λ (d : ℕ). index z (passive_of x.id e.slot) ≡ index z (passive_of d t)) (sym cpu) place) in
           (less_of x done.0 e.number n number done.1, stands ∙ count ∙ ap (λ (k : ℕ). references_to k x.references) number, alone g x e t n r.good had known slot number),
     )
 
 -- the step, for a slot and a number
 pub sub_may : (z : Settings) (x : CpuView) (c t n : ℕ) → x.id ≡ c → MayUse x t n
-    → CpuMay z x (index (passive_of c t)) (λ m. (m + (2 ^ 64 - 1)) % 2 ^ 64) (λ m. did (PassiveSub c n) (Word m)) (tells_subtracted (PassiveSub c n) (index (passive_of c t)))
-sub_may z x c t n id may = subst (λ (p : ℕ × ℕ × ℕ). CpuMay z x (index (passive_of p.0 p.1)) (λ m. (m + (2 ^ 64 - 1)) % 2 ^ 64) (λ m. did (PassiveSub p.0 p.2) (Word m))
-    (tells_subtracted (PassiveSub p.0 p.2) (index (passive_of p.0 p.1)))) (λ k. (id k, may.at.slot k, may.at.number k))
+    → CpuMay z x (index z (passive_of c t)) (λ m. (m + (2 ^ 64 - 1)) % 2 ^ 64) (λ m. did (PassiveSub c n) (Word m)) (tells_subtracted z (PassiveSub c n) (index z (passive_of c t)))
+sub_may z x c t n id may = subst (λ (p : ℕ × ℕ × ℕ). CpuMay z x (index z (passive_of p.0 p.1)) (λ m. (m + (2 ^ 64 - 1)) % 2 ^ 64) (λ m. did (PassiveSub p.0 p.2) (Word m))
+    (tells_subtracted z (PassiveSub p.0 p.2) (index z (passive_of p.0 p.1)))) (λ k. (id k, may.at.slot k, may.at.number k))
     (sub_at z x may.entry may.idle may.held)
 
 -- The record of an entry that the CPU refers to
 
 -- the step, for an entry
 load_at : (z : Settings) (x : CpuView) (e : Entry) (k : ℕ) → IsIdle x → Contains x.references e → k < 5
-    → CpuMay z x (index (record_of e.slot k)) (λ m. m) (λ m. did (LoadRecord (Passive x.id e.number k)) (Word m)) (tells_passive (LoadRecord (Passive x.id e.number k)) (index (record_of e.slot k)))
+    → CpuMay z x (index z (record_of e.slot k)) (λ m. m) (λ m. did (LoadRecord (Passive x.id e.number k)) (Word m)) (tells_passive (LoadRecord (Passive x.id e.number k)) (index z (record_of e.slot k)))
 load_at z x e k idle among few s r i at fits =
     let g = r.g in
     let had : CpuShown g x = (r.shows.fits i (Cpu x) at).1 in
     let seen = seen_of g x r.good had in
     let known = held_known g x e r.good had among in
-    let found = slice_index s.words (index (record_of e.slot k)) in
+    let found = slice_index s.words (index z (record_of e.slot k)) in
     let stands : found ≡ word (row_at g.rows e.slot) k = r.words.at (record_of e.slot k) (known.lt, few) in
     let count = counted_idle g x e known idle in
     let one = counts x.references e e.number among refl in
@@ -340,8 +340,8 @@ load_at z x e k idle among few s r i at fits =
     let made : step g (LoadRecord (Passive x.id e.number k)) ≡ Some (record { state = g; reply = Word found }) =
     rw (known.of, idle_of g x seen had idle, held, lt-ltb k 5 few) (λ j. Some (record { state = g; reply = Word (sym stands j) })) in
     let done = keeps_view z s r i (Cpu x) (record_of e.slot k) (LoadRecord (Passive x.id e.number k)) (Word found) at (known.lt, few) made (refl, refl, refl) in
-    moved z s r (did (LoadRecord (Passive x.id e.number k)) (Word found)) i x (index (record_of e.slot k)) found
-    (tells_passive (LoadRecord (Passive x.id e.number k)) (index (record_of e.slot k))) x done.0 (
+    moved z s r (did (LoadRecord (Passive x.id e.number k)) (Word found)) i x (index z (record_of e.slot k)) found
+    (tells_passive (LoadRecord (Passive x.id e.number k)) (index z (record_of e.slot k))) x done.0 (
       done.1,
       refl,
       λ c t n j event place.
@@ -359,7 +359,7 @@ load_at z x e k idle among few s r i at fits =
 
 -- the step, for a slot and a number
 pub load_may : (z : Settings) (x : CpuView) (c t n k : ℕ) → x.id ≡ c → k < 5 → MayUse x t n
-    → CpuMay z x (index (record_of t k)) (λ m. m) (λ m. did (LoadRecord (Passive c n k)) (Word m)) (tells_passive (LoadRecord (Passive c n k)) (index (record_of t k)))
-load_may z x c t n k id few may = subst (λ (p : ℕ × ℕ × ℕ). CpuMay z x (index (record_of p.1 k)) (λ m. m) (λ m. did (LoadRecord (Passive p.0 p.2 k)) (Word m))
-    (tells_passive (LoadRecord (Passive p.0 p.2 k)) (index (record_of p.1 k)))) (λ j. (id j, may.at.slot j, may.at.number j))
+    → CpuMay z x (index z (record_of t k)) (λ m. m) (λ m. did (LoadRecord (Passive c n k)) (Word m)) (tells_passive (LoadRecord (Passive c n k)) (index z (record_of t k)))
+load_may z x c t n k id few may = subst (λ (p : ℕ × ℕ × ℕ). CpuMay z x (index z (record_of p.1 k)) (λ m. m) (λ m. did (LoadRecord (Passive p.0 p.2 k)) (Word m))
+    (tells_passive (LoadRecord (Passive p.0 p.2 k)) (index z (record_of p.1 k)))) (λ j. (id j, may.at.slot j, may.at.number j))
     (load_at z x may.entry k may.idle may.held few)

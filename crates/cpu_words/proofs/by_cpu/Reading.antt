@@ -30,7 +30,7 @@ row_lawful g e good here = (good.holds.rows e.slot e here).1
 -- a load that leaves the core and the view keeps the rule, and is its event
 pub keeps_view : (z : Settings) (s : Table ℕ View) (r : Ruled z s) (i : ℕ) (v : View) (p : Spot) (e : Event) (rep : Reply)
     → get_elem? s.views i ≡ some v → IsSpot r.g.settings p → step r.g e ≡ Some (record { state = r.g; reply = rep }) → OneSeat v v
-    → GoesOn z s r (did (by_number r.g e) rep) (stepped s (index p) (slice_index s.words (index p)) i [] v keeps) × Makes e rep v v
+    → GoesOn z s r (did (by_number r.g e) rep) (stepped s (index z p) (slice_index s.words (index z p)) i [] v keeps) × Makes e rep v v
 keeps_view z s r i v p e rep at there made same =
     let g = r.g in
     let had = r.shows.fits i v at in (
@@ -41,7 +41,7 @@ keeps_view z s r i v p e rep at there made same =
           settings = r.settings;
           good = r.good;
           reached = (more z g g e rep r.reached made).0;
-          words = agrees_set s.words g g p (slice_index s.words (index p)) r.good.holds.fit r.words refl there (sym (r.words.at p there)) (λ q also ne. refl);
+          words = agrees_set z s.words g g p (slice_index s.words (index z p)) r.words refl there (sym (r.words.at p there)) (λ q also ne. refl);
           shows = shows_set g g r.seat s.views i v v r.shows at (λ j u ne sits shown backed. shown) had refl refl (λ n. refl);
         };
         goes_on = (more z g g e rep r.reached made).1;
@@ -62,8 +62,8 @@ local_here g v id good shown stands =
 
 -- the step: the seat's reference is live, so its entry has its slot
 pub local_may : (z : Settings) (v : ReferenceView) (t k : ℕ) → v.entry.slot ≡ t → k < 5
-    → ReferenceMay z v (index (record_of t k)) (λ n. did (LoadRecord (Local v.entry.number k)) (Word n)) (tells_local (LoadRecord (Local 0 k)))
-local_may z v t k slot few = subst (λ (u : ℕ). ReferenceMay z v (index (record_of u k)) (λ n. did (LoadRecord (Local v.entry.number k)) (Word n)) (tells_local (LoadRecord (Local 0 k)))) slot
+    → ReferenceMay z v (index z (record_of t k)) (λ n. did (LoadRecord (Local v.entry.number k)) (Word n)) (tells_local (LoadRecord (Local 0 k)))
+local_may z v t k slot few = subst (λ (u : ℕ). ReferenceMay z v (index z (record_of u k)) (λ n. did (LoadRecord (Local v.entry.number k)) (Word n)) (tells_local (LoadRecord (Local 0 k)))) slot
     (λ s r i at fits.
     let g = r.g in
     let e = v.entry in
@@ -75,13 +75,13 @@ local_may z v t k slot few = subst (λ (u : ℕ). ReferenceMay z v (index (recor
     let within = in_within g.slots e.slot e here in
     let lt : e.slot < g.settings.slots = omega (arith, within, r.good.holds.shape.slots) in
     let of : slot_of g.slots e.number ≡ Some e.slot = slot_number g.history g.slots e e.slot r.good.holds.slots here in
-    let found = slice_index s.words (index (record_of e.slot k)) in
+    let found = slice_index s.words (index z (record_of e.slot k)) in
     let stands : found ≡ word (row_at g.rows e.slot) k = r.words.at (record_of e.slot k) (lt, few) in
     let made : step g (LoadRecord (Local place.0 k)) ≡ Some (record { state = g; reply = Word found }) =
     rw (place.1, of, lt-ltb k 5 few) (λ j. Some (record { state = g; reply = Word (sym stands j) })) in
     let done = keeps_view z s r i (Reference v) (record_of e.slot k) (LoadRecord (Local place.0 k)) (Word found) at (lt, few) made refl in (
       Reference v,
-      subst (λ (n : ℕ). GoesOn z s r (did (LoadRecord (Local n k)) (Word found)) (stepped s (index (record_of e.slot k)) found i [] (Reference v) keeps))
+      subst (λ (n : ℕ). GoesOn z s r (did (LoadRecord (Local n k)) (Word found)) (stepped s (index z (record_of e.slot k)) found i [] (Reference v) keeps))
           (ap (λ (x : LocalPlace). number_or_none (number_standing x)) place.1) done.0,
       (
         refl,

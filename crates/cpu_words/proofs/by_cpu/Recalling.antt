@@ -71,7 +71,7 @@ sees z s r i x word m e found f at loaded own made others finds there =
     let leaves = same_counts g x.id l refl refl refl refl (λ d ne. refl) (λ d ne. refl) (λ d ne. refl) (λ d ne. get_or-set_other g.seen x.id d _ 0 ne) (λ d ne. refl) others in
     let shown : CpuShown (with_lists g l) y = shown_on g x l had refl refl refl (had.depth ∙ ap depth_of seen.begin) more within
     (λ a is. subst (λ (p : List Change). IsAttached p a) (sym passes) (there a (sym finds ∙ is))) in
-    let done = cpu_makes z s r i x word m l e (Word m) (own_of x) at made leaves (λ k. refl) refl shown (loaded_words s.words g l word m loaded r.words refl refl refl) in
+    let done = cpu_makes z s r i x word m l e (Word m) (own_of x) at made leaves (λ k. refl) refl shown (loaded_words z s.words g l word m loaded r.words refl refl refl) in
     record {
       view = y;
       goes_on = subst (λ (d : Event). GoesOn z s r (did d (Word m)) (stepped s word m i [] (Cpu y) keeps)) own done.0;
@@ -93,10 +93,10 @@ found_there g x good had a is = passed_on g x a good had (had.found a is)
 -- a live word
 
 recall_at : (z : Settings) (x : CpuView) (t : ℕ) → MayRecall x t
-    → CpuMay z x (index (live_of t)) (λ n. n) (λ n. did (Recall x.id t) (Word n)) (λ v n y. Makes (Recall x.id t) (Word n) (Cpu v) (Cpu y) × RecalledTold (Recall x.id t) v n y)
+    → CpuMay z x (index z (live_of t)) (λ n. n) (λ n. did (Recall x.id t) (Word n)) (λ v n y. Makes (Recall x.id t) (Word n) (Cpu v) (Cpu y) × RecalledTold (Recall x.id t) v n y)
 recall_at z x t may s r i at fits =
     let g = r.g in
-    let m = slice_index s.words (index (live_of t)) in
+    let m = slice_index s.words (index z (live_of t)) in
     let had : CpuShown g x = (r.shows.fits i (Cpu x) at).1 in
     let seen = seen_of g x r.good had in
     let lt : t < g.settings.slots = subst (λ (a : Settings). t < a.slots) seen.settings may.slot in
@@ -109,15 +109,15 @@ recall_at z x t may s r i at fits =
     (and_from (nat_lt t g.settings.slots) (is_honest (live_at g.lives t) (slot_at g.slots t)) (lt-ltb t g.settings.slots lt) honest)) in
     let made : step g (Recall x.id t) ≡ Some (record { state = with_lists g (seeing_lists g x.id g.found); reply = Word m }) =
     ap (λ (b : Bool). guard b (some_outcome (after_seeing g x.id) (Word (live_at g.lives t)))) test ∙ (λ k. Some (record { state = with_lists g (seeing_lists g x.id g.found); reply = Word (sym found k) })) in
-    let saw = sees z s r i x (index (live_of t)) m (Recall x.id t) g.found x.found at refl refl made (λ d ne. refl) (sym seen.found) (found_there g x r.good had) in
+    let saw = sees z s r i x (index z (live_of t)) m (Recall x.id t) g.found x.found at refl refl made (λ d ne. refl) (sym seen.found) (found_there g x r.good had) in
     let live : IsLiveNumber saw.view.pass t m = subst (λ (p : List Change). IsLiveNumber p t m) (sym saw.history)
     (live_number g t m r.good (ap (λ (k : ℕ). is_honest k (slot_at g.slots t)) found ∙ honest)) in
     (Cpu saw.view, saw.goes_on, (refl, (saw.makes, (record { is = (saw.longer, saw.is); live = live }, saw.whole))))
 
 pub recall_may : (z : Settings) (x : CpuView) (c t : ℕ) → x.id ≡ c → MayRecall x t
-    → CpuMay z x (index (live_of t)) (λ n. n) (λ n. did (Recall c t) (Word n)) (λ v n y. Makes (Recall c t) (Word n) (Cpu v) (Cpu y) × RecalledTold (Recall c t) v n y)
+    → CpuMay z x (index z (live_of t)) (λ n. n) (λ n. did (Recall c t) (Word n)) (λ v n y. Makes (Recall c t) (Word n) (Cpu v) (Cpu y) × RecalledTold (Recall c t) v n y)
 recall_may z x c t id may =
-    subst (λ d. CpuMay z x (index (live_of t)) (λ n. n) (λ n. did (Recall d t) (Word n)) (λ v n y. Makes (Recall d t) (Word n) (Cpu v) (Cpu y) × RecalledTold (Recall d t) v n y)) id (recall_at z x t may)
+    subst (λ d. CpuMay z x (index z (live_of t)) (λ n. n) (λ n. did (Recall d t) (Word n)) (λ v n y. Makes (Recall d t) (Word n) (Cpu v) (Cpu y) × RecalledTold (Recall d t) v n y)) id (recall_at z x t may)
 
 -- The head
 
@@ -130,10 +130,10 @@ newest_few g (suc t) good is =
     omega (arith, low, at.2, good.holds.shape.slots)
 
 recall_head_at : (z : Settings) (x : CpuView) → x.search ≡ None
-    → CpuMay z x (index head_word) (λ n. n) (λ n. did (RecallHead x.id) (Word n)) (λ v n y. Makes (RecallHead x.id) (Word n) (Cpu v) (Cpu y) × RecalledTold (RecallHead x.id) v n y)
+    → CpuMay z x (index z head_word) (λ n. n) (λ n. did (RecallHead x.id) (Word n)) (λ v n y. Makes (RecallHead x.id) (Word n) (Cpu v) (Cpu y) × RecalledTold (RecallHead x.id) v n y)
 recall_head_at z x idle s r i at fits =
     let g = r.g in
-    let m = slice_index s.words (index head_word) in
+    let m = slice_index s.words (index z head_word) in
     let had : CpuShown g x = (r.shows.fits i (Cpu x) at).1 in
     let seen = seen_of g x r.good had in
     let found : m ≡ g.head = r.words.at head_word tt in
@@ -141,31 +141,31 @@ recall_head_at z x idle s r i at fits =
     let test : may_recall_head g x.id ≡ true = and_from (nat_lt x.id g.seated) (is_none (search_at g x.id)) (lt-ltb x.id g.seated seen.seated) (ap is_none none) in
     let made : step g (RecallHead x.id) ≡ Some (record { state = with_lists g (seeing_lists g x.id g.found); reply = Word m }) =
     ap (λ (b : Bool). guard b (some_outcome (after_seeing g x.id) (Word g.head))) test ∙ (λ k. Some (record { state = with_lists g (seeing_lists g x.id g.found); reply = Word (sym found k) })) in
-    let saw = sees z s r i x (index head_word) m (RecallHead x.id) g.found x.found at refl refl made (λ d ne. refl) (sym seen.found) (found_there g x r.good had) in
+    let saw = sees z s r i x (index z head_word) m (RecallHead x.id) g.found x.found at refl refl made (λ d ne. refl) (sym seen.found) (found_there g x r.good had) in
     let leads : IsNewestAt g.history m = subst (IsNewestAt g.history) (sym found) (head_newest g.history g.head r.good.holds.list.first) in
     let newest : IsNewestAt saw.view.pass m = subst (λ (p : List Change). IsNewestAt p m) (sym saw.history) leads in
     let few : m ≤ x.settings.slots = subst (λ (a : Settings). m ≤ a.slots) (sym seen.settings) (newest_few g m r.good leads) in
     (Cpu saw.view, saw.goes_on, (refl, (saw.makes, (record { is = (saw.longer, saw.is); newest = newest; few = few }, saw.whole))))
 
 pub recall_head_may : (z : Settings) (x : CpuView) (c : ℕ) → x.id ≡ c → x.search ≡ None
-    → CpuMay z x (index head_word) (λ n. n) (λ n. did (RecallHead c) (Word n)) (λ v n y. Makes (RecallHead c) (Word n) (Cpu v) (Cpu y) × RecalledTold (RecallHead c) v n y)
+    → CpuMay z x (index z head_word) (λ n. n) (λ n. did (RecallHead c) (Word n)) (λ v n y. Makes (RecallHead c) (Word n) (Cpu v) (Cpu y) × RecalledTold (RecallHead c) v n y)
 recall_head_may z x c id idle =
-    subst (λ d. CpuMay z x (index head_word) (λ n. n) (λ n. did (RecallHead d) (Word n)) (λ v n y. Makes (RecallHead d) (Word n) (Cpu v) (Cpu y) × RecalledTold (RecallHead d) v n y)) id (recall_head_at z x idle)
+    subst (λ d. CpuMay z x (index z head_word) (λ n. n) (λ n. did (RecallHead d) (Word n)) (λ v n y. Makes (RecallHead d) (Word n) (Cpu v) (Cpu y) × RecalledTold (RecallHead d) v n y)) id (recall_head_at z x idle)
 
 -- Found again
 
 -- what the load must leave and tell, where it found m and made the event
 abbrev Ends : (z : Settings) (s : Table ℕ View) → Ruled z s → ℕ → CpuView → ℕ → ℕ → ℕ → Event → Type 0
-Ends z s r i x t n m event = (w : View) × GoesOn z s r (did event (Word m)) (stepped s (index (live_of t)) m i [] w keeps)
+Ends z s r i x t n m event = (w : View) × GoesOn z s r (did event (Word m)) (stepped s (index z (live_of t)) m i [] w keeps)
     × ((w ≡ Cpu (cpu_of w)) × RefindTold n (Refind x.id t n) (Recall x.id t) x m (cpu_of w))
 
 refinds : (z : Settings) (s : Table ℕ View) (r : Ruled z s) (i : ℕ) (x : CpuView) (e : Entry) → x.search ≡ None → (b : ℕ) × (x.begin ≡ Some b) → IsAttached x.pass e → e.slot < x.settings.slots
-    → get_elem? s.views i ≡ some (Cpu x) → slice_index s.words (index (live_of e.slot)) ≡ e.number
-    → Ends z s r i x e.slot e.number (slice_index s.words (index (live_of e.slot))) (Refind x.id e.slot e.number)
+    → get_elem? s.views i ≡ some (Cpu x) → slice_index s.words (index z (live_of e.slot)) ≡ e.number
+    → Ends z s r i x e.slot e.number (slice_index s.words (index z (live_of e.slot))) (Refind x.id e.slot e.number)
 refinds z s r i x e idle inside attached low at same =
     let g = r.g in
     let t = e.slot in
-    let m = slice_index s.words (index (live_of t)) in
+    let m = slice_index s.words (index z (live_of t)) in
     let had : CpuShown g x = (r.shows.fits i (Cpu x) at).1 in
     let seen = seen_of g x r.good had in
     let within : t < g.settings.slots = subst (λ (a : Settings). t < a.slots) seen.settings low in
@@ -186,7 +186,7 @@ refinds z s r i x e idle inside attached low at same =
     let made : step g (Refind x.id t e.number) ≡ Some (record { state = with_lists g (seeing_lists g x.id found); reply = Word m }) =
     ap (refind g x.id t e.number) placed ∙ (ap (λ (b : Bool). guard b (some_outcome (after_refind g x.id e) (Word (live_at g.lives t)))) test
     ∙ (λ k. Some (record { state = with_lists g (seeing_lists g x.id found); reply = Word (sym stands k) }))) in
-    let saw = sees z s r i x (index (live_of t)) m (Refind x.id t e.number) found (Some e) at refl refl made (λ d ne. get_or-set_other g.found x.id d (Some e) None ne)
+    let saw = sees z s r i x (index z (live_of t)) m (Refind x.id t e.number) found (Some e) at refl refl made (λ d ne. get_or-set_other g.found x.id d (Some e) None ne)
     (get_or-set_same g.found x.id (Some e) None seen.in_found) (λ a is. subst (IsAttached g.history) (same_Some e a is) known) in
     let refound : HasRefound x t e.number saw.view = λ f there number.
     subst (λ (a : Entry). IsRefound x t a saw.view) (one_entry x.pass e f attached there (sym number)) (record {
@@ -198,27 +198,27 @@ refinds z s r i x e idle inside attached low at same =
     (Cpu saw.view, saw.goes_on, (refl, ((λ _. (saw.makes, refound)), (λ off. absurd (off same)), saw.whole)))
 
 refinds_other : (z : Settings) (s : Table ℕ View) (r : Ruled z s) (i : ℕ) (x : CpuView) (t n : ℕ) → x.search ≡ None → t < x.settings.slots → get_elem? s.views i ≡ some (Cpu x)
-    → slice_index s.words (index (live_of t)) < 18446744073709551616 → (slice_index s.words (index (live_of t)) ≡ n → ⊥)
-    → Ends z s r i x t n (slice_index s.words (index (live_of t))) (Recall x.id t)
+    → slice_index s.words (index z (live_of t)) < 18446744073709551616 → (slice_index s.words (index z (live_of t)) ≡ n → ⊥)
+    → Ends z s r i x t n (slice_index s.words (index z (live_of t))) (Recall x.id t)
 refinds_other z s r i x t n idle low at fits off =
     let done = recall_at z x t (record { search = idle; slot = low }) s r i at fits in
     (done.0, done.1, (done.2.0, ((λ same. absurd (off same)), (λ _. (done.2.1.0, done.2.1.1.0)), done.2.1.1.1)))
 
 refind_at : (z : Settings) (x : CpuView) (e : Entry) → x.search ≡ None → (b : ℕ) × (x.begin ≡ Some b) → IsAttached x.pass e → e.slot < x.settings.slots
-    → CpuMay z x (index (live_of e.slot)) (λ m. m) (λ m. did (event_by e.number (Refind x.id e.slot e.number) (Recall x.id e.slot) m) (Word m))
+    → CpuMay z x (index z (live_of e.slot)) (λ m. m) (λ m. did (event_by e.number (Refind x.id e.slot e.number) (Recall x.id e.slot) m) (Word m))
     (RefindTold e.number (Refind x.id e.slot e.number) (Recall x.id e.slot))
 refind_at z x e idle inside attached low s r i at fits =
     let t = e.slot in
     let n = e.number in
-    let m = slice_index s.words (index (live_of t)) in ⊎_elim
+    let m = slice_index s.words (index z (live_of t)) in ⊎_elim
     (λ (same : m ≡ n). subst (Ends z s r i x t n m) (sym (ap (λ (b : Bool). if b then Refind x.id t n else Recall x.id t) (eq-eqb m n same))) (refinds z s r i x e idle inside attached low at same))
     (λ (off : m ≡ n → ⊥). subst (Ends z s r i x t n m) (sym (ap (λ (b : Bool). if b then Refind x.id t n else Recall x.id t) (ne_eqb m n off))) (refinds_other z s r i x t n idle low at fits off))
     (cases_eq m n)
 
 pub refind_may : (z : Settings) (x : CpuView) (c t n : ℕ) → x.id ≡ c → MayRefind x t n
-    → CpuMay z x (index (live_of t)) (λ m. m) (λ m. did (event_by n (Refind c t n) (Recall c t) m) (Word m)) (RefindTold n (Refind c t n) (Recall c t))
+    → CpuMay z x (index z (live_of t)) (λ m. m) (λ m. did (event_by n (Refind c t n) (Recall c t) m) (Word m)) (RefindTold n (Refind c t n) (Recall c t))
 refind_may z x c t n id may =
-    subst (λ (p : ℕ × ℕ × ℕ). CpuMay z x (index (live_of p.1)) (λ m. m) (λ m. did (event_by p.2 (Refind p.0 p.1 p.2) (Recall p.0 p.1) m) (Word m)) (RefindTold p.2 (Refind p.0 p.1 p.2) (Recall p.0 p.1)))
+    subst (λ (p : ℕ × ℕ × ℕ). CpuMay z x (index z (live_of p.1)) (λ m. m) (λ m. did (event_by p.2 (Refind p.0 p.1 p.2) (Recall p.0 p.1) m) (Word m)) (RefindTold p.2 (Refind p.0 p.1 p.2) (Recall p.0 p.1)))
     (λ k. (id k, may.at.slot k, may.at.number k)) (refind_at z x may.entry may.search may.inside may.attached (subst (λ (u : ℕ). u < x.settings.slots) (sym may.at.slot) may.slot))
 
 -- both events are the CPU's, and neither hears

@@ -35,10 +35,10 @@ use Rattle.cpu_words.proofs.by_cpu.CpuSteps.{CpuLists, lists_of, with_lists, sam
 use Rattle.cpu_words.proofs.shown.Seeing.{seen_of, idle_of}
 
 -- a load leaves the words
-pub loaded_words : (words : List ℕ) (g : State) (l : CpuLists) (i m : ℕ) → slice_index words i ≡ m → Agrees words g → l.section ≡ g.section → l.passive ≡ g.passive → l.counts ≡ g.counts
-    → Agrees (set words i m) (with_lists g l)
-loaded_words words g l i m found agrees section passive counts =
-    subst (λ (ws : List ℕ). Agrees ws (with_lists g l)) (sym (set-get_or words i 0) ∙ ap (set words i) found) (agrees_same words g (with_lists g l) agrees refl (λ q there. same q))
+pub loaded_words : (z : Settings) (words : List ℕ) (g : State) (l : CpuLists) (i m : ℕ) → slice_index words i ≡ m → Agrees z words g → l.section ≡ g.section → l.passive ≡ g.passive → l.counts ≡ g.counts
+    → Agrees z (set words i m) (with_lists g l)
+loaded_words z words g l i m found agrees section passive counts =
+    subst (λ (ws : List ℕ). Agrees z ws (with_lists g l)) (sym (set-get_or words i 0) ∙ ap (set words i) found) (agrees_same z words g (with_lists g l) agrees refl (λ q there. same q))
   where
     same : (q : Spot) → word_at (with_lists g l) q ≡ word_at g q
     same (section_of d) = ap (λ (s : List ℕ). get_or s d 0) section
@@ -206,7 +206,7 @@ follows z s r i x spot m n q at under found link tells leads at_head above =
     let within : get_or l.seen x.id 0 ≤ size = omega (arith, sees) in
     let shown = shown_on g x l had refl refl refl (had.depth ∙ ap depth_of seen.begin) more within
     (λ e is. found_on g x (get_or l.seen x.id 0) had more within e (found_before (found_at g x.id) m e (sym finds ∙ is))) in
-    let done = cpu_makes z s r i x spot m l (LoadLink x.id) (link_answer m) (own_of x) at made leaves (λ k. refl) refl shown (loaded_words _ _ l _ _ found r.words refl refl refl) in
+    let done = cpu_makes z s r i x spot m l (LoadLink x.id) (link_answer m) (own_of x) at made leaves (λ k. refl) refl shown (loaded_words z _ _ l _ _ found r.words refl refl refl) in
     let change : y ≡ cpu_after_link x q m y.pass =
     (λ k. record y { search = searches k; found = finds k }) ∙ ap (λ (v : CpuView). record v { pass = y.pass; search = next_search q m; found = next_found v.found m }) (sym had.is)
     ∙ followed_is x q m y.pass in
@@ -237,9 +237,9 @@ same_next : (s t : ℕ) → AtNext s ≡ AtNext t → s ≡ t
 same_next s t e = cc
 
 pub load_link_may : (z : Settings) (x : CpuView) (c t : ℕ) → x.id ≡ c → MayLoadLink x t
-    → CpuMay z x (index (next_of t)) (λ n. n) (λ n. did (LoadLink c) (link_answer n)) (λ v n y. Makes (LoadLink c) (link_answer n) (Cpu v) (Cpu y) × HasLoadedLink v n y)
+    → CpuMay z x (index z (next_of t)) (λ n. n) (λ n. did (LoadLink c) (link_answer n)) (λ v n y. Makes (LoadLink c) (link_answer n) (Cpu v) (Cpu y) × HasLoadedLink v n y)
 load_link_may z x c t id may =
-    subst (λ d. CpuMay z x (index (next_of t)) (λ n. n) (λ n. did (LoadLink d) (link_answer n)) (λ v n y. Makes (LoadLink d) (link_answer n) (Cpu v) (Cpu y) × HasLoadedLink v n y)) id
+    subst (λ d. CpuMay z x (index z (next_of t)) (λ n. n) (λ n. did (LoadLink d) (link_answer n)) (λ v n y. Makes (LoadLink d) (link_answer n) (Cpu v) (Cpu y) × HasLoadedLink v n y)) id
     (λ s r i at fits.
     let g = r.g in
     let q = may.search in
@@ -251,9 +251,9 @@ load_link_may z x c t id may =
     let stands = subst (PlaceHolds g.history q.start (seen_at g x.id) q.key) may.place (on.searches x.id q searching).stands in
     let ahead = at_next_ahead g x.id q.start (seen_at g x.id) t q.key on walk seen.within stands in
     let lt : t < g.settings.slots = omega (arith, ahead.0, on.shape.links) in
-    let found : slice_index s.words (index (next_of t)) ≡ get_or g.next t 0 = r.words.at (next_of t) lt in
+    let found : slice_index s.words (index z (next_of t)) ≡ get_or g.next t 0 = r.words.at (next_of t) lt in
     let tells = link_tells g x.id q.start stands.0.number (get_or g.next t 0) q.key on walk ahead.1 in
-    let link : load_link g x.id q q.place ≡ link_loaded g x.id q (slice_index s.words (index (next_of t))) = ap (load_link g x.id q) may.place ∙ ap (link_loaded g x.id q) (sym found) in
+    let link : load_link g x.id q q.place ≡ link_loaded g x.id q (slice_index s.words (index z (next_of t))) = ap (load_link g x.id q) may.place ∙ ap (link_loaded g x.id q) (sym found) in
     let leads = next_leads g x.id q.start (seen_at g x.id) t stands.0 on walk stands.1 in
     let at_head : q.place ≡ AtHead → stands.0.number ≡ suc (length g.history) = λ place. absurd (let wrong : AtHead ≡ AtNext t = sym place ∙ may.place in cc) in
     let above : (u : ℕ) (e : Entry) → q.place ≡ AtNext u → MayStandOn x.pass q u e → e.number ≡ stands.0.number = λ u e place on_e.
@@ -262,8 +262,8 @@ load_link_may z x c t id may =
     subst (λ (v : ℕ). MayStandOn (take (seen_at g x.id) g.history) q v e) same (subst (λ (p : List Change). MayStandOn p q u e) seen.pass on_e) in
     let by_history = stands_by_history g.history (seen_at g x.id) t q e seen.within (on.searches x.id q searching).started by_pass in
     one_stands g x.id q.start (seen_at g x.id) (seen_at g x.id) t stands.0 e on walk stands.1 by_history in
-    told z s r i x (index (next_of t)) (slice_index s.words (index (next_of t))) q may.under_way
-    (follows z s r i x (index (next_of t)) (slice_index s.words (index (next_of t))) stands.0.number q at may.under_way (refl {a = slice_index s.words (index (next_of t))}) link
+    told z s r i x (index z (next_of t)) (slice_index s.words (index z (next_of t))) q may.under_way
+    (follows z s r i x (index z (next_of t)) (slice_index s.words (index z (next_of t))) stands.0.number q at may.under_way (refl {a = slice_index s.words (index z (next_of t))}) link
     (subst (LinkTells g q.start q.key stands.0.number) (sym found) tells) (subst (LeadsSince g.history q.start stands.0.number) (sym found) leads) at_head above))
   where
     told : (z : Settings) (s : Table ℕ View) (r : Ruled z s) (i : ℕ) (x : CpuView) (spot m : ℕ) (q : Search) → x.search ≡ Some q
@@ -298,26 +298,26 @@ begins_search z s r i x spot m kind name at may found =
     let made : step g (Seek x.id kind name) ≡ Some (record { state = with_lists g l; reply = Done }) = rw (idle_of g x seen had may.idle, inside) refl in
     let leaves = same_counts g x.id l refl refl refl refl (λ d ne. refl) (λ d ne. refl) (λ d ne. refl) (λ d ne. refl) (λ d ne. get_or-set_other g.searches x.id d _ None ne) (λ d ne. refl) in
     let shown = shown_on g x l had refl refl refl (had.depth ∙ ap depth_of seen.begin) (omega arith) seen.within (found_on g x (seen_at g x.id) had (omega arith) seen.within) in
-    let done = cpu_makes z s r i x spot m l (Seek x.id kind name) Done (own_of x) at made leaves (λ k. refl) refl shown (loaded_words _ _ l _ _ found r.words refl refl refl) in
+    let done = cpu_makes z s r i x spot m l (Seek x.id kind name) Done (own_of x) at made leaves (λ k. refl) refl shown (loaded_words z _ _ l _ _ found r.words refl refl refl) in
     let size : length x.pass ≡ seen_at g x.id = ap (λ (p : List Change). length p) seen.pass ∙ length-take-le (seen_at g x.id) g.history seen.within in
     let start : q ≡ search_for key x = λ k. record { key = key; start = sym size k; place = AtHead } in
     let search : y.search ≡ Some (search_for key x) = get_or-set_same g.searches x.id (Some q) None seen.in_searches ∙ ap (λ (o : Search). Some o) start in
     let change : y ≡ cpu_after_seek key x = (λ k. record y { search = search k }) ∙ ap (λ (v : CpuView). record v { search = Some (search_for key x) }) (sym had.is) in
     subst (λ (v : CpuView). GoesOn z s r (did (Seek x.id kind name) Done) (stepped s spot m i [] (Cpu v) keeps) × Makes (Seek x.id kind name) Done (Cpu x) (Cpu v)) change done
 
-seek_at : (z : Settings) (x : CpuView) (kind : Kind) (name : Name) → MaySeek x → CpuMay z x (index head_word) (λ n. n) (sought (Seek x.id kind name)) (HasSought (Seek x.id kind name))
+seek_at : (z : Settings) (x : CpuView) (kind : Kind) (name : Name) → MaySeek x → CpuMay z x (index z head_word) (λ n. n) (sought (Seek x.id kind name)) (HasSought (Seek x.id kind name))
 seek_at z x kind name may s r i at fits =
     let key = key_with kind name in
-    let m = slice_index s.words (index head_word) in
-    let begun = begins_search z s r i x (index head_word) m kind name at may refl in
+    let m = slice_index s.words (index z head_word) in
+    let begun = begins_search z s r i x (index z head_word) m kind name at may refl in
     let v = cpu_after_seek key x in
-    let t : Table ℕ View = stepped s (index head_word) m i [] (Cpu v) keeps in
+    let t : Table ℕ View = stepped s (index z head_word) m i [] (Cpu v) keeps in
     let here : get_elem? t.views i ≡ some (Cpu v) = at_same s.views i (Cpu x) (Cpu v) at in
-    let stays : t.words ≡ s.words = set-get_or s.words (index head_word) 0 in
-    let found : slice_index t.words (index head_word) ≡ m = ap (λ (ws : List ℕ). slice_index ws (index head_word)) stays in
+    let stays : t.words ≡ s.words = set-get_or s.words (index z head_word) 0 in
+    let found : slice_index t.words (index z head_word) ≡ m = ap (λ (ws : List ℕ). slice_index ws (index z head_word)) stays in
     let after = seek_link z t begun.0.ruled i v m (search_for key x) here refl refl found in
-    let same : stepped t (index head_word) m i [] (Cpu after.0) keeps ≡ stepped s (index head_word) m i [] (Cpu after.0) keeps =
-    λ k. record { words = set-set s.words (index head_word) m m k; homes = s.homes; views = set-set s.views i (Cpu v) (Cpu after.0) k } in (
+    let same : stepped t (index z head_word) m i [] (Cpu after.0) keeps ≡ stepped s (index z head_word) m i [] (Cpu after.0) keeps =
+    λ k. record { words = set-set s.words (index z head_word) m m k; homes = s.homes; views = set-set s.views i (Cpu v) (Cpu after.0) k } in (
       Cpu after.0,
       subst (GoesOn z s r (did (Seek x.id kind name) Done ++ did (LoadLink x.id) (link_answer m))) same
           (goes_both z s t _ r (did (Seek x.id kind name) Done) (did (LoadLink x.id) (link_answer m)) begun.0 after.1),
@@ -325,8 +325,8 @@ seek_at z x kind name may s r i at fits =
     )
   where
     seek_link : (z : Settings) (t : Table ℕ View) (r : Ruled z t) (i : ℕ) (v : CpuView) (m : ℕ) (q : Search) → get_elem? t.views i ≡ some (Cpu v) → v.search ≡ Some q → q.place ≡ AtHead
-        → slice_index t.words (index head_word) ≡ m
-        → (y : CpuView) × GoesOn z t r (did (LoadLink v.id) (link_answer m)) (stepped t (index head_word) m i [] (Cpu y) keeps) × Makes (LoadLink v.id) (link_answer m) (Cpu v) (Cpu y)
+        → slice_index t.words (index z head_word) ≡ m
+        → (y : CpuView) × GoesOn z t r (did (LoadLink v.id) (link_answer m)) (stepped t (index z head_word) m i [] (Cpu y) keeps) × Makes (LoadLink v.id) (link_answer m) (Cpu v) (Cpu y)
         × HasFollowed v q m y
     seek_link z t r i v m q at under place is =
         let g = r.g in
@@ -338,14 +338,14 @@ seek_at z x kind name may s r i at fits =
         let head : g.head ≡ m = sym (r.words.at head_word tt) ∙ is in
         let tells = link_tells g v.id q.start (suc (length g.history)) g.head q.key on walk (head_ahead g q.start q.key on walk.by_now) in
         let link : load_link g v.id q q.place ≡ link_loaded g v.id q m = ap (load_link g v.id q) place ∙ ap (link_loaded g v.id q) head in
-        follows z t r i v (index head_word) m (suc (length g.history)) q at under is link (subst (LinkTells g q.start q.key (suc (length g.history))) head tells)
+        follows z t r i v (index z head_word) m (suc (length g.history)) q at under is link (subst (LinkTells g q.start q.key (suc (length g.history))) head tells)
         (record { point = length g.history; from_on = walk.by_now; up_to = omega arith; leads = subst (Leads g.history (length g.history) (suc (length g.history))) head on.list.first })
         (λ at_head. refl)
         (λ u e next stands. absurd (let wrong : AtHead ≡ AtNext u = sym place ∙ next in cc))
 
 pub seek_may : (z : Settings) (x : CpuView) (c : ℕ) (kind : Kind) (name : Name) → x.id ≡ c → MaySeek x
-    → CpuMay z x (index head_word) (λ n. n) (sought (Seek c kind name)) (HasSought (Seek c kind name))
-seek_may z x c kind name id may = subst (λ d. CpuMay z x (index head_word) (λ n. n) (sought (Seek d kind name)) (HasSought (Seek d kind name))) id (seek_at z x kind name may)
+    → CpuMay z x (index z head_word) (λ n. n) (sought (Seek c kind name)) (HasSought (Seek c kind name))
+seek_may z x c kind name id may = subst (λ d. CpuMay z x (index z head_word) (λ n. n) (sought (Seek d kind name)) (HasSought (Seek d kind name))) id (seek_at z x kind name may)
 
 -- Record words
 
@@ -474,7 +474,7 @@ searches_word z s r i x spot m q o at under found makes load worded =
     let shown = shown_on g x l had refl refl refl (had.depth ∙ ap depth_of seen.begin) (omega arith) seen.within
     (λ e is. found_shown (take sees g.history) q (found_at g x.id) o (found_on g x sees had (omega arith) seen.within) holds e (sym finds ∙ is)) in
     let done = cpu_makes z s r i x spot m l (LoadRecord (OfSearch x.id)) (loaded_answer (Some o)) (own_of x) at made leaves (λ k. refl) refl shown
-    (loaded_words _ _ l _ _ found r.words refl refl refl) in
+    (loaded_words z _ _ l _ _ found r.words refl refl refl) in
     let change : y ≡ cpu_after_record_word x q (Some o) =
     (λ k. record y { search = searches k; found = finds k }) ∙ ap (λ (v : CpuView). record v { search = loaded_search q o; found = loaded_found v.found o }) (sym had.is) ∙ searched_is x q o in
     let on = r.good.holds in
@@ -496,14 +496,14 @@ searches_word z s r i x spot m q o at under found makes load worded =
     )
 
 pub load_searched_may : (z : Settings) (x : CpuView) (c t k : ℕ) → x.id ≡ c → MayLoadSearched x t k
-    → CpuMay z x (index (record_of t k)) (λ n. n) (λ n. did (LoadRecord (OfSearch c)) (loaded_answer (loaded_of x.search n)))
+    → CpuMay z x (index z (record_of t k)) (λ n. n) (λ n. did (LoadRecord (OfSearch c)) (loaded_answer (loaded_of x.search n)))
     (λ v n y. Makes (LoadRecord (OfSearch c)) (loaded_answer (loaded_of v.search n)) (Cpu v) (Cpu y) × HasLoadedWord v n y)
-load_searched_may z x c t k id may = subst (λ d. CpuMay z x (index (record_of t k)) (λ n. n) (λ n. did (LoadRecord (OfSearch d)) (loaded_answer (loaded_of x.search n)))
+load_searched_may z x c t k id may = subst (λ d. CpuMay z x (index z (record_of t k)) (λ n. n) (λ n. did (LoadRecord (OfSearch d)) (loaded_answer (loaded_of x.search n)))
     (λ v n y. Makes (LoadRecord (OfSearch d)) (loaded_answer (loaded_of v.search n)) (Cpu v) (Cpu y) × HasLoadedWord v n y)) id
     (λ s r i at fits.
     let g = r.g in
     let q = may.search in
-    let place : ℕ = index (record_of t k) in
+    let place : ℕ = index z (record_of t k) in
     let m = slice_index s.words place in
     let had : CpuShown g x = (r.shows.fits i (Cpu x) at).1 in
     let seen = seen_of g x r.good had in
@@ -531,9 +531,9 @@ load_searched_may z x c t k id may = subst (λ d. CpuMay z x (index (record_of t
 -- The value of the entry that a search has compared: nothing changes
 
 pub load_compared_may : (z : Settings) (x : CpuView) (c t : ℕ) → x.id ≡ c → MayLoadLink x t
-    → CpuMay z x (index (record_of t 4)) (λ n. n) (λ n. did (LoadRecord (Compared c)) (Word n)) (tells_compared (LoadRecord (Compared c)) (index (record_of t 4)))
-load_compared_may z x c t id may = subst (λ d. CpuMay z x (index (record_of t 4)) (λ n. n) (λ n. did (LoadRecord (Compared d)) (Word n))
-    (tells_compared (LoadRecord (Compared d)) (index (record_of t 4)))) id
+    → CpuMay z x (index z (record_of t 4)) (λ n. n) (λ n. did (LoadRecord (Compared c)) (Word n)) (tells_compared (LoadRecord (Compared c)) (index z (record_of t 4)))
+load_compared_may z x c t id may = subst (λ d. CpuMay z x (index z (record_of t 4)) (λ n. n) (λ n. did (LoadRecord (Compared d)) (Word n))
+    (tells_compared (LoadRecord (Compared d)) (index z (record_of t 4)))) id
     (λ s r i at fits.
     let g = r.g in
     let q = may.search in
@@ -545,7 +545,7 @@ load_compared_may z x c t id may = subst (λ d. CpuMay z x (index (record_of t 4
     let walk : Walks g x.id q.start = search_walks g x.id q on searching in
     let within = subst (λ (p : SearchPlace). SlotWithin p (length g.slots)) may.place (search_within g x.id q on searching) in
     let lt : t < g.settings.slots = omega (arith, within, on.shape.slots) in
-    let found = slice_index s.words (index (record_of t 4)) in
+    let found = slice_index s.words (index z (record_of t 4)) in
     let stands : found ≡ (row_at g.rows t).value = r.words.at (record_of t 4) (lt, omega arith) in
     let made : step g (LoadRecord (Compared x.id)) ≡ Some (record { state = g; reply = Word found }) =
     ap (λ (o : Option Search). with_some o (λ p. with_some (compared_slot p.place) (λ u. some_outcome g (Word (row_at g.rows u).value)))) searching

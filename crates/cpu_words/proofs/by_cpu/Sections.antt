@@ -14,10 +14,10 @@ use Rattle.cpu_words.proofs.by_cpu.CpuSteps.{CpuLists, lists_of, with_lists, sam
 use Rattle.cpu_words.proofs.shown.Seeing.{Seen, seen_of, idle_of}
 
 -- the words after a step on the CPU's section word
-pub section_words : (words : List ℕ) (g : State) (x : CpuView) (l : CpuLists) (m : ℕ) → Seen g x → Good g → Agrees words g → l.passive ≡ g.passive → l.counts ≡ g.counts
-    → l.section ≡ set g.section x.id m → Agrees (set words (index (section_of x.id)) m) (with_lists g l)
-section_words words g x l m seen good agrees passive counts is =
-    agrees_set words g (with_lists g l) (section_of x.id) m good.holds.fit agrees refl seen.lt (ap (λ (s : List ℕ). get_or s x.id 0) is ∙ get_or-set_same g.section x.id m 0 seen.in_section)
+pub section_words : (z : Settings) (words : List ℕ) (g : State) (x : CpuView) (l : CpuLists) (m : ℕ) → Seen g x → Good g → Agrees z words g → l.passive ≡ g.passive → l.counts ≡ g.counts
+    → l.section ≡ set g.section x.id m → Agrees z (set words (index z (section_of x.id)) m) (with_lists g l)
+section_words z words g x l m seen good agrees passive counts is =
+    agrees_set z words g (with_lists g l) (section_of x.id) m agrees refl seen.lt (ap (λ (s : List ℕ). get_or s x.id 0) is ∙ get_or-set_same g.section x.id m 0 seen.in_section)
     (λ q there ne. other q ne)
   where
     other : (q : Spot) → (q ≡ section_of x.id → ⊥) → word_at (with_lists g l) q ≡ word_at g q
@@ -31,16 +31,16 @@ section_words words g x l m seen good agrees passive counts is =
     other (total_of t) ne = refl
 
 pub enter_may : (z : Settings) (x : CpuView) (c : ℕ) → x.id ≡ c → MayEnter x
-    → CpuMay z x (index (section_of c)) (λ n. (n + 1) % 2 ^ 64) (λ n. did (Enter c) Done) (λ v n y. Makes (Enter c) Done (Cpu v) (Cpu y) × HasEntered v y)
-enter_may z x c id may = subst (λ d. CpuMay z x (index (section_of d)) (λ n. (n + 1) % 2 ^ 64) (λ n. did (Enter d) Done) (λ v n y. Makes (Enter d) Done (Cpu v) (Cpu y) × HasEntered v y)) id
+    → CpuMay z x (index z (section_of c)) (λ n. (n + 1) % 2 ^ 64) (λ n. did (Enter c) Done) (λ v n y. Makes (Enter c) Done (Cpu v) (Cpu y) × HasEntered v y)
+enter_may z x c id may = subst (λ d. CpuMay z x (index z (section_of d)) (λ n. (n + 1) % 2 ^ 64) (λ n. did (Enter d) Done) (λ v n y. Makes (Enter d) Done (Cpu v) (Cpu y) × HasEntered v y)) id
     (λ s r i at fits.
     let g = r.g in
     let had : CpuShown g x = (r.shows.fits i (Cpu x) at).1 in
     let seen = seen_of g x r.good had in
-    let found : slice_index s.words (index (section_of x.id)) ≡ section_at g x.id = r.words.at (section_of x.id) seen.lt in
+    let found : slice_index s.words (index z (section_of x.id)) ≡ section_at g x.id = r.words.at (section_of x.id) seen.lt in
     let limit = ap (λ (a : Settings). a.section_limit) seen.settings in
     let room : section_at g x.id < 2 * g.settings.section_limit = omega (arith, may.room, limit, seen.section) in
-    let next : (slice_index s.words (index (section_of x.id)) + 1) % 2 ^ 64 ≡ section_at g x.id + 1 = omega (arith, found, room, seen.fit) in
+    let next : (slice_index s.words (index z (section_of x.id)) + 1) % 2 ^ 64 ≡ section_at g x.id + 1 = omega (arith, found, room, seen.fit) in
     let n = length g.history in
     let l : CpuLists = record (lists_of g) { section = set g.section x.id (section_at g x.id + 1); begins = set g.begins x.id (Some n); depths = set g.depths x.id 1; seen = set g.seen x.id n } in
     let y = cpu_view (with_lists g l) x.id (own_of x) in
@@ -56,8 +56,8 @@ enter_may z x c id may = subst (λ d. CpuMay z x (index (section_of d)) (λ n. (
     (λ d ne. get_or-set_other g.seen x.id d _ 0 ne) (λ d ne. refl) (λ d ne. refl) in
     let shown = shown_on g x l had refl refl refl (get_or-set_same g.depths x.id 1 0 seen.in_depths ∙ sym (ap depth_of begins)) (omega (arith, seen.within, sees)) (omega (arith, sees))
     (found_on g x (get_or l.seen x.id 0) had (omega (arith, seen.within, sees)) (omega (arith, sees))) in
-    let words = subst (λ m. Agrees (set s.words (index (section_of x.id)) m) (with_lists g l)) (sym next) (section_words s.words g x l (section_at g x.id + 1) seen r.good r.words refl refl refl) in
-    let done = cpu_makes z s r i x (index (section_of x.id)) ((slice_index s.words (index (section_of x.id)) + 1) % 2 ^ 64) l (Enter x.id) Done (own_of x) at made leaves
+    let words = subst (λ m. Agrees z (set s.words (index z (section_of x.id)) m) (with_lists g l)) (sym next) (section_words z s.words g x l (section_at g x.id + 1) seen r.good r.words refl refl refl) in
+    let done = cpu_makes z s r i x (index z (section_of x.id)) ((slice_index s.words (index z (section_of x.id)) + 1) % 2 ^ 64) l (Enter x.id) Done (own_of x) at made leaves
     (λ k. refl) refl shown words in
     let longer : IsPrefix x.pass y.pass =
     subst (λ p. IsPrefix p y.pass) (sym seen.pass) (prefix_longer g.history (seen_at g x.id) (get_or l.seen x.id 0) (omega (arith, seen.within, sees)) (omega (arith, sees))) in
@@ -67,15 +67,15 @@ enter_may z x c id may = subst (λ d. CpuMay z x (index (section_of d)) (λ n. (
     (Cpu y, done.0, (refl, (done.1, (longer, change)))))
 
 pub exit_may : (z : Settings) (x : CpuView) (c : ℕ) → x.id ≡ c → MayExit x
-    → CpuMay z x (index (section_of c)) (λ n. (n + 1) % 2 ^ 64) (λ n. did (Exit c) Done) (λ v n y. Makes (Exit c) Done (Cpu v) (Cpu y) × HasExited v y)
-exit_may z x c id may = subst (λ d. CpuMay z x (index (section_of d)) (λ n. (n + 1) % 2 ^ 64) (λ n. did (Exit d) Done) (λ v n y. Makes (Exit d) Done (Cpu v) (Cpu y) × HasExited v y)) id
+    → CpuMay z x (index z (section_of c)) (λ n. (n + 1) % 2 ^ 64) (λ n. did (Exit c) Done) (λ v n y. Makes (Exit c) Done (Cpu v) (Cpu y) × HasExited v y)
+exit_may z x c id may = subst (λ d. CpuMay z x (index z (section_of d)) (λ n. (n + 1) % 2 ^ 64) (λ n. did (Exit d) Done) (λ v n y. Makes (Exit d) Done (Cpu v) (Cpu y) × HasExited v y)) id
     (λ s r i at fits.
     let g = r.g in
     let had : CpuShown g x = (r.shows.fits i (Cpu x) at).1 in
     let seen = seen_of g x r.good had in
-    let found : slice_index s.words (index (section_of x.id)) ≡ section_at g x.id = r.words.at (section_of x.id) seen.lt in
+    let found : slice_index s.words (index z (section_of x.id)) ≡ section_at g x.id = r.words.at (section_of x.id) seen.lt in
     let room : section_at g x.id ≤ 2 * g.settings.section_limit = r.good.holds.sections.limited x.id in
-    let next : (slice_index s.words (index (section_of x.id)) + 1) % 2 ^ 64 ≡ section_at g x.id + 1 = omega (arith, found, room, seen.fit) in
+    let next : (slice_index s.words (index z (section_of x.id)) + 1) % 2 ^ 64 ≡ section_at g x.id + 1 = omega (arith, found, room, seen.fit) in
     let l : CpuLists = record (lists_of g) { section = set g.section x.id (section_at g x.id + 1); begins = set g.begins x.id None; depths = set g.depths x.id 0; found = set g.found x.id None } in
     let y = cpu_view (with_lists g l) x.id (own_of x) in
     let section : y.section ≡ section_at g x.id + 1 = get_or-set_same g.section x.id (section_at g x.id + 1) 0 seen.in_section in
@@ -89,8 +89,8 @@ exit_may z x c id may = subst (λ d. CpuMay z x (index (section_of d)) (λ n. (n
     (λ d ne. refl) (λ d ne. refl) (λ d ne. get_or-set_other g.found x.id d _ None ne) in
     let shown = shown_on g x l had refl refl refl (get_or-set_same g.depths x.id 0 0 seen.in_depths ∙ sym (ap depth_of begins)) (omega arith) seen.within
     (λ e is. absurd (none-some e (sym nothing ∙ is))) in
-    let words = subst (λ m. Agrees (set s.words (index (section_of x.id)) m) (with_lists g l)) (sym next) (section_words s.words g x l (section_at g x.id + 1) seen r.good r.words refl refl refl) in
-    let done = cpu_makes z s r i x (index (section_of x.id)) ((slice_index s.words (index (section_of x.id)) + 1) % 2 ^ 64) l (Exit x.id) Done (own_of x) at made leaves (λ k. refl) refl shown words in
+    let words = subst (λ m. Agrees z (set s.words (index z (section_of x.id)) m) (with_lists g l)) (sym next) (section_words z s.words g x l (section_at g x.id + 1) seen r.good r.words refl refl refl) in
+    let done = cpu_makes z s r i x (index z (section_of x.id)) ((slice_index s.words (index z (section_of x.id)) + 1) % 2 ^ 64) l (Exit x.id) Done (own_of x) at made leaves (λ k. refl) refl shown words in
     let change : y ≡ record x { section = x.section + 1; begin = None; found = None } =
     (λ k. record y { section = section k; begin = begins k; found = nothing k }) ∙ ap (λ (v : CpuView). record v { section = v.section + 1; begin = None; found = None }) (sym had.is) in
     (Cpu y, done.0, (refl, (done.1, change))))

@@ -53,11 +53,11 @@ tries_leave g c passive h others = record {
 }
 
 -- one word changes
-tried_words : (words : List ℕ) (g : State) (x : CpuView) (t m : ℕ) (h : Hand) → Good g → Seen g x → t < g.settings.slots → Agrees words g
-    → Agrees (set words (index (passive_of x.id t)) m) (with_lists g (try_lists g x.id (with_cell g.passive t x.id m) h))
-tried_words words g x t m h good seen within agrees =
+tried_words : (z : Settings) (words : List ℕ) (g : State) (x : CpuView) (t m : ℕ) (h : Hand) → Good g → Seen g x → t < g.settings.slots → Agrees z words g
+    → Agrees z (set words (index z (passive_of x.id t)) m) (with_lists g (try_lists g x.id (with_cell g.passive t x.id m) h))
+tried_words z words g x t m h good seen within agrees =
     let g' = with_lists g (put g x.id t m) in
-    agrees_same (set words (index (passive_of x.id t)) m) g' (handed g' x.id h g.locals) (put_words words g x.id t m good seen.lt within (put_here g x t m good seen within) agrees) refl
+    agrees_same z (set words (index z (passive_of x.id t)) m) g' (handed g' x.id h g.locals) (put_words z words g x.id t m good seen.lt within (put_here g x t m good seen within) agrees) refl
     (λ q there. same_words g' x.id h g.locals q)
 
 -- what the CPU's view shows then
@@ -148,7 +148,7 @@ tried_counts g x e m good had idle within is t f here =
 -- the step, for an entry
 try_at : (z : Settings) (x : CpuView) (e : Entry) → IsIdle x → e.slot < x.settings.slots → IsAttached x.pass e
     → ((f : Entry) → Contains x.references f → f.slot ≡ e.slot → references_to f.number x.references < x.settings.passive_limit)
-    → CpuMay z x (index (passive_of x.id e.slot)) (λ m. (m + 1) % 2 ^ 64) (λ m. did (Try x.id e.slot e.number) (Word m))
+    → CpuMay z x (index z (passive_of x.id e.slot)) (λ m. (m + 1) % 2 ^ 64) (λ m. did (Try x.id e.slot e.number) (Word m))
     (λ v m y. Makes (Try x.id e.slot e.number) (Word m) (Cpu v) (Cpu y) × TriedTold (Try x.id e.slot e.number) v y)
 try_at z x e idle inside attached room s r i at fits =
     let g = r.g in
@@ -157,7 +157,7 @@ try_at z x e idle inside attached room s r i at fits =
     let within : e.slot < g.settings.slots = subst (λ (a : Settings). e.slot < a.slots) seen.settings inside in
     let old = passive_at g.passive x.id e.slot in
     let below = word_room g x e.slot r.good had idle room in
-    let word = slice_index s.words (index (passive_of x.id e.slot)) in
+    let word = slice_index s.words (index z (passive_of x.id e.slot)) in
     let m = (word + 1) % 2 ^ 64 in
     let stands : word ≡ old = r.words.at (passive_of x.id e.slot) (seen.lt, within) in
     let next : m ≡ old + 1 = omega (arith, stands, below, seen.fit.passive) in
@@ -170,8 +170,8 @@ try_at z x e idle inside attached room s r i at fits =
     (λ k. Some (record { state = with_lists g (try_lists g x.id (with_cell g.passive e.slot x.id (sym next k)) h); reply = Word (sym stands k) })) in
     let leaves = tries_leave g x.id passive h (λ d t ne. cell_other 0 g.passive e.slot x.id m t d (λ _ same. ne same)) in
     let shown = retried g x passive h (TryingEntry e) x.references r.good had (refl, refl) tt (tried_counts g x e m r.good had idle within next) had.gone had.references in
-    let words = tried_words s.words g x e.slot m h r.good seen within r.words in
-    let done = cpu_makes z s r i x (index (passive_of x.id e.slot)) m l (Try x.id e.slot e.number) (Word word) own at made leaves (λ k. refl) refl shown words in
+    let words = tried_words z s.words g x e.slot m h r.good seen within r.words in
+    let done = cpu_makes z s r i x (index z (passive_of x.id e.slot)) m l (Try x.id e.slot e.number) (Word word) own at made leaves (λ k. refl) refl shown words in
     let y = cpu_view (with_lists g l) x.id own in
     let change : y ≡ record x { hand = TryingEntry e } = ap (λ (v : CpuView). record v { hand = TryingEntry e }) (sym had.is) in
     let told : HasTried x e.number y = λ f is number. change ∙ ap (λ (j : Entry). record x { hand = TryingEntry j }) (one_entry x.pass e f attached is (sym number)) in
@@ -179,8 +179,8 @@ try_at z x e idle inside attached room s r i at fits =
 
 -- the step, for a slot and a number
 pub try_may : (z : Settings) (x : CpuView) (c t n : ℕ) → x.id ≡ c → MayTry x t n
-    → CpuMay z x (index (passive_of c t)) (λ m. (m + 1) % 2 ^ 64) (λ m. did (Try c t n) (Word m)) (λ v m y. Makes (Try c t n) (Word m) (Cpu v) (Cpu y) × TriedTold (Try c t n) v y)
-try_may z x c t n id may = subst (λ (p : ℕ × ℕ × ℕ). CpuMay z x (index (passive_of p.0 p.1)) (λ m. (m + 1) % 2 ^ 64) (λ m. did (Try p.0 p.1 p.2) (Word m))
+    → CpuMay z x (index z (passive_of c t)) (λ m. (m + 1) % 2 ^ 64) (λ m. did (Try c t n) (Word m)) (λ v m y. Makes (Try c t n) (Word m) (Cpu v) (Cpu y) × TriedTold (Try c t n) v y)
+try_may z x c t n id may = subst (λ (p : ℕ × ℕ × ℕ). CpuMay z x (index z (passive_of p.0 p.1)) (λ m. (m + 1) % 2 ^ 64) (λ m. did (Try p.0 p.1 p.2) (Word m))
     (λ v m y. Makes (Try p.0 p.1 p.2) (Word m) (Cpu v) (Cpu y) × TriedTold (Try p.0 p.1 p.2) v y)) (λ k. (id k, may.at.slot k, may.at.number k))
     (try_at z x may.entry may.idle (subst (λ (u : ℕ). u < x.settings.slots) (sym may.at.slot) may.slot) may.attached (λ f among same. may.room f among (same ∙ may.at.slot)))
 
@@ -206,7 +206,7 @@ back_counts g x e m good had trying within is t f here =
 
 -- the step, for an entry
 back_at : (z : Settings) (x : CpuView) (e : Entry) → IsTrying x e
-    → CpuMay z x (index (passive_of x.id e.slot)) (λ m. (m + (2 ^ 64 - 1)) % 2 ^ 64) (λ m. did (TakeBack x.id) (Word m)) (λ v m y. Makes (TakeBack x.id) (Word m) (Cpu v) (Cpu y) × HasTakenBack v y)
+    → CpuMay z x (index z (passive_of x.id e.slot)) (λ m. (m + (2 ^ 64 - 1)) % 2 ^ 64) (λ m. did (TakeBack x.id) (Word m)) (λ v m y. Makes (TakeBack x.id) (Word m) (Cpu v) (Cpu y) × HasTakenBack v y)
 back_at z x e trying s r i at fits =
     let g = r.g in
     let had : CpuShown g x = (r.shows.fits i (Cpu x) at).1 in
@@ -217,7 +217,7 @@ back_at z x e trying s r i at fits =
     let old = passive_at g.passive x.id e.slot in
     let some_one : 1 ≤ old = told.2 in
     let limited = r.good.holds.passive.limited x.id e.slot in
-    let word = slice_index s.words (index (passive_of x.id e.slot)) in
+    let word = slice_index s.words (index z (passive_of x.id e.slot)) in
     let m = (word + (2 ^ 64 - 1)) % 2 ^ 64 in
     let stands : word ≡ old = r.words.at (passive_of x.id e.slot) (seen.lt, within) in
     let next : m ≡ old - 1 = omega (arith, stands, some_one, limited, seen.fit.passive) in
@@ -229,16 +229,16 @@ back_at z x e trying s r i at fits =
     let leaves = tries_leave g x.id passive Empty (λ d t ne. cell_other 0 g.passive e.slot x.id m t d (λ _ same. ne same)) in
     let counts = back_counts g x e m r.good had trying within (omega (arith, next, some_one)) in
     let shown = retried g x passive Empty NoEntry x.references r.good had tt tt counts had.gone had.references in
-    let words = tried_words s.words g x e.slot m Empty r.good seen within r.words in
-    let done = cpu_makes z s r i x (index (passive_of x.id e.slot)) m l (TakeBack x.id) (Word word) own at made leaves (λ k. refl) refl shown words in
+    let words = tried_words z s.words g x e.slot m Empty r.good seen within r.words in
+    let done = cpu_makes z s r i x (index z (passive_of x.id e.slot)) m l (TakeBack x.id) (Word word) own at made leaves (λ k. refl) refl shown words in
     let y = cpu_view (with_lists g l) x.id own in
     let change : y ≡ record x { hand = NoEntry } = ap (λ (v : CpuView). record v { hand = NoEntry }) (sym had.is) in
     (Cpu y, done.0, (refl, (done.1, change)))
 
 -- the step, for a slot
 pub back_may : (z : Settings) (x : CpuView) (c t : ℕ) → x.id ≡ c → MayTakeBack x t
-    → CpuMay z x (index (passive_of c t)) (λ m. (m + (2 ^ 64 - 1)) % 2 ^ 64) (λ m. did (TakeBack c) (Word m)) (λ v m y. Makes (TakeBack c) (Word m) (Cpu v) (Cpu y) × HasTakenBack v y)
-back_may z x c t id may = subst (λ (p : ℕ × ℕ). CpuMay z x (index (passive_of p.0 p.1)) (λ m. (m + (2 ^ 64 - 1)) % 2 ^ 64) (λ m. did (TakeBack p.0) (Word m))
+    → CpuMay z x (index z (passive_of c t)) (λ m. (m + (2 ^ 64 - 1)) % 2 ^ 64) (λ m. did (TakeBack c) (Word m)) (λ v m y. Makes (TakeBack c) (Word m) (Cpu v) (Cpu y) × HasTakenBack v y)
+back_may z x c t id may = subst (λ (p : ℕ × ℕ). CpuMay z x (index z (passive_of p.0 p.1)) (λ m. (m + (2 ^ 64 - 1)) % 2 ^ 64) (λ m. did (TakeBack p.0) (Word m))
     (λ v m y. Makes (TakeBack p.0) (Word m) (Cpu v) (Cpu y) × HasTakenBack v y)) (λ k. (id k, may.slot k))
     (back_at z x may.entry may.trying)
 
@@ -309,15 +309,15 @@ confirmed_shown g x e good had trying here attached more within =
 
 -- what the last load must leave and tell, where it found m and made the event
 abbrev Ends : (z : Settings) (s : Table ℕ View) → Ruled z s → ℕ → CpuView → ℕ → ℕ → ℕ → Event → Type 0
-Ends z s r i x t n m event = (w : View) × GoesOn z s r (did event (Word m)) (stepped s (index (live_of t)) m i [] w keeps)
+Ends z s r i x t n m event = (w : View) × GoesOn z s r (did event (Word m)) (stepped s (index z (live_of t)) m i [] w keeps)
     × ((w ≡ Cpu (cpu_of w)) × EndTold n (Confirm x.id) (Recall x.id t) x m (cpu_of w))
 
 confirms : (z : Settings) (s : Table ℕ View) (r : Ruled z s) (i : ℕ) (x : CpuView) (e : Entry) → x.search ≡ None → IsTrying x e → IsAttached x.pass e → e.slot < x.settings.slots
-    → get_elem? s.views i ≡ some (Cpu x) → slice_index s.words (index (live_of e.slot)) ≡ e.number → Ends z s r i x e.slot e.number (slice_index s.words (index (live_of e.slot))) (Confirm x.id)
+    → get_elem? s.views i ≡ some (Cpu x) → slice_index s.words (index z (live_of e.slot)) ≡ e.number → Ends z s r i x e.slot e.number (slice_index s.words (index z (live_of e.slot))) (Confirm x.id)
 confirms z s r i x e idle trying attached inside at same =
     let g = r.g in
     let t = e.slot in
-    let m = slice_index s.words (index (live_of t)) in
+    let m = slice_index s.words (index z (live_of t)) in
     let had : CpuShown g x = (r.shows.fits i (Cpu x) at).1 in
     let seen = seen_of g x r.good had in
     let within : t < g.settings.slots = subst (λ (a : Settings). t < a.slots) seen.settings inside in
@@ -343,8 +343,8 @@ confirms z s r i x e idle trying attached inside at same =
     ap (confirm g x.id) (trying_hand g x e had trying) ∙ (ap (λ (b : Bool). guard b (some_outcome (after_confirm g x.id) (Word (live_at g.lives t)))) test
     ∙ (λ k. Some (record { state = with_lists g l; reply = Word (sym stands k) }))) in
     let shown = confirmed_shown g x e r.good had trying here attached more few in
-    let words = loaded_words s.words g l (index (live_of t)) m refl r.words refl refl refl in
-    let done = cpu_makes z s r i x (index (live_of t)) m l (Confirm x.id) (Word m) fresh at made (confirms_leave g x.id) (λ k. refl) refl shown words in
+    let words = loaded_words z s.words g l (index z (live_of t)) m refl r.words refl refl refl in
+    let done = cpu_makes z s r i x (index z (live_of t)) m l (Confirm x.id) (Word m) fresh at made (confirms_leave g x.id) (λ k. refl) refl shown words in
     let change : y ≡ record x { pass = y.pass; hand = NoEntry; references = e ∷ x.references } =
     ap (λ (v : CpuView). record v { pass = y.pass; hand = NoEntry; references = e ∷ x.references }) (sym had.is) in
     let confirmed : HasConfirmed x y = record {
@@ -360,26 +360,26 @@ confirms z s r i x e idle trying attached inside at same =
 -- Where it finds another word
 
 too_late : (z : Settings) (s : Table ℕ View) (r : Ruled z s) (i : ℕ) (x : CpuView) (t n : ℕ) → x.search ≡ None → t < x.settings.slots → get_elem? s.views i ≡ some (Cpu x)
-    → slice_index s.words (index (live_of t)) < 18446744073709551616 → (slice_index s.words (index (live_of t)) ≡ n → ⊥)
-    → Ends z s r i x t n (slice_index s.words (index (live_of t))) (Recall x.id t)
+    → slice_index s.words (index z (live_of t)) < 18446744073709551616 → (slice_index s.words (index z (live_of t)) ≡ n → ⊥)
+    → Ends z s r i x t n (slice_index s.words (index z (live_of t))) (Recall x.id t)
 too_late z s r i x t n idle inside at fits off =
     let done = recall_may z x x.id t refl (record { search = idle; slot = inside }) s r i at fits in
     (done.0, done.1, (done.2.0, ((λ same. absurd (off same)), (λ _. (done.2.1.0, done.2.1.1.0.is)))))
 
 end_at : (z : Settings) (x : CpuView) (e : Entry) → x.search ≡ None → IsTrying x e → IsAttached x.pass e → e.slot < x.settings.slots
-    → CpuMay z x (index (live_of e.slot)) (λ m. m) (λ m. did (event_by e.number (Confirm x.id) (Recall x.id e.slot) m) (Word m)) (EndTold e.number (Confirm x.id) (Recall x.id e.slot))
+    → CpuMay z x (index z (live_of e.slot)) (λ m. m) (λ m. did (event_by e.number (Confirm x.id) (Recall x.id e.slot) m) (Word m)) (EndTold e.number (Confirm x.id) (Recall x.id e.slot))
 end_at z x e idle trying attached inside s r i at fits =
     let t = e.slot in
     let n = e.number in
-    let m = slice_index s.words (index (live_of t)) in ⊎_elim
+    let m = slice_index s.words (index z (live_of t)) in ⊎_elim
     (λ (same : m ≡ n). subst (Ends z s r i x t n m) (sym (ap (λ (b : Bool). if b then Confirm x.id else Recall x.id t) (eq-eqb m n same))) (confirms z s r i x e idle trying attached inside at same))
     (λ (off : m ≡ n → ⊥). subst (Ends z s r i x t n m) (sym (ap (λ (b : Bool). if b then Confirm x.id else Recall x.id t) (ne_eqb m n off))) (too_late z s r i x t n idle inside at fits off))
     (cases_eq m n)
 
 pub end_try_may : (z : Settings) (x : CpuView) (c t n : ℕ) → x.id ≡ c → MayEndTry x t n
-    → CpuMay z x (index (live_of t)) (λ m. m) (λ m. did (event_by n (Confirm c) (Recall c t) m) (Word m)) (EndTold n (Confirm c) (Recall c t))
+    → CpuMay z x (index z (live_of t)) (λ m. m) (λ m. did (event_by n (Confirm c) (Recall c t) m) (Word m)) (EndTold n (Confirm c) (Recall c t))
 end_try_may z x c t n id may =
-    subst (λ (p : ℕ × ℕ × ℕ). CpuMay z x (index (live_of p.1)) (λ m. m) (λ m. did (event_by p.2 (Confirm p.0) (Recall p.0 p.1) m) (Word m)) (EndTold p.2 (Confirm p.0) (Recall p.0 p.1)))
+    subst (λ (p : ℕ × ℕ × ℕ). CpuMay z x (index z (live_of p.1)) (λ m. m) (λ m. did (event_by p.2 (Confirm p.0) (Recall p.0 p.1) m) (Word m)) (EndTold p.2 (Confirm p.0) (Recall p.0 p.1)))
     (λ k. (id k, may.at.slot k, may.at.number k)) (end_at z x may.entry may.search may.trying may.attached (subst (λ (u : ℕ). u < x.settings.slots) (sym may.at.slot) may.slot))
 
 -- both events are the CPU's, and neither hears

@@ -39,14 +39,14 @@ row_told : (f : ℕ → List Mark → Bool) (g : State) (k : KeeperView) (t : �
 row_told f g k t seen is = sym (λ i. f (seen.settings i).cpus (get_or (seen.marks i) t [])) ∙ is
 
 pub passive_look_may : (z : Settings) (k : KeeperView) (t c : ℕ) → MayPassiveLook k t c
-    → KeeperMay z k (index (passive_of c t)) (λ n. n) (λ n. did (PassiveLook t c) (Word n))
+    → KeeperMay z k (index z (passive_of c t)) (λ n. n) (λ n. did (PassiveLook t c) (Word n))
     (λ v n l. Makes (PassiveLook t c) (Word n) (Keeper v) (Keeper l) × LookedPassiveTold (PassiveLook t c) v n l)
 passive_look_may z k t c may s r i at fits =
     let g = r.g in
     let had : KeeperShown g k = (r.shows.fits i (Keeper k) at).1 in
     let seen = seen_by_keeper g k r.good had in
     let here = looking g k t c r.good seen may.look in
-    let place = index (passive_of c t) in
+    let place = index z (passive_of c t) in
     let w = slice_index s.words place in
     let found : w ≡ passive_at g.passive c t = r.words.at (passive_of c t) (here.cpu, here.slot) in
     let passed : have_passed g.settings.cpus (get_or g.marks t []) ≡ true = row_told have_passed g k t seen may.passed in
@@ -56,7 +56,7 @@ passive_look_may z k t c may s r i at fits =
     let made : step g (PassiveLook t c) ≡ Some (record { state = with_keeper g l; reply = Word w }) = rw (here.rest, here.retired, lt-ltb c g.settings.cpus here.cpu, passed, found) refl in
     let shown : KeeperShown (with_keeper g l) (keeper_view (with_keeper g l) own) = shown_marked g k t c m g.due own r.good had here.cpu refl (due_alike g.due g.due refl) refl refl refl in
     let done = keeper_makes z s r i k place w l (PassiveLook t c) (Word w) own at made (leaves_all g l refl refl refl refl (same_collected g t c m refl)) (λ n. refl) refl shown
-    (loads s.words g (with_keeper g l) place r.words refl (λ q _. refl)) in
+    (loads z s.words g (with_keeper g l) place r.words refl (λ q _. refl)) in
     let change : keeper_view (with_keeper g l) own ≡ record (keeper_after_look k (PassiveLook t c) (Word w)) { marks = with_cell k.marks t c (mark_after_passive_look (mark_at k.marks t c) w) } =
     ap (λ n. record (keeper_view g own) { marks = with_cell g.marks t c (mark_after_passive_look (mark_at g.marks t c) n) }) (sym found)
     ∙ ap (λ (v : KeeperView). record (keeper_after_look v (PassiveLook t c) (Word w)) { marks = with_cell v.marks t c (mark_after_passive_look (mark_at v.marks t c) w) }) (sym had.is) in
@@ -128,9 +128,9 @@ still_collected g t c u d is = ⊎_elim
     (cell_cases no_mark g.marks t c (mark_after_collect (mark_at g.marks t c)) u d)
 
 -- the words after it
-collect_words : (words : List ℕ) (g : State) (t c : ℕ) → Good g → Looking g t c → Agrees words g → Agrees (set words (index (count_of c t)) 0) (with_keeper g (collecting g t c))
-collect_words words g t c good here agrees =
-    agrees_set words g (with_keeper g (collecting g t c)) (count_of c t) 0 good.holds.fit agrees refl (here.cpu, here.slot) (cell_here 0 g.counts t c 0 lt in_row) (λ q _ ne. other q ne)
+collect_words : (z : Settings) (words : List ℕ) (g : State) (t c : ℕ) → Good g → Looking g t c → Agrees z words g → Agrees z (set words (index z (count_of c t)) 0) (with_keeper g (collecting g t c))
+collect_words z words g t c good here agrees =
+    agrees_set z words g (with_keeper g (collecting g t c)) (count_of c t) 0 agrees refl (here.cpu, here.slot) (cell_here 0 g.counts t c 0 lt in_row) (λ q _ ne. other q ne)
   where
     lt : t < length g.counts
     lt = omega (arith, here.slot, good.holds.shape.counts)
@@ -149,13 +149,13 @@ collect_words words g t c good here agrees =
     other (total_of u) ne = refl
 
 pub collect_may : (z : Settings) (k : KeeperView) (t c : ℕ) → MayCollect k t c
-    → KeeperMay z k (index (count_of c t)) (λ _. 0) (λ n. did (Collect t c) (Word n)) (λ v n l. Makes (Collect t c) (Word n) (Keeper v) (Keeper l) × CollectTold (Collect t c) v n l)
+    → KeeperMay z k (index z (count_of c t)) (λ _. 0) (λ n. did (Collect t c) (Word n)) (λ v n l. Makes (Collect t c) (Word n) (Keeper v) (Keeper l) × CollectTold (Collect t c) v n l)
 collect_may z k t c may s r i at fits =
     let g = r.g in
     let had : KeeperShown g k = (r.shows.fits i (Keeper k) at).1 in
     let seen = seen_by_keeper g k r.good had in
     let here = looking g k t c r.good seen may.look in
-    let place = index (count_of c t) in
+    let place = index z (count_of c t) in
     let w = slice_index s.words place in
     let found : w ≡ count_at g.counts c t = r.words.at (count_of c t) (here.cpu, here.slot) in
     let passed : have_passed g.settings.cpus (get_or g.marks t []) ≡ true = row_told have_passed g k t seen may.passed in
@@ -166,7 +166,7 @@ collect_may z k t c may s r i at fits =
     let made : step g (Collect t c) ≡ Some (record { state = with_keeper g l; reply = Word w }) = rw (here.rest, here.retired, lt-ltb c g.settings.cpus here.cpu, passed, clear, still, found) refl in
     let shown = shown_collected g k t c r.good had here still in
     let done = keeper_makes z s r i k place 0 l (Collect t c) (Word w) own at made (leaves_all g l refl refl refl refl (still_collected g t c)) (λ n. refl) refl shown
-    (collect_words s.words g t c r.good here r.words) in
+    (collect_words z s.words g t c r.good here r.words) in
     let change : keeper_view (with_keeper g l) own ≡ record k { marks = with_cell k.marks t c (mark_after_collect (mark_at k.marks t c)); due = Adding t w } =
     ap (λ n. record (keeper_view g own) { marks = marks_collected g t c; due = Adding t n }) (sym found)
     ∙ ap (λ (v : KeeperView). record v { marks = with_cell v.marks t c (mark_after_collect (mark_at v.marks t c)); due = Adding t w }) (sym had.is) in

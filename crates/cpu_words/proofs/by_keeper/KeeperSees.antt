@@ -4,6 +4,7 @@ use Rattle.std.proofs.lemmas.List.{set-get_or}
 use Rattle.std.specs.Prelude.{slice_index}
 use Rattle.protocol.specs.Common.{State}
 use Rattle.registry_values.proofs.Fit.{Ranges, ranges}
+use Rattle.cpu_words.specs.Types.{Settings}
 use Rattle.cpu_words.specs.Common.{KeeperView, Spot, IsSpot, word_at, KeeperShown, Agrees, Good}
 use Rattle.cpu_words.proofs.shown.Placing.{agrees_same}
 
@@ -40,6 +41,6 @@ seen_by_keeper g k good had = record {
 }
 
 -- the words after a load
-pub loads : (words : List ℕ) (g g' : State) (i : ℕ) → Agrees words g → g'.settings ≡ g.settings → ((q : Spot) → IsSpot g.settings q → word_at g' q ≡ word_at g q)
-    → Agrees (set words i (slice_index words i)) g'
-loads words g g' i agrees same others = subst (λ (l : List ℕ). Agrees l g') (sym (set-get_or words i 0)) (agrees_same words g g' agrees same others)
+pub loads : (z : Settings) (words : List ℕ) (g g' : State) (i : ℕ) → Agrees z words g → g'.settings ≡ g.settings → ((q : Spot) → IsSpot g.settings q → word_at g' q ≡ word_at g q)
+    → Agrees z (set words i (slice_index words i)) g'
+loads z words g g' i agrees same others = subst (λ (l : List ℕ). Agrees z l g') (sym (set-get_or words i 0)) (agrees_same z words g g' agrees same others)

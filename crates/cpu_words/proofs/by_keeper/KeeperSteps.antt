@@ -217,7 +217,7 @@ keeper_good_after g l e r good leaves made = record {
 pub keeper_makes : (z : Settings) (s : Table ℕ View) (r : Ruled z s) (i : ℕ) (k : KeeperView) (word m : ℕ) (l : KeeperLists) (e : Event) (rep : Reply) (own : KeeperOwn)
     → get_elem? s.views i ≡ some (Keeper k) → step r.g e ≡ Some (record { state = with_keeper r.g l; reply = rep }) → LeavesCpus r.g l
     → ((n : ℕ) → sum_by (standing_of n) l.locals ≡ standing_in n r.g) → own.noted_pass ≡ k.noted_pass → KeeperShown (with_keeper r.g l) (keeper_view (with_keeper r.g l) own)
-    → Agrees (set s.words word m) (with_keeper r.g l)
+    → Agrees z (set s.words word m) (with_keeper r.g l)
     → GoesOn z s r (did (by_number r.g e) rep) (stepped s word m i [] (Keeper (keeper_view (with_keeper r.g l) own)) keeps) × Makes e rep (Keeper k) (Keeper (keeper_view (with_keeper r.g l) own))
 keeper_makes z s r i k word m l e rep own at made leaves count noted_pass shown words =
     let g = r.g in

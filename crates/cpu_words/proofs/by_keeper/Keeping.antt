@@ -90,7 +90,7 @@ keeps z i k o t v may s r at apart there =
         settings = r.settings;
         good = law.good_after;
         reached = (more z g law.after (Keep t law.id) Done r.reached law.made).0;
-        words = agrees_same s.words g law.after r.words refl (λ q _. beside_words g locals g.due kept q);
+        words = agrees_same z s.words g law.after r.words refl (λ q _. beside_words g locals g.due kept q);
         shows = shows_join g law.after r.seat s.views i (Keeper k) o (Reference v) both r.shows at apart was (beside_stays g locals g.due kept r.seat i had.0) (had.0, law.shown) refl
             (refl, refl) law.count there;
       };

@@ -74,7 +74,7 @@ shown_kept_sub g k t d u e good had x = record {
 }
 
 pub kept_sub_may : (z : Settings) (k : KeeperView) (t u : ℕ) → MayKeptSub k t u
-    → KeeperMay z k (index (total_of u)) (λ n. (n + (2 ^ 64 - 1)) % 2 ^ 64) (λ n. did (KeptSub t) Done) (λ v n l. Makes (KeptSub t) Done (Keeper v) (Keeper l) × KeptSubTold (KeptSub t) v l)
+    → KeeperMay z k (index z (total_of u)) (λ n. (n + (2 ^ 64 - 1)) % 2 ^ 64) (λ n. did (KeptSub t) Done) (λ v n l. Makes (KeptSub t) Done (Keeper v) (Keeper l) × KeptSubTold (KeptSub t) v l)
 kept_sub_may z k t u may s r i at fits =
     let g = r.g in
     let had : KeeperShown g k = (r.shows.fits i (Keeper k) at).1 in
@@ -83,16 +83,16 @@ kept_sub_may z k t u may s r i at fits =
     let x = kept_of g k t u may r.good had in
     let n = x.driver.number in
     let v = total_at g.totals u - 1 in
-    let w = slice_index s.words (index (total_of u)) in
+    let w = slice_index s.words (index z (total_of u)) in
     let found : w ≡ total_at g.totals u = r.words.at (total_of u) x.slot in
     let next : (w + (2 ^ 64 - 1)) % 2 ^ 64 ≡ v = omega (arith, found, x.some_left, fits) in
     let l : KeeperLists = giving_back g t u in
     let own : KeeperOwn = own_after k t n in
     let kind : is_iface e.rec.kind ≡ true = ap is_iface may.kind in
     let made : step g (KeptSub t) ≡ Some (record { state = with_keeper g l; reply = Done }) = rw (x.kept, x.of, x.drained.is, x.drained.retired, kind) refl in
-    let words : Agrees (set s.words (index (total_of u)) ((w + (2 ^ 64 - 1)) % 2 ^ 64)) (with_keeper g l) =
-    subst (λ m. Agrees (set s.words (index (total_of u)) m) (with_keeper g l)) (sym next) (total_words s.words g l u v r.good x.slot r.words refl refl refl refl refl refl) in
-    let done = keeper_makes z s r i k (index (total_of u)) ((w + (2 ^ 64 - 1)) % 2 ^ 64) l (KeptSub t) Done own at made (vacated_leaves g t e (set g.totals u v) (set g.keeps t None) r.good x.drained)
+    let words : Agrees z (set s.words (index z (total_of u)) ((w + (2 ^ 64 - 1)) % 2 ^ 64)) (with_keeper g l) =
+    subst (λ m. Agrees z (set s.words (index z (total_of u)) m) (with_keeper g l)) (sym next) (total_words z s.words g l u v r.good x.slot r.words refl refl refl refl refl refl) in
+    let done = keeper_makes z s r i k (index z (total_of u)) ((w + (2 ^ 64 - 1)) % 2 ^ 64) l (KeptSub t) Done own at made (vacated_leaves g t e (set g.totals u v) (set g.keeps t None) r.good x.drained)
     (λ m. refl) refl (shown_kept_sub g k t d u e r.good had x) words in
     let change : keeper_view (with_keeper g l) own ≡ record k {
       totals = set k.totals u (total_at k.totals u - 1);

@@ -51,20 +51,20 @@ shown_stored g k t v had honest = record {
 -- the keeper stores an honest word
 stores : (z : Settings) (s : Table ℕ View) (r : Ruled z s) (i : ℕ) (k : KeeperView) (t v : ℕ) (e : Event) → get_elem? s.views i ≡ some (Keeper k) → t < r.g.settings.slots
     → is_honest v (slot_at r.g.slots t) ≡ true → step r.g e ≡ Some (record { state = with_keeper r.g (storing r.g t v); reply = Done })
-    → GoesOn z s r (did (by_number r.g e) Done) (stepped s (index (live_of t)) v i [] (Keeper (after_storing r.g k t v)) keeps) × Makes e Done (Keeper k) (Keeper (after_storing r.g k t v))
+    → GoesOn z s r (did (by_number r.g e) Done) (stepped s (index z (live_of t)) v i [] (Keeper (after_storing r.g k t v)) keeps) × Makes e Done (Keeper k) (Keeper (after_storing r.g k t v))
 stores z s r i k t v e at within honest made =
     let g = r.g in
     let had : KeeperShown g k = (r.shows.fits i (Keeper k) at).1 in
     let l : KeeperLists = storing g t v in
-    let words : Agrees (set s.words (index (live_of t)) v) (with_keeper g l) =
-    agrees_set s.words g (with_keeper g l) (live_of t) v r.good.holds.fit r.words refl within (get_or-set_same g.lives t v 0 (omega (arith, within, r.good.holds.shape.lives))) (λ q _ off. others g t v q off) in
-    keeper_makes z s r i k (index (live_of t)) v l e Done (keeper_own k) at made (leaves_all g l refl refl refl refl (λ u d is. is)) (λ n. refl) refl (shown_stored g k t v had honest) words
+    let words : Agrees z (set s.words (index z (live_of t)) v) (with_keeper g l) =
+    agrees_set z s.words g (with_keeper g l) (live_of t) v r.words refl within (get_or-set_same g.lives t v 0 (omega (arith, within, r.good.holds.shape.lives))) (λ q _ off. others g t v q off) in
+    keeper_makes z s r i k (index z (live_of t)) v l e Done (keeper_own k) at made (leaves_all g l refl refl refl refl (λ u d is. is)) (λ n. refl) refl (shown_stored g k t v had honest) words
 
 changed : (g : State) (k : KeeperView) (t v : ℕ) → KeeperShown g k → after_storing g k t v ≡ keeper_after_live k t v
 changed g k t v had = ap (λ (y : KeeperView). keeper_after_live y t v) (sym had.is)
 
 show_at : (z : Settings) (k : KeeperView) (t : ℕ) (e : Entry) → k.due ≡ Rest → slot_at k.slots t ≡ Live e
-    → KeeperStores z k (index (live_of t)) e.number (λ _. did (Show t) Done) (λ v n l. Makes (Show t) Done (Keeper v) (Keeper l) × LiveTold (Show t) n v l)
+    → KeeperStores z k (index z (live_of t)) e.number (λ _. did (Show t) Done) (λ v n l. Makes (Show t) Done (Keeper v) (Keeper l) × LiveTold (Show t) n v l)
 show_at z k t e may is s r i at fits =
     let g = r.g in
     let had : KeeperShown g k = (r.shows.fits i (Keeper k) at).1 in
@@ -78,13 +78,13 @@ show_at z k t e may is s r i at fits =
     (Keeper (after_storing g k t e.number), done.0, (refl, (done.1, changed g k t e.number had)))
 
 pub show_may : (z : Settings) (k : KeeperView) (t n : ℕ) → MayShow k t n
-    → KeeperStores z k (index (live_of t)) n (λ _. did (Show t) Done) (λ v m l. Makes (Show t) Done (Keeper v) (Keeper l) × LiveTold (Show t) m v l)
+    → KeeperStores z k (index z (live_of t)) n (λ _. did (Show t) Done) (λ v m l. Makes (Show t) Done (Keeper v) (Keeper l) × LiveTold (Show t) m v l)
 show_may z k t n may =
-    subst (λ (m : ℕ). KeeperStores z k (index (live_of t)) m (λ _. did (Show t) Done) (λ v j l. Makes (Show t) Done (Keeper v) (Keeper l) × LiveTold (Show t) j v l)) may.number
+    subst (λ (m : ℕ). KeeperStores z k (index z (live_of t)) m (λ _. did (Show t) Done) (λ v j l. Makes (Show t) Done (Keeper v) (Keeper l) × LiveTold (Show t) j v l)) may.number
     (show_at z k t may.entry may.rest may.live)
 
 pub hide_may : (z : Settings) (k : KeeperView) (t : ℕ) → MayHide k t
-    → KeeperStores z k (index (live_of t)) 0 (λ _. did (Hide t) Done) (λ v n l. Makes (Hide t) Done (Keeper v) (Keeper l) × LiveTold (Hide t) n v l)
+    → KeeperStores z k (index z (live_of t)) 0 (λ _. did (Hide t) Done) (λ v n l. Makes (Hide t) Done (Keeper v) (Keeper l) × LiveTold (Hide t) n v l)
 hide_may z k t may s r i at fits =
     let g = r.g in
     let had : KeeperShown g k = (r.shows.fits i (Keeper k) at).1 in

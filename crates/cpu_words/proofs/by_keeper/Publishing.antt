@@ -152,14 +152,14 @@ shown_published g k t e good had may =
     }
 
 pub publish_may : (z : Settings) (k : KeeperView) (t : ℕ) (e : Entry) → MayPublish k t e
-    → KeeperStores z k (index head_word) (t + 1) (λ n. did (Publish t) Done) (λ v n l. Makes (Publish t) Done (Keeper v) (Keeper l) × PublishTold (Publish t) v l)
+    → KeeperStores z k (index z head_word) (t + 1) (λ n. did (Publish t) Done) (λ v n l. Makes (Publish t) Done (Keeper v) (Keeper l) × PublishTold (Publish t) v l)
 publish_may z k t e may s r i at fits =
     let g = r.g in
     let had : KeeperShown g k = (r.shows.fits i (Keeper k) at).1 in
     let does = publishes g k t e r.good had may in
     let l = publish_lists g t e in
-    let words : Agrees (set s.words (index head_word) (t + 1)) (with_keeper g l) = agrees_set s.words g (with_keeper g l) head_word (t + 1) r.good.holds.fit r.words refl tt refl (others g) in
-    let done = keeper_makes z s r i k (index head_word) (t + 1) l (Publish t) Done (keeper_own k) at (made_publish g t e does) (leaves_published g t e r.good does) (λ n. refl) refl
+    let words : Agrees z (set s.words (index z head_word) (t + 1)) (with_keeper g l) = agrees_set z s.words g (with_keeper g l) head_word (t + 1) r.words refl tt refl (others g) in
+    let done = keeper_makes z s r i k (index z head_word) (t + 1) l (Publish t) Done (keeper_own k) at (made_publish g t e does) (leaves_published g t e r.good does) (λ n. refl) refl
     (shown_published g k t e r.good had does) words in
     let change : HasPublished k t e (keeper_view (with_keeper g l) (keeper_own k)) =
     ap (λ (v : KeeperView). record v { head = t + 1; history = after_change v.history (Attach e); slots = set v.slots t (Live e) }) (sym had.is) in

@@ -32,9 +32,9 @@ stores_of g k t good had may =
 
 -- Links
 
-link_words : (words : List ℕ) (g : State) (t v : ℕ) → Good g → t < g.settings.slots → Agrees words g
-    → Agrees (set words (index (next_of t)) v) (with_keeper g (record (keeper_lists g) { next = set g.next t v }))
-link_words words g t v good slot agrees = agrees_set words g _ (next_of t) v good.holds.fit agrees refl slot (get_or-set_same g.next t v 0 (omega (arith, good.holds.shape.links))) other
+link_words : (z : Settings) (words : List ℕ) (g : State) (t v : ℕ) → Good g → t < g.settings.slots → Agrees z words g
+    → Agrees z (set words (index z (next_of t)) v) (with_keeper g (record (keeper_lists g) { next = set g.next t v }))
+link_words z words g t v good slot agrees = agrees_set z words g _ (next_of t) v agrees refl slot (get_or-set_same g.next t v 0 (omega (arith, good.holds.shape.links))) other
   where
     other : (q : Spot) → IsSpot g.settings q → (q ≡ next_of t → ⊥) → word_at (with_keeper g (record (keeper_lists g) { next = set g.next t v })) q ≡ word_at g q
     other (section_of c) here ne = refl
@@ -47,7 +47,7 @@ link_words words g t v good slot agrees = agrees_set words g _ (next_of t) v goo
     other (total_of u) here ne = refl
 
 pub store_next_may : (z : Settings) (k : KeeperView) (t v : ℕ) → v ≤ k.settings.slots → MayWrite k t
-    → KeeperStores z k (index (next_of t)) v (λ _. did (StoreNext t v) Done) (λ x n y. Makes (StoreNext t v) Done (Keeper x) (Keeper y) × HasLink x t v y)
+    → KeeperStores z k (index z (next_of t)) v (λ _. did (StoreNext t v) Done) (λ x n y. Makes (StoreNext t v) Done (Keeper x) (Keeper y) × HasLink x t v y)
 store_next_may z k t v leads may s r i at fits =
     let g = r.g in
     let had : KeeperShown g k = (r.shows.fits i (Keeper k) at).1 in
@@ -68,8 +68,8 @@ store_next_may z k t v leads may s r i at fits =
       honest = had.honest;
       noted_pass = had.noted_pass;
     } in
-    let done = keeper_makes z s r i k (index (next_of t)) v l (StoreNext t v) Done own at made (leaves_all g l refl refl refl refl (λ u d is. is)) (λ n. refl) refl shown
-    (link_words s.words g t v r.good on.slot r.words) in
+    let done = keeper_makes z s r i k (index z (next_of t)) v l (StoreNext t v) Done own at made (leaves_all g l refl refl refl refl (λ u d is. is)) (λ n. refl) refl shown
+    (link_words z s.words g t v r.good on.slot r.words) in
     (Keeper (keeper_view (with_keeper g l) own), done.0, (refl, (done.1, ap (λ (x : KeeperView). record x { next = set x.next t v }) (sym had.is))))
 
 -- Record words
@@ -112,8 +112,8 @@ word_else r (suc (suc (suc (suc j)))) (suc (suc (suc (suc i)))) v lt below ne = 
 abbrev with_record : State → ℕ → ℕ → ℕ → KeeperLists
 with_record g t j v = record (keeper_lists g) { rows = set g.rows t (with_word (row_at g.rows t) j v) }
 
-record_words : (words : List ℕ) (g : State) (t j v : ℕ) → Good g → t < g.settings.slots → j < 5 → Agrees words g → Agrees (set words (index (record_of t j)) v) (with_keeper g (with_record g t j v))
-record_words words g t j v good slot lt agrees = agrees_set words g (with_keeper g (with_record g t j v)) (record_of t j) v good.holds.fit agrees refl (slot, lt)
+record_words : (z : Settings) (words : List ℕ) (g : State) (t j v : ℕ) → Good g → t < g.settings.slots → j < 5 → Agrees z words g → Agrees z (set words (index z (record_of t j)) v) (with_keeper g (with_record g t j v))
+record_words z words g t j v good slot lt agrees = agrees_set z words g (with_keeper g (with_record g t j v)) (record_of t j) v agrees refl (slot, lt)
     (ap (λ (r : RecordWords). word r j) here ∙ word_here (row_at g.rows t) j v lt) other
   where
     here : row_at (set g.rows t (with_word (row_at g.rows t) j v)) t ≡ with_word (row_at g.rows t) j v
@@ -134,7 +134,7 @@ record_words words g t j v good slot lt agrees = agrees_set words g (with_keeper
     other (total_of u) there ne = refl
 
 pub store_record_may : (z : Settings) (k : KeeperView) (t j v : ℕ) → j < 5 → MayWrite k t
-    → KeeperStores z k (index (record_of t j)) v (λ _. did (StoreSlot t j v) Done) (λ x n y. Makes (StoreSlot t j v) Done (Keeper x) (Keeper y) × HasRecordWord x t j v y)
+    → KeeperStores z k (index z (record_of t j)) v (λ _. did (StoreSlot t j v) Done) (λ x n y. Makes (StoreSlot t j v) Done (Keeper x) (Keeper y) × HasRecordWord x t j v y)
 store_record_may z k t j v lt may s r i at fits =
     let g = r.g in
     let had : KeeperShown g k = (r.shows.fits i (Keeper k) at).1 in
@@ -155,8 +155,8 @@ store_record_may z k t j v lt may s r i at fits =
       honest = had.honest;
       noted_pass = had.noted_pass;
     } in
-    let done = keeper_makes z s r i k (index (record_of t j)) v l (StoreSlot t j v) Done own at made (leaves_all g l refl refl refl refl (λ u d is. is)) (λ n. refl) refl shown
-    (record_words s.words g t j v r.good on.slot lt r.words) in
+    let done = keeper_makes z s r i k (index z (record_of t j)) v l (StoreSlot t j v) Done own at made (leaves_all g l refl refl refl refl (λ u d is. is)) (λ n. refl) refl shown
+    (record_words z s.words g t j v r.good on.slot lt r.words) in
     (Keeper (keeper_view (with_keeper g l) own), done.0, (refl, (done.1, ap (λ (x : KeeperView). record x { rows = set x.rows t (with_word (row_at x.rows t) j v) }) (sym had.is))))
 
 -- Count words
@@ -164,10 +164,10 @@ store_record_may z k t j v lt may s r i at fits =
 abbrev with_count : State → ℕ → ℕ → ℕ → KeeperLists
 with_count g t c v = record (keeper_lists g) { counts = with_cell g.counts t c v }
 
-count_words : (words : List ℕ) (g : State) (t c v : ℕ) → Good g → t < g.settings.slots → c < g.settings.cpus → Agrees words g
-    → Agrees (set words (index (count_of c t)) v) (with_keeper g (with_count g t c v))
-count_words words g t c v good slot lt agrees =
-    agrees_set words g (with_keeper g (with_count g t c v)) (count_of c t) v good.holds.fit agrees refl (lt, slot) (cell_here 0 g.counts t c v within in_row) other
+count_words : (z : Settings) (words : List ℕ) (g : State) (t c v : ℕ) → Good g → t < g.settings.slots → c < g.settings.cpus → Agrees z words g
+    → Agrees z (set words (index z (count_of c t)) v) (with_keeper g (with_count g t c v))
+count_words z words g t c v good slot lt agrees =
+    agrees_set z words g (with_keeper g (with_count g t c v)) (count_of c t) v agrees refl (lt, slot) (cell_here 0 g.counts t c v within in_row) other
   where
     within : t < length g.counts
     within = omega (arith, good.holds.shape.counts)
@@ -199,7 +199,7 @@ counts_follow g k t c v good had slot lt d u vacant =
     (λ off. cell_other 0 g.counts t c v u d off ∙ had.counts d u vacant ∙ sym (cell_other 0 k.counts t c v u d off))
 
 pub store_count_may : (z : Settings) (k : KeeperView) (t c v : ℕ) → c < k.settings.cpus → MayWrite k t
-    → KeeperStores z k (index (count_of c t)) v (λ _. did (StoreSlot t (5 + c) v) Done) (λ x n y. Makes (StoreSlot t (5 + c) v) Done (Keeper x) (Keeper y) × HasCountWord x t ((5 + c) - 5) v y)
+    → KeeperStores z k (index z (count_of c t)) v (λ _. did (StoreSlot t (5 + c) v) Done) (λ x n y. Makes (StoreSlot t (5 + c) v) Done (Keeper x) (Keeper y) × HasCountWord x t ((5 + c) - 5) v y)
 store_count_may z k t c v within may s r i at fits =
     let g = r.g in
     let had : KeeperShown g k = (r.shows.fits i (Keeper k) at).1 in
@@ -224,8 +224,8 @@ store_count_may z k t c v within may s r i at fits =
       honest = had.honest;
       noted_pass = had.noted_pass;
     } in
-    let done = keeper_makes z s r i k (index (count_of c t)) v l (StoreSlot t (5 + c) v) Done own at made (leaves_all g l refl refl refl refl (λ u d is. is)) (λ n. refl) refl shown
-    (count_words s.words g t c v r.good on.slot lt r.words) in (
+    let done = keeper_makes z s r i k (index z (count_of c t)) v l (StoreSlot t (5 + c) v) Done own at made (leaves_all g l refl refl refl refl (λ u d is. is)) (λ n. refl) refl shown
+    (count_words z s.words g t c v r.good on.slot lt r.words) in (
       Keeper (keeper_view (with_keeper g l) own),
       done.0,
       (refl, (done.1, ap (λ (x : KeeperView). record x { counts = with_cell k.counts t c v }) (sym had.is) ∙ ap (λ d. record k { counts = with_cell k.counts t d v }) (sym back))),

@@ -48,9 +48,9 @@ one_more_at l n m = ⊎_elim
     (cases_eq m n)
 
 -- the words after a total was written
-pub total_words : (words : List ℕ) (g : State) (l : KeeperLists) (t v : ℕ) → Good g → t < g.settings.slots → Agrees words g
-    → l.head ≡ g.head → l.lives ≡ g.lives → l.next ≡ g.next → l.rows ≡ g.rows → l.counts ≡ g.counts → l.totals ≡ set g.totals t v → Agrees (set words (index (total_of t)) v) (with_keeper g l)
-total_words words g l t v good slot agrees head lives next rows counts totals = agrees_set words g (with_keeper g l) (total_of t) v good.holds.fit agrees refl slot
+pub total_words : (z : Settings) (words : List ℕ) (g : State) (l : KeeperLists) (t v : ℕ) → Good g → t < g.settings.slots → Agrees z words g
+    → l.head ≡ g.head → l.lives ≡ g.lives → l.next ≡ g.next → l.rows ≡ g.rows → l.counts ≡ g.counts → l.totals ≡ set g.totals t v → Agrees z (set words (index z (total_of t)) v) (with_keeper g l)
+total_words z words g l t v good slot agrees head lives next rows counts totals = agrees_set z words g (with_keeper g l) (total_of t) v agrees refl slot
     (ap (λ (x : List ℕ). total_at x t) totals ∙ total_here g.totals t v (omega (arith, slot, good.holds.shape.totals))) (λ q _ ne. other q ne)
   where
     other : (q : Spot) → (q ≡ total_of t → ⊥) → word_at (with_keeper g l) q ≡ word_at g q
@@ -111,7 +111,7 @@ shown_added g k t old good had due = record {
         (cases_eq u t)
 
 pub total_add_may : (z : Settings) (k : KeeperView) (t old value : ℕ) → MayTotalAdd k t old value
-    → KeeperStores z k (index (total_of t)) value (λ n. did (TotalAdd t) Done) (λ v n l. Makes (TotalAdd t) Done (Keeper v) (Keeper l) × TotalAddTold (TotalAdd t) v n l)
+    → KeeperStores z k (index z (total_of t)) value (λ n. did (TotalAdd t) Done) (λ v n l. Makes (TotalAdd t) Done (Keeper v) (Keeper l) × TotalAddTold (TotalAdd t) v n l)
 total_add_may z k t old value may s r i at fits =
     let g = r.g in
     let had : KeeperShown g k = (r.shows.fits i (Keeper k) at).1 in
@@ -122,10 +122,10 @@ total_add_may z k t old value may s r i at fits =
     let l : KeeperLists = totalling g t v in
     let own : KeeperOwn = keeper_own k in
     let made : step g (TotalAdd t) ≡ Some (record { state = with_keeper g l; reply = Done }) = ap (total_add g t) due ∙ rw (eq-eqb t t refl) refl in
-    let words : Agrees (set s.words (index (total_of t)) value) (with_keeper g l) =
-    subst (λ n. Agrees (set s.words (index (total_of t)) n) (with_keeper g l)) (sym is)
-    (total_words s.words g l t v r.good (adding_within g t old r.good.holds due) r.words refl refl refl refl refl refl) in
-    let done = keeper_makes z s r i k (index (total_of t)) value l (TotalAdd t) Done own at made (leaves_all g l refl refl refl refl (λ u d on. on)) (λ n. refl) refl
+    let words : Agrees z (set s.words (index z (total_of t)) value) (with_keeper g l) =
+    subst (λ n. Agrees z (set s.words (index z (total_of t)) n) (with_keeper g l)) (sym is)
+    (total_words z s.words g l t v r.good (adding_within g t old r.good.holds due) r.words refl refl refl refl refl refl) in
+    let done = keeper_makes z s r i k (index z (total_of t)) value l (TotalAdd t) Done own at made (leaves_all g l refl refl refl refl (λ u d on. on)) (λ n. refl) refl
     (shown_added g k t old r.good had due) words in
     let change : keeper_view (with_keeper g l) own ≡ record k { totals = set k.totals t value; due = Rest } =
     ap (λ n. record (keeper_view g own) { totals = set g.totals t n; due = Rest }) (sym is) ∙ ap (λ (x : KeeperView). record x { totals = set x.totals t value; due = Rest }) (sym had.is) in
@@ -218,7 +218,7 @@ shown_subtracted g k t e good had retired due =
     }
 
 pub total_sub_may : (z : Settings) (k : KeeperView) (t : ℕ) → MayTotalSub k t
-    → KeeperMay z k (index (total_of t)) (λ n. (n + (2 ^ 64 - 1)) % 2 ^ 64) (λ n. did (TotalSub t) Done) (λ v n l. Makes (TotalSub t) Done (Keeper v) (Keeper l) × TotalSubTold (TotalSub t) v l)
+    → KeeperMay z k (index z (total_of t)) (λ n. (n + (2 ^ 64 - 1)) % 2 ^ 64) (λ n. did (TotalSub t) Done) (λ v n l. Makes (TotalSub t) Done (Keeper v) (Keeper l) × TotalSubTold (TotalSub t) v l)
 total_sub_may z k t may s r i at fits =
     let g = r.g in
     let had : KeeperShown g k = (r.shows.fits i (Keeper k) at).1 in
@@ -228,15 +228,15 @@ total_sub_may z k t may s r i at fits =
     let gone = due_subtracting g.settings.cpus g.slots g.hands g.due g.locals t due r.good.holds.references in
     let e = gone.0 in
     let v = total_at g.totals t - 1 in
-    let w = slice_index s.words (index (total_of t)) in
+    let w = slice_index s.words (index z (total_of t)) in
     let found : w ≡ total_at g.totals t = r.words.at (total_of t) range.0 in
     let next : (w + (2 ^ 64 - 1)) % 2 ^ 64 ≡ v = omega (arith, found, range.1, fits) in
     let l : KeeperLists = totalling g t v in
     let own : KeeperOwn = keeper_own k in
     let made : step g (TotalSub t) ≡ Some (record { state = with_keeper g l; reply = Done }) = ap (total_sub g t) due ∙ rw (eq-eqb t t refl) refl in
-    let words : Agrees (set s.words (index (total_of t)) ((w + (2 ^ 64 - 1)) % 2 ^ 64)) (with_keeper g l) =
-    subst (λ n. Agrees (set s.words (index (total_of t)) n) (with_keeper g l)) (sym next) (total_words s.words g l t v r.good range.0 r.words refl refl refl refl refl refl) in
-    let done = keeper_makes z s r i k (index (total_of t)) ((w + (2 ^ 64 - 1)) % 2 ^ 64) l (TotalSub t) Done own at made (leaves_all g l refl refl refl refl (λ u d on. on)) (λ n. refl) refl
+    let words : Agrees z (set s.words (index z (total_of t)) ((w + (2 ^ 64 - 1)) % 2 ^ 64)) (with_keeper g l) =
+    subst (λ n. Agrees z (set s.words (index z (total_of t)) n) (with_keeper g l)) (sym next) (total_words z s.words g l t v r.good range.0 r.words refl refl refl refl refl refl) in
+    let done = keeper_makes z s r i k (index z (total_of t)) ((w + (2 ^ 64 - 1)) % 2 ^ 64) l (TotalSub t) Done own at made (leaves_all g l refl refl refl refl (λ u d on. on)) (λ n. refl) refl
     (shown_subtracted g k t e r.good had gone.1 due) words in
     let change : keeper_view (with_keeper g l) own ≡ record k { totals = set k.totals t (total_at k.totals t - 1); due = Rest } =
     ap (λ (x : KeeperView). record x { totals = set x.totals t (total_at x.totals t - 1); due = Rest }) (sym had.is) in
@@ -348,7 +348,7 @@ joins_at z i k o v may s r at apart there =
         settings = r.settings;
         good = law.good_after;
         reached = (more z g law.after (JoinKeeper law.id) Done r.reached law.made).0;
-        words = agrees_same s.words g law.after r.words refl (λ q _. beside_words g (set g.locals law.id Free) (Subtracting v.entry.slot) g.keeps q);
+        words = agrees_same z s.words g law.after r.words refl (λ q _. beside_words g (set g.locals law.id Free) (Subtracting v.entry.slot) g.keeps q);
         shows = shows_join g law.after r.seat s.views i (Keeper k) o (Reference v) both r.shows at apart was
             (beside_stays g (set g.locals law.id Free) (Subtracting v.entry.slot) g.keeps r.seat i had.0) (had.0, law.shown) refl (refl, refl) law.count there;
       };

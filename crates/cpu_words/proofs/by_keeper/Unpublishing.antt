@@ -182,12 +182,12 @@ others_link g t e p v (next_of u) off = get_or-set_other g.next p u v 0 (λ same
 others_link g t e p v (record_of u j) off = refl
 others_link g t e p v (total_of u) off = refl
 
-link_words : (words : List ℕ) (g : State) (t : ℕ) (e : Entry) (p : Option ℕ) (v : ℕ) → Good g → Agrees words g → Unpublishes g t e p v
-    → Agrees (set words (link_index p) v) (with_keeper g (unpublish_lists g t e p v))
-link_words words g t e None v good agrees may = agrees_set words g (with_keeper g (unpublish_lists g t e None v)) head_word v good.holds.fit agrees refl tt refl (λ q _ off. others_head g t e v q off)
-link_words words g t e (Some p) v good agrees may =
+link_words : (z : Settings) (words : List ℕ) (g : State) (t : ℕ) (e : Entry) (p : Option ℕ) (v : ℕ) → Good g → Agrees z words g → Unpublishes g t e p v
+    → Agrees z (set words (link_index p) v) (with_keeper g (unpublish_lists g t e p v))
+link_words z words g t e None v good agrees may = agrees_set z words g (with_keeper g (unpublish_lists g t e None v)) head_word v agrees refl tt refl (λ q _ off. others_head g t e v q off)
+link_words z words g t e (Some p) v good agrees may =
     let lt : p < g.settings.slots = may.place p refl in
-    agrees_set words g (with_keeper g (unpublish_lists g t e (Some p) v)) (next_of p) v good.holds.fit agrees refl lt
+    agrees_set z words g (with_keeper g (unpublish_lists g t e (Some p) v)) (next_of p) v agrees refl lt
     (get_or-set_same g.next p v 0 (omega (arith, lt, good.holds.shape.links))) (λ q _ off. others_link g t e p v q off)
 
 -- one place is the link of one slot before
@@ -205,7 +205,7 @@ unpublish_at z k t p v may s r i at fits =
     let had : KeeperShown g k = (r.shows.fits i (Keeper k) at).1 in
     let does = unpublishes g k t p v r.good had may in
     let l = unpublish_lists g t e p v in
-    let words = link_words s.words g t e p v r.good r.words does in
+    let words = link_words z s.words g t e p v r.good r.words does in
     let done = keeper_makes z s r i k (link_index p) v l (Unpublish t) Done (keeper_own k) at (made_unpublish g t e p v does) (leaves_unlinked g t e p v does) (λ n. refl) refl
     (shown_unlinked g k t e p v r.good had does) words in
     let change : keeper_view (with_keeper g l) (keeper_own k) ≡ keeper_after_unpublish k t e p v = ap (λ (y : KeeperView). keeper_after_unpublish y t e p v) (sym had.is) in (

@@ -55,7 +55,7 @@ vacates z k t may s r i at =
     let w = keeper_view (with_keeper g l) own in
     let n = slice_index s.words 0 in
     let done = keeper_makes z s r i k 0 n l (Vacate t) Done own at made (vacated_leaves g t e g.totals g.keeps r.good drained) (λ m. refl) refl (shown_vacated g k t e had drained)
-    (loads s.words g (with_keeper g l) 0 r.words refl (λ q _. refl)) in
+    (loads z s.words g (with_keeper g l) 0 r.words refl (λ q _. refl)) in
     let is : w ≡ keeper_after_vacate k t = ap (λ (v : KeeperView). record v { slots = set v.slots t Vacant; counts = set k.counts t (replicate MOST_CPUS 0) }) (sym had.is) in (
       subst (λ (v : KeeperView). GoesOn z s r (did (Vacate t) Done) (with_view s i (Keeper v))) is
           (subst (λ (ws : List ℕ). GoesOn z s r (did (Vacate t) Done) (record { words = ws; homes = s.homes; views = set s.views i (Keeper w) })) (set-get_or s.words 0 0) done.0),
@@ -88,11 +88,11 @@ moves_after z v u i f before es tells T first then s r id at fits =
 
 -- Vacate with a load that lets the keeper hear
 pub vacating_may : (z : Settings) (k : KeeperView) (t : ℕ) → MayVacate k t
-    → KeeperMay z k (index head_word) (λ n. n) (λ n. did (Vacate t) Done ++ did (Hear None) Done)
+    → KeeperMay z k (index z head_word) (λ n. n) (λ n. did (Vacate t) Done ++ did (Hear None) Done)
     (λ v n l. Makes (Vacate t) Done (Keeper v) (Keeper l) × Makes (Hear None) Done (Keeper l) (Keeper l) × VacateTold (Vacate t) v l)
 vacating_may z k t may s r id at fits =
     let m = keeper_after_vacate k t in
-    let done = moves_after z (Keeper k) (Keeper m) (index head_word) (λ n. n) (did (Vacate t) Done) (λ _. did (Hear None) Done)
+    let done = moves_after z (Keeper k) (Keeper m) (index z head_word) (λ n. n) (did (Vacate t) Done) (λ _. did (Hear None) Done)
     (λ _ w. (w ≡ Keeper (keeper_of w)) × Makes (Hear None) Done (Keeper m) (Keeper (keeper_of w)) × KeeperHasHeard m (keeper_of w))
     (Makes (Vacate t) Done (Keeper k) (Keeper m)) (vacates z k t may) (hears z m may.drained.rest) s r id at fits in
     let same : keeper_of done.0 ≡ m = done.2.1.2.1 in (
@@ -108,6 +108,6 @@ vacating_may z k t may s r id at fits =
       ),
     )
   where
-    hears : (z : Settings) (m : KeeperView) → m.due ≡ Rest → Moves z (Keeper m) (index head_word) (λ n. n) (λ _. did (Hear None) Done)
+    hears : (z : Settings) (m : KeeperView) → m.due ≡ Rest → Moves z (Keeper m) (index z head_word) (λ n. n) (λ _. did (Hear None) Done)
         (λ _ w. (w ≡ Keeper (keeper_of w)) × Makes (Hear None) Done (Keeper m) (Keeper (keeper_of w)) × KeeperHasHeard m (keeper_of w))
     hears z m rest s r id at fits = let d = hear_keeper_may z m rest s r id at fits in (d.0, d.1, (d.2.0, d.2.1.0, d.2.1.1))

@@ -155,11 +155,11 @@ hands_of_all g seat views n good shows =
 
 -- Words
 
-counts_of_all : (words : List ℕ) (g : State) (t : ℕ) (f : ℕ → ℕ) → Good g → Agrees words g → t < g.settings.slots → f 0 ≡ 0
-    → sum_by f (get_or g.counts t []) ≡ sum_below (λ c. f (count_word words t c)) g.settings.cpus
-counts_of_all words g t f good agrees slot none =
+counts_of_all : (z : Settings) (words : List ℕ) (g : State) (t : ℕ) (f : ℕ → ℕ) → Good g → Agrees z words g → t < g.settings.slots → f 0 ≡ 0
+    → sum_by f (get_or g.counts t []) ≡ sum_below (λ c. f (count_word z words t c)) g.settings.cpus
+counts_of_all z words g t f good agrees slot none =
     list_below f 0 (get_or g.counts t []) g.settings.cpus none (λ c le. ap f (good.holds.balance.beyond c t le) ∙ none)
-    ∙ below_same (λ c. f (count_at g.counts c t)) (λ c. f (count_word words t c)) g.settings.cpus (λ c lt. ap f (sym (agrees.at (count_of c t) (lt, slot))))
+    ∙ below_same (λ c. f (count_at g.counts c t)) (λ c. f (count_word z words t c)) g.settings.cpus (λ c lt. ap f (sym (agrees.at (count_of c t) (lt, slot))))
 
 -- Seats
 
@@ -174,14 +174,14 @@ one_seat g seat views c shows lt =
     }
 
 -- the balance where the words and the views show a state
-balanced : (g : State) (seat : ℕ → ℕ) (words : List ℕ) (views : List View) (k : KeeperView) (t : ℕ) (e : Entry) → Good g → Agrees words g → ShowsViews g seat views → SeenByKeeper g k
+balanced : (z : Settings) (g : State) (seat : ℕ → ℕ) (words : List ℕ) (views : List View) (k : KeeperView) (t : ℕ) (e : Entry) → Good g → Agrees z words g → ShowsViews g seat views → SeenByKeeper g k
     → IsIn e (slot_at g.slots t)
-    → IsBalanced g.settings.cpus words views k t e.number
-balanced g seat words views k t e good agrees shows seen here = record {
+    → IsBalanced z g.settings.cpus words views k t e.number
+balanced z g seat words views k t e good agrees shows seen here = record {
   balance = balance;
   at_rest = λ rest.
-      let even = subst (λ (d : Due). sum_below (count_word words t) g.settings.cpus + total_word words t + addition_due_at t d
-      ≡ held_by_seats views k e.number + subtraction_due_at t d + bias * (1 + sum_below (λ c. one_if_used (count_word words t c)) g.settings.cpus + is_adding_at t d)) rest balance in
+      let even = subst (λ (d : Due). sum_below (count_word z words t) g.settings.cpus + total_word z words t + addition_due_at t d
+      ≡ held_by_seats views k e.number + subtraction_due_at t d + bias * (1 + sum_below (λ c. one_if_used (count_word z words t c)) g.settings.cpus + is_adding_at t d)) rest balance in
       omega (arith, even);
   hands = λ c lt. one_seat g seat views c shows (subst (λ (m : ℕ). c < m) seen.seated lt);
   seated = λ j x at. subst (λ (m : ℕ). x.id < m) (sym seen.seated) (shows.fits j (Cpu x) at).1.seated;
@@ -190,14 +190,14 @@ balanced g seat words views k t e good agrees shows seen here = record {
     row : List ℕ
     row = get_or g.counts t []
 
-    balance : sum_below (count_word words t) g.settings.cpus + total_word words t + addition_due_at t k.due
-        ≡ held_by_seats views k e.number + subtraction_due_at t k.due + bias * (1 + sum_below (λ c. one_if_used (count_word words t c)) g.settings.cpus + is_adding_at t k.due)
+    balance : sum_below (count_word z words t) g.settings.cpus + total_word z words t + addition_due_at t k.due
+        ≡ held_by_seats views k e.number + subtraction_due_at t k.due + bias * (1 + sum_below (λ c. one_if_used (count_word z words t c)) g.settings.cpus + is_adding_at t k.due)
     balance =
         let slot : t < g.settings.slots = omega (arith, in_within g.slots t e here, good.holds.shape.slots) in
         let even = (good.holds.balance.balance t e here).even in
-        let counts : sum_by itself row ≡ sum_below (count_word words t) g.settings.cpus = counts_of_all words g t itself good agrees slot refl in
-        let used = counts_of_all words g t one_if_used good agrees slot refl in
-        let total : total_word words t ≡ total_at g.totals t = agrees.at (total_of t) slot in
+        let counts : sum_by itself row ≡ sum_below (count_word z words t) g.settings.cpus = counts_of_all z words g t itself good agrees slot refl in
+        let used = counts_of_all z words g t one_if_used good agrees slot refl in
+        let total : total_word z words t ≡ total_at g.totals t = agrees.at (total_of t) slot in
         let references = shows.references e.number in
         let hands = hands_of_all g seat views e.number good shows in
         let kept = ap (λ (l : List (Option ℕ)). sum_by (kept_of e.number) l) seen.keeps in
@@ -211,4 +211,4 @@ seats_balance z s i t k e r at here =
     let g = r.g in
     let seen : SeenByKeeper g k = seen_by_keeper g k r.good (r.shows.fits i (Keeper k) at).1 in
     let is : IsIn e (slot_at g.slots t) = subst (λ (l : List Slot). IsIn e (slot_at l t)) seen.slots here in
-    subst (λ (a : Settings). IsBalanced a.cpus s.words s.views k t e.number) r.settings (balanced g r.seat s.words s.views k t e r.good r.words r.shows seen is)
+    subst (λ (a : Settings). IsBalanced z a.cpus s.words s.views k t e.number) r.settings (balanced z g r.seat s.words s.views k t e r.good r.words r.shows seen is)

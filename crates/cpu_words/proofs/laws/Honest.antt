@@ -1,6 +1,6 @@
 -- Honest marks: what the keeper's marks tell of the views of all seats, and what a last found entry tells.
 use Rattle.std.proofs.Common.{◌≡◌, ℕ, ◌≤◌, ◌<◌, ◌==◌, List, Option, ◌⊎◌, inr, ⊎_elim, refl, sym, ap, ◌∙◌, subst, arith}
-use Rattle.cpu_words.specs.Types.{Entry, Change, Mark, Slot, Retired}
+use Rattle.cpu_words.specs.Types.{Settings, Entry, Change, Mark, Slot, Retired}
 use Rattle.registry_values.specs.Common.{slot_at}
 use Rattle.protocol.specs.Common.{MayHold, State, opening, hand_at, mark_at, kept_at, one_if, IsUnheld, picture, number_in, after}
 use Rattle.protocol.proofs.counts.HeldSums.{none_in_hand, one_self}
@@ -49,9 +49,9 @@ drained_is_free z s i t k r at drained =
     }
 
 -- what the state has of a CPU's mark tells
-mark_tells : (words : List ℕ) (g : State) (t : ℕ) (e : Entry) (x : CpuView) → Good g → Agrees words g → CpuShown g x → slot_at g.slots t ≡ Retired e
-    → MarkTells words g.history t e (mark_at g.marks t x.id) x
-mark_tells words g t e x good agrees shown retired =
+mark_tells : (z : Settings) (words : List ℕ) (g : State) (t : ℕ) (e : Entry) (x : CpuView) → Good g → Agrees z words g → CpuShown g x → slot_at g.slots t ≡ Retired e
+    → MarkTells z words g.history t e (mark_at g.marks t x.id) x
+mark_tells z words g t e x good agrees shown retired =
     let seen : Seen g x = seen_of g x good shown in
     let slot : t < g.settings.slots = omega (arith, in_within g.slots t e (inr retired), good.holds.shape.slots) in
     let ended = (good.holds.slots.retired t e retired).2 in record {
@@ -74,8 +74,8 @@ marks_are_honest z s i j t k x e r at there retired =
     let g = r.g in
     let seen : SeenByKeeper g k = seen_by_keeper g k r.good (r.shows.fits i (Keeper k) at).1 in
     let is : slot_at g.slots t ≡ Retired e = sym (ap (λ (l : List Slot). slot_at l t) seen.slots) ∙ retired in
-    let told = mark_tells s.words g t e x r.good r.words (r.shows.fits j (Cpu x) there).1 is in
-    subst (λ (p : List Change × List (List Mark)). MarkTells s.words p.0 t e (mark_at p.1 t x.id) x) (λ q. (sym seen.history q, sym seen.marks q)) told
+    let told = mark_tells z s.words g t e x r.good r.words (r.shows.fits j (Cpu x) there).1 is in
+    subst (λ (p : List Change × List (List Mark)). MarkTells z s.words p.0 t e (mark_at p.1 t x.id) x) (λ q. (sym seen.history q, sym seen.marks q)) told
 
 pub found_is_held : FoundIsHeld
 found_is_held z s i j k x e r at there is =

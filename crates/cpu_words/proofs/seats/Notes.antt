@@ -192,8 +192,8 @@ keeper_joins z i o l m is that = seat_with_note z i o l m (Keeper (keeper_of l.v
 -- The load that hears
 
 pub hear_may : (z : Settings) (x : CpuView) (c : ℕ) → x.id ≡ c → IsIdle x
-    → CpuMay z x (index (section_of c)) (λ n. n) (λ n. did (Hear (Some c)) Done) (λ v n y. Makes (Hear (Some c)) Done (Cpu v) (Cpu y) × HasHeard v y)
-hear_may z x c id idle = subst (λ d. CpuMay z x (index (section_of d)) (λ n. n) (λ n. did (Hear (Some d)) Done) (λ v n y. Makes (Hear (Some d)) Done (Cpu v) (Cpu y) × HasHeard v y)) id
+    → CpuMay z x (index z (section_of c)) (λ n. n) (λ n. did (Hear (Some c)) Done) (λ v n y. Makes (Hear (Some c)) Done (Cpu v) (Cpu y) × HasHeard v y)
+hear_may z x c id idle = subst (λ d. CpuMay z x (index z (section_of d)) (λ n. n) (λ n. did (Hear (Some d)) Done) (λ v n y. Makes (Hear (Some d)) Done (Cpu v) (Cpu y) × HasHeard v y)) id
     (λ s r i at fits.
     let g = r.g in
     let had : CpuShown g x = (r.shows.fits i (Cpu x) at).1 in
@@ -208,20 +208,20 @@ hear_may z x c id idle = subst (λ d. CpuMay z x (index (section_of d)) (λ n. n
     let made : step g (Hear (Some x.id)) ≡ Some (record { state = with_lists g l; reply = Done }) = rw (idle_of g x seen had idle) refl in
     let leaves = same_counts g x.id l refl refl refl refl (λ d ne. refl) (λ d ne. refl) (λ d ne. refl) (λ d ne. get_or-set_other g.seen x.id d _ 0 ne) (λ d ne. refl) (λ d ne. refl) in
     let shown = shown_on g x l had refl refl refl (had.depth ∙ ap depth_of seen.begin) more within (found_on g x (get_or l.seen x.id 0) had more within) in
-    let words = loads s.words g (with_lists g l) (index (section_of x.id)) r.words refl (λ q _. refl) in
-    let done = cpu_makes z s r i x (index (section_of x.id)) (slice_index s.words (index (section_of x.id))) l (Hear (Some x.id)) Done (own_of x) at made leaves (λ k. refl) refl shown words in
+    let words = loads z s.words g (with_lists g l) (index z (section_of x.id)) r.words refl (λ q _. refl) in
+    let done = cpu_makes z s r i x (index z (section_of x.id)) (slice_index s.words (index z (section_of x.id))) l (Hear (Some x.id)) Done (own_of x) at made leaves (λ k. refl) refl shown words in
     let told : IsPrefix x.noted_pass y.pass = subst (IsPrefix x.noted_pass) (sym passes) had.noted_pass in
     let longer : IsPrefix x.pass y.pass = subst (λ p. IsPrefix p y.pass) (sym seen.pass) (prefix_longer g.history (seen_at g x.id) (get_or l.seen x.id 0) more within) in
     let change : y ≡ record x { pass = y.pass } = ap (λ (v : CpuView). record v { pass = y.pass }) (sym had.is) in
     (Cpu y, done.0, (refl, (done.1, (told, longer, change)))))
 
 -- at the place of its section word
-pub own_hear_may : (z : Settings) (x : CpuView) (c i : ℕ) → x.id ≡ c → i ≡ index (section_of c) → IsIdle x → CpuMay z x i (λ n. n) (λ n. did (Hear (Some x.id)) Done) (λ v n y. CpuHears v y)
+pub own_hear_may : (z : Settings) (x : CpuView) (c i : ℕ) → x.id ≡ c → i ≡ index z (section_of c) → IsIdle x → CpuMay z x i (λ n. n) (λ n. did (Hear (Some x.id)) Done) (λ v n y. CpuHears v y)
 own_hear_may z x c i id place idle =
-    subst (λ j. CpuMay z x j (λ n. n) (λ n. did (Hear (Some x.id)) Done) (λ v n y. CpuHears v y)) (sym (place ∙ sym (ap (λ d. index (section_of d)) id))) (hear_may z x x.id refl idle)
+    subst (λ j. CpuMay z x j (λ n. n) (λ n. did (Hear (Some x.id)) Done) (λ v n y. CpuHears v y)) (sym (place ∙ sym (ap (λ d. index z (section_of d)) id))) (hear_may z x x.id refl idle)
 
 pub hear_keeper_may : (z : Settings) (k : KeeperView) → k.due ≡ Rest
-    → KeeperMay z k (index head_word) (λ n. n) (λ n. did (Hear None) Done) (λ v n l. Makes (Hear None) Done (Keeper v) (Keeper l) × KeeperHasHeard v l)
+    → KeeperMay z k (index z head_word) (λ n. n) (λ n. did (Hear None) Done) (λ v n l. Makes (Hear None) Done (Keeper v) (Keeper l) × KeeperHasHeard v l)
 hear_keeper_may z k may s r i at fits =
     let g = r.g in
     let had : KeeperShown g k = (r.shows.fits i (Keeper k) at).1 in
@@ -243,8 +243,8 @@ hear_keeper_may z k may s r i at fits =
       honest = had.honest;
       noted_pass = had.noted_pass;
     } in
-    let done = keeper_makes z s r i k (index head_word) (slice_index s.words (index head_word)) l (Hear None) Done own at made (leaves_all g l refl refl refl refl (λ t d is. is))
-    (λ n. refl) refl shown (loads s.words g (with_keeper g l) (index head_word) r.words refl (λ q _. refl)) in
+    let done = keeper_makes z s r i k (index z head_word) (slice_index s.words (index z head_word)) l (Hear None) Done own at made (leaves_all g l refl refl refl refl (λ t d is. is))
+    (λ n. refl) refl shown (loads z s.words g (with_keeper g l) (index z head_word) r.words refl (λ q _. refl)) in
     (Keeper (keeper_view (with_keeper g l) own), done.0, (refl, (done.1, (had.noted_pass, sym had.is))))
 
 -- as a note is laid beside it a view stays idle, and the load after it is the CPU's own

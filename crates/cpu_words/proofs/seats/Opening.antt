@@ -1,5 +1,5 @@
 -- The state of the core at the start is shown by the words and the keeper's first view; and the seats of the first CPUs.
-use Rattle.std.proofs.Common.{◌≡◌, inl, inr, ℕ, zero, suc, ◌+◌, List, [], ◌∷◌, ◌++◌, length, replicate, IsTrue, refl, sym, ap, ◌∙◌, subst, arith, length-append, below_more}
+use Rattle.std.proofs.Common.{◌≡◌, inl, inr, ℕ, zero, suc, ◌+◌, ◌<◌, List, [], ◌∷◌, ◌++◌, length, replicate, IsTrue, refl, sym, ap, ◌∙◌, subst, arith, length-append, below_more}
 use Rattle.std.proofs.lemmas.List.{length-replicate, get_or-replicate}
 use Rattle.std.specs.Prelude.{slice_index}
 use mathlib.Core.Option.{some, some-ne-none, some-injective}
@@ -11,7 +11,7 @@ use Rattle.atomic_table.proofs.Lists.{at_longer, at_last}
 use Rattle.cpu_words.specs.Types.{Entry, Settings, MOST_CPUS, RecordWords, Vacant, Mark}
 use Rattle.registry_values.specs.Common.{are_fit, bias, no_mark, slot_at}
 use Rattle.protocol.specs.Common.{no_words, opening, word, is_honest, IsIn}
-use Rattle.registry_values.proofs.Fit.{ranges}
+use Rattle.cpu_words.proofs.shown.Placing.{below_size, same_spot}
 use Rattle.protocol.proofs.slots.Cells.{get_or_all}
 use Rattle.protocol.proofs.keeps.MarkKeeps.{cell_all, rows_all}
 use Rattle.protocol.proofs.keeps.Keeping.{opening_holds}
@@ -45,16 +45,38 @@ no_word (suc (suc zero)) = refl
 no_word (suc (suc (suc zero))) = refl
 no_word (suc (suc (suc (suc k)))) = refl
 
-first_words : (z : Settings) (words : List ℕ) → IsTrue (are_fit z) → AreOpening words → (p : Spot) → IsSpot z p → slice_index words (index p) ≡ word_at (opening z) p
-first_words z words fit are (section_of c) here = are.unused (index (section_of c)) (omega (arith, ranges z fit)) ∙ sym (get_or_all {X = ℕ} z.cpus 0 c)
-first_words z words fit are (passive_of c t) here = are.unused (index (passive_of c t)) (omega (arith, ranges z fit, here)) ∙ sym (cell_all {X = ℕ} z.slots MOST_CPUS 0 t c)
-first_words z words fit are (count_of c t) here = are.unused (index (count_of c t)) (omega (arith, ranges z fit, here)) ∙ sym (cell_all {X = ℕ} z.slots MOST_CPUS 0 t c)
-first_words z words fit are head_word here = are.unused (index head_word) (omega arith)
-first_words z words fit are (live_of t) here = are.unused (index (live_of t)) (omega (arith, ranges z fit)) ∙ sym (get_or_all {X = ℕ} z.slots 0 t)
-first_words z words fit are (next_of t) here = are.unused (index (next_of t)) (omega (arith, ranges z fit)) ∙ sym (get_or_all {X = ℕ} z.slots 0 t)
-first_words z words fit are (record_of t k) here =
-    are.unused (index (record_of t k)) (omega (arith, ranges z fit, here)) ∙ sym (ap (λ (r : RecordWords). word r k) (get_or_all z.slots no_words t) ∙ no_word k)
-first_words z words fit are (total_of t) here = are.totals t (omega (arith, ranges z fit)) ∙ sym (get_or-replicate z.slots t bias 0 here)
+-- no word but a total is a total
+
+abbrev IsOther : Spot → Type 0
+IsOther (section_of c) = Unit {0}
+IsOther (passive_of c t) = Unit {0}
+IsOther (count_of c t) = Unit {0}
+IsOther head_word = Unit {0}
+IsOther (live_of t) = Unit {0}
+IsOther (next_of t) = Unit {0}
+IsOther (record_of t k) = Unit {0}
+IsOther (total_of t) = ⊥
+
+no_total : (p : Spot) (t : ℕ) → IsOther p → p ≡ total_of t → ⊥
+no_total p t other same = subst IsOther same other
+
+-- a total is at the place of no other word
+apart : (z : Settings) (p : Spot) → IsSpot z p → ((t : ℕ) → p ≡ total_of t → ⊥) → (t : ℕ) → t < z.slots → index z (total_of t) ≡ index z p → ⊥
+apart z p here other t lt same = other t (same_spot z (total_of t) p lt here (sym same))
+
+zero_at : (z : Settings) (words : List ℕ) → AreOpening z words → (p : Spot) → IsSpot z p → ((t : ℕ) → p ≡ total_of t → ⊥) → slice_index words (index z p) ≡ 0
+zero_at z words are p here other = are.unused (index z p) (below_size z p here) (apart z p here other)
+
+first_words : (z : Settings) (words : List ℕ) → AreOpening z words → (p : Spot) → IsSpot z p → slice_index words (index z p) ≡ word_at (opening z) p
+first_words z words are (section_of c) here = zero_at z words are (section_of c) here (λ t e. no_total (section_of c) t tt e) ∙ sym (get_or_all {X = ℕ} z.cpus 0 c)
+first_words z words are (passive_of c t) here = zero_at z words are (passive_of c t) here (λ u e. no_total (passive_of c t) u tt e) ∙ sym (cell_all {X = ℕ} z.slots MOST_CPUS 0 t c)
+first_words z words are (count_of c t) here = zero_at z words are (count_of c t) here (λ u e. no_total (count_of c t) u tt e) ∙ sym (cell_all {X = ℕ} z.slots MOST_CPUS 0 t c)
+first_words z words are head_word here = zero_at z words are head_word here (λ u e. no_total head_word u tt e)
+first_words z words are (live_of t) here = zero_at z words are (live_of t) here (λ u e. no_total (live_of t) u tt e) ∙ sym (get_or_all {X = ℕ} z.slots 0 t)
+first_words z words are (next_of t) here = zero_at z words are (next_of t) here (λ u e. no_total (next_of t) u tt e) ∙ sym (get_or_all {X = ℕ} z.slots 0 t)
+first_words z words are (record_of t k) here =
+    zero_at z words are (record_of t k) here (λ u e. no_total (record_of t k) u tt e) ∙ sym (ap (λ (r : RecordWords). word r k) (get_or_all z.slots no_words t) ∙ no_word k)
+first_words z words are (total_of t) here = are.totals t here ∙ sym (get_or-replicate z.slots t bias 0 here)
 
 -- the keeper's view at the start
 
@@ -72,14 +94,14 @@ first_shown z = record {
   noted_pass = ([], refl);
 }
 
-opens_without_logs : (z : Settings) (words : List ℕ) → IsTrue (are_fit z) → AreOpening words → Ruled z (opening_table words [] (first_view z))
+opens_without_logs : (z : Settings) (words : List ℕ) → IsTrue (are_fit z) → AreOpening z words → Ruled z (opening_table words [] (first_view z))
 opens_without_logs z words fit are = record {
   g = opening z;
   seat = λ _. 0;
   settings = refl;
   good = first_good z fit;
   reached = record { events = []; run = refl; made = refl };
-  words = record { size = are.size; at = first_words z words fit are; unused = λ i free. are.unused i free.0 };
+  words = record { size = are.size; settings = refl; at = first_words z words are; unused = λ i free. are.unused i free.0 (λ t lt same. free.1 (total_of t) lt same) };
   shows = record { fits = one; each = record { keeper = (new_keeper z, refl); cpus = λ c lt. absurd (omega (arith, lt)) }; references = λ n. refl };
 }
   where
@@ -88,7 +110,7 @@ opens_without_logs z words fit are = record {
     one (suc i) v e = absurd (some-ne-none v (sym e))
 
 -- nobody has done anything
-pub opens : (z : Settings) (words : List ℕ) → IsTrue (are_fit z) → AreOpening words → LoggedRuled z (opening_table words [] (first_logged z))
+pub opens : (z : Settings) (words : List ℕ) → IsTrue (are_fit z) → AreOpening z words → LoggedRuled z (opening_table words [] (first_logged z))
 unfolding opens_without_logs
 opens z words fit are = record {
   run = opens_without_logs z words fit are;

@@ -207,7 +207,7 @@ splits z i k may s r at =
         settings = r.settings;
         good = p.good;
         reached = (more z g g' (Seat k.seated) Done r.reached (subst (λ c. step g (Seat c) ≡ Some (record { state = g'; reply = Done })) (sym p.number) p.made)).0;
-        words = agrees_same s.words g g' r.words refl (λ q there. same_words g q);
+        words = agrees_same z s.words g g' r.words refl (λ q there. same_words g q);
         shows = shows_split g g' seat' s.views i (Keeper k) (with_cpu_seated (Keeper k)) (next_seat (Keeper k)) reseated at (others_stay g seat' i had.0) (had.0, p.keeper) (here, p.new)
             (seats_one g r.seat far k p.number) refl (λ n. refl);
       };

@@ -3,12 +3,12 @@
 ghost use Rattle.std.specs.Prelude.{◌≡◌, ℕ, ◌<◌, ◌+◌, ◌-◌, ◌%◌, ◌^◌};
 ghost use prog.Atomic.{either};
 ghost use Rattle.std.specs.Prelude.{◌==◌};
+ghost use Rattle.cpu_words.specs.Spots.{words_of};
 ghost use Rattle.cpu_words.specs.Acts.{is_hear, HasNone};
 ghost use Rattle.cpu_words.specs.Logs.{the_cpu, AreBy};
 ghost use Rattle.cpu_words.specs.Steps.{CpuMay, SeatGoesOn};
 
 use crate::law::{CpuPlay, CpuTale, Words};
-use crate::layout::WORDS;
 use crate::seat::CpuSeat;
 use protocol::Event;
 use registry_values::Key;
@@ -22,7 +22,7 @@ pub(crate) fn add<T: CpuTale>(
     event: Event,
 ) -> u64
     requires table { seat.old.table ≡ words.now.table }
-    requires place { word < WORDS }
+    requires place { word < words_of words.now.settings }
     requires own { (n : ℕ) → AreBy (the_cpu seat.old.view.id) (T.does seat.old.view n) }
     requires quiet { (n : ℕ) → HasNone is_hear (T.does seat.old.view n) }
     requires may { CpuMay words.now.settings seat.old.view word (λ n. (n + k) % 2 ^ 64) (T.does seat.old.view) T.tells }
@@ -46,7 +46,7 @@ pub(crate) fn subtract<T: CpuTale>(
     event: Event,
 ) -> u64
     requires table { seat.old.table ≡ words.now.table }
-    requires place { word < WORDS }
+    requires place { word < words_of words.now.settings }
     requires own { (n : ℕ) → AreBy (the_cpu seat.old.view.id) (T.does seat.old.view n) }
     requires quiet { (n : ℕ) → HasNone is_hear (T.does seat.old.view n) }
     requires may { CpuMay words.now.settings seat.old.view word (λ n. (n + (2 ^ 64 - k)) % 2 ^ 64) (T.does seat.old.view) T.tells }
@@ -64,7 +64,7 @@ pub(crate) fn subtract<T: CpuTale>(
 /// Loads a word.
 pub(crate) fn load<T: CpuTale>(words: &Words, seat: &mut CpuSeat, word: usize, event: Event) -> u64
     requires table { seat.old.table ≡ words.now.table }
-    requires place { word < WORDS }
+    requires place { word < words_of words.now.settings }
     requires own { (n : ℕ) → AreBy (the_cpu seat.old.view.id) (T.does seat.old.view n) }
     requires quiet { (n : ℕ) → HasNone is_hear (T.does seat.old.view n) }
     requires may { CpuMay words.now.settings seat.old.view word (λ n. n) (T.does seat.old.view) T.tells }
@@ -85,7 +85,7 @@ pub(crate) fn load_for<T: CpuTale>(
     key: Key,
 ) -> u64
     requires table { seat.old.table ≡ words.now.table }
-    requires place { word < WORDS }
+    requires place { word < words_of words.now.settings }
     requires own { (n : ℕ) → AreBy (the_cpu seat.old.view.id) (T.does seat.old.view n) }
     requires quiet { (n : ℕ) → HasNone is_hear (T.does seat.old.view n) }
     requires may { CpuMay words.now.settings seat.old.view word (λ n. n) (T.does seat.old.view) T.tells }
@@ -107,7 +107,7 @@ pub(crate) fn load_either<T: CpuTale>(
     other: Event,
 ) -> u64
     requires table { seat.old.table ≡ words.now.table }
-    requires place { word < WORDS }
+    requires place { word < words_of words.now.settings }
     requires own { (n : ℕ) → AreBy (the_cpu seat.old.view.id) (T.does seat.old.view n) }
     requires quiet { (n : ℕ) → HasNone is_hear (T.does seat.old.view n) }
     requires may { CpuMay words.now.settings seat.old.view word (λ n. n) (T.does seat.old.view) T.tells }
@@ -130,7 +130,7 @@ pub(crate) fn compare_exchange<T: CpuTale>(
     event: Event,
 ) -> u64
     requires table { seat.old.table ≡ words.now.table }
-    requires place { word < WORDS }
+    requires place { word < words_of words.now.settings }
     requires own { (n : ℕ) → AreBy (the_cpu seat.old.view.id) (T.does seat.old.view n) }
     requires quiet { (n : ℕ) → HasNone is_hear (T.does seat.old.view n) }
     requires may { CpuMay words.now.settings seat.old.view word (λ n. either (n == old) new n) (T.does seat.old.view) T.tells }

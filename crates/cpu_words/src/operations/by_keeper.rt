@@ -1,12 +1,12 @@
 //! Steps of the keeper's seat.
 
 ghost use Rattle.std.specs.Prelude.{◌≡◌, ℕ, ◌<◌, ◌+◌, ◌-◌, ◌%◌, ◌^◌};
+ghost use Rattle.cpu_words.specs.Spots.{words_of};
 ghost use Rattle.cpu_words.specs.KeeperLog.{IsOwnLog};
 ghost use Rattle.cpu_words.specs.Logs.{the_keeper, AreBy};
 ghost use Rattle.cpu_words.specs.Steps.{KeeperMay, KeeperStores, SeatGoesOn};
 
 use crate::law::{KeeperHearing, KeeperPlay, KeeperTale, Words};
-use crate::layout::WORDS;
 use crate::seat::KeeperSeat;
 use protocol::Event;
 
@@ -18,7 +18,7 @@ pub(crate) fn load<T: KeeperTale>(
     event: Event,
 ) -> u64
     requires table { seat.old.table ≡ words.now.table }
-    requires place { word < WORDS }
+    requires place { word < words_of words.now.settings }
     requires own { (n : ℕ) → AreBy the_keeper (T.does seat.old.view n) }
     requires may { KeeperMay words.now.settings seat.old.view word (λ n. n) (T.does seat.old.view) T.tells }
     ensures step { SeatGoesOn (T.does seat.old.view result) seat.old seat.new }
@@ -41,7 +41,7 @@ pub(crate) fn store<T: KeeperTale>(
     event: Event,
 )
     requires table { seat.old.table ≡ words.now.table }
-    requires place { word < WORDS }
+    requires place { word < words_of words.now.settings }
     requires own { (n : ℕ) → AreBy the_keeper (T.does seat.old.view n) }
     requires may { KeeperStores words.now.settings seat.old.view word value (T.does seat.old.view) T.tells }
     ensures step { SeatGoesOn (T.does seat.old.view value) seat.old seat.new }
@@ -65,7 +65,7 @@ pub(crate) fn swap<T: KeeperTale>(
     event: Event,
 ) -> u64
     requires table { seat.old.table ≡ words.now.table }
-    requires place { word < WORDS }
+    requires place { word < words_of words.now.settings }
     requires own { (n : ℕ) → AreBy the_keeper (T.does seat.old.view n) }
     requires may { KeeperMay words.now.settings seat.old.view word (λ _. value) (T.does seat.old.view) T.tells }
     ensures step { SeatGoesOn (T.does seat.old.view result) seat.old seat.new }
@@ -88,7 +88,7 @@ pub(crate) fn subtract<T: KeeperTale>(
     event: Event,
 ) -> u64
     requires table { seat.old.table ≡ words.now.table }
-    requires place { word < WORDS }
+    requires place { word < words_of words.now.settings }
     requires own { (n : ℕ) → AreBy the_keeper (T.does seat.old.view n) }
     requires may { KeeperMay words.now.settings seat.old.view word (λ n. (n + (2 ^ 64 - k)) % 2 ^ 64) (T.does seat.old.view) T.tells }
     ensures step { SeatGoesOn (T.does seat.old.view result) seat.old seat.new }

@@ -1,11 +1,11 @@
 //! Steps of the seat of a local reference.
 
 ghost use Rattle.std.specs.Prelude.{◌≡◌, ℕ, ◌<◌};
+ghost use Rattle.cpu_words.specs.Spots.{words_of};
 ghost use Rattle.cpu_words.specs.Logs.{another, AreBy};
 ghost use Rattle.cpu_words.specs.Steps.{ReferenceMay, SeatGoesOn};
 
 use crate::law::{ReferencePlay, ReferenceTale, Words};
-use crate::layout::WORDS;
 use crate::seat::ReferenceSeat;
 use protocol::Event;
 
@@ -17,7 +17,7 @@ pub(crate) fn load<T: ReferenceTale>(
     event: Event,
 ) -> u64
     requires table { seat.old.table ≡ words.now.table }
-    requires place { word < WORDS }
+    requires place { word < words_of words.now.settings }
     requires own { (n : ℕ) → AreBy another (T.does seat.old.view n) }
     requires may { ReferenceMay words.now.settings seat.old.view word (T.does seat.old.view) T.tells }
     ensures step { SeatGoesOn (T.does seat.old.view result) seat.old seat.new }

@@ -1,6 +1,7 @@
 //! How a note is cut off a seat that has seen something, and laid beside the view of a seat that is to hear it.
 
 ghost use Rattle.std.specs.Prelude.{◌≡◌, ℕ, ◌<◌, ◌++◌, Some, None};
+ghost use Rattle.cpu_words.specs.Spots.{words_of};
 ghost use Rattle.cpu_words.specs.declared.view.View.TheVariants.{Cpu};
 ghost use Rattle.cpu_words.specs.Types.{Rest};
 ghost use Rattle.cpu_words.specs.KeeperLog.{KnownLogGrows, heard_from, IsOwnLog, IsShownAfter};
@@ -11,12 +12,11 @@ ghost use Rattle.cpu_words.specs.Sections.{IsIdle};
 ghost use Rattle.cpu_words.specs.Steps.{KeeperMay, SeatGoesOn};
 
 use crate::law::{CpuHearing, KeeperHearing, KeeperTale, NoteHearing, Words};
-use crate::layout::{HEAD, WORDS, section_place};
+use crate::layout::{HEAD, section_place};
 use crate::seat::{CpuSeat, KeeperSeat, NoteSeat};
 use crate::view::Logged;
 use atomic_table::{Join, Split};
 use protocol::Event;
-use registry_values::MOST_CPUS;
 
 /// A note of a CPU's pass, or to a CPU.
 pub(crate) struct CpuNote;
@@ -95,7 +95,7 @@ pub(crate) fn lay_by_keeper(words: &Words, keeper: &mut KeeperSeat, note: NoteSe
 /// Hears the note that is beside a CPU's view, by a load of the CPU's section word: its log says who told it.
 pub(crate) fn listen(words: &Words, seat: &mut CpuSeat, cpu: u8)
     requires table { seat.old.table ≡ words.now.table }
-    requires cpu { (cpu < MOST_CPUS) × (seat.old.view.id ≡ cpu) }
+    requires cpu { (cpu < words.now.settings.cpus) × (seat.old.view.id ≡ cpu) }
     requires may { IsIdle seat.old.view }
     ensures table { seat.new.table ≡ seat.old.table }
     ensures told { CpuHears seat.old.view seat.new.view }
@@ -107,7 +107,7 @@ pub(crate) fn listen(words: &Words, seat: &mut CpuSeat, cpu: u8)
     words
         .table
         .shared
-        .load::<CpuHearing>(&mut seat.token, section_place(cpu));
+        .load::<CpuHearing>(&mut seat.token, section_place(words, cpu));
 }
 
 /// Hears the note that is beside the keeper's view, by a load of the head: its log says who told it.
@@ -132,7 +132,7 @@ pub(crate) fn listen_by_keeper<T: KeeperTale>(
     event: Event,
 ) -> u64
     requires table { keeper.old.table ≡ words.now.table }
-    requires place { word < WORDS }
+    requires place { word < words_of words.now.settings }
     requires own { (n : ℕ) → AreBy the_keeper (T.does keeper.old.view n) }
     requires may { KeeperMay words.now.settings keeper.old.view word (λ n. n) (T.does keeper.old.view) T.tells }
     ensures step { SeatGoesOn (T.does keeper.old.view result) keeper.old keeper.new }

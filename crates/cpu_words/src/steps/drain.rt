@@ -16,7 +16,6 @@ use crate::operations::by_keeper;
 use crate::operations::given_up::GivenUp;
 use crate::seat::{KeeperSeat, ReferenceSeat};
 use protocol::Event;
-use registry_values::{MOST_CPUS, MOST_SLOTS};
 use std::marker::Brand;
 
 /// Looks at the passive word of CPU `cpu` for the retired entry in `slot`: the CPU is clear if the word is 0. Returns the word, and is
@@ -24,7 +23,7 @@ use std::marker::Brand;
 /// Condition: the keeper is at rest, the slot's entry is retired, the CPU is one of the table's, and all CPUs have passed for the slot.
 pub fn passive_look(words: &Words, keeper: &mut KeeperSeat, slot: u8, cpu: u8) -> u64
     requires table { keeper.old.table ≡ words.now.table }
-    requires place { cpu < MOST_CPUS }
+    requires place { (cpu < words.now.settings.cpus) × (slot < words.now.settings.slots) }
     requires may { MayPassiveLook keeper.old.view slot cpu }
     ensures step { SeatMakes Keeper (PassiveLook slot cpu) (Word result) keeper.old keeper.new }
     ensures change { HasLookedPassive keeper.old.view slot cpu result keeper.new.view }
@@ -32,7 +31,7 @@ pub fn passive_look(words: &Words, keeper: &mut KeeperSeat, slot: u8, cpu: u8) -
     by_keeper::load::<Brand>(
         words,
         keeper,
-        passive_place(cpu, slot),
+        passive_place(words, cpu, slot),
         Event::PassiveLook(slot, cpu),
     )
 }
@@ -43,7 +42,7 @@ pub fn passive_look(words: &Words, keeper: &mut KeeperSeat, slot: u8, cpu: u8) -
 /// the slot, and this CPU's word isn't collected yet.
 pub fn collect(words: &Words, keeper: &mut KeeperSeat, slot: u8, cpu: u8) -> u64
     requires table { keeper.old.table ≡ words.now.table }
-    requires place { cpu < MOST_CPUS }
+    requires place { (cpu < words.now.settings.cpus) × (slot < words.now.settings.slots) }
     requires may { MayCollect keeper.old.view slot cpu }
     ensures step { SeatMakes Keeper (Collect slot cpu) (Word result) keeper.old keeper.new }
     ensures change { HasCollected keeper.old.view slot cpu result keeper.new.view }
@@ -51,7 +50,7 @@ pub fn collect(words: &Words, keeper: &mut KeeperSeat, slot: u8, cpu: u8) -> u64
     by_keeper::swap::<Brand>(
         words,
         keeper,
-        count_place(cpu, slot),
+        count_place(words, cpu, slot),
         0,
         Event::Collect(slot, cpu),
     )
@@ -62,7 +61,7 @@ pub fn collect(words: &Words, keeper: &mut KeeperSeat, slot: u8, cpu: u8) -> u64
 /// Condition: the keeper has collected the word, and has not added it yet.
 pub fn total_add(words: &Words, keeper: &mut KeeperSeat, slot: u8, total: u64)
     requires table { keeper.old.table ≡ words.now.table }
-    requires place { slot < MOST_SLOTS }
+    requires place { slot < words.now.settings.slots }
     requires may { (old : ℕ) × MayTotalAdd keeper.old.view slot old total }
     ensures step { SeatMakes Keeper (TotalAdd slot) Done keeper.old keeper.new }
     ensures change { HasAdded keeper.old.view slot total keeper.new.view }
@@ -80,7 +79,7 @@ pub fn total_add(words: &Words, keeper: &mut KeeperSeat, slot: u8, total: u64)
 /// Condition: the keeper has taken in a reference to the slot's entry, and has not subtracted it yet.
 pub fn total_sub(words: &Words, keeper: &mut KeeperSeat, slot: u8)
     requires table { keeper.old.table ≡ words.now.table }
-    requires place { slot < MOST_SLOTS }
+    requires place { slot < words.now.settings.slots }
     requires may { MayTotalSub keeper.old.view slot }
     ensures step { SeatMakes Keeper (TotalSub slot) Done keeper.old keeper.new }
     ensures change { HasSubtracted keeper.old.view slot keeper.new.view }
@@ -112,7 +111,7 @@ pub fn join_keeper(words: &Words, keeper: &mut KeeperSeat, reference: ReferenceS
 /// Condition: the slot is drained, its entry is an interface, and the driver that it keeps is in `driver_slot`.
 pub fn kept_sub(words: &Words, keeper: &mut KeeperSeat, slot: u8, driver_slot: u8)
     requires table { keeper.old.table ≡ words.now.table }
-    requires place { driver_slot < MOST_SLOTS }
+    requires place { driver_slot < words.now.settings.slots }
     requires may { MayKeptSub keeper.old.view slot driver_slot }
     ensures step { SeatMakes Keeper (KeptSub slot) Done keeper.old keeper.new }
     ensures change { HasKeptSub keeper.old.view slot driver_slot keeper.new.view }

@@ -11,7 +11,6 @@ use crate::layout::section_place;
 use crate::operations::by_keeper;
 use crate::seat::KeeperSeat;
 use protocol::Event;
-use registry_values::MOST_CPUS;
 use std::marker::Brand;
 
 /// Looks at the section word of CPU `cpu` for the retired entry in `slot`: the CPU has passed if the word is even or differs from its
@@ -19,49 +18,49 @@ use std::marker::Brand;
 /// Condition: the keeper is at rest, the slot's entry is retired, and the CPU is one of the table's.
 pub fn look(words: &Words, keeper: &mut KeeperSeat, slot: u8, cpu: u8) -> u64
     requires table { keeper.old.table ≡ words.now.table }
-    requires place { cpu < MOST_CPUS }
+    requires place { cpu < words.now.settings.cpus }
     requires may { MayLook keeper.old.view slot cpu }
     ensures step { SeatMakes Keeper (Look (Some slot) cpu) (Word result) keeper.old keeper.new }
     ensures change { HasLooked keeper.old.view (Look (Some slot) cpu) (Word result) slot cpu result keeper.new.view }
 {
     let look = Event::Look(Some(slot), cpu);
-    by_keeper::load::<Brand>(words, keeper, section_place(cpu), look)
+    by_keeper::load::<Brand>(words, keeper, section_place(words, cpu), look)
 }
 
 /// Looks at the section word of CPU `cpu` for no entry: the caller compares it with what `snapshot_now` answered. It is counted as a look.
 /// Condition: the keeper is at rest, and the CPU is one of the table's.
 pub fn look_now(words: &Words, keeper: &mut KeeperSeat, cpu: u8) -> u64
     requires table { keeper.old.table ≡ words.now.table }
-    requires place { cpu < MOST_CPUS }
+    requires place { cpu < words.now.settings.cpus }
     requires may { MayGlance keeper.old.view cpu }
     ensures step { SeatMakes Keeper (Look None cpu) (Word result) keeper.old keeper.new }
     ensures change { keeper.new.view ≡ keeper_after_look keeper.old.view (Look None cpu) (Word result) }
 {
-    by_keeper::load::<Brand>(words, keeper, section_place(cpu), Event::Look(None, cpu))
+    by_keeper::load::<Brand>(words, keeper, section_place(words, cpu), Event::Look(None, cpu))
 }
 
 /// Takes the snapshot of CPU `cpu` for the entry in `slot`, which was just unlinked: its section word now.
 /// Condition: this snapshot is what the keeper must do next.
 pub fn snapshot(words: &Words, keeper: &mut KeeperSeat, slot: u8, cpu: u8) -> u64
     requires table { keeper.old.table ≡ words.now.table }
-    requires place { cpu < MOST_CPUS }
+    requires place { cpu < words.now.settings.cpus }
     requires may { MaySnapshot keeper.old.view slot cpu }
     ensures step { SeatMakes Keeper (Snapshot (Some slot) cpu) (Word result) keeper.old keeper.new }
     ensures change { HasSnapshot keeper.old.view slot cpu result keeper.new.view }
 {
     let event = Event::Snapshot(Some(slot), cpu);
-    by_keeper::load::<Brand>(words, keeper, section_place(cpu), event)
+    by_keeper::load::<Brand>(words, keeper, section_place(words, cpu), event)
 }
 
 /// Takes a snapshot of CPU `cpu` for no entry: its section word now, as `perform` keeps it. It is counted as a look.
 /// Condition: the keeper is at rest, and the CPU is one of the table's.
 pub fn snapshot_now(words: &Words, keeper: &mut KeeperSeat, cpu: u8) -> u64
     requires table { keeper.old.table ≡ words.now.table }
-    requires place { cpu < MOST_CPUS }
+    requires place { cpu < words.now.settings.cpus }
     requires may { MayGlance keeper.old.view cpu }
     ensures step { SeatMakes Keeper (Snapshot None cpu) (Word result) keeper.old keeper.new }
     ensures change { keeper.new.view ≡ keeper_after_look keeper.old.view (Snapshot None cpu) (Word result) }
 {
     let snapshot = Event::Snapshot(None, cpu);
-    by_keeper::load::<Brand>(words, keeper, section_place(cpu), snapshot)
+    by_keeper::load::<Brand>(words, keeper, section_place(words, cpu), snapshot)
 }

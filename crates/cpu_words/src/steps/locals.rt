@@ -16,7 +16,6 @@ use crate::operations::by_cpu;
 use crate::operations::in_hand::InHandReference;
 use crate::seat::{CpuSeat, ReferenceSeat};
 use protocol::Event;
-use registry_values::{MOST_CPUS, MOST_SLOTS};
 use std::marker::Brand;
 
 /// CPU `cpu` counts a local reference to its last found entry, the one with `number` (from 1) in `slot` (from 0), and has it in its hand:
@@ -25,7 +24,7 @@ use std::marker::Brand;
 /// that count; if the place has another number, the count is 0.
 pub fn count_add(words: &Words, seat: &mut CpuSeat, cpu: u8, slot: u8, number: u64) -> u64
     requires table { seat.old.table ≡ words.now.table }
-    requires place { (cpu < MOST_CPUS) × (slot < MOST_SLOTS) }
+    requires place { (cpu < words.now.settings.cpus) × (slot < words.now.settings.slots) }
     requires cpu { seat.old.view.id ≡ cpu }
     requires may { MayCount seat.old.view slot number }
     ensures step { SeatMakes Cpu (CountAdd cpu) (Word result) seat.old seat.new }
@@ -36,7 +35,7 @@ pub fn count_add(words: &Words, seat: &mut CpuSeat, cpu: u8, slot: u8, number: u
 {
     // The contract alone speaks of the entry's number.
     let _number = number;
-    let word = count_place(cpu, slot);
+    let word = count_place(words, cpu, slot);
     by_cpu::add::<Brand>(words, seat, word, 1, Event::CountAdd(cpu))
 }
 
@@ -114,7 +113,7 @@ pub fn count_down(
     expected: u64,
 ) -> u64
     requires table { seat.old.table ≡ words.now.table }
-    requires place { (cpu < MOST_CPUS) × (slot < MOST_SLOTS) }
+    requires place { (cpu < words.now.settings.cpus) × (slot < words.now.settings.slots) }
     requires cpu { seat.old.view.id ≡ cpu }
     requires may { MayCountDown seat.old.view slot number expected }
     ensures step { SeatGoesOn (did (CountDown cpu) (down_reply expected result)) seat.old seat.new }
@@ -129,7 +128,7 @@ pub fn count_down(
     by_cpu::compare_exchange::<Brand>(
         words,
         seat,
-        count_place(cpu, slot),
+        count_place(words, cpu, slot),
         expected,
         expected.wrapping_sub(1),
         Event::CountDown(cpu),

@@ -17,7 +17,6 @@ use crate::law::Words;
 use crate::operations::notes;
 use crate::operations::notes::{CpuNote, KeeperNote};
 use crate::seat::{CpuSeat, KeeperSeat, NoteSeat};
-use registry_values::MOST_CPUS;
 
 /// CPU `cpu` tells what it has seen: the note has its pass, and what it has heard of the keeper's log, and names the CPU as its teller, with
 /// how many events it has made, this one among them. Condition: the seat is that CPU's, and idle.
@@ -66,7 +65,7 @@ pub fn tell_keeper(words: &Words, keeper: &mut KeeperSeat) -> NoteSeat
 /// Condition: the seat is that CPU's, and idle.
 pub fn hear(words: &Words, seat: &mut CpuSeat, cpu: u8, note: NoteSeat)
     requires table { (seat.old.table ≡ words.now.table) × (note.table ≡ words.now.table) }
-    requires cpu { (cpu < MOST_CPUS) × (seat.old.view.id ≡ cpu) }
+    requires cpu { (cpu < words.now.settings.cpus) × (seat.old.view.id ≡ cpu) }
     requires may { IsIdle seat.old.view }
     ensures table { seat.new.table ≡ seat.old.table }
     ensures event { Makes (Hear (Some cpu)) Done (Cpu (with_note seat.old.view note.view)) (Cpu seat.new.view) }

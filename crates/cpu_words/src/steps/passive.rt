@@ -12,7 +12,7 @@ use crate::layout::{passive_place, record_place};
 use crate::operations::by_cpu;
 use crate::seat::CpuSeat;
 use protocol::{Event, RecordOf};
-use registry_values::{MOST_CPUS, MOST_SLOTS};
+use registry_values::MOST_SLOTS;
 use std::marker::Brand;
 
 /// CPU `cpu` gets a passive reference to the entry `number` of slot `slot`, by one addition to its passive word for that slot. Returns how
@@ -21,7 +21,8 @@ use std::marker::Brand;
 /// of them than the passive limit.
 pub fn passive_add(words: &Words, seat: &mut CpuSeat, cpu: u8, slot: u8, number: u64) -> u64
     requires table { seat.old.table ≡ words.now.table }
-    requires cpu { (cpu < MOST_CPUS) × (seat.old.view.id ≡ cpu) }
+    requires cpu { (cpu < words.now.settings.cpus) × (seat.old.view.id ≡ cpu) }
+    requires place { slot < words.now.settings.slots }
     requires may { MayAdd seat.old.view slot number }
     ensures step { SeatMakes Cpu (PassiveAdd cpu number) (Word result) seat.old seat.new }
     ensures change { HasAdded seat.old.view slot number seat.new.view }
@@ -29,7 +30,7 @@ pub fn passive_add(words: &Words, seat: &mut CpuSeat, cpu: u8, slot: u8, number:
     ensures count { result ≡ references_to number seat.old.view.references }
     ensures alone { IsAloneAt seat.old.view slot number }
 {
-    let word = passive_place(cpu, slot);
+    let word = passive_place(words, cpu, slot);
     by_cpu::add::<Brand>(words, seat, word, 1, Event::PassiveAdd(cpu, number))
 }
 
@@ -38,25 +39,26 @@ pub fn passive_add(words: &Words, seat: &mut CpuSeat, cpu: u8, slot: u8, number:
 /// Condition: the seat is that CPU's and idle, and has such a reference.
 pub fn passive_sub(words: &Words, seat: &mut CpuSeat, cpu: u8, slot: u8, number: u64) -> u64
     requires table { seat.old.table ≡ words.now.table }
-    requires cpu { (cpu < MOST_CPUS) × (seat.old.view.id ≡ cpu) }
+    requires cpu { (cpu < words.now.settings.cpus) × (seat.old.view.id ≡ cpu) }
+    requires place { slot < words.now.settings.slots }
     requires may { MayUse seat.old.view slot number }
     ensures step { SeatMakes Cpu (PassiveSub cpu number) (Word result) seat.old seat.new }
     ensures change { HasSubtracted seat.old.view number seat.new.view }
     ensures count { result ≡ references_to number seat.old.view.references }
     ensures alone { IsAloneAt seat.old.view slot number }
 {
-    let word = passive_place(cpu, slot);
+    let word = passive_place(words, cpu, slot);
     by_cpu::subtract::<Brand>(words, seat, word, 1, Event::PassiveSub(cpu, number))
 }
 
 /// CPU `cpu` loads word `k` of the record of the entry `number` in slot `slot` by its passive reference: 0 is the number, 1 the kind,
 /// 2 and 3 the name's high and low words, which are those of a name, 4 the value.
-/// Condition: the seat is that CPU's and idle, and has such a reference; the slot is below `MOST_SLOTS`, as `passive_add` ensures, and `k`
+/// Condition: the seat is that CPU's and idle, and has such a reference; the slot is one of the table's, and `k` is
 /// below 5.
 pub fn load_passive(words: &Words, seat: &mut CpuSeat, cpu: u8, slot: u8, number: u64, k: u8) -> u64
     requires table { seat.old.table ≡ words.now.table }
-    requires cpu { (cpu < MOST_CPUS) × (seat.old.view.id ≡ cpu) }
-    requires place { (slot < MOST_SLOTS) × (k < 5) }
+    requires cpu { (cpu < words.now.settings.cpus) × (seat.old.view.id ≡ cpu) }
+    requires place { (slot < words.now.settings.slots) × (k < 5) }
     requires may { MayUse seat.old.view slot number }
     ensures step { SeatMakes Cpu (LoadRecord (Passive cpu number k)) (Word result) seat.old seat.new }
     ensures same { seat.new.view ≡ seat.old.view }

@@ -15,7 +15,6 @@ use crate::layout::{HEAD, live_place, next_place};
 use crate::operations::by_keeper;
 use crate::seat::KeeperSeat;
 use protocol::Event;
-use registry_values::MOST_SLOTS;
 use std::marker::Brand;
 
 /// Publishes the entry whose words the vacant slot `slot` has: the head is stored, from now on searches find the entry, and the history
@@ -46,7 +45,7 @@ pub fn publish(words: &Words, keeper: &mut KeeperSeat, slot: u8)
 /// Condition: the keeper is at rest, and the slot's entry is live and hidden.
 pub fn unpublish(words: &Words, keeper: &mut KeeperSeat, slot: u8, before: Option<u8>, link: u64)
     requires table { keeper.old.table ≡ words.now.table }
-    requires place { IsLinkPlace before }
+    requires place { IsLinkPlace words.now.settings.slots before }
     requires may { MayUnpublish keeper.old.view slot before link }
     ensures step { SeatMakes Keeper (Unpublish slot) Done keeper.old keeper.new }
     ensures change { HasUnpublished keeper.old.view slot before link keeper.new.view }
@@ -64,7 +63,7 @@ pub fn unpublish(words: &Words, keeper: &mut KeeperSeat, slot: u8, before: Optio
 /// Condition: the keeper is at rest, and that is the number of the slot's live entry.
 pub fn show(words: &Words, keeper: &mut KeeperSeat, slot: u8, number: u64)
     requires table { keeper.old.table ≡ words.now.table }
-    requires place { slot < MOST_SLOTS }
+    requires place { slot < words.now.settings.slots }
     requires may { MayShow keeper.old.view slot number }
     ensures step { SeatMakes Keeper (Show slot) Done keeper.old keeper.new }
     ensures change { keeper.new.view ≡ keeper_after_live keeper.old.view slot number }
@@ -76,7 +75,7 @@ pub fn show(words: &Words, keeper: &mut KeeperSeat, slot: u8, number: u64)
 /// Condition: the keeper is at rest, and the slot is one of the table's.
 pub fn hide(words: &Words, keeper: &mut KeeperSeat, slot: u8)
     requires table { keeper.old.table ≡ words.now.table }
-    requires place { slot < MOST_SLOTS }
+    requires place { slot < words.now.settings.slots }
     requires may { MayHide keeper.old.view slot }
     ensures step { SeatMakes Keeper (Hide slot) Done keeper.old keeper.new }
     ensures change { keeper.new.view ≡ keeper_after_live keeper.old.view slot 0 }

@@ -13,17 +13,16 @@ use crate::layout::record_place;
 use crate::operations::by_reference;
 use crate::seat::ReferenceSeat;
 use protocol::{Event, RecordOf};
-use registry_values::MOST_SLOTS;
 use std::marker::Brand;
 
 /// Loads word `k` of the record of a local reference's entry, which is in slot `slot`: 0 is the number, 1 the kind, 2 and 3 the name's
 /// high and low words, 4 the value.
 /// The name is that of some bytes, as its entry was stored.
-/// Condition: the slot is the entry's and below `MOST_SLOTS`, and `k` is below 5.
+/// Condition: the slot is the entry's and one of the table's, and `k` is below 5.
 pub fn load_local(words: &Words, seat: &mut ReferenceSeat, slot: u8, k: u8) -> u64
     requires table { seat.old.table ≡ words.now.table }
     requires slot { seat.old.view.entry.slot ≡ slot }
-    requires place { (slot < MOST_SLOTS) × (k < 5) }
+    requires place { (slot < words.now.settings.slots) × (k < 5) }
     ensures step { SeatGoesOn (did (LoadRecord (Local seat.old.view.entry.number k)) (Word result)) seat.old seat.new }
     ensures same { seat.new.view ≡ seat.old.view }
     ensures event { (id : ℕ) × Makes (LoadRecord (Local id k)) (Word result) (Reference seat.old.view) (Reference seat.new.view) }

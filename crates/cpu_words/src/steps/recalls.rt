@@ -15,15 +15,14 @@ use crate::layout::{HEAD, live_place};
 use crate::operations::by_cpu;
 use crate::seat::CpuSeat;
 use protocol::Event;
-use registry_values::{MOST_CPUS, MOST_SLOTS};
 use std::marker::Brand;
 
 /// CPU `cpu` loads the live word of `slot`. Returns it: 0, or the number of the entry that is live there now. Its pass is the whole history.
 /// Condition: the seat is that CPU's, no search is under way, and the slot is one of the table's.
 pub fn recall(words: &Words, seat: &mut CpuSeat, cpu: u8, slot: u8) -> u64
     requires table { seat.old.table ≡ words.now.table }
-    requires cpu { (cpu < MOST_CPUS) × (seat.old.view.id ≡ cpu) }
-    requires place { slot < MOST_SLOTS }
+    requires cpu { (cpu < words.now.settings.cpus) × (seat.old.view.id ≡ cpu) }
+    requires place { slot < words.now.settings.slots }
     requires may { MayRecall seat.old.view slot }
     ensures step { SeatMakes Cpu (Recall cpu slot) (Word result) seat.old seat.new }
     ensures change { HasRecalled seat.old.view slot result seat.new.view }
@@ -36,7 +35,7 @@ pub fn recall(words: &Words, seat: &mut CpuSeat, cpu: u8, slot: u8) -> u64
 /// Condition: the seat is that CPU's, and no search is under way.
 pub fn recall_head(words: &Words, seat: &mut CpuSeat, cpu: u8) -> u64
     requires table { seat.old.table ≡ words.now.table }
-    requires cpu { (cpu < MOST_CPUS) × (seat.old.view.id ≡ cpu) }
+    requires cpu { (cpu < words.now.settings.cpus) × (seat.old.view.id ≡ cpu) }
     requires search { seat.old.view.search ≡ None }
     ensures step { SeatMakes Cpu (RecallHead cpu) (Word result) seat.old seat.new }
     ensures change { HasRecalledHead seat.old.view result seat.new.view }
@@ -50,8 +49,8 @@ pub fn recall_head(words: &Words, seat: &mut CpuSeat, cpu: u8) -> u64
 /// Condition: the seat is that CPU's and inside, no search is under way, and that entry of the slot is in its pass.
 pub fn refind(words: &Words, seat: &mut CpuSeat, cpu: u8, slot: u8, number: u64) -> u64
     requires table { seat.old.table ≡ words.now.table }
-    requires cpu { (cpu < MOST_CPUS) × (seat.old.view.id ≡ cpu) }
-    requires place { slot < MOST_SLOTS }
+    requires cpu { (cpu < words.now.settings.cpus) × (seat.old.view.id ≡ cpu) }
+    requires place { slot < words.now.settings.slots }
     requires may { MayRefind seat.old.view slot number }
     ensures step { SeatGoesOn (did (event_by number (Refind cpu slot number) (Recall cpu slot) result) (Word result)) seat.old seat.new }
     ensures found { result ≡ number → Makes (Refind cpu slot number) (Word result) (Cpu seat.old.view) (Cpu seat.new.view) × HasRefound seat.old.view slot number seat.new.view }

@@ -14,14 +14,14 @@ use crate::layout::{HEAD, linked_place, record_place};
 use crate::operations::by_cpu;
 use crate::seat::CpuSeat;
 use protocol::{Event, RecordOf};
-use registry_values::{Kind, MOST_CPUS, MOST_SLOTS, Name};
+use registry_values::{Kind, MOST_SLOTS, Name};
 use std::marker::Brand;
 
 /// CPU `cpu` begins a search for a kind and a name, and loads the head of the list: a slot plus 1, or 0 where no entry has them.
 /// Condition: the seat is that CPU's, idle and inside.
 pub fn seek(words: &Words, seat: &mut CpuSeat, cpu: u8, kind: Kind, name: Name) -> u64
     requires table { seat.old.table ≡ words.now.table }
-    requires cpu { (cpu < MOST_CPUS) × (seat.old.view.id ≡ cpu) }
+    requires cpu { (cpu < words.now.settings.cpus) × (seat.old.view.id ≡ cpu) }
     requires may { MaySeek seat.old.view }
     ensures step { SeatGoesOn (did (Seek cpu kind name) Done ++ did (LoadLink cpu) (link_answer result)) seat.old seat.new }
     ensures begun { Makes (Seek cpu kind name) Done (Cpu seat.old.view) (Cpu (cpu_after_seek (key_with kind name) seat.old.view)) }
@@ -37,8 +37,8 @@ pub fn seek(words: &Words, seat: &mut CpuSeat, cpu: u8, kind: Kind, name: Name) 
 /// subtraction earlier than the record's, and the next entry waits for this load: so it goes first.
 pub fn load_link(words: &Words, seat: &mut CpuSeat, cpu: u8, link: u64) -> u64
     requires table { seat.old.table ≡ words.now.table }
-    requires cpu { (cpu < MOST_CPUS) × (seat.old.view.id ≡ cpu) }
-    requires slot { (0 < link) × (link ≤ MOST_SLOTS) }
+    requires cpu { (cpu < words.now.settings.cpus) × (seat.old.view.id ≡ cpu) }
+    requires slot { (0 < link) × (link ≤ MOST_SLOTS) × (link ≤ words.now.settings.slots) }
     requires may { MayLoadLink seat.old.view (link - 1) }
     ensures step { SeatMakes Cpu (LoadLink cpu) (link_answer result) seat.old seat.new }
     ensures change { HasLoadedLink seat.old.view result seat.new.view }
@@ -51,8 +51,8 @@ pub fn load_link(words: &Words, seat: &mut CpuSeat, cpu: u8, link: u64) -> u64
 /// Condition: the seat is that CPU's, and its search is at that word; slots count from 0.
 pub fn load_searched(words: &Words, seat: &mut CpuSeat, cpu: u8, slot: usize, k: u8) -> u64
     requires table { seat.old.table ≡ words.now.table }
-    requires cpu { (cpu < MOST_CPUS) × (seat.old.view.id ≡ cpu) }
-    requires slot { (slot < MOST_SLOTS) × (k < 5) }
+    requires cpu { (cpu < words.now.settings.cpus) × (seat.old.view.id ≡ cpu) }
+    requires slot { (slot < MOST_SLOTS) × (k < 5) × (slot < words.now.settings.slots) }
     requires may { MayLoadSearched seat.old.view slot k }
     ensures step { SeatMakes Cpu (LoadRecord (OfSearch cpu)) (loaded_answer (loaded_of seat.old.view.search result)) seat.old seat.new }
     ensures change { HasLoadedWord seat.old.view result seat.new.view }
@@ -70,8 +70,8 @@ pub fn load_searched(words: &Words, seat: &mut CpuSeat, cpu: u8, slot: usize, k:
 /// Condition: the seat is that CPU's, and its search is at the link of that slot; slots count from 0.
 pub fn load_compared(words: &Words, seat: &mut CpuSeat, cpu: u8, slot: usize) -> u64
     requires table { seat.old.table ≡ words.now.table }
-    requires cpu { (cpu < MOST_CPUS) × (seat.old.view.id ≡ cpu) }
-    requires slot { slot < MOST_SLOTS }
+    requires cpu { (cpu < words.now.settings.cpus) × (seat.old.view.id ≡ cpu) }
+    requires slot { (slot < MOST_SLOTS) × (slot < words.now.settings.slots) }
     requires may { MayLoadLink seat.old.view slot }
     ensures step { SeatMakes Cpu (LoadRecord (Compared cpu)) (Word result) seat.old seat.new }
     ensures same { seat.new.view ≡ seat.old.view }

@@ -11,29 +11,28 @@ use crate::layout::section_place;
 use crate::operations::by_cpu;
 use crate::seat::CpuSeat;
 use protocol::Event;
-use registry_values::MOST_CPUS;
 use std::marker::Brand;
 
 /// CPU `cpu` begins a section: its section word becomes odd, and its pass the whole history.
 /// Condition: the seat is that CPU's, idle and outside, and its section word is below twice the section limit.
 pub fn enter(words: &Words, seat: &mut CpuSeat, cpu: u8)
     requires table { seat.old.table ≡ words.now.table }
-    requires cpu { (cpu < MOST_CPUS) × (seat.old.view.id ≡ cpu) }
+    requires cpu { (cpu < words.now.settings.cpus) × (seat.old.view.id ≡ cpu) }
     requires may { MayEnter seat.old.view }
     ensures step { SeatMakes Cpu (Enter cpu) Done seat.old seat.new }
     ensures change { HasEntered seat.old.view seat.new.view }
 {
-    by_cpu::add::<Brand>(words, seat, section_place(cpu), 1, Event::Enter(cpu));
+    by_cpu::add::<Brand>(words, seat, section_place(words, cpu), 1, Event::Enter(cpu));
 }
 
 /// CPU `cpu` ends its section: its section word becomes even, and what it had found is not its own any more.
 /// Condition: the seat is that CPU's, idle and inside.
 pub fn exit(words: &Words, seat: &mut CpuSeat, cpu: u8)
     requires table { seat.old.table ≡ words.now.table }
-    requires cpu { (cpu < MOST_CPUS) × (seat.old.view.id ≡ cpu) }
+    requires cpu { (cpu < words.now.settings.cpus) × (seat.old.view.id ≡ cpu) }
     requires may { MayExit seat.old.view }
     ensures step { SeatMakes Cpu (Exit cpu) Done seat.old seat.new }
     ensures change { HasExited seat.old.view seat.new.view }
 {
-    by_cpu::add::<Brand>(words, seat, section_place(cpu), 1, Event::Exit(cpu));
+    by_cpu::add::<Brand>(words, seat, section_place(words, cpu), 1, Event::Exit(cpu));
 }

@@ -14,7 +14,6 @@ use crate::layout::{live_place, passive_place};
 use crate::operations::by_cpu;
 use crate::seat::CpuSeat;
 use protocol::Event;
-use registry_values::{MOST_CPUS, MOST_SLOTS};
 use std::marker::Brand;
 
 /// CPU `cpu` counts its passive word of `slot` up, to get a reference to the entry with `number`: one addition. Returns the word as it was.
@@ -22,12 +21,13 @@ use std::marker::Brand;
 /// references into it than the passive limit.
 pub fn begin_try(words: &Words, seat: &mut CpuSeat, cpu: u8, slot: u8, number: u64) -> u64
     requires table { seat.old.table ≡ words.now.table }
-    requires cpu { (cpu < MOST_CPUS) × (seat.old.view.id ≡ cpu) }
+    requires cpu { (cpu < words.now.settings.cpus) × (seat.old.view.id ≡ cpu) }
+    requires place { slot < words.now.settings.slots }
     requires may { MayTry seat.old.view slot number }
     ensures step { SeatMakes Cpu (Try cpu slot number) (Word result) seat.old seat.new }
     ensures change { HasTried seat.old.view number seat.new.view }
 {
-    let word = passive_place(cpu, slot);
+    let word = passive_place(words, cpu, slot);
     by_cpu::add::<Brand>(words, seat, word, 1, Event::Try(cpu, slot, number))
 }
 
@@ -36,8 +36,8 @@ pub fn begin_try(words: &Words, seat: &mut CpuSeat, cpu: u8, slot: u8, number: u
 /// Condition: the seat is that CPU's. It has counted up for that entry of its pass, and no search is under way.
 pub fn end_try(words: &Words, seat: &mut CpuSeat, cpu: u8, slot: u8, number: u64) -> u64
     requires table { seat.old.table ≡ words.now.table }
-    requires cpu { (cpu < MOST_CPUS) × (seat.old.view.id ≡ cpu) }
-    requires place { slot < MOST_SLOTS }
+    requires cpu { (cpu < words.now.settings.cpus) × (seat.old.view.id ≡ cpu) }
+    requires place { slot < words.now.settings.slots }
     requires may { MayEndTry seat.old.view slot number }
     ensures step { SeatGoesOn (did (event_by number (Confirm cpu) (Recall cpu slot) result) (Word result)) seat.old seat.new }
     ensures confirmed { result ≡ number → Makes (Confirm cpu) (Word result) (Cpu seat.old.view) (Cpu seat.new.view) × HasConfirmed seat.old.view seat.new.view }
@@ -57,11 +57,12 @@ pub fn end_try(words: &Words, seat: &mut CpuSeat, cpu: u8, slot: u8, number: u64
 /// Condition: the seat is that CPU's, and it has counted that word up to get a reference.
 pub fn take_back(words: &Words, seat: &mut CpuSeat, cpu: u8, slot: u8) -> u64
     requires table { seat.old.table ≡ words.now.table }
-    requires cpu { (cpu < MOST_CPUS) × (seat.old.view.id ≡ cpu) }
+    requires cpu { (cpu < words.now.settings.cpus) × (seat.old.view.id ≡ cpu) }
+    requires place { slot < words.now.settings.slots }
     requires may { MayTakeBack seat.old.view slot }
     ensures step { SeatMakes Cpu (TakeBack cpu) (Word result) seat.old seat.new }
     ensures change { HasTakenBack seat.old.view seat.new.view }
 {
-    let word = passive_place(cpu, slot);
+    let word = passive_place(words, cpu, slot);
     by_cpu::subtract::<Brand>(words, seat, word, 1, Event::TakeBack(cpu))
 }

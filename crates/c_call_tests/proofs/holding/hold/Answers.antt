@@ -14,5 +14,5 @@ release-released-requires c =
     let empty = c.of_handle-local.ensures ∙ c.empty.ensures in
     let acquired = acquired_here w cpu a.new.cpu.body c.of_handle-local.result.body a.new.local.body a.result first empty a.ensures in
     let exited = exited_here w a.new.cpu.body b.new.cpu.body b.result acquired.0 b.ensures in
-    let left = given_up_here w.table c.of_handle-keeper.result.body d.new.keeper.body a.new.local.body d.new.local.body d.result acquired.1 d.ensures in
+    let left = given_up_here w c.of_handle-keeper.result.body d.new.keeper.body a.new.local.body d.new.local.body d.result acquired.1 d.ensures in
     of_cpu w b.new.cpu.body d.new.local.body exited left

@@ -1,5 +1,6 @@
 -- `layout_law`: its clauses `lines_apart`, `one_place` and `first_words_free`.
 use Rattle.cpu_words.proofs.shown.Apart.{lines_apart, one_place, first_words_free}
+use Rattle.cpu_words.proofs.shown.Placing.{below_size}
 use Rattle.cpu_words.proofs.layout.layout_law.Goals as goal
 
 pub returns-clause-lines_apart : goal.returns-clause-lines_apart
@@ -10,3 +11,6 @@ returns-clause-one_place c = one_place
 
 pub returns-clause-first_words_free : goal.returns-clause-first_words_free
 returns-clause-first_words_free c = first_words_free
+
+pub returns-clause-all_below : goal.returns-clause-all_below
+returns-clause-all_below c = below_size

@@ -1,26 +1,31 @@
 -- `opening_words`: that each turn of its loop keeps the invariants.
-use Rattle.std.proofs.Common.{◌≡◌, ◌∙◌, ◌+◌, ℕ, List, ap, arith, get_or, get_or-set_other, get_or-set_same, length, length-set, replicate, set, ⊎_elim}
+use Rattle.std.proofs.Common.{◌≡◌, ◌∙◌, ◌+◌, ◌*◌, ◌<◌, ℕ, List, ap, arith, sym, get_or, get_or-set_other, get_or-set_same, length, length-set, replicate, set, ⊎_elim}
 use Rattle.std.proofs.lemmas.Bool.{cases_eq}
+use Rattle.std.proofs.lemmas.List.{length-replicate}
 use Rattle.protocol.proofs.slots.Cells.{get_or_all}
 use Rattle.registry_values.specs.Common.{bias}
-use Rattle.cpu_words.specs.Common.{TOTALS, WORDS}
+use Rattle.cpu_words.specs.Common.{index, total_of, words_of}
+use Rattle.cpu_words.proofs.shown.Placing.{below_size}
 use Rattle.cpu_words.proofs.open.opening_words.Goals as goal
 
 pub loop-t-init : goal.loop-t-init
 loop-t-init c =
-    let zeros : c.in_ok-words.words.items ≡ replicate WORDS 0 = c.in_ok-words.ensures.items_if_clones_equal (λ y same. same) in
-    (ap length zeros, (λ i lt. ap (λ (words : List ℕ). get_or words i 0) zeros ∙ get_or_all {X = ℕ} WORDS 0 i), (λ t lt. absurd (omega arith)))
+    let size : ℕ = words_of c.args.settings in
+    let zeros : c.in_ok-words.words.items ≡ replicate size 0 = c.in_ok-words.ensures.items_if_clones_equal (λ y same. same) ∙ ap (λ (n : ℕ). replicate n 0) c.words_of.ensures in
+    (ap length zeros ∙ length-replicate {A = ℕ} size 0, (λ i lt other. ap (λ (words : List ℕ). get_or words i 0) zeros ∙ get_or_all {X = ℕ} size 0 i), (λ t lt. absurd (omega (arith, lt))))
 
 pub loop-t-preserved : goal.loop-t-preserved
 loop-t-preserved c =
     let words = c.loop-t.words.items in
-    let here : ℕ = TOTALS + c.loop-t.t in
-    let size : length words ≡ WORDS = c.loop-t.invariant.0 in
-    let few = c.loop-t-test.true in (
+    let here : ℕ = index c.args.settings (total_of c.loop-t.t) in
+    let size = c.loop-t.invariant.0 in
+    let few = c.loop-t-test.true in
+    let lt_here : here < words_of c.args.settings = below_size c.args.settings (total_of c.loop-t.t) few in
+    rw c.total_place.ensures.place (
       length-set words here bias ∙ size,
-      (λ i lt. get_or-set_other words here i bias 0 (λ same. omega (arith, lt, same)) ∙ c.loop-t.invariant.1 i lt),
+      (λ i lt other. get_or-set_other words here i bias 0 (λ same. other c.loop-t.t few (sym same)) ∙ c.loop-t.invariant.1 i lt other),
       (λ t lt. ⊎_elim
-          (λ (same : t ≡ c.loop-t.t). ap (λ u. get_or (set words here bias) (TOTALS + u) 0) same ∙ get_or-set_same words here bias 0 (omega (arith, size, few)))
-          (λ (off : t ≡ c.loop-t.t → ⊥). get_or-set_other words here (TOTALS + t) bias 0 (λ same. off (omega (arith, same))) ∙ c.loop-t.invariant.2 t (omega (arith, lt, off)))
+          (λ (same : t ≡ c.loop-t.t). ap (λ u. get_or (set words here bias) (index c.args.settings (total_of u)) 0) same ∙ get_or-set_same words here bias 0 (omega (arith, size, lt_here)))
+          (λ (off : t ≡ c.loop-t.t → ⊥). get_or-set_other words here (index c.args.settings (total_of t)) bias 0 (λ same. off (omega (arith, same))) ∙ c.loop-t.invariant.2 t (omega (arith, lt, off)))
           (cases_eq t c.loop-t.t)),
     )

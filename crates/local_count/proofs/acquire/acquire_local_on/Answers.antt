@@ -1,5 +1,6 @@
 -- A CPU's data agree with its view over an acquire, and so do the reference's.
-use Rattle.std.proofs.Common.{ap, ◌∙◌}
+use Rattle.std.proofs.Common.{◌<◌, ap, sym, subst, arith, ◌∙◌}
+use Rattle.passive_list.specs.Types.{Settings}
 use Rattle.passive_list.specs.Common.{OnPlainCpu}
 use Rattle.cpu_words.proofs.shown.KeepersShown.{step_is_shown, cut_is_shown}
 use Rattle.passive_list.proofs.Agreeing.{own_agrees}
@@ -10,7 +11,8 @@ use Rattle.local_count.proofs.acquire.acquire_local_on.Goals as goal
 pub count_add-word-requires-clause-place : goal.count_add-word-requires-clause-place
 count_add-word-requires-clause-place c =
     let may = may_acquire _ _ _ _ c.cpu.invariant.is_shown c.cpu.invariant.found (ap (λ (o : OnPlainCpu). o.cpu.view) c.cpu.view_is) c.why_not_acquired_local.ensures c.in_default.not-Some in
-    (c.cpu.invariant.few, may.kept.few)
+    let same = ap (λ (o : OnPlainCpu). o.words.settings) c.cpu.view_is ∙ sym c.requires.words.1 in
+    (subst (λ (z : Settings). c.cpu.inside.id < z.cpus) same c.cpu.invariant.few, subst (λ (z : Settings). c.cpu.inside.found.slot < z.slots) same may.kept.within)
 
 pub count_add-word-requires-clause-may : goal.count_add-word-requires-clause-may
 count_add-word-requires-clause-may c =
@@ -33,3 +35,9 @@ invariant_of-cpu c =
     (acquired_agrees _ _ _ _ _ _ _ _ _ _ _ _ _ _ _ _ c.cpu.invariant (cut_is_shown c.split_ref-seat.ensures.event (step_is_shown c.count_add-word.ensures.step.event)) may.kept
     (c.split_ref-seat.ensures.step.table ∙ c.count_add-word.ensures.step.table) c.count_add-word.ensures.change c.split_ref-seat.ensures.change c.count_add-word.ensures.word
     c.count_add-word.ensures.room c.count_add-word.ensures.alone))
+
+pub returns-clause-slot : goal.returns-clause-slot
+returns-clause-slot c =
+    let may = may_acquire _ _ _ _ c.cpu.invariant.is_shown c.cpu.invariant.found (ap (λ (o : OnPlainCpu). o.cpu.view) c.cpu.view_is) c.why_not_acquired_local.ensures c.in_default.not-Some in
+    let its = acquired_reference _ _ _ _ _ _ _ _ _ _ _ _ _ _ c.cpu.invariant may.kept c.count_add-word.ensures.change c.split_ref-seat.ensures.change in
+    subst (λ (z : Settings). c.split_ref-seat.result.view.entry.slot < z.slots) (ap (λ (o : OnPlainCpu). o.words.settings) c.cpu.view_is) (omega (arith, its.slot, may.kept.within))

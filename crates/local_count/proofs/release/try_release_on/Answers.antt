@@ -1,10 +1,21 @@
 -- A CPU's data agree with its view over a release, and so do those of a reference that comes back.
-use Rattle.std.proofs.Common.{◌∙◌}
+use Rattle.std.proofs.Common.{◌<◌, ◌∙◌, ap, sym, subst, arith}
 use Rattle.cpu_words.proofs.shown.KeepersShown.{step_is_shown}
+use Rattle.passive_list.specs.Types.{Settings}
+use Rattle.passive_list.specs.Common.{OnPlainCpu}
 use Rattle.passive_list.proofs.Agreeing.{own_agrees}
+use Rattle.local_count.specs.References.{OnPlainRef}
 use Rattle.local_count.proofs.Agreeing.{same_agrees, stored_agrees}
 use Rattle.local_count.proofs.Releasing.{released_agrees, come_back}
 use Rattle.local_count.proofs.release.try_release_on.Goals as goal
+
+pub count_down-word-requires-clause-place : goal.count_down-word-requires-clause-place
+count_down-word-requires-clause-place c =
+    let slot : c.reference.inside.slot < c.args.cpu.now.words.settings.slots =
+    omega (arith, c.requires.reference.1, c.reference.invariant.slot, ap (λ (o : OnPlainRef). o.reference.entry.slot) c.reference.view_is) in (
+      subst (λ (z : Settings). c.cpu.inside.id < z.cpus) (ap (λ (o : OnPlainCpu). o.words.settings) c.cpu.view_is ∙ sym c.requires.words.1) c.cpu.invariant.few,
+      subst (λ (z : Settings). c.reference.inside.slot < z.slots) (sym c.requires.words.1) slot,
+    )
 
 pub invariant_of-cpu : goal.invariant_of-cpu
 invariant_of-cpu c =

@@ -1,6 +1,7 @@
 -- A CPU's place says its net count.
 use Rattle.std.proofs.Common.{◌≡◌, ap, sym, ◌∙◌, subst, arith}
 use Rattle.std.proofs.lemmas.Int.{ints}
+use Rattle.registry_values.proofs.Fit.{ranges}
 use Rattle.passive_list.specs.Common.{OnPlainCpu}
 use Rattle.local_count.proofs.Agreeing.{net_most}
 use Rattle.name_registry.specs.Common.{net_met}
@@ -8,7 +9,7 @@ use Rattle.name_registry.proofs.Audits.{local_is, net_is}
 use Rattle.name_registry.proofs.auditing.local_on.Goals as goal
 
 pub is_collected-requires : goal.is_collected-requires
-is_collected-requires c = (c.requires.0, c.cpu.invariant.few)
+is_collected-requires c = let most = (ranges c.cpu.inside.seat.view.settings c.cpu.invariant.fit).cpus in (c.requires.0, omega (arith, c.cpu.invariant.few, most))
 
 pub returns-else-is_collected-clause-value : goal.returns-else-is_collected-clause-value
 returns-else-is_collected-clause-value c =

@@ -1,9 +1,13 @@
 -- `release_for`: its clauses `change` and `known`; what `release_under` requires.
-use Rattle.std.proofs.Common.{sym, subst}
+use Rattle.std.proofs.Common.{◌≡◌, ◌<◌, sym, subst}
 use Rattle.passive_list.specs.Common.{OnKeeper}
-use Rattle.cpu_words.specs.Common.{IsFoundCollected}
+use Rattle.cpu_words.specs.Common.{IsFoundCollected, Named}
 use Rattle.name_registry.proofs.GivenUp.{given_for, knows_given}
 use Rattle.name_registry.proofs.releasing.release_for.Goals as goal
+
+pub release_under-requires-clause-reference : goal.release_under-requires-clause-reference
+release_under-requires-clause-reference c =
+    subst (λ (w : Named). (c.args.reference.table ≡ w.table) × (c.args.reference.reference.entry.slot < w.settings.slots)) (sym c.hear_cpu.ensures.words.0) c.requires.reference
 
 pub release_under-requires-clause-collected : goal.release_under-requires-clause-collected
 release_under-requires-clause-collected c =

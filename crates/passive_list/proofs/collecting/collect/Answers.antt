@@ -1,6 +1,9 @@
 -- `collect`: its clause `change`; what `total_add` requires; the invariant of `keeper`; that nothing overflows; that an index is in range.
-use Rattle.std.proofs.Common.{refl, arith}
-use Rattle.passive_list.proofs.Rows.{keeper_is}
+use Rattle.std.proofs.Common.{◌∙◌, ◌<◌, refl, sym, ap, subst, arith}
+use Rattle.passive_list.specs.Types.{Settings}
+use Rattle.registry_values.specs.Common.{slot_at}
+use Rattle.passive_list.specs.Common.{OnPlainKeeper}
+use Rattle.passive_list.proofs.Rows.{keeper_is, retired_in}
 use Rattle.passive_list.proofs.Collections.{CollectionTells, collection_tells, collected_keeper, collected_into}
 use Rattle.passive_list.proofs.collecting.collect.Goals.{After-total_or_bias}
 use Rattle.passive_list.proofs.collecting.collect.Goals as goal
@@ -9,6 +12,15 @@ use Rattle.passive_list.proofs.collecting.collect.Goals as goal
 tells : (c : After-total_or_bias) → CollectionTells c.collect-word.new.keeper.view c.args.slot c.total_or_bias.result c.collect-word.result
 tells c =
     collection_tells _ _ _ _ _ _ _ _ _ _ _ c.keeper.invariant (keeper_is c.keeper.view_is) c.total_or_bias.ensures c.requires.retired.1 c.collect-word.ensures.change c.collect-word.ensures.step.event
+
+pub collect-word-requires-clause-place : goal.collect-word-requires-clause-place
+collect-word-requires-clause-place c =
+    let inside = c.keeper.inside in
+    let retired = ap (λ (x : OnPlainKeeper). slot_at x.keeper.slots c.args.slot) c.keeper.view_is ∙ c.requires.retired.1 in (
+      subst (λ (z : Settings). c.args.cpu < z.cpus) (sym c.requires.words.1) c.requires.cpu,
+      subst (λ (z : Settings). c.args.slot < z.slots) (ap (λ (x : OnPlainKeeper). x.words.settings) c.keeper.view_is ∙ sym c.requires.words.1)
+          (retired_in inside.settings inside.seat.view inside.rows c.args.slot c.requires.retired.0 c.keeper.invariant.rows retired).0,
+    )
 
 pub overflow_add-total : goal.overflow_add-total
 overflow_add-total c = omega (arith, (tells (goal.at.overflow_add-total c).After-total_or_bias).fits)

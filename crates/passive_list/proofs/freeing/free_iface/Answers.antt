@@ -1,7 +1,8 @@
 -- `free_iface`: its clause `change`; what `kept_sub` requires; the invariant of `keeper`; that nothing overflows; that what is unreachable isn't reached.
-use Rattle.std.proofs.Common.{sym, ◌∙◌, arith}
+use Rattle.std.proofs.Common.{sym, ap, subst, ◌∙◌, ◌<◌, arith}
 use Rattle.cpu_words.proofs.shown.KeepersShown.{step_is_shown}
-use Rattle.passive_list.specs.Common.{row_at}
+use Rattle.passive_list.specs.Types.{Settings}
+use Rattle.passive_list.specs.Common.{OnPlainKeeper, row_at}
 use Rattle.passive_list.proofs.Rows.{keeper_is}
 use Rattle.passive_list.proofs.Freed.{keeps_on, keeps_at, may_free, freed_keeper, has_freed}
 use Rattle.passive_list.proofs.Subtracting.{held_row}
@@ -21,6 +22,14 @@ kept_sub-requires-clause-may c =
     let keeps = keeps_at inside.settings k inside.rows inside.changes c.args.slot u c.args.keeper.now.keeper c.keeper.invariant (keeper_is c.keeper.view_is) c.requires.iface
     (sym c.kept_slot.ensures ∙ c.in-Some.is) in
     may_free inside.settings k inside.rows inside.changes c.args.slot u c.args.keeper.now.keeper c.keeper.invariant (keeper_is c.keeper.view_is) c.requires.iface c.requires.drained keeps
+
+pub kept_sub-requires-clause-place : goal.kept_sub-requires-clause-place
+kept_sub-requires-clause-place c =
+    let inside = c.keeper.inside in
+    let u = c.in-Some.driver_slot in
+    let keeps = keeps_at inside.settings inside.seat.view inside.rows inside.changes c.args.slot u c.args.keeper.now.keeper c.keeper.invariant (keeper_is c.keeper.view_is) c.requires.iface
+    (sym c.kept_slot.ensures ∙ c.in-Some.is) in
+    subst (λ (z : Settings). u < z.slots) (c.keeper.invariant.view.settings ∙ ap (λ (x : OnPlainKeeper). x.words.settings) c.keeper.view_is ∙ sym c.requires.words.1) keeps.held.slot
 
 pub overflow_sub-total : goal.overflow_sub-total
 overflow_sub-total c =

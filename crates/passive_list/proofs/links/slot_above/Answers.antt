@@ -4,17 +4,17 @@ use Rattle.cpu_words.specs.Common.{IsBefore, IsLinkPlace}
 use Rattle.passive_list.specs.Common.{states_of, place_of}
 use Rattle.passive_list.proofs.Leading.{oldest_to, oldest_before}
 use Rattle.passive_list.proofs.links.slot_above.Goals as goal
-use Rattle.passive_list.specs.Types.{MOST_SLOTS}
 
 pub returns-clause-before : goal.returns-clause-before
 returns-clause-before c =
     let rows = c.args.rows.now in
-    let end : c.loop-t.t ≡ MOST_SLOTS = omega (arith, c.loop-t.auto.t-end, c.loop-t-test.false) in
+    let end : c.loop-t.t ≡ c.args.slots = omega (arith, c.loop-t.auto.t-end, c.loop-t-test.false) in
     subst (IsBefore (states_of rows) c.args.number) (sym (c.place_of.ensures ∙ ap place_of (c.loop-t.invariant ∙ ap (oldest_to rows c.args.number) end)))
-    (oldest_before rows c.args.number c.told-rows).0
+    (oldest_before rows c.args.number c.args.slots c.requires.beyond).0
 
 pub returns-clause-place : goal.returns-clause-place
 returns-clause-place c =
     let rows = c.args.rows.now in
-    let end : c.loop-t.t ≡ MOST_SLOTS = omega (arith, c.loop-t.auto.t-end, c.loop-t-test.false) in
-    subst IsLinkPlace (sym (c.place_of.ensures ∙ ap place_of (c.loop-t.invariant ∙ ap (oldest_to rows c.args.number) end))) (oldest_before rows c.args.number c.told-rows).1
+    let end : c.loop-t.t ≡ c.args.slots = omega (arith, c.loop-t.auto.t-end, c.loop-t-test.false) in
+    subst (IsLinkPlace c.args.slots) (sym (c.place_of.ensures ∙ ap place_of (c.loop-t.invariant ∙ ap (oldest_to rows c.args.number) end)))
+    (oldest_before rows c.args.number c.args.slots c.requires.beyond).1

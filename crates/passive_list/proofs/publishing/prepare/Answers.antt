@@ -1,6 +1,6 @@
 -- `prepare`: its clauses `prepared` and `log`; what `store_counts` and `store_next` require.
 use Rattle.std.proofs.Common.{◌++◌, ◌∙◌, ◌≤◌, List, sym, ap, subst}
-use Rattle.passive_list.specs.Types.{Settings, KeeperView, LogItem, StoreNext, Done, MOST_SLOTS}
+use Rattle.passive_list.specs.Types.{Settings, KeeperView, LogItem, StoreNext, Done}
 use Rattle.cpu_words.specs.Common.{did}
 use Rattle.passive_list.specs.Common.{logged_counts}
 use Rattle.protocol.specs.Common.{words_of}
@@ -16,7 +16,7 @@ store_counts-requires-clause-sized c = sized_after c.args.seat.now.view c.store_
 pub store_counts-requires-clause-fit : goal.store_counts-requires-clause-fit
 store_counts-requires-clause-fit c =
     let same = row_settings c.args.seat.now.view c.store_row.new.seat.view c.args.entry.now.slot (words_of c.args.entry.now) c.store_row.ensures.row in
-    (subst (λ (z : Settings). z.slots ≤ MOST_SLOTS) (sym same) c.requires.fit.0, c.requires.fit.1 ∙ sym (ap (λ (z : Settings). z.cpus) same), c.requires.fit.2)
+    (c.requires.fit.0, c.requires.fit.1 ∙ sym (ap (λ (z : Settings). z.cpus) same), c.requires.fit.2)
 
 pub store_next-requires-clause-may : goal.store_next-requires-clause-may
 store_next-requires-clause-may c =

@@ -2,7 +2,6 @@
 use Rattle.std.proofs.Common.{◌++◌, ◌∙◌, ℕ, List, refl, sym, ap, subst, arith}
 use Rattle.passive_list.specs.Types.{Entry, Settings, Slot, LogItem, Publish, Show, Live, Done, KeeperView, Keeper}
 use Rattle.registry_values.specs.Common.{slot_at}
-use Rattle.registry_values.proofs.Fit.{ranges}
 use Rattle.protocol.proofs.slots.Cells.{slot_here}
 use Rattle.cpu_words.specs.Common.{MayPublish, Makes, did, keeper_after_live}
 use Rattle.passive_list.specs.Common.{logged_stores, states_of, keeper_after_publish}
@@ -31,7 +30,7 @@ publish-requires-clause-may c =
     )
 
 pub show-requires-clause-place : goal.show-requires-clause-place
-show-requires-clause-place c = omega (arith, c.requires.may.slot, (ranges c.args.words.now.settings c.requires.may.at.fit).slots)
+show-requires-clause-place c = c.requires.may.slot
 
 pub show-requires-clause-may : goal.show-requires-clause-may
 show-requires-clause-may c =

@@ -16,7 +16,7 @@ hide-requires-clause-place c =
     let inside = c.keeper.inside in
     let our = c.keeper.invariant in
     let live = live_in inside.settings inside.seat.view inside.rows c.args.slot c.in-Live.entry our.rows (state_at inside.rows c.args.slot ∙ c.in-Live.is) in
-    omega (arith, live.0, (ranges inside.settings our.view.fit).slots)
+    subst (λ (z : Settings). c.args.slot < z.slots) (ap (λ (x : OnPlainKeeper). x.words.settings) c.keeper.view_is ∙ sym c.requires.words.1) live.0
 
 pub hide-requires-clause-may : goal.hide-requires-clause-may
 hide-requires-clause-may c =

@@ -1,7 +1,7 @@
 -- One slot on the list after the other.
 use Rattle.std.proofs.Common.{◌≡◌, ◌≤◌, suc, ◌+◌, ◌-◌, ◌<◌, [], ◌++◌, length, take, set, refl, sym, ap, ◌∙◌, subst, arith, length-set, append_assoc}
 use Rattle.std.proofs.lemmas.List.{length-take-le}
-use Rattle.passive_list.specs.Types.{Entry, Iface, Key, Seek, LoadLink, Done, MOST_SLOTS}
+use Rattle.passive_list.specs.Types.{Entry, Iface, Key, Seek, LoadLink, Done, Settings, MOST_SLOTS}
 use Rattle.cpu_words.specs.Common.{did, HasFollowed, cpu_after_seek, search_for, key_with, link_answer}
 use Rattle.cpu_words.proofs.shown.KeepersShown.{step_is_shown}
 use Rattle.passive_list.specs.Common.{nobody, HasGoneByOne, HasGoneOverBy, IsGoingOver}
@@ -36,7 +36,9 @@ pub go_by-entry-requires-clause-cpu : goal.go_by-entry-requires-clause-cpu
 go_by-entry-requires-clause-cpu c = (c.requires.cpu.0, c.loop-link.invariant.cpu)
 
 pub go_by-entry-requires-clause-slot : goal.go_by-entry-requires-clause-slot
-go_by-entry-requires-clause-slot c = slot_within _ _ _ _ (on_slot _ _ _ _ _ c.loop-link-test.true c.loop-link.invariant.over)
+go_by-entry-requires-clause-slot c =
+    let within = slot_within _ _ _ _ (on_slot _ _ _ _ _ c.loop-link-test.true c.loop-link.invariant.over) in
+    (within.0, subst (λ (z : Settings). c.loop-link.link - 1 < z.slots) c.requires.settings within.1)
 
 pub go_by-entry-requires-clause-may : goal.go_by-entry-requires-clause-may
 go_by-entry-requires-clause-may c = may_go_by _ _ _ _ (on_slot _ _ _ _ _ c.loop-link-test.true c.loop-link.invariant.over)
@@ -58,7 +60,8 @@ load_link-link-requires-clause-cpu c =
 pub load_link-link-requires-clause-slot : goal.load_link-link-requires-clause-slot
 load_link-link-requires-clause-slot c =
     let within = slot_within _ _ _ _ (on (goal.at.load_link-link-requires-clause-slot c).After-go_by-entry) in
-    (omega (arith, c.loop-link-test.true), omega (arith, within))
+    let same = ap (λ (z : Settings). z.slots) c.requires.settings in
+    (omega (arith, c.loop-link-test.true), omega (arith, within), omega (arith, within, same))
 
 pub load_link-link-requires-clause-may : goal.load_link-link-requires-clause-may
 load_link-link-requires-clause-may c = may_go_on _ _ _ _ _ _ (on (goal.at.load_link-link-requires-clause-may c).After-go_by-entry) c.go_by-entry.ensures.change

@@ -1,5 +1,6 @@
 -- The data agree with the view, whether the CPU has its reference or not.
-use Rattle.std.proofs.Common.{inl, inr, rules, refl, sym, subst}
+use Rattle.std.proofs.Common.{◌<◌, ◌∙◌, inl, inr, rules, refl, sym, ap, subst}
+use Rattle.passive_list.specs.Types.{Settings}
 use Rattle.passive_list.specs.Common.{OnPlainCpu}
 use Rattle.passive_ref.specs.Gets.{HasSeen, HasTriedOnSeat, IsFullAt}
 use Rattle.passive_ref.proofs.Gets.{full_at, given_on, got_on, may_try, taken_agrees, vain_agrees}
@@ -9,6 +10,11 @@ pub try_on_seat-done-requires-clause-may : goal.try_on_seat-done-requires-clause
 try_on_seat-done-requires-clause-may c =
     let seen = subst (λ (o : OnPlainCpu). HasSeen o.cpu.view c.args.slot c.args.number) (sym c.cpu.view_is) c.requires.seen in
     may_try _ _ _ _ seen c.cpu.invariant.idle c.cpu.invariant.passive (search rules)
+
+pub try_on_seat-done-requires-clause-slot : goal.try_on_seat-done-requires-clause-slot
+try_on_seat-done-requires-clause-slot c =
+    let seen = subst (λ (o : OnPlainCpu). HasSeen o.cpu.view c.args.slot c.args.number) (sym c.cpu.view_is) c.requires.seen in
+    subst (λ (z : Settings). c.args.slot < z.slots) (ap (λ (o : OnPlainCpu). o.words.settings) c.cpu.view_is ∙ sym c.requires.words.1) seen.slots
 
 pub invariant_of-cpu : goal.invariant_of-cpu
 invariant_of-cpu c =

@@ -3,4 +3,4 @@ use Rattle.cpu_words.specs.Common.{tells_subtracted, did}
 use Rattle.cpu_words.proofs.steps.passive.passive_sub.Given as goal
 
 abbrev pub ghosts-subtract : goal.ghosts-subtract
-ghosts-subtract a = record { does = λ x n. did a.event (Word n); tells = tells_subtracted a.event a.word }
+ghosts-subtract a = record { does = λ x n. did a.event (Word n); tells = tells_subtracted a.words.now.settings a.event a.word }

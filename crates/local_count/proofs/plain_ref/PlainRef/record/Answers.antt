@@ -1,10 +1,22 @@
 -- The four words are the record.
-use Rattle.std.proofs.Common.{◌≡◌, ◌∙◌, ap}
+use Rattle.std.proofs.Common.{◌≡◌, ◌<◌, ◌∙◌, ap, arith}
 use Rattle.protocol.specs.Common.{word, words_of}
 use Rattle.registry_values.specs.Names.{are_name_words}
 use Rattle.passive_list.specs.Types.{ReferenceView}
 use Rattle.local_count.specs.References.{OnPlainRef}
 use Rattle.local_count.proofs.plain_ref.PlainRef.record.Goals as goal
+
+pub load_local-kind-requires-clause-place : goal.load_local-kind-requires-clause-place
+load_local-kind-requires-clause-place c = (omega (arith, c.requires.words.1, c.self.invariant.slot, ap (λ (o : OnPlainRef). o.reference.entry.slot) c.self.view_is), omega arith)
+
+pub load_local-high-requires-clause-place : goal.load_local-high-requires-clause-place
+load_local-high-requires-clause-place c = (omega (arith, c.requires.words.1, c.self.invariant.slot, ap (λ (o : OnPlainRef). o.reference.entry.slot) c.self.view_is), omega arith)
+
+pub load_local-low-requires-clause-place : goal.load_local-low-requires-clause-place
+load_local-low-requires-clause-place c = (omega (arith, c.requires.words.1, c.self.invariant.slot, ap (λ (o : OnPlainRef). o.reference.entry.slot) c.self.view_is), omega arith)
+
+pub load_local-value-requires-clause-place : goal.load_local-value-requires-clause-place
+load_local-value-requires-clause-place c = (omega (arith, c.requires.words.1, c.self.invariant.slot, ap (λ (o : OnPlainRef). o.reference.entry.slot) c.self.view_is), omega arith)
 
 pub record_from-requires : goal.record_from-requires
 record_from-requires c =

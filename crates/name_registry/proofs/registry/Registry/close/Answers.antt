@@ -7,12 +7,12 @@ use Rattle.name_registry.specs.Common.{ClosesRun}
 use Rattle.name_registry.proofs.Closed.{closes_run}
 use Rattle.name_registry.proofs.registry.Registry.close.Goals as goal
 
-pub returns : goal.returns
-returns g c =
+pub returns-clause-run : goal.returns-clause-run
+returns-clause-run g c =
     let z = g.D.Domain.settings in
     let a = c.args.self.words.settings in
     let b = c.hear_cpu.new.keeper.keeper in
-    let last = c.close.result in
+    let last = c.close.result.words in
     let seat = c.into_seat.ensures in
     let by_log = subst (λ (log : List LogItem). HasClosed a c.into_seat.result.view log last) seat.2 c.close.ensures.ended in
     let by_view = subst (λ (k : KeeperView). HasClosed a k b.log last) seat.1 by_log in
