@@ -83,7 +83,7 @@ returns-clause-log c =
     let e = c.args.entry.now in
     let v = c.link_below-link.result in
     let asked = c.requires.may in
-    let cpus = c.settings.ensures ∙ sym asked.at.settings in
+    let cpus = c.settings-settings.ensures ∙ sym asked.at.settings in
     let stored = c.prepare.ensures.log ∙ ap (λ (z : Settings). logged_stores z.cpus e v c.args.seat.now.log) cpus in
     let published = c.publish.ensures.step.log ∙ ap (λ (log : List LogItem). log ++ did (Publish e.slot) Done) stored in
     record {
