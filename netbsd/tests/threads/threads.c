@@ -548,7 +548,7 @@ static void test_cpus(void)
 	}
 }
 
-/* The first callout makes the condition variable of the callouts' clock. */
+/* The first callout makes the condition variable of the callouts' clock, and its thread, which may take memory later. */
 static void test_clock(void)
 {
 	callout_t callout;
@@ -569,8 +569,8 @@ int main(void)
 	test_gone(IPL_VM);
 	test_passed();
 	test_cpus();
-	test_clock();
 	test_call_after_end();
+	test_clock();
 	puts("each thread had memory and a CPU of its own");
 	return 0;
 }
