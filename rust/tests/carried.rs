@@ -28,11 +28,11 @@ fn what_is_left_is_dropped_at_the_closing() {
     let registry = cpus[0].registry();
     drop(cpus);
     held.check();
+    assert_eq!(drops.dropped(), 0);
     let leaving = thread::spawn(move || {
         thread::sleep(Duration::from_millis(5));
         drop((held, retired));
     });
-    assert_eq!(drops.dropped(), 0);
     registry.close(patience()).unwrap();
     leaving.join().unwrap();
     assert_eq!(drops.dropped(), 2);

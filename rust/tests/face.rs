@@ -149,6 +149,17 @@ fn a_call_outside_counts_as_a_section_except_of_an_entry_that_its_cpu_remembers(
     assert!(spent.iter().chain(&of_others).all(|told| told.map_err(why) == Err(Refusal::SectionsSpent)));
 }
 
+/// Also where the last change was a detach.
+#[test]
+fn a_replace_without_room_leaves_the_old_entry() {
+    let (registry, cpus) = Registry::open(Settings::new(1, 3).changes(5)).unwrap();
+    registry.attach(&cpus[0], &WM, 7).unwrap();
+    registry.attach(&cpus[0], &name("vga"), 8).unwrap();
+    registry.retire(&cpus[0], Kind::Driver, &WM).unwrap();
+    let refused = registry.replace(&cpus[0], &name("vga"), 9).unwrap_err();
+    assert_eq!((why(refused.refusal), refused.given, *passive(&cpus[0], "vga")), (Refusal::HistoryFull, 9, 8));
+}
+
 #[test]
 fn all_slots_and_names_are_told_apart() {
     let (registry, cpus) = Registry::open(Settings::new(1, LIMITS.slots as u8)).unwrap();

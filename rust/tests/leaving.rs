@@ -176,7 +176,7 @@ fn no_wake_is_lost_between_threads() {
     for (call, name) in CALLS.iter().flat_map(|call| [(call, WM), (call, WM0)]) {
         let (registry, mut cpus) = Registry::open(Settings::new(2, 8)).unwrap();
         let (mine, other) = (cpus.pop().unwrap(), cpus.pop().unwrap());
-        let (rounds, begun, ended) = (common::scaled(400) as u32, AtomicU32::new(0), AtomicU32::new(0));
+        let (rounds, begun, ended) = (common::scaled(250) as u32, AtomicU32::new(0), AtomicU32::new(0));
         let wait_for = |count: &AtomicU32, round| {
             while count.load(Ordering::SeqCst) != round {
                 thread::yield_now();

@@ -80,6 +80,10 @@ fn what_is_gone_keeps_no_memory() {
         registry.retire(cpu, Kind::Driver, &wm0).unwrap();
         drop((0..200).map(|_| local(&cpus[1], "wm")).collect::<Vec<_>>());
         assert_eq!(registry.dropped(), 200);
+        // A reference may outlive all CPUs.
+        let last = local(cpu, "wm");
+        drop(cpus);
+        drop(last);
     };
     come_and_go();
     assert_eq!((left(|| (0..10).for_each(|_| come_and_go())), watched::locals()), (0, locals));
