@@ -1,5 +1,4 @@
 -- The definitions of this crate that proofs and the crates above cite, and for its own proofs its types, passed on from one place. Declares nothing.
-pub use Rattle.cpu_words.specs.declared.layout.TheConstants.{APART, HEAD, LINE, LIVES, NEXTS, PASSIVES, RECORDS, STRIDE, TOTALS}
 pub use Rattle.cpu_words.specs.declared.view.CpuView.{CpuView}
 pub use Rattle.cpu_words.specs.declared.view.InHand.{InHand}
 pub use Rattle.cpu_words.specs.declared.view.InHand.TheVariants.{Back, Empty, Giving, Taking, Trying}
@@ -50,7 +49,7 @@ pub use Rattle.cpu_words.specs.Searching.{Descends, FoundHolds, HasFollowed, Has
 pub use Rattle.cpu_words.specs.Searching.{MayStandOn, PassTells, SkipsNone, cpu_after_link, cpu_after_record_word, cpu_after_seek, every_word, key_with, link_answer, loaded_answer, loaded_of}
 pub use Rattle.cpu_words.specs.Searching.{IsValueThere, search_for, search_with_place, sought, tells_compared}
 pub use Rattle.cpu_words.specs.Sections.{HasEntered, HasExited, HasWholePass, IsIdle, MayEnter, MayExit}
-pub use Rattle.cpu_words.specs.Spots.{AllBelow, AreApart, FirstWordsFree, IsSpot, LinesApart, OnePlace, Spot, count_of, head_word, index, live_of, next_of, owner, passive_of, record_of, rows_from, section_of, stride_of}
+pub use Rattle.cpu_words.specs.Spots.{AreApart, FirstWordsFree, IsSpot, LinesApart, OnePlace, Spot, count_of, head_word, index, live_of, next_of, owner, passive_of, record_of, rows_from, section_of, stride_of}
 pub use Rattle.cpu_words.specs.Spots.{total_of, word_at, words_of}
 pub use Rattle.cpu_words.specs.Steps.{CpuMay, JoinsBy, JoinsOn, KeeperMay, KeeperStores, Makes, Moves, OneSeat, ReferenceMay, SeatMakes, SplitsBy, SplitsOn}
 pub use Rattle.cpu_words.specs.Storing.{CountStored, HasCountWord, HasLink, HasRecordWord, LinkStored, RecordStored}
