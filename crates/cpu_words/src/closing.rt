@@ -61,7 +61,10 @@ impl LastWords {
 
 impl Drop for LastWords {
     fn drop(self) {
-        let LastWords { closed, settings: _ } = self;
+        let LastWords {
+            closed,
+            settings: _,
+        } = self;
         closed.free();
     }
 }

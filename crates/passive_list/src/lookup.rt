@@ -11,9 +11,7 @@ use crate::cpu::Cpu;
 use crate::place::Found;
 use crate::plain_cpu::PlainCpu;
 use cpu_words::{CpuSeat, Domain, Words, steps};
-use registry_values::{
-    Entry, Key, Kind, MOST_CHANGES, MOST_SLOTS, Name, Record, are_words_of,
-};
+use registry_values::{Entry, Key, Kind, MOST_CHANGES, MOST_SLOTS, Name, Record, are_words_of};
 
 /// Above every number that an entry can have.
 const ABOVE_ALL: u64 = MOST_CHANGES + 1;

@@ -30,8 +30,8 @@ rows_apart z (Some c) None i j at there other = inr (omega (arith, at, there))
 rows_apart z (Some c) (Some d) i j at there other = ⊎_elim
     (λ (same : c ≡ d). absurd (other (ap Some same)))
     (⊎_elim
-        (λ (less : c < d). inl (omega (arith, at, there, row_fits c (stride_of z.slots) d (stride_of z.slots) less (omega arith))))
-        (λ (more : d < c). inr (omega (arith, at, there, row_fits d (stride_of z.slots) c (stride_of z.slots) more (omega arith)))))
+    (λ (less : c < d). inl (omega (arith, at, there, row_fits c (stride_of z.slots) d (stride_of z.slots) less (omega arith))))
+    (λ (more : d < c). inr (omega (arith, at, there, row_fits d (stride_of z.slots) c (stride_of z.slots) more (omega arith)))))
     (cases_order c d)
 
 -- words of two owners share no line

@@ -36,7 +36,8 @@ pub fn look_now(words: &Words, keeper: &mut KeeperSeat, cpu: u8) -> u64
     ensures step { SeatMakes Keeper (Look None cpu) (Word result) keeper.old keeper.new }
     ensures change { keeper.new.view ≡ keeper_after_look keeper.old.view (Look None cpu) (Word result) }
 {
-    by_keeper::load::<Brand>(words, keeper, section_place(words, cpu), Event::Look(None, cpu))
+    let glance = Event::Look(None, cpu);
+    by_keeper::load::<Brand>(words, keeper, section_place(words, cpu), glance)
 }
 
 /// Takes the snapshot of CPU `cpu` for the entry in `slot`, which was just unlinked: its section word now.
