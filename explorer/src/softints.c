@@ -1,5 +1,5 @@
 /*
- * softints.c - softint_thread.c, as the bench has it
+ * softints.c - softint_thread.c, as the explorer has it
  *
  * Each CPU has a thread for the soft interrupts of each level, as in the kernel: a handler that waits for a lock keeps no other level off. It can go on
  * where one waits there, and nobody has the CPU or somebody at a lower level, at any point. The highest level goes first. Whoever has the CPU goes on when the handlers have ended, or one of them waits for a lock.
