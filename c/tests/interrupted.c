@@ -1,6 +1,6 @@
 /*
- * interrupted - each wait of waiting.h with a deadline that never comes, under a storm of signals, in a thread that is cancelled, and with handles that are
- * empty, places that are NULL, and in a section of its own
+ * interrupted - each wait of waiting.h with a deadline that never comes: under a storm of signals; in a thread that is cancelled; with handles that are
+ * empty and places that are NULL; in a section of its own
  */
 #include <pthread.h>
 #include <sched.h>

@@ -2,8 +2,8 @@
  * turns [emulated] - each step that the waits of waiting.h make: which calls, in which order, how long they sleep, and that they stop where they should
  *
  * The linker leads the registry's calls, the clock, nanosleep, sched_yield and a mutex's calls here (--wrap), and pauses.h the pause instruction. The calls
- * return what the test says, time is the test's own, and each step leaves a letter: t and g the interlock taken and given up, d a destroy's turn, b and p
- * a perform's begin and turn, y a yield, s a sleep, r a local reference's release and c its being given up, l and u a mutex locked and unlocked.
+ * return what the test says, time is the test's own, and each step leaves a letter: t and g the interlock taken and given up; d a destroy's turn; b and p
+ * a perform's begin and turn; y a yield; s a sleep; r a local reference's release and c its being given up; l and u a mutex locked and unlocked.
  * With `emulated` no robust mutex is tried: qemu-user marks none whose owner has ended.
  */
 #include <errno.h>
@@ -348,7 +348,7 @@ static void test_mutex(void)
 	EXPECT(pthread_mutex_trylock(&mutex) == 0 && pthread_mutex_unlock(&mutex) == 0);
 }
 
-/* Whatever a mutex fails with, the program is aborted. */
+/* The program is aborted if a mutex fails, with any error. */
 static void test_errors(void)
 {
 	static const int errors[] = {EINVAL, EAGAIN, EDEADLK, EBUSY, EPERM, ETIMEDOUT, EOWNERDEAD, ENOTRECOVERABLE};
