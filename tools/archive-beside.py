@@ -29,9 +29,8 @@ import time
 
 sys.dont_write_bytecode = True
 
-from counts import ended
 from kit import below, kit, over_libraries
-from parts import GIGABYTE, LAST_LINE, ROOT, free_memory, guard, minutes, running, say, stop_running
+from parts import GIGABYTE, LAST_LINE, ROOT, ended, free_memory, guard, minutes, running, say, stop_running
 
 LIBRARY = "registry_c"
 OUT = ROOT / "out"

@@ -14,7 +14,7 @@ import sys
 
 sys.dont_write_bytecode = True
 
-from counts import ended
+from parts import ended
 from phrases import held_to, places
 
 ROOT = pathlib.Path(__file__).resolve().parent.parent

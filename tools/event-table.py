@@ -15,7 +15,7 @@ import sys
 sys.dont_write_bytecode = True
 
 from contracts import contract
-from counts import ended
+from parts import ended
 from edits import BY_HAND, GATE, ROOT, changes, chosen, file_of
 from functions import functions_of
 

@@ -11,9 +11,9 @@ import sys
 
 sys.dont_write_bytecode = True
 
-from counts import ended
 from edits import GATE, chosen
 from kept import results
+from parts import ended
 
 
 def main():

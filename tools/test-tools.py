@@ -15,7 +15,7 @@ from concurrent.futures import ThreadPoolExecutor
 
 sys.dont_write_bytecode = True
 
-from counts import ended
+from parts import ended
 from tests import checkers, documents, gates, libraries, mutation, pages, programs, refusals, releases, sources
 from tests.trees import WRITING, lay, said_by, spoil
 

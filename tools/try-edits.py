@@ -19,9 +19,9 @@ from concurrent.futures import ThreadPoolExecutor
 
 sys.dont_write_bytecode = True
 
-from counts import ended
 from edits import BY_HAND, ROOT, TESTS, apply, chosen
 from kept import results
+from parts import ended
 
 # So many runs of tests are made side by side.
 TESTED_AT_ONCE = 2

@@ -133,7 +133,7 @@ def before_gate():
         Fault("two edits of one name", "one: two edits are called more", ((TESTED, "edit: less", "edit: more"),)),
         Fault("a crate that isn't there", "before-gate.py compile [CRATE]", command=["./look", "compile", "none"]),
     )
-    return Case("before-gate", ["before-gate.py", "counts.py", "edits.py"], tree, ["./look"], faults)
+    return Case("before-gate", ["before-gate.py", "parts.py", "edits.py"], tree, ["./look"], faults)
 
 
 def cases():

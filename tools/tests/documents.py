@@ -51,7 +51,7 @@ def check_docs():
         Fault("a private word in a manual page", "man/kupaldiz_walk.7: phrases: line 2: 'ledger': no private word",
               (("man/kupaldiz_walk.7", None, ".Sh NAME\nA ledger.\n"),)),
     )
-    return Case("check-docs", ["check-docs.py", "counts.py", "phrases.py"], DOCUMENTS, ["tools/check-docs.py"], faults, prepare=listed)
+    return Case("check-docs", ["check-docs.py", "parts.py", "phrases.py"], DOCUMENTS, ["tools/check-docs.py"], faults, prepare=listed)
 
 
 SCRIPT = "domain 1 1\nenter 0\n"
@@ -131,7 +131,7 @@ def run_examples():
         Fault("code that its file doesn't have", "README.md:32: no example has this code", (("crates/low/specs/Walks.antt", "there = so", "there = no"),)),
         Fault("no examples", "0 passed, 1 failed", command=["tools/run-examples.py", "--program", "program", "docs/page.md"]),
     )
-    return Case("run-examples", ["run-examples.py", "counts.py"], PAGES, ["tools/run-examples.py", "--program", "program"], faults)
+    return Case("run-examples", ["run-examples.py", "parts.py"], PAGES, ["tools/run-examples.py", "--program", "program"], faults)
 
 
 def cases():

@@ -57,7 +57,7 @@ fn the_greater_one() {
 """
 MANIFEST = '[package]\nname = "small"\nversion = "0.1.0"\nedition = "2021"\n'
 LIB = "rust/src/lib.rs"
-TAKEN = ["mutants.py", "mutations.py", "parts.py", "counts.py"]
+TAKEN = ["mutants.py", "mutations.py", "parts.py"]
 
 
 def of_crate():

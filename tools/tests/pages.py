@@ -123,7 +123,7 @@ def picture():
         Fault("an arrow that is missing", "docs/layers.svg, arrows: high-low", (("docs/layers.svg", 'data-from="high" data-to="low"', ""),)),
         Fault("an arrow too many", "docs/layers.svg, arrows: low-high", (("docs/layers.svg", "<svg>", '<svg><path data-from="low" data-to="high"/>'),)),
     )
-    return [Case("picture", ["picture.py", "counts.py"], tree, ["tools/picture.py", "check"], faults)]
+    return [Case("picture", ["picture.py", "parts.py"], tree, ["tools/picture.py", "check"], faults)]
 
 
 def cases():
@@ -142,4 +142,4 @@ def cases():
         Fault("a struct that is gone", "'@types registry_settings' of the frame names nothing", ((FACE, "\nstruct registry_settings {", "\nstruct settings {"),)),
         Fault("a part that isn't one", "'@call' of the frame names nothing", ((f"{PAGE}.in", "@calls", "@call"),)),
     )
-    return [Case("header-pages", ["header-pages.py", "counts.py"], tree, ["./make"], faults), *picture()]
+    return [Case("header-pages", ["header-pages.py", "parts.py"], tree, ["./make"], faults), *picture()]

@@ -7,7 +7,7 @@ PROVED = ROOT / "crates/registry_run/out/registry_run"
 VERBS = "domain,limits,attach,detach,enter,exit,find,ref,copy,held,read,drop,advance"
 # It answers for the program of the repository, too: whoever writes a kit asks that for its reports.
 FOREIGN = "#!/bin/sh\nexec tools/other_registry.py\n"
-KIT = ["conformance.py", "other_registry.py", "counts.py"]
+KIT = ["conformance.py", "other_registry.py", "parts.py"]
 TREE = {"program": FOREIGN, "crates/registry_run/out/registry_run": FOREIGN}
 
 
@@ -80,7 +80,7 @@ def test_program(proved):
     tree = {"program": '#!/bin/sh\nexec program.proved "$@"\n'.replace("program.proved", str(proved))}
     faults = [fault._replace(changes=tuple((path, old.replace("program.proved", str(proved)), new.replace("program.proved", str(proved)))
                                            for path, old, new in fault.changes)) for fault in faults]
-    return Case("test-program", ["test-program.py", "counts.py"], tree, ["tools/test-program.py", "./program"], faults)
+    return Case("test-program", ["test-program.py", "parts.py"], tree, ["tools/test-program.py", "./program"], faults)
 
 
 def cases():

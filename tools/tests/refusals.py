@@ -194,7 +194,7 @@ def cases():
         after_a_run("a refusal of another body", "NOT REFUSED", f"sed -i 's/^new:     x$/new:     x + 1 + 0/' {EDITS}"),
         after_a_run("a refusal of an edit that is no longer applied", "NOT REFUSED", "sed -i 's/path.write_text(text.replace(old, new))/pass/' tools/edits.py"),
     )
-    tools = ["kept.py", "edit_checks.py", "assumed.py", "counts.py", "edits.py", "functions.py", "contracts.py", "kit.py", "parts.py"]
+    tools = ["kept.py", "edit_checks.py", "assumed.py", "edits.py", "functions.py", "contracts.py", "kit.py", "parts.py"]
     return [Case("gate-edits", ["gate-edits.py", *tools], TREE, ["./try"], faults),
             Case("try-edits", ["try-edits.py", *tools], BESIDE_GATE, ["./try", "prover"], by_hand()),
             Case("try-edits by tests", ["try-edits.py", *tools], BESIDE_GATE, ["./try", "tests"], by_tests())]
