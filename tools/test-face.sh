@@ -8,8 +8,8 @@
 #     tools/test-face.sh --built PART..       some parts alone, which may run beside each other once build has ended:
 #                                             page build c watched heap netbsd rust rust-watched
 #
-# LIMITS names the folder of an archive with other limits, as in packaging/places.mk: `LIMITS=wide tools/test-face.sh --built` runs all parts over it, except
-# page and bench. tools/test-wide.sh does.
+# LIMITS names the folder of an archive with other limits, as in packaging/places.mk: after `tools/build-archive.sh --wide`,
+# `LIMITS=wide tools/test-face.sh --built` runs all parts over it, except page and bench. It isn't part of the gate.
 set -uo pipefail
 cd "$(dirname "$0")/.."
 limits=${LIMITS-}
