@@ -1,8 +1,6 @@
 # The bench, which is installed beside the libraries of packaging/install.mk: libkupaldiz_bench has the calls of the pages' names, too, so a program is linked
 # with it or with libkupaldiz_netbsd. It is for x86_64 alone: a switch from stack to stack is made of that processor's instructions.
 
-include explorer/parts.mk
-
 BENCH_SONAME = libkupaldiz_bench$(BUILD).so.$(ABI)
 BENCH_SHARED = libkupaldiz_bench$(BUILD).so.$(VERSION)
 BENCH_FOLDER = $(OUT)/installed-bench
@@ -12,7 +10,7 @@ BENCH_OWN = $(wildcard explorer/src/*.c)
 BENCH_OBJECTS = $(BENCH_OWN:explorer/src/%.c=$(BENCH_FOLDER)/bench-%.o) $(BENCH_LAYER:netbsd/src/%.c=$(BENCH_FOLDER)/layer-%.o)
 BENCH_COMPILED = $(CPPFLAGS) $(filter-out -flto%,$(CFLAGS)) $(BENCH_STRICT) -fPIC -Iexplorer -Inetbsd/include -Inetbsd/src -I$(HEADER)
 BENCH_LINKED = $(filter-out $(LINKED_$(PROCESSOR)),$(LINKED))
-BENCH_MADE_BY = packaging/places.mk packaging/install.mk explorer/parts.mk explorer/install.mk
+BENCH_MADE_BY = packaging/places.mk packaging/install.mk explorer/install.mk
 
 ifeq ($(PROCESSOR),x86_64)
 library: $(OUT)/libkupaldiz_bench.a $(OUT)/$(BENCH_SHARED)
