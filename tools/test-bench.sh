@@ -42,11 +42,11 @@ prints_what_was_tried() {
 
 # The tables of the README say what was printed.
 drivers_as_told() {
-    "$out/plain/drivers" | "$folder/tests/table.py" drivers
+    "$out/plain/drivers" | "$folder/tests/told.py" drivers
 }
 
 faults_as_told() {
-    make -s -C "$folder" faults | tee "$room/faults" | "$folder/tests/table.py" faults
+    make -s -C "$folder" faults | tee "$room/faults" | "$folder/tests/told.py" faults
     tail -n 60 "$room/faults"
 }
 
@@ -110,7 +110,7 @@ watched() {
 }
 
 check "bench.h alone, in four C standards" header_alone
-counted "each call has a point, or a reason for none" $folder/tests/points.py
+counted "each call has a point, or a reason for none" $folder/tests/told.py points
 for way in plain sanitized; do
     check "the bench and its tests are built, no warning: $way" make -s -C $folder $way
     check "counts, $way" "$out/$way/counts"

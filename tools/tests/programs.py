@@ -1,5 +1,5 @@
 """Faults of programs, and those that the checkers beside the layer and the bench are to find: tools/conformance.py, tools/test-program.py,
-tools/before-gate.py, lines.py and names.py of netbsd/tests, points.py and table.py of explorer/tests."""
+tools/before-gate.py, lines.py and names.py of netbsd/tests, told.py of explorer/tests."""
 import subprocess
 import sys
 
@@ -132,7 +132,7 @@ def names():
     return Case("names", [], tree, [NAMES, "gcc"], faults)
 
 
-POINTS = "explorer/tests/points.py"
+TOLD_BY = "explorer/tests/told.py"
 SHOWN = "netbsd/netbsd.map"
 CALLS = "explorer/src/calls.c"
 
@@ -142,13 +142,12 @@ def points():
     faults = (
         Fault("a call without a point", "another has no point, and no reason is told", ((SHOWN, "\t\tkupaldiz_at;\n", "\t\tkupaldiz_at;\n\t\tkupaldiz_another;\n"),)),
         Fault("a point that is gone", "cv_wait has no point", ((CALLS, "LAYER(void, cv_wait, ", "OTHER(void, cv_wait, "),)),
-        Fault("a reason for what has a point", "cv_wait has a point, or is no call", ((POINTS, without, f"{without} cv_wait"),)),
-        Fault("a reason for what is no call", "gone has a point, or is no call", ((POINTS, without, f"{without} gone"),)),
+        Fault("a reason for what has a point", "cv_wait has a point, or is no call", ((TOLD_BY, without, f"{without} cv_wait"),)),
+        Fault("a reason for what is no call", "gone has a point, or is no call", ((TOLD_BY, without, f"{without} gone"),)),
     )
-    return Case("points", [], real(POINTS, SHOWN, "explorer/src/*.c"), [POINTS], faults)
+    return Case("points", [], real(TOLD_BY, SHOWN, "explorer/src/*.c"), [TOLD_BY, "points"], faults)
 
 
-TABLE = "explorer/tests/table.py"
 TABLES = "explorer/README.md"
 TOLD = """# The bench
 
@@ -169,7 +168,7 @@ FOUND = "found  bridge  a perform forgotten   run     34, switches 2, preemption
 
 def table(kind, printed, faults):
     """The table of the README beside what was printed."""
-    tree = {**real(TABLE), TABLES: TOLD, "printed": printed, "compare": f"#!/bin/sh\nexec {TABLE} {kind} <printed\n"}
+    tree = {**real(TOLD_BY), TABLES: TOLD, "printed": printed, "compare": f"#!/bin/sh\nexec {TOLD_BY} {kind} <printed\n"}
     return Case(f"table of {kind}", [], tree, ["./compare"], faults)
 
 
