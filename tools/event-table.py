@@ -17,7 +17,7 @@ sys.dont_write_bytecode = True
 from contracts import contract
 from parts import ended
 from edits import BY_HAND, GATE, ROOT, changes, chosen, file_of
-from functions import functions_of
+from contracts import functions_of
 
 PAGE = ROOT / "docs/EVENTS.md"
 BEGIN, END = "<!-- tools/event-table.py make -->\n\n", "\n<!-- end -->\n"

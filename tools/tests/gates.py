@@ -88,7 +88,7 @@ BESIDE = {
     "bin/rt": '#!/bin/sh\necho "$PWD/kit/START-HERE.md"\n',
     # It proves over the library beside it, and writes what -o names.
     "kit/bin/rattle": '#!/bin/sh\n[ "$(cat src/lib.rt ../low.rlib/format)" = "face\nlow" ] || exit 7\nfor made; do :; done\necho proved >"$made"\n',
-    "tools/gate-edits.py": '#!/bin/sh\necho "$*, on $(nproc)" >out/tried\n',
+    "tools/try-edits.py": '#!/bin/sh\nshift\necho "$*, on $(nproc)" >out/tried\n',
     "tools/build-archive.sh": '#!/bin/sh\n[ $# = 2 ] && [ -f "$2" ] && cp "$1" out/libregistry.a\n',
     # The archive is what was proved, or there is none: else nothing else is said, and the fault goes untold.
     "beside": """#!/bin/sh

@@ -1,4 +1,4 @@
-"""Faults of wrong bodies: of those that the prover or a test must refuse, tools/gate-edits.py and tools/try-edits.py, over a kit of ours; and what
+"""Faults of wrong bodies: of those that the prover or a test must refuse, tools/try-edits.py, over a kit of ours; and what
 tools/mutants.py makes of a small library, and says of those that its tests let through."""
 from .trees import Case, Fault
 
@@ -112,7 +112,7 @@ TREE = {
     "bin/rt": RT,
     "kit/KIT-ID": "kit\n",
     "kit/bin/rattle": RATTLE,
-    "try": f'#!/bin/sh\nexport XDG_CACHE_HOME=$PWD/kept PATH=$PWD/bin:$PATH LOW=$PWD/{LOW}\nexec tools/gate-edits.py "$@"\n',
+    "try": f'#!/bin/sh\nexport XDG_CACHE_HOME=$PWD/kept PATH=$PWD/bin:$PATH LOW=$PWD/{LOW}\nexec tools/try-edits.py gate "$@"\n',
 }
 
 HAND = "crates/one/edits/by-hand.edits"
@@ -132,7 +132,7 @@ old: //! One more.
 new: //! None.
 """,
     TESTED: "edit: twice\n# It doubles.\nfile: crates/one/src/lib.rt\nold:     x + 1\nnew:     x + x\n",
-    "try": TREE["try"].replace("gate-edits.py", "try-edits.py"),
+    "try": TREE["try"].replace("try-edits.py gate", "try-edits.py"),
 }
 
 
@@ -187,7 +187,7 @@ def by_prover():
         over_holes("a hole that isn't ours", "depends on a hole in `Rattle.one.proofs.other.Proof.other_spec`"),
         over_holes("a hole without a name", "depends on a hole in Rattle.one.proofs.most.Proof.most_spec"),
         Fault("a hole that is told of no file", "what its edits change isn't proved as it stands", (("kit/bin/rattle", "holes=1", "holes=2"),)),
-        Fault("a function that no edit changes, proved again", "what its edits change isn't proved as it stands", (("tools/assumed.py", '["loop {}"]', '["let most = 1;"]'),)),
+        Fault("a function that no edit changes, proved again", "what its edits change isn't proved as it stands", (("tools/edit_checks.py", '["loop {}"]', '["let most = 1;"]'),)),
         Fault("an edit without its name", "gate.edits: a block without its line edit: NAME", ((EDITS, "edit: same\n", ""),)),
         Fault("no edits", "0 passed, 1 failed", ((EDITS, "file:", None),)),
         after_a_run("a refusal over another library", "NOT REFUSED", f"echo strong >{LOW}"),
@@ -195,10 +195,10 @@ def by_prover():
         after_a_run("a refusal of another body", "NOT REFUSED", f"sed -i 's/^new:     x$/new:     x + 1 + 0/' {EDITS}"),
         after_a_run("a refusal of an edit that is no longer applied", "NOT REFUSED", "sed -i 's/path.write_text(text.replace(old, new))/pass/' tools/edits.py"),
     )
-    tools = ["kept.py", "edit_checks.py", "assumed.py", "edits.py", "functions.py", "contracts.py", "kit.py", "parts.py"]
-    return [Case("gate-edits", ["gate-edits.py", *tools], TREE, ["./try"], faults),
-            Case("try-edits", ["try-edits.py", *tools], BESIDE_GATE, ["./try", "prover"], by_hand()),
-            Case("try-edits by tests", ["try-edits.py", *tools], BESIDE_GATE, ["./try", "tests"], by_tests())]
+    tools = ["try-edits.py", "edit_checks.py", "edits.py", "contracts.py", "kit.py", "parts.py"]
+    return [Case("try-edits of the gate", tools, TREE, ["./try"], faults),
+            Case("try-edits", tools, BESIDE_GATE, ["./try", "prover"], by_hand()),
+            Case("try-edits by tests", tools, BESIDE_GATE, ["./try", "tests"], by_tests())]
 
 
 # A test of it sees that `most` answers the greater one, not that it may answer either where both are equal; and that `rest` ends at 0.

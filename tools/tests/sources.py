@@ -108,7 +108,7 @@ def event_table():
         Fault("an event that the machine doesn't make", "no method", (("crates/passive_core/src/machine/run.rt", "self.step_enter(c)", "enter(c)"),)),
         Fault("another word in the table", page, (("docs/EVENTS.md", "The CPU begins a section", "The CPU ends a section"),)),
     )
-    tools = ["event-table.py", "contracts.py", "parts.py", "edits.py", "functions.py"]
+    tools = ["event-table.py", "contracts.py", "parts.py", "edits.py"]
     return Case("event-table", tools, real(*TABLED), ["tools/event-table.py", "check"], faults)
 
 
