@@ -177,11 +177,9 @@ int registry_exit(volatile char *at) { char *block = malloc(8); int seen = at[0]
 """
 
 
-# A call that goes on in another function by a jump, which no relocation tells; and one that takes 116 bytes: its return address, 100, and malloc's.
+# A call that goes on in another function by a jump, which no relocation tells.
 JUMPS = r"""static __attribute__((used, noinline)) int wide(volatile char *at) { volatile char room[900]; for (int i = 0; i < 900; i++) room[i] = at[i]; return room[7]; }
 __asm__(".text\n.globl registry_jumps\n.type registry_jumps,@function\nregistry_jumps: jmp wide\n");
-int registry_enter"""
-MEASURED = r"""__asm__(".text\n.globl registry_measured\n.type registry_measured,@function\nregistry_measured: sub $100, %rsp\ncall malloc\nadd $100, %rsp\nret\n");
 int registry_enter"""
 
 

@@ -88,7 +88,6 @@ def check_imports():
     return Case("check-imports", ["check-imports.py", "parts.py"], IMPORTS, ["tools/check-imports.py"], faults)
 
 
-STEP = "crates/cpu_words/src/steps/sections.rt"
 EDITS = "crates/cpu_words/edits/gate.edits"
 KEEPING = "crates/protocol/proofs/keeps/Keeping.antt"
 TABLED = ("crates/protocol/src/event.rt", "crates/protocol/specs/Events.antt", KEEPING, "crates/passive_core/src/machine/run.rt", "docs/EVENTS.md",
