@@ -1,5 +1,7 @@
 # Reads lines 'NAME cpus C readers R slots S held H WHAT TIME ..', keeps the least time of each, and prints what changes cost, in
-# microseconds, by how many CPUs there are. The variable `processors` is how many threads can run at once.
+# microseconds, by how many CPUs there are. The variable `processors` is how many threads can run at once. Lines 'NAME cpus C readers R slots S clock N WHAT
+# NANOSECONDS ..' give a table of percentiles: of single lookups of the oldest entry, and of single replacements of the newest meanwhile. The clock's own time
+# is within each.
 
 $2 == "cpus" && $8 == "held" {
     name = $1
@@ -19,6 +21,13 @@ $2 == "cpus" && $8 == "held" {
     }
 }
 
+$8 == "clock" {
+    spread_readers = $5
+    spread_slots = $7
+    for (i = 8; i < NF; i += 2)
+        keep("spread" SUBSEP $1, $i, $(i + 1))
+}
+
 END {
     by_cpus("replace", "replacement of an entry: detach, destroy, attach")
     by_cpus("perform", "wait until all open sections have ended")
@@ -26,6 +35,8 @@ END {
     parts_by_cpus(1)
     print ""
     growth()
+    if (spread_slots > 0)
+        spread()
 }
 
 function keep(run, what, time) {
@@ -129,4 +140,21 @@ function growth_cpus(    key, at) {
             return at[2]
     }
     return 0
+}
+
+function spread(    columns, column_count, c, n) {
+    printf "\none lookup and one replacement, %d readers, list of %d (nanoseconds, with what the clock takes)\n", spread_readers, spread_slots
+    column_count = split("clock read_p50 read_p99 read_p999 replace_p50 replace_p99 replace_p999", columns, " ")
+    printf "%-16s", ""
+    for (c = 1; c <= column_count; c++)
+        printf " %12s", columns[c]
+    print ""
+    for (n = 1; n <= name_count; n++) {
+        if (!(("spread" SUBSEP names[n], "clock") in best))
+            continue
+        printf "%-16s", names[n]
+        for (c = 1; c <= column_count; c++)
+            printf " %12d", best["spread" SUBSEP names[n], columns[c]]
+        print ""
+    }
 }

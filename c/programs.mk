@@ -66,7 +66,7 @@ $(OUT)/allocs: LINK = $(WRAP)
 $(OUT)/speed: c/tests/speed.c c/src/waiting.c c/include/waiting.h $(BENCH)/common.c $(BENCH)/entries.c $(BENCH)/waiting.c $(BENCH)/common.h $(BENCH)/entries.h
 $(OUT)/speed: STRICT = -std=c11 -D_POSIX_C_SOURCE=200809L -I$(BENCH) -Wall -Wextra $(WERROR)
 
-$(PROGRAMS:%=$(OUT)/%): c/examples/client.h c/examples/expect.h c/examples/edges.h $(FACE) $(ARCHIVE) | $(OUT)
+$(PROGRAMS:%=$(OUT)/%): c/examples/client.h c/examples/expect.h $(FACE) $(ARCHIVE) | $(OUT)
 	$(CC) $(STRICT) $(CPPFLAGS) $(CFLAGS) $(INCLUDES) $(LDFLAGS) -o $@ $(filter %.c,$^) $(ARCHIVE) -pthread $(LINK)
 
 # The checking build: the test of what it tells, and programs that it says nothing of.
@@ -95,7 +95,7 @@ $(OUT)/sanitized-names: c/src/strings.c
 $(OUT)/sanitized-entries: c/src/composed.c
 $(OUT)/sanitized-names $(OUT)/sanitized-entries: LINK = -Wl,-z,muldefs
 
-$(SANITIZED:%=$(OUT)/sanitized-%): c/examples/client.h c/examples/expect.h c/examples/edges.h c/examples/basket.h c/include/waiting.h c/examples/workers.h $(FACE) $(ARCHIVE) | $(OUT)
+$(SANITIZED:%=$(OUT)/sanitized-%): c/examples/client.h c/examples/expect.h c/examples/basket.h c/include/waiting.h c/examples/workers.h $(FACE) $(ARCHIVE) | $(OUT)
 	$(CC) $(STRICT) -O1 -g -fsanitize=address,undefined -fno-sanitize-recover=all $(INCLUDES) -o $@ $(filter %.c,$^) $(ARCHIVE) -pthread $(LINK)
 
 # heap_stress for each of three checkers (valgrind takes the first), right and with either early free, which each of them has to catch.
@@ -112,10 +112,10 @@ stresses: $(STRESSES) $(RACED:%=$(OUT)/raced-%)
 
 $(OUT)/raced-reclaims: LINK = $(reclaims_LINK)
 
-$(RACED:%=$(OUT)/raced-%): $(OUT)/raced-%: c/tests/%.c c/src/waiting.c c/include/waiting.h c/examples/edges.h c/examples/client.h c/examples/expect.h $(FACE) $(ARCHIVE) | $(OUT)
+$(RACED:%=$(OUT)/raced-%): $(OUT)/raced-%: c/tests/%.c c/src/waiting.c c/include/waiting.h c/examples/client.h c/examples/expect.h $(FACE) $(ARCHIVE) | $(OUT)
 	$(CC) $(STRICT) -O1 -g -fsanitize=thread $(INCLUDES) $(LDFLAGS) -o $@ $(filter %.c,$^) $(ARCHIVE) -pthread $(LINK)
 
-$(STRESSES): c/tests/heap_stress.c c/examples/edges.h c/examples/client.h c/examples/expect.h $(FACE) $(ARCHIVE) | $(OUT)
+$(STRESSES): c/tests/heap_stress.c c/examples/client.h c/examples/expect.h $(FACE) $(ARCHIVE) | $(OUT)
 	$(CC) $(STRICT) -O1 -g $(checker_$(word 2,$(subst -, ,$@))) $(when_$(word 3,$(subst -, ,$@))) $(INCLUDES) $(LDFLAGS) -o $@ $< $(ARCHIVE) -pthread
 
 # Tests of one thread, of which each access to a registry's table is looked at: for aarch64 alone.

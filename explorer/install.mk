@@ -1,8 +1,8 @@
 # The bench, which is installed beside the libraries of packaging/install.mk: libkupaldiz_bench has the calls of the pages' names, too, so a program is linked
 # with it or with libkupaldiz_netbsd. It is for x86_64 alone: a switch from stack to stack is made of that processor's instructions.
 
-include explorer/parts.mk
-
+SAYS_kupaldiz-bench = the threads of a driver in every order, over the calls of kupaldiz-netbsd
+FLAGS_kupaldiz-bench = -DKUPALDIZ_BENCH -I$${includedir}/kupaldiz/netbsd
 BENCH_SONAME = libkupaldiz_bench$(BUILD).so.$(ABI)
 BENCH_SHARED = libkupaldiz_bench$(BUILD).so.$(VERSION)
 BENCH_FOLDER = $(OUT)/installed-bench
@@ -12,7 +12,7 @@ BENCH_OWN = $(wildcard explorer/src/*.c)
 BENCH_OBJECTS = $(BENCH_OWN:explorer/src/%.c=$(BENCH_FOLDER)/bench-%.o) $(BENCH_LAYER:netbsd/src/%.c=$(BENCH_FOLDER)/layer-%.o)
 BENCH_COMPILED = $(CPPFLAGS) $(filter-out -flto%,$(CFLAGS)) $(BENCH_STRICT) -fPIC -Iexplorer -Inetbsd/include -Inetbsd/src -I$(HEADER)
 BENCH_LINKED = $(filter-out $(LINKED_$(PROCESSOR)),$(LINKED))
-BENCH_MADE_BY = packaging/places.mk packaging/install.mk explorer/parts.mk explorer/install.mk
+BENCH_MADE_BY = packaging/places.mk packaging/install.mk explorer/install.mk
 
 ifeq ($(PROCESSOR),x86_64)
 library: $(OUT)/libkupaldiz_bench.a $(OUT)/$(BENCH_SHARED)
@@ -58,7 +58,7 @@ install_bench: library
 	ln -sf $(BENCH_SHARED) $(DESTDIR)$(LIBDIR)/$(BENCH_SONAME)
 	ln -sf $(BENCH_SONAME) $(DESTDIR)$(LIBDIR)/libkupaldiz_bench.so
 	$(INSTALL) -m 644 explorer/bench.h $(DESTDIR)$(INCLUDEDIR)/kupaldiz/bench.h
-	$(filled) explorer/kupaldiz-bench.pc.in >$(DESTDIR)$(PKGCONFIGDIR)/kupaldiz-bench.pc
+	$(call pc_of,kupaldiz-bench)
 	$(INSTALL) -m 644 man/kupaldiz_bench.7 $(DESTDIR)$(MANDIR)/man7/kupaldiz_bench.7
 
 # Before the folders are taken away, what is in them.

@@ -23,7 +23,7 @@ done
 for name in smallest packet row shared storm walk forwarder device_switch; do
     put "c/examples/$name.c" "$name.c"
 done
-for name in client expect edges basket workers; do
+for name in client expect basket workers; do
     put "c/examples/$name.h" "$name.h"
 done
 for path in netbsd/examples/*.[ch] netbsd/tests/{drivers.c,test.h,bodies.h}; do

@@ -131,8 +131,8 @@ install: library pages
 	ln -sf $(NETBSD_SONAME) $(DESTDIR)$(LIBDIR)/libkupaldiz_netbsd.so
 	for header in $(NETBSD_HEADERS); do $(INSTALL) -m 644 netbsd/include/$$header $(DESTDIR)$(INCLUDEDIR)/kupaldiz/netbsd/$$header; done
 	$(INSTALL) -m 644 $(HEADER)/registry_limits.h $(DESTDIR)$(INCLUDEDIR)/kupaldiz/netbsd/kupaldiz/registry_limits.h
-	$(filled) packaging/kupaldiz.pc.in >$(DESTDIR)$(PKGCONFIGDIR)/kupaldiz.pc
-	$(filled) netbsd/kupaldiz-netbsd.pc.in >$(DESTDIR)$(PKGCONFIGDIR)/kupaldiz-netbsd.pc
+	$(call pc_of,kupaldiz)
+	$(call pc_of,kupaldiz-netbsd)
 	$(filled) -e "s|@TO_INCLUDE@|$$(realpath -m --relative-to=$(CMAKEDIR) $(INCLUDEDIR))|" packaging/kupaldizConfig.cmake.in >$(DESTDIR)$(CMAKEDIR)/kupaldizConfig.cmake
 	$(filled) packaging/kupaldizConfigVersion.cmake.in >$(DESTDIR)$(CMAKEDIR)/kupaldizConfigVersion.cmake
 	$(foreach page,$(PAGES),$(call install_page,$(page),$(call named_by,$(page))))
@@ -145,6 +145,14 @@ in_sed = $(subst \,\\,$(1))
 filled = umask 022; sed -e 's|@LIBDIR@|$(call in_sed,$(LIBDIR))|' -e 's|@INCLUDEDIR@|$(call in_sed,$(INCLUDEDIR))|' \
     -e 's|^\([a-z]*dir\)=$(call in_sed,$(PREFIX))/|\1=$${prefix}/|' -e 's|@PREFIX@|$(call in_sed,$(PC_PREFIX))|' \
     -e 's|@VERSION@|$(VERSION)|' -e 's|@BUILD@|$(BUILD)|' -e 's|@ABI@|$(ABI)|' -e 's|@LICENCE@|$(LICENCE)|' $(if $(LICENCE),,-e '/^License: *$$/d')
+
+# The .pc file of a library: what it says, and the compiler's flags.
+SAYS_kupaldiz = Registry of network interfaces and device drivers over virtual CPUs
+FLAGS_kupaldiz = -I$${includedir}
+SAYS_kupaldiz-netbsd = pserialize(9), psref(9) and localcount(9) for threads, under their own names
+FLAGS_kupaldiz-netbsd = -I$${includedir}/kupaldiz/netbsd
+pc_of = $(filled) -e 's|@NAME@|$(1)|' -e 's|@SAYS@|$(SAYS_$(1))|' -e 's|@FLAGS@|$(FLAGS_$(1))|' -e 's|@LIBRARY@|$(subst -,_,$(1))|' \
+    $(if $(filter kupaldiz,$(1)),-e '/^Requires/d') packaging/kupaldiz.pc.in >$(DESTDIR)$(PKGCONFIGDIR)/$(1).pc
 
 # What an older version with the same soname has left: nothing asks for it by its whole number.
 install: without_older

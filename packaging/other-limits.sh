@@ -63,11 +63,29 @@ asked_for() {
     sed -nE 's/^#define REGISTRY_BUILT_FOR[[:blank:]]+//p' "$room/$1/registry_limits.h"
 }
 
-# built NAME WORDS..: the program, compiled with the headers of that name and linked with these words.
+program=$(cat <<'PROGRAM'
+#include "client.h"
+
+int main(void)
+{
+	const struct registry_settings settings = {1, 1, 1, 1, 1, 1};
+	struct registry_keeper keeper = {0};
+	struct registry_cpu cpu = {0};
+	registry_answer answer = registry_open(&settings, &keeper, &cpu, 1);
+	printf("%u: %s\n", (unsigned)answer, registry_strerror(answer));
+	if (answer == REGISTRY_DONE)
+		DONE(registry_close(&cpu, 1, &keeper));
+	EXPECT(registry_close_cpu(&cpu) == REGISTRY_EMPTY_HANDLE && registry_close_keeper(&keeper) == REGISTRY_EMPTY_HANDLE);
+	return 0;
+}
+PROGRAM
+)
+
+# built NAME WORDS..: the program, which opens a registry and says what that returns, compiled with the headers of that name and linked with these words.
 built() {
     local name=$1
     shift
-    $CC -std=c11 -D_POSIX_C_SOURCE=200809L ${RUN:+-static} -I"$room/$name" -o "$room/$name/program" -Ic/examples c/tests/other_limits.c "$@" -pthread
+    $CC -std=c11 -D_POSIX_C_SOURCE=200809L ${RUN:+-static} -I"$room/$name" -o "$room/$name/program" -Ic/examples -xc - -xnone "$@" -pthread <<<"$program"
 }
 
 # says NAME LINE: it links with the archive and says the line.

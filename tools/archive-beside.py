@@ -11,7 +11,7 @@ out/PROCESSOR with what the proof said, for tools/build-archive.sh --for PROCESS
 that of `rt ci` with a check more for each processor.
 
 Where there are four processors or more, `rt ci` gets all but one: each check takes longer beside more others, and its longest chain of checks leaves some
-of them idle. On the last one tools/gate-edits.py tries the edits of each crate that was proved, until `rt ci` ends. It keeps what is refused; nothing here
+of them idle. On the last one `tools/try-edits.py gate` tries the edits of each crate that was proved, until `rt ci` ends. It keeps what is refused; nothing here
 is said of it, and the gate tries the others afterwards.
 """
 import contextlib
@@ -29,9 +29,8 @@ import time
 
 sys.dont_write_bytecode = True
 
-from counts import ended
 from kit import below, kit, over_libraries
-from parts import GIGABYTE, LAST_LINE, ROOT, free_memory, guard, minutes, running, say, stop_running
+from parts import GIGABYTE, LAST_LINE, ROOT, ended, free_memory, guard, minutes, running, say, stop_running
 
 LIBRARY = "registry_c"
 OUT = ROOT / "out"
@@ -142,7 +141,7 @@ class Edits(threading.Thread):
 
     def start_on(self, crate):
         """Starts on a crate, unless it is over."""
-        words = ["nice", "-n", str(NICENESS), *on([self.processor]), "tools/gate-edits.py", crate]
+        words = ["nice", "-n", str(NICENESS), *on([self.processor]), "tools/try-edits.py", "gate", crate]
         with self.starting:
             if self.is_over:
                 return None

@@ -15,8 +15,8 @@ import tempfile
 
 sys.dont_write_bytecode = True
 
-from counts import ended
 from edits import KINDS, ROOT, TESTS, apply, edits_of, restore
+from parts import ended
 
 CRATES = sorted(it.name for it in (ROOT / "crates").iterdir() if it.is_dir())
 

@@ -45,7 +45,7 @@ case $# in
 *) refuse "behind its flags it takes nothing, or LIBRARY LOG" ;;
 esac
 cd "$(dirname "$0")/.."
-name=$(tools/chosen.py name "${chosen[@]}")
+name=$(tools/limits.py name "${chosen[@]}")
 if [ "$processor" != x86_64 ]; then
     out=out/$processor tools=$processor-linux-gnu-
 fi
@@ -89,7 +89,7 @@ compile() {
     done
 }
 
-tools/chosen.py file "${chosen[@]}" >"$room/limits.rt"
+tools/limits.py file "${chosen[@]}" >"$room/limits.rt"
 lay_headers
 [ -n "$library" ] || prove
 (cd "$room" && ar x "$library")

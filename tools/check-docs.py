@@ -1,21 +1,21 @@
 #!/usr/bin/env python3
 """Finds what the documents name and the tree doesn't have: links to files and headings, and names in backquotes. Also tables that a line cuts off, and
-turns of phrase that tools/phrases.py refuses.
+turns of phrase that readers stumble over (BANNED), and our private words on a page for users (PRIVATE).
 
     tools/check-docs.py            says what is wrong, and ends with 'N passed, M failed'
 
-For each document there is a check of its links and one of its names, and for a page that tools/phrases.py lists, a header or a manual page too, one of
+For each document there is a check of its links and one of its names, and for a page that USERS or EXPLAINING lists, a header or a manual page too, one of
 its phrases. A name counts if it is a word of some file that isn't a document, or of a path, or if FOREIGN lists it with its origin.
 """
 import pathlib
 import re
 import subprocess
 import sys
+from fnmatch import fnmatch
 
 sys.dont_write_bytecode = True
 
-from counts import ended
-from phrases import held_to, places
+from parts import ended
 
 ROOT = pathlib.Path(__file__).resolve().parent.parent
 
@@ -45,6 +45,36 @@ LABEL = re.compile(r"^\[([^\]]+)\]:\s*(\S+)", re.MULTILINE)
 HEADING = re.compile(r"^#+\s+(.*)$", re.MULTILINE)
 CUT_OFF = re.compile(r"^\|.*\n(?!\||\n)(.+)", re.MULTILINE)
 WORD = re.compile(r"[A-Za-z_][A-Za-z0-9_]*")
+
+# What is refused, and what to write.
+BANNED = (
+    (r"\bbut for\b", "except"),
+    (r"\bwants?\b(?! to\b)", "needs"),
+    (r"\banother than\b", "other than"),
+    (r"\bjust (?:where|when|the|this|that|as|one|its)\b", "exactly, or only"),
+    (r"\bwhatever (?!happens|it is\b)\w+", "any"),
+    (r"\bthe least (?:CPU|slot|id)\b", "the lowest-numbered"),
+    (r"\bgiven again\b", "reused"),
+    (r"\bstands? (?:in|at|there|beside|below|above|for|on|still|behind|under)\b", "is in, contains, or means"),
+    (r"\b(?:of|by|from|to|with|for) (?:which|whom)\b", "two sentences"),
+    (r"\blet through\b", "accepted, or missed"),
+    (r"\bin the place of\b", "instead of"),
+    (r"\b(?:is seen|sees?) to\b", "ensures"),
+    (r"\banswers? (?:done|that|it|as|by|what|how|why|of)\b", "returns"),
+    (r"\b(?:call|it|which|that|function|export) answers?\b", "returns"),
+    (r"\bmade up\b", "invented"),
+    (r"\breckon", "compute"),
+    (r"(?-i:\bOf) (?:the|an?|each|all|these|those|one|what|two|its|another) [^.;:]{3,60}?\b(?:is|are|has|have|says?|keeps?)\b", "turn the sentence round"),
+)
+PRIVATE = ((r"\b(?:seats?|ledgers?|deeds?|hears?|heard)\b", "no private word"),)
+
+# Pages for users, headers and manual pages among them: neither sort is accepted. Pages that explain the protocol: only private words are.
+USERS = ("README.md", "bench/README.md", "packaging/CHANGELOG.md", "packaging/INSTALL.md", "docs/C.md", "packaging/RELEASE.md", "c/include/*.h",
+         "man/*.7", "man/registry*.in", "netbsd/include/kupaldiz/*.h", "rust/README.md", "crates/registry_c/include/registry.h",
+         "docs/CHOOSING.md", "docs/SCRIPTS.md")
+EXPLAINING = ("docs/ARCHITECTURE.md", "docs/DRIVERS.md", "docs/GUARANTEES.md", "docs/NETBSD.md", "docs/RATTLE.md", "docs/TOUR.md")
+
+FORMS = {forms: [(re.compile(form, re.IGNORECASE), better) for form, better in forms] for forms in (BANNED, PRIVATE)}
 
 
 def tracked():
@@ -102,6 +132,28 @@ def unlinked(text):
     """The prose with code blanked and without the targets of links, line by line as it was."""
     without_code = FENCED.sub(lambda block: "\n" * block[0].count("\n"), text)
     return INLINE.sub(lambda link: link[0][: link[0].rindex("](")], without_code)
+
+
+def is_page(name, pattern):
+    """Whether the pattern names the page; its stars are for names, not for folders."""
+    return name.count("/") == pattern.count("/") and fnmatch(name, pattern)
+
+
+def held_to(name):
+    """The phrases that a page of that name may not have."""
+    if any(is_page(name, pattern) for pattern in USERS):
+        return BANNED + PRIVATE
+    return BANNED if name in EXPLAINING else ()
+
+
+def places(prose, phrases=BANNED):
+    """Each line of the prose that has one of the phrases: its number, the words, and what to write instead."""
+    forms = [form for forms in (BANNED, PRIVATE) if forms[0] in phrases for form in FORMS[forms]]
+    for number, line in enumerate(prose.split("\n"), 1):
+        for form, better in forms:
+            found = form.search(line)
+            if found:
+                yield number, found[0], better
 
 
 def awkward(name, text):

@@ -11,7 +11,7 @@ import sys
 
 sys.dont_write_bytecode = True
 
-from counts import ended
+from parts import ended
 
 CRATES = pathlib.Path(__file__).resolve().parent.parent / "crates"
 IMPORT = re.compile(r"^ *(?:pub |ghost )*use ([\w.]+)\.\{([^}]*)\};?$", re.M)

@@ -83,6 +83,15 @@ counted() {
     fi
 }
 
+# header_alone HEADER WORD..: C takes the header alone, without a warning, and so does C++ where it is there.
+header_alone() {
+    local text="#include <$1>"$'\nint one_thing;' words=(-Wall -Wextra -Wpedantic -Werror "${@:2}" -fsyntax-only) standard
+    for standard in c99 c11 c17 gnu17; do
+        gcc -std=$standard -D_POSIX_C_SOURCE=200809L "${words[@]}" -xc - <<<"$text" || return 1
+    done
+    ! command -v g++ >/dev/null || g++ -std=c++11 "${words[@]}" -xc++ - <<<"$text"
+}
+
 # Ends with the count. No check at all is a failure.
 finish() {
     [ "$((passed + failed))" -gt 0 ] || failed=1

@@ -20,7 +20,7 @@ import tempfile
 
 sys.dont_write_bytecode = True
 
-from counts import ended
+from parts import ended
 from other_registry import FAULTS, report_of
 
 ROOT = pathlib.Path(__file__).resolve().parent.parent

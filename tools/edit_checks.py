@@ -2,26 +2,29 @@
 
 A check of an edited crate is of the function whose body the edit changes, or of those that the edit names in a line `only: MODULE::FUNCTION ..`; or it is
 of the whole crate, as an edit of a definition needs. What it checks is checked once as it stands, and each edit begins with what that check kept. Functions
-that no edit is tried on are assumed to meet their contracts (assumed.py): they aren't proved once more, and a refusal doesn't rest on their proofs.
+that no edit is tried on are assumed to meet their contracts: they aren't proved once more, and a refusal doesn't rest on their proofs.
 
 Most of a check's time goes into reading what stands below, so edits of several bodies are tried in one check: each changes the body of one function alone,
 each of another one. A function is proved of its own body and of the contracts of what it calls, which stay, so the other edits don't matter to it. An edit
 is refused there if a goal of its own function is. One that isn't is tried once more, alone.
+
+Refusals are kept by the sum of all that decided them: a later run on this machine tries what has changed.
 """
 import collections
 import concurrent.futures
 import functools
+import hashlib
 import os
 import pathlib
 import re
 import shutil
 import subprocess
+import sys
 import tempfile
 
-from assumed import assume, assuming, path_of, types_of
+from contracts import body_begins, functions_of, module_of
 from edits import ROOT, apply, changes
-from functions import body_begins, functions_of, module_of
-from kit import kit, over_libraries
+from kit import below, built, kit, over_libraries
 from parts import GIGABYTE, free_memory, processors
 
 # How many edits one check tries.
@@ -35,6 +38,100 @@ UNPROVED = Try(False, "NOT TRIED: what this crate's edits change isn't proved as
 # In place of functions to check: all of the crate.
 WHOLE = ["the whole crate"]
 NO_FUNCTION = "it changes no function: name those to check in a line only: MODULE::FUNCTION"
+STORE = pathlib.Path(os.environ.get("XDG_CACHE_HOME", pathlib.Path.home() / ".cache")) / "kupaldiz" / "edits"
+# The tools that decide what a check reads and what its result means.
+TOOLS = ("contracts", "edit_checks", "edits", "kit")
+# A function is proved of its body and of the contracts of what it calls, whatever these do. So each other function of the copy gets a body that never
+# ends, which calls nothing, and in place of its proof a hole, which a check with --allow-holes takes as a proof. All lines stay where they are.
+PROOF = """use Rattle.{crate}.proofs.{path}.Statement.{{statement}}
+
+pub {name}_spec : {{M : Type 1}} → statement M
+{name}_spec = ?
+"""
+# What a check of some functions came to: its status, and what it printed. The status is 0 also where nothing but the holes keeps the functions from being
+# proved, and UNTOLD where a hole isn't taken as a proof, so that what the check says of other functions counts for nothing.
+Checked = collections.namedtuple("Checked", "returncode stdout")
+UNTOLD = 2
+# What it prints of each function that it checks, and of one that would be proved if the holes were; of each place with a fault or a hole; and at its end.
+STATE = re.compile(r"^fn .*?: (.*)$", re.MULTILINE)
+NO_HOLE, OVER_HOLES = "no holes", "depends on a hole in "
+AS_ANOTHER = re.compile(r"in the same \d+ declarations as `.*?`")
+PLACE = re.compile(r"^(?:\./)?([^\s:]+):\d+:\d+: (?!note: )", re.MULTILINE)
+FAULT = re.compile(r"^(?:\./)?([^\s:]+):\d+:\d+: error", re.MULTILINE)
+ENDED = re.compile(r"^only=\d+ holes=(\d+)\s*\Z", re.MULTILINE)
+DECLARED = re.compile(r"^(?:pub(?:\([^)]*\))? )?(?:struct|enum) (\w+)", re.MULTILINE)
+
+
+def types_of(source):
+    """The module of each type that a crate with these sources declares."""
+    return {name: module_of(path, source) for path in source.rglob("*.rt") for name in DECLARED.findall(path.read_text())}
+
+
+def path_of(function, source, types):
+    """Where the checker has a function: a method in the module of its type, wherever its `impl` stands, and a trait's in that of the `impl`."""
+    owner = function.name.rpartition("::")[0]
+    module = types.get(owner, module_of(function.path, source))
+    return [*filter(None, module.split("::")), *function.name.split("::")]
+
+
+def is_named(path, names):
+    """Whether one of the names is the function's, its end or what it is in."""
+    whole = f"::{'::'.join(path)}::"
+    return any(whole.endswith(f"::{it}::") or whole.startswith(f"::{it}::") for it in names)
+
+
+def may_be_assumed(function, types):
+    """Whether it is a function with a body of several lines, whose statement says no more than its head; no method of a trait."""
+    lines = function.path.read_text().split("\n")
+    head = " ".join(lines[function.first:body_begins(function) + 1])
+    before = lines[max(0, function.first - 3):function.first]
+    owner = function.name.rpartition("::")[0]
+    is_plain = "-> impl " not in head and "const fn" not in head and not any("#[cycle" in it for it in before)
+    return is_plain and (not owner or owner in types) and body_begins(function) + 1 < function.last
+
+
+def assume(crate, home, names):
+    """Leaves of the copy of the crate in the folder `home` what these functions are proved of; gives the proofs that are holes, by their files."""
+    source = home / "src"
+    types, holes = types_of(source), {}
+    for file in sorted(source.rglob("*.rt")):
+        lines = file.read_text().split("\n")
+        for function in functions_of(file):
+            path = path_of(function, source, types)
+            if is_named(path, names) or not may_be_assumed(function, types):
+                continue
+            first, last = body_begins(function) + 1, function.last
+            lines[first:last] = ["loop {}"] + [""] * (last - first - 1)
+            proof = home / "proofs" / "/".join(path)
+            for it in proof.glob("*.antt"):
+                it.unlink()
+            proof.mkdir(parents=True, exist_ok=True)
+            (proof / "Proof.antt").write_text(PROOF.format(crate=crate, path=".".join(path), name=path[-1]))
+            holes[str((proof / "Proof.antt").relative_to(home))] = f"Rattle.{crate}.proofs.{'.'.join(path)}.Proof.{path[-1]}_spec"
+        file.write_text("\n".join(lines))
+    return holes
+
+
+def stands(state, holes):
+    """Whether a function is proved, or would be if these holes were proofs."""
+    told, as_another = AS_ANOTHER.subn("", state)
+    names = set(re.findall(r"`(.*?)`", told))
+    return state == NO_HOLE or state.startswith(OVER_HOLES) and bool(names or as_another) and names <= set(holes.values())
+
+
+def is_proved(said, holes):
+    """Whether a check that said this would have proved all that it was asked for if these holes were proofs: it has no other hole, and found no fault."""
+    ended, places = ENDED.search(said), set(PLACE.findall(said))
+    return bool(ended) and int(ended[1]) == len(places) and places <= set(holes) and all(stands(it, holes) for it in STATE.findall(said))
+
+
+def assuming(ran, holes):
+    """What a check came to that was given these holes."""
+    if not holes or ran.returncode != 1:
+        return Checked(ran.returncode, ran.stdout)
+    if set(FAULT.findall(ran.stdout)) & set(holes):
+        return Checked(UNTOLD, ran.stdout)
+    return Checked(0 if is_proved(ran.stdout, holes) else 1, ran.stdout)
 
 
 def line_of(path, text):
@@ -252,3 +349,50 @@ def tried(edits, whole=False):
                         yield from it.result()
         finally:
             pool.shutdown(wait=False, cancel_futures=True)
+
+
+@functools.cache
+def sum_of(crate):
+    """The sum of what a check of the crate reads: the kit, how edits are tried, the crate, and the libraries below it."""
+    total = hashlib.sha256((kit() / "KIT-ID").read_bytes())
+    for tool in TOOLS:
+        total.update((ROOT / "tools" / f"{tool}.py").read_bytes())
+    for path in [ROOT / "crates.txt", *sources(crate)]:
+        total.update(str(path.relative_to(ROOT)).encode() + path.read_bytes())
+    for name in below(crate):
+        total.update((built(name) / "format").read_bytes())
+    return total.hexdigest()
+
+
+def place_of(edit):
+    """Where the edit's refusal is kept."""
+    return STORE / hashlib.sha256(f"{sum_of(edit.crate)}{edit.body}".encode()).hexdigest()
+
+
+def keep(edit, result):
+    """Keeps a refusal for later runs."""
+    if result.is_refused:
+        STORE.mkdir(parents=True, exist_ok=True)
+        with tempfile.NamedTemporaryFile("w", dir=STORE, delete=False) as new:
+            new.write(result.said)
+        os.replace(new.name, place_of(edit))
+
+
+def results(wanted, anew, whole=False):
+    """Each edit with its result: first those of earlier runs. With `whole`, one that no check of its functions refuses is tried on the whole crate."""
+    for crate in {it.crate for it in wanted}:
+        unbuilt = [it for it in below(crate) if not (built(it) / "format").is_file()]
+        if unbuilt:
+            sys.exit(f"{crate} uses {unbuilt[0]}, which isn't built: run rt ci first")
+    kept = [it for it in wanted if not anew and place_of(it).is_file()]
+    yield from ((it, Try(True, f"{place_of(it).read_text()} (kept)")) for it in kept)
+    left = []
+    for edit, result in tried([it for it in wanted if it not in kept]):
+        if whole and not result.is_refused:
+            left.append(edit)
+        else:
+            keep(edit, result)
+            yield edit, result
+    for edit, result in tried(left, whole=True) if left else ():
+        keep(edit, result)
+        yield edit, result

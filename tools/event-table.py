@@ -15,9 +15,9 @@ import sys
 sys.dont_write_bytecode = True
 
 from contracts import contract
-from counts import ended
+from parts import ended
 from edits import BY_HAND, GATE, ROOT, changes, chosen, file_of
-from functions import functions_of
+from contracts import functions_of
 
 PAGE = ROOT / "docs/EVENTS.md"
 BEGIN, END = "<!-- tools/event-table.py make -->\n\n", "\n<!-- end -->\n"

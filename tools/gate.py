@@ -18,7 +18,7 @@ sys.exit(gate(
     # What needs no proof.
     [
         Part("documents", "tools/check-docs.py"),
-        Part("limits", "tools/check-limits.py"),
+        Part("limits", "tools/limits-header.py check"),
         Part("imports", "tools/check-imports.py"),
         Part("table of the events", "tools/event-table.py check"),
         Part("pages of the headers", "tools/header-pages.py check"),
@@ -26,7 +26,7 @@ sys.exit(gate(
     # Every proof of the crates, except what an earlier run on this machine proved of the same files, and every test.
     [Part("rt ci, and the archive", "tools/archive-beside.py rt ci")],
     # Wrong bodies, over the libraries that were proved.
-    [Part("edits", "tools/gate-edits.py")],
+    [Part("edits", "tools/try-edits.py gate")],
     # What stands outside of Rattle, over the program and the archive that were proved.
     [Part("clients are built", f"{FACE} build")],
     [

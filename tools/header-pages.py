@@ -24,7 +24,7 @@ from typing import NamedTuple
 
 sys.dont_write_bytecode = True
 
-from counts import ended
+from parts import ended
 
 ROOT = pathlib.Path(__file__).resolve().parent.parent
 PAGES = {"registry": "crates/registry_c/include/registry.h", "registry_waiting": "c/include/waiting.h"}

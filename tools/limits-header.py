@@ -1,15 +1,19 @@
 #!/usr/bin/env python3
-"""Prints registry_limits.h, the header for C with the limits of a build.
+"""Makes registry_limits.h, the header for C with the limits of a build, and compares the limits with each place outside of Rattle that says them again.
 
     tools/limits-header.py [LIMITS.rt] >registry_limits.h      without a file: those of crates/registry_values/src/limits.rt
+    tools/limits-header.py check                               says where another number stands, in the headers and elsewhere, and whether the limits
+                                                               are the default's: 'N passed, M failed', one check for each place
 
 Where the file lacks a limit, one line says which, the status is 2, and nothing is printed.
 """
+import re
 import sys
 
 sys.dont_write_bytecode = True
 
-from limits import DEFAULTS, limits, version
+from limits import DEFAULTS, LIMITS, RANGES, ROOT, limits, number, version
+from parts import ended
 
 HEAD = """\
 /*
@@ -50,6 +54,16 @@ TAIL = """
 #endif
 """
 
+# Where the header is: beside registry.h, and again in a crate that is used alone and beside the layer's headers. `rt ci` takes no links.
+PLACED = ("crates/registry_c/include/registry_limits.h", "rust/registry_limits.h", "netbsd/include/kupaldiz/registry_limits.h")
+
+# Which constant a place has, and how it says it.
+PLACES = (
+    ("MOST_CPUS", "bench/common.h", r"MOST_THREADS = (\d+)"),
+    ("MOST_SLOTS", "bench/common.h", r"MOST_ENTRIES = (\d+)"),
+    ("MOST_SLOTS", "bench/peers/src/list.rs", r"const MOST_ENTRIES: usize = (\d+);"),
+)
+
 
 def in_c(name, value):
     """The number as C has it: a power of 2 as a shift."""
@@ -67,22 +81,46 @@ def header(of):
     return HEAD + "".join(lines) + TAIL.format(build=build, version=version(), **of)
 
 
+def said(path, pattern):
+    """The number that the file says, or none."""
+    found = re.search(pattern, (ROOT / path).read_text())
+    return found and number(found[1])
+
+
+def faults():
+    """For each comparison what is wrong, or ''."""
+    of = limits()
+    made = None if None in of.values() else header(of)
+    for path in PLACED:
+        yield "" if (ROOT / path).read_text() == made else f"{path} isn't what tools/limits-header.py makes of {LIMITS}: tools/limits-header.py >{path}"
+    for name, path, pattern in PLACES:
+        found = said(path, pattern)
+        yield "" if of[name] is not None and found == of[name] else f"{path}: {name} is {found} there, and {of[name]} in {LIMITS}"
+    for name, wanted in {**DEFAULTS, **RANGES}.items():
+        yield "" if of[name] == wanted else f"{LIMITS}: {name} is {of[name]}, and {wanted} in the default build"
+
+
+def check():
+    found = list(faults())
+    wrong = list(filter(None, found))
+    for fault in wrong:
+        print(fault)
+    return ended(len(found) - len(wrong), len(wrong))
+
+
 def main(words):
     if len(words) > 1:
-        print("usage: limits-header.py [LIMITS.rt]", file=sys.stderr)
+        print("usage: limits-header.py [LIMITS.rt | check]", file=sys.stderr)
         return 2
     try:
+        if words == ["check"]:
+            return check()
         of = limits(*words)
-    except (OSError, UnicodeDecodeError) as fault:
-        print(f"limits-header: {fault}", file=sys.stderr)
-        return 2
-    lacking = [name for name in DEFAULTS if of[name] is None]
-    if lacking:
-        print(f"limits-header: the file says no {lacking[0]}", file=sys.stderr)
-        return 2
-    try:
+        lacking = [name for name in DEFAULTS if of[name] is None]
+        if lacking:
+            raise ValueError(f"the file says no {lacking[0]}")
         print(header(of), end="")
-    except ValueError as fault:
+    except (OSError, ValueError) as fault:
         print(f"limits-header: {fault}", file=sys.stderr)
         return 2
     return 0

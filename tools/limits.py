@@ -1,9 +1,24 @@
-"""The limits of a build, as the proved code says them, and the version: for the tools that write them again or compare them."""
+#!/usr/bin/env python3
+"""The limits of a build, as the proved code says them, and the version: for the tools that write them again or compare them. As a command it says what
+limits a build is to have: what `tools/build-archive.sh --wide`, or with --cpus and its like, is proved and built from.
+
+    tools/limits.py name WORD..    prints what the build is called: `wide`, or each limit that isn't the default's, as cpus-16-slots-64; an empty
+                                   line where there is none
+    tools/limits.py file WORD..    prints crates/registry_values/src/limits.rt with these limits
+
+WORD.. is --wide, or --cpus or --slots or both, each with a number in digits or as 2^5. A limit that isn't given is that of the file. From where to where
+it may go is read from `LimitsLeaveRoom`, which each build proves. Words that aren't right end in one line and status 2.
+"""
 import pathlib
 import re
+import sys
+
+sys.dont_write_bytecode = True
 
 ROOT = pathlib.Path(__file__).resolve().parent.parent
 LIMITS = "crates/registry_values/src/limits.rt"
+# Where each limit may be chosen from and to.
+ROOM = "crates/registry_values/specs/Limits.antt"
 # The header that has the version.
 HEADER = "crates/registry_c/include/registry.h"
 
@@ -11,6 +26,9 @@ HEADER = "crates/registry_c/include/registry.h"
 DEFAULTS = {"MOST_CPUS": 8, "MOST_SLOTS": 32, "MOST_CHANGES": 1 << 40, "MOST_SECTIONS": 1 << 62, "MOST_COUNT": 1 << 40, "MOST_DEPTH": 255}
 # Each build has these ranges for Rattle programs and scripts.
 RANGES = {"USUAL_CPUS": 8, "USUAL_SLOTS": 32, "USUAL_CHANGES": 1_000_000, "USUAL_SECTIONS": 1 << 40, "USUAL_COUNT": 1 << 40}
+# The limits that a build may choose, by their words.
+CHOSEN = {"cpus": "MOST_CPUS", "slots": "MOST_SLOTS"}
+WIDE = {"MOST_CPUS": 64, "MOST_SLOTS": 128}
 
 
 def number(word):
@@ -39,3 +57,87 @@ def version():
         raise ValueError(f"{HEADER} says no version")
     major, minor = (found[1] for found in numbers)
     return f"{major}_{minor}" if major == "0" else major
+
+
+class Fault(Exception):
+    pass
+
+
+def given(text):
+    """The number that is written in digits, or as 2^40; none where it is written otherwise or is beyond any limit."""
+    found = re.fullmatch(r"(\d{1,20})(?: ?\^ ?(\d{1,2}))?", text, re.ASCII)
+    return found and int(found[1]) ** int(found[2] or 1)
+
+
+def within(word, text):
+    """The number of that limit, if it is in its range."""
+    constant = CHOSEN[word]
+    found = re.search(rf"\((\w+) ≤ {constant}\) × \({constant} ≤ (.*)\)", (ROOT / ROOM).read_text())
+    if not found:
+        raise Fault(f"{ROOM} says no range of {constant}")
+    least, most = limits()[found[1]], given(found[2])
+    it = given(text)
+    if it is None or not least <= it <= most:
+        raise Fault(f"--{word} may be {least} to {most}, in digits or as 2^5; it is {text}")
+    return it
+
+
+def wanted(words):
+    """The limits that the words name, by their constants."""
+    if words == ["--wide"]:
+        return WIDE
+    found = {}
+    for flag, text in zip(words[::2], [*words[1::2], None]):
+        word = flag.removeprefix("--")
+        if not flag.startswith("--") or word not in CHOSEN:
+            raise Fault(f"{flag} is no limit: it is --wide alone, or --{', --'.join(CHOSEN)}")
+        if text is None:
+            raise Fault(f"--{word} has no number")
+        if CHOSEN[word] in found:
+            raise Fault(f"--{word} is given twice")
+        found[CHOSEN[word]] = within(word, text)
+    return found
+
+
+def said(path=ROOT / LIMITS):
+    """The limits that a file of limits has, of those that a build may choose."""
+    return {it: found for it, found in limits(path).items() if it in WIDE}
+
+
+def words_of(of):
+    """The words that ask for these limits."""
+    return [word for flag, it in CHOSEN.items() for word in (f"--{flag}", str(of[it]))]
+
+
+def name(of):
+    """What a build with these limits is called, a folder's name."""
+    has = said()
+    if {**has, **of} == WIDE:
+        return "wide"
+    return "-".join(f"{word}-{of[it]}" for word, it in CHOSEN.items() if of.get(it, has[it]) != has[it])
+
+
+def file(of):
+    """The text of the file of limits with these: those that it has stay as they are written."""
+    text, has = (ROOT / LIMITS).read_text(), said()
+    for constant, it in of.items():
+        if has[constant] is None:
+            raise Fault(f"{LIMITS} says no {constant}")
+        if it != has[constant]:
+            text = re.sub(rf"^(pub const {constant}: \w+ = ).*;", rf"\g<1>{it};", text, flags=re.M)
+    return text
+
+
+def main(words):
+    uses = {"name": lambda of: f"{name(of)}\n", "file": file}
+    if not words or words[0] not in uses:
+        raise Fault("it takes name WORD.. or file WORD..")
+    print(uses[words[0]](wanted(words[1:])), end="")
+
+
+if __name__ == "__main__":
+    try:
+        main(sys.argv[1:])
+    except (Fault, OSError) as fault:
+        print(f"limits: {fault}", file=sys.stderr)
+        sys.exit(2)

@@ -15,7 +15,7 @@ import sys
 
 sys.dont_write_bytecode = True
 
-from counts import ended
+from parts import ended
 
 ROOT = pathlib.Path(__file__).resolve().parent.parent
 

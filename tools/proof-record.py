@@ -17,7 +17,7 @@ import tempfile
 
 sys.dont_write_bytecode = True
 
-import chosen
+import limits as chosen
 from kit import ROOT, below
 
 LIBRARY = "registry_c"

@@ -22,7 +22,7 @@ import tempfile
 
 sys.dont_write_bytecode = True
 
-from counts import ended
+from parts import ended
 
 ROOT = pathlib.Path(__file__).resolve().parent.parent
 ENGINES = ("core", "live")

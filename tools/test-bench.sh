@@ -42,28 +42,17 @@ prints_what_was_tried() {
 
 # The table of the README and that of tests/faults.txt say what was printed.
 drivers_as_told() {
-    "$out/plain/drivers" | "$folder/tests/table.py" drivers
+    "$out/plain/drivers" | "$folder/tests/told.py" drivers
 }
 
 faults_as_told() {
-    make -s -C "$folder" faults | tee "$room/faults" | "$folder/tests/table.py" faults
+    make -s -C "$folder" faults | tee "$room/faults" | "$folder/tests/told.py" faults
     tail -n 60 "$room/faults"
 }
 
 # At least so many switches a second, by the bench's own count.
 is_fast() {
     "$out/plain/speed" 100000
-}
-
-# The header alone, without a warning, in C and, where it is there, in C++.
-header_alone() {
-    local standard words=(-Wall -Wextra -Wpedantic -Werror -DKUPALDIZ_BENCH -Inetbsd/include -Iexplorer -fsyntax-only)
-    for standard in c99 c11 c17 gnu17; do
-        printf '#include <bench.h>\nint one_thing;\n' | gcc -std="$standard" -D_POSIX_C_SOURCE=200809L "${words[@]}" -xc - || return 1
-    done
-    if command -v g++ >/dev/null; then
-        printf '#include <bench.h>\nint one_thing;\n' | g++ -std=c++11 "${words[@]}" -xc++ -
-    fi
 }
 
 # The bench by clang, with what it compiles of the layer, and two of its small programs.
@@ -101,16 +90,12 @@ refuses_linked_sanitizer() {
     [ $? -eq 2 ] && grep -F "the program is linked with -fsanitize=thread" <<<"$said"
 }
 
-lints() {
-    [ -z "$(mandoc -T lint man/kupaldiz_bench.7 2>&1 | tee /dev/stderr)" ]
-}
-
 watched() {
     limited valgrind -q --error-exitcode=99 --trace-children=yes "$@"
 }
 
-check "bench.h alone, in four C standards" header_alone
-counted "each call has a point, or a reason for none" $folder/tests/points.py
+check "bench.h alone, in four C standards" header_alone bench.h -DKUPALDIZ_BENCH -Inetbsd/include -Iexplorer
+counted "each call has a point, or a reason for none" $folder/tests/told.py points
 for way in plain sanitized; do
     check "the bench and its tests are built, no warning: $way" make -s -C $folder $way
     check "counts, $way" "$out/$way/counts"
@@ -144,8 +129,5 @@ check "100,000 switches a second" is_fast
 if command -v valgrind >/dev/null; then
     check "counts, under valgrind" watched "$out/plain/counts"
     check "a driver, under valgrind" watched "$out/plain/drivers" bridge
-fi
-if command -v mandoc >/dev/null; then
-    check "mandoc finds no fault in the page" lints
 fi
 finish

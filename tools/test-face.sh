@@ -8,8 +8,8 @@
 #     tools/test-face.sh --built PART..       some parts alone, which may run beside each other once build has ended:
 #                                             page build c watched heap netbsd rust rust-watched
 #
-# LIMITS names the folder of an archive with other limits, as in packaging/places.mk: `LIMITS=wide tools/test-face.sh --built` runs all parts over it, except
-# page and bench. tools/test-wide.sh does.
+# LIMITS names the folder of an archive with other limits, as in packaging/places.mk: after `tools/build-archive.sh --wide`,
+# `LIMITS=wide tools/test-face.sh --built` runs all parts over it, except page and bench. It isn't part of the gate.
 set -uo pipefail
 cd "$(dirname "$0")/.."
 limits=${LIMITS-}
@@ -74,7 +74,7 @@ stack_within() {
 }
 
 # C takes the header alone, without a warning, and so does C++ where it is there.
-header_alone() {
+face_alone() {
     local standard
     for standard in c99 c11 c17 gnu17; do
         text_compiles gcc c "-std=$standard" || return 1
@@ -174,7 +174,7 @@ test_page() {
     check "the page names the header's calls" names "$header" "$page"
     check "the page of the waits names their calls" names c/include/waiting.h man/registry_waiting.3
     check "no line of the headers has more than 100 columns" header_is_narrow
-    check "the header alone, in four C standards" header_alone
+    check "the header alone, in four C standards" face_alone
     check "an answer that has to be looked at, and isn't, is warned of" warned unused-result '(void)entry; registry_enter(cpu);'
     check "a reference that isn't looked at is warned of" warned unused-result 'registry_acquire_entry(cpu, entry);'
     check "a handle that is NULL is warned of" warned nonnull '(void)cpu; (void)entry; registry_exit(NULL);'

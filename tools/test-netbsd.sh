@@ -15,18 +15,6 @@ make_layer() {
     make -s -C $folder LIMITS="${LIMITS-}" "$@"
 }
 
-# Each header alone, without a warning, in C and, where it is there, in C++.
-header_alone() {
-    local standard
-    for standard in c99 c11 c17 gnu17; do
-        printf '#include <%s>\nint one_thing;\n' "$1" |
-            gcc -std=$standard -D_POSIX_C_SOURCE=200809L -Wall -Wextra -Wpedantic -Werror -I$folder/include -fsyntax-only -xc - || return 1
-    done
-    if command -v g++ >/dev/null; then
-        printf '#include <%s>\nint one_thing;\n' "$1" | g++ -std=c++11 -Wall -Wextra -Wpedantic -Werror -I$folder/include -fsyntax-only -xc++ -
-    fi
-}
-
 # The cases of a program that counts them in its last line.
 count_cases() {
     limited "$2" >"$log" 2>&1
@@ -81,7 +69,7 @@ watched() {
 
 $folder/named.sh
 for header in $(cd $folder/include && ls kupaldiz/*.h sys/*.h net/*.h); do
-    check "$header alone, in four C standards" header_alone "$header"
+    check "$header alone, in four C standards" header_alone "$header" -I$folder/include
 done
 counted "each line of the layer is in a test" netbsd/tests/lines.py
 counted "each name that a driver may use, for the layer and for the bench" netbsd/tests/names.py gcc

@@ -16,7 +16,7 @@ import tempfile
 
 sys.dont_write_bytecode = True
 
-from counts import ended
+from parts import ended
 
 ROOT = pathlib.Path(__file__).resolve().parent.parent
 COMMAND = str(ROOT / "registry_run")

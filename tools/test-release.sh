@@ -54,27 +54,28 @@ root() {
         mv "$roots/$name.tar.new" "$roots/$name.tar" || { rm -f "$roots/$name.tar.new"; return 1; }
 }
 
-# inside NAME SCRIPT: a copy of that root, with the release in /release, in which the script is run: without a network, without anything else of this machine.
+# inside NAME: a copy of that root, with the release in /release, in which that part of tools/tests/release.sh is run: without a network, without anything else
+# of this machine.
 inside() {
-    local name=$1 script=$2 at=$room/$1
+    local name=$1 at=$room/$1
     rm -rf "$at"
-    mkdir -p "$at" && tar -C "$at" -xf "$roots/$name.tar" && mkdir -p "$at/release" && cp "$release"/* "$at/release" && cp "$script" "$at/try" || return
+    mkdir -p "$at" && tar -C "$at" -xf "$roots/$name.tar" && mkdir -p "$at/release" && cp "$release"/* "$at/release" && cp tools/tests/release.sh "$at/try" || return
     if [ -n "${rust-}" ]; then
         mkdir -p "$at/rust"
     fi
     # shellcheck disable=SC2016
     timeout 1500 unshare --net --mount --pid --fork sh -c '
         if [ -n "$3" ]; then mount --bind -o ro "$3" "$1/rust" || exit; fi
-        mount -t proc proc "$1/proc" && exec chroot "$1" env -i PATH=/usr/sbin:/usr/bin:/sbin:/bin LC_ALL=C.UTF-8 VERSION="$2" bash -eux -o pipefail /try' \
-        sh "$at" "$version" "${rust-}"
+        mount -t proc proc "$1/proc" && exec chroot "$1" env -i PATH=/usr/sbin:/usr/bin:/sbin:/bin LC_ALL=C.UTF-8 VERSION="$2" bash -eux -o pipefail /try "$4"' \
+        sh "$at" "$version" "${rust-}" "$name"
     local status=$?
     rm -rf --one-file-system "$at"
     return "$status"
 }
 
-# tries NAME PART: counts the script tools/tests/release/PART.sh in the root of that name as one check. Its lines `done: ..` say what it shows.
+# tries NAME PART: counts the part, in the root of that name, as one check. Its lines `done: ..` say what it shows.
 tries() {
-    inside "$2" "tools/tests/release/$2.sh" >"$log" 2>&1
+    inside "$2" >"$log" 2>&1
     judge "$1" $?
     sed -n 's/^done: /        /p' "$log"
 }

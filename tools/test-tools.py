@@ -15,11 +15,11 @@ from concurrent.futures import ThreadPoolExecutor
 
 sys.dont_write_bytecode = True
 
-from counts import ended
-from tests import checkers, documents, gates, libraries, mutation, pages, programs, refusals, releases, sources
+from parts import ended
+from tests import documents, gates, libraries, programs, refusals, releases, sources
 from tests.trees import WRITING, lay, said_by, spoil
 
-MODULES = (programs, documents, sources, gates, refusals, pages, libraries, releases, mutation, checkers)
+MODULES = (programs, documents, sources, gates, refusals, libraries, releases)
 COUNT = re.compile(r"^(\d+) passed, (\d+) failed\s*\Z", re.MULTILINE)
 
 

@@ -1,16 +1,24 @@
 #!/usr/bin/env python3
-"""Tries the wrong bodies of docs/EDITS.md, of which the merge gate tries some.
+"""Tries wrong bodies (docs/EDITS.md): the prover, or a test, must refuse each.
 
-    tools/try-edits.py prover [--anew] [CRATE | CRATE/EDIT]..    crates/CRATE/edits/by-hand.edits: the prover must refuse each
+    tools/try-edits.py gate   [--anew] [CRATE | CRATE/EDIT]..    crates/CRATE/edits/gate.edits:    the prover must refuse each; the gate tries them
+    tools/try-edits.py prover [--anew] [CRATE | CRATE/EDIT]..    crates/CRATE/edits/by-hand.edits: so it must each of these
     tools/try-edits.py tests           [CRATE | CRATE/EDIT]..    crates/CRATE/edits/tests.edits:   a test of CRATE must fail under each
+    tools/try-edits.py without         [CRATE]..                 lists the public functions of which no edit changes the body, nor that of a function
+                                                                 of their crate that they call
 
 Without names it tries all of the kind. It says of each edit whether it was refused and by what, and ends with 'N passed, M failed'.
 
-`prover` needs what `rt ci` builds. It first checks only the functions that an edit changes (tools/edit_checks.py), and the whole crate where that
-refused nothing. tools/kept.py keeps refusals, so a run that was cut off continues; --anew tries all. `tests` works on copies of the tree.
+`gate` and `prover` need the libraries that `rt ci` has just built in crates/*/out/rlib. tools/edit_checks.py says how an edit is tried: as many side by side
+as there are processors and memory. It keeps refusals, so a run that was cut off continues; --anew tries all. `prover` first checks only the functions that an
+edit changes, and the whole crate where that refused nothing. `tests` works on copies of the tree.
+
+`without`: a law has no body to change, and the method of a trait none either: it is listed, since its types' own methods are other functions. A call is
+known by its name alone, so a function may pass here for the edit of another with the name of one that it calls.
 """
 import contextlib
 import pathlib
+import re
 import shutil
 import subprocess
 import sys
@@ -19,12 +27,19 @@ from concurrent.futures import ThreadPoolExecutor
 
 sys.dont_write_bytecode = True
 
-from counts import ended
-from edits import BY_HAND, ROOT, TESTS, apply, chosen
-from kept import results
+from contracts import functions_of
+from edit_checks import results
+from edits import BY_HAND, GATE, ROOT, TESTS, apply, changes, chosen, edits_of
+from parts import ended
 
 # So many runs of tests are made side by side.
 TESTED_AT_ONCE = 2
+
+
+def by_gate(edits, anew):
+    """Each edit with whether a check of its functions refuses it, and what is said of it."""
+    for edit, result in results(edits, anew):
+        yield edit, result.is_refused, result.said
 
 
 def by_prover(edits, anew):
@@ -64,15 +79,58 @@ def by_tests(edits):
         yield from pool.map(by_test, edits)
 
 
+def places(edit):
+    """The file and the line of each text that the edit changes."""
+    for path, old, _ in changes(edit):
+        if path.is_file():
+            before, found, _ = path.read_text().partition(old)
+            if found:
+                yield path, before.count("\n")
+
+
+def covered(functions, changed):
+    """The functions that an edit changes, and those that call one of them."""
+    known = {it for it in functions if any(it.path == path and it.first <= line <= it.last for path, line in changed)}
+    while True:
+        names = {re.sub(r".*::", "", it.name) for it in known}
+        more = {it for it in functions if it not in known and names & set(re.findall(r"\b(\w+)(?:::<[^>]*>)?\(", it.text))}
+        if not more:
+            return known
+        known |= more
+
+
+def without(names):
+    """Lists the public functions of the crates without an edit."""
+    crates = names or sorted(path.name for path in (ROOT / "crates").iterdir() if path.is_dir())
+    by_tests = [place for edit in chosen(TESTS, []) for place in places(edit)]
+    for crate in crates:
+        folder = ROOT / "crates" / crate
+        functions = [it for path in folder.glob("src/**/*.rt") if "tests" not in path.relative_to(folder).parts for it in functions_of(path)]
+        changed = by_tests + [place for kind in (GATE, BY_HAND) for edit in edits_of(crate, kind) for place in places(edit)]
+        public = [it for it in functions if it.is_public]
+        missing = [it for it in public if it not in covered(functions, changed)]
+        print(f"{crate}: {len(missing)} of {len(public)} public functions")
+        for it in missing:
+            print(f"    {it.path.relative_to(folder)} {it.name}")
+
+
+def tries(kind, names, anew):
+    """Each edit of the kind with whether it was refused, and what is said of it."""
+    if kind == "tests":
+        return by_tests(chosen(TESTS, names))
+    return by_gate(list(chosen(GATE, names)), anew) if kind == "gate" else by_prover(list(chosen(BY_HAND, names)), anew)
+
+
 def main():
     kind, *words = sys.argv[1:] or [""]
-    anew = kind == "prover" and "--anew" in words
+    anew = kind in ("gate", "prover") and "--anew" in words
     names = [it for it in words if it != "--anew" or not anew]
-    if kind not in ("prover", "tests") or any(it.startswith("-") for it in names):
+    if kind not in ("gate", "prover", "tests", "without") or any(it.startswith("-") for it in names):
         sys.exit(__doc__)
-    tries = by_prover(list(chosen(BY_HAND, names)), anew) if kind == "prover" else by_tests(chosen(TESTS, names))
+    if kind == "without":
+        sys.exit(without(names))
     passed = failed = 0
-    for edit, refused, said in tries:
+    for edit, refused, said in tries(kind, names, anew):
         passed, failed = passed + refused, failed + (not refused)
         print(f"{edit}: {said}", flush=True)
     sys.exit(ended(passed, failed))

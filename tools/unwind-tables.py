@@ -6,7 +6,7 @@ the stack is at the next one, and a store of a register that a callee keeps says
 page of it; while it runs another register says where the frame will end. Code that moves the stack pointer otherwise, two paths that meet at different
 depths, or a return with something left on the stack is refused.
 
-It wants readelf, and objdump, objcopy, as and ld of the object's processor. tools/unwinding has what differs between x86-64 and aarch64."""
+It wants readelf, and objdump, objcopy, as and ld of the object's processor."""
 
 import re
 import subprocess
@@ -16,12 +16,194 @@ from pathlib import Path
 
 sys.dont_write_bytecode = True
 
-from unwinding import aarch64, x86_64
-
-# By what readelf calls the processor.
-MACHINES = {"Advanced Micro Devices X86-64": x86_64, "AArch64": aarch64}
 LINE = re.compile(r"^\s+([0-9a-f]+):\t(\S+)(?:\s+(.*))?$")
 OUT = "out"
+
+
+class X86:
+    """How code of x86-64 moves the stack pointer.
+
+    A depth is how far the stack pointer lies below the frame's address, which is its value before the call. A negative one is how far %r11 lies below it, while
+    a loop makes a frame.
+    """
+
+    TOOLS = ""
+    # What the assembler calls the type of the tables' section.
+    SECTION_TYPE = "@unwind"
+    # What begins a comment of objdump's.
+    COMMENT = "#"
+    # DWARF's numbers: of the registers that a callee keeps, of the stack pointer and of what says where a loop ends.
+    KEPT = {"%rbx": 3, "%rbp": 6, "%r12": 12, "%r13": 13, "%r14": 14, "%r15": 15}
+    STACK, PROBED = 7, 11
+    # The return address lies on the stack.
+    AT_ENTRY = 8
+    ENDS = ("ret", "retq", "ud2")
+    PADDING = ("nop", "nopl", "nopw", "int3", "data16", "cs", "xchg")
+    # The common part of all tables: the address is 8 above the stack pointer, and the return address lies right below it.
+    HEAD = """.sleb128 -8
+.uleb128 16
+.uleb128 1
+.byte 0x1b
+.byte 0x0c
+.uleb128 7
+.uleb128 8
+.byte 0x90
+.uleb128 1
+"""
+
+    @staticmethod
+    def is_jump(name, operands):
+        """A jump to a place, not by a table."""
+        return name.startswith("j") and not operands.startswith("*")
+
+    @staticmethod
+    def is_table_jump(name, operands):
+        return name.startswith("jmp") and operands.startswith("*")
+
+    @staticmethod
+    def goes_on(name):
+        """The next instruction may follow this one."""
+        return name not in ("jmp", "jmpq", *X86.ENDS)
+
+    @staticmethod
+    def target(operands):
+        return int(operands.split()[0], 16)
+
+    @staticmethod
+    def is_return(name):
+        return name in ("ret", "retq")
+
+    @staticmethod
+    def probes(listing, place):
+        """How large a frame the loop makes that begins after the instruction at the place, and the places that follow that, up to the one past it; or nothing."""
+        if listing[place] != ("mov", "%rsp,%r11"):
+            return None
+        loop = [each for each in sorted(listing) if each >= place][1:7]
+        names = [listing[each] for each in loop]
+        found = re.fullmatch(r"\$(0x[0-9a-f]+),%r11", names[0][1])
+        assert found and names[0][0] == "sub" and names[1][0] == "sub" and names[1][1].endswith(",%rsp"), f"a loop at {place:x} isn't understood"
+        assert names[2] == ("movq", "$0x0,(%rsp)") and names[3] == ("cmp", "%r11,%rsp"), f"a loop at {place:x} isn't understood"
+        assert names[4][0] == "jne" and X86.target(names[4][1]) == loop[1], f"a loop at {place:x} isn't understood"
+        return int(found[1], 16), loop
+
+    @staticmethod
+    def after(name, operands, depth, saved):
+        """How deep the stack is after the instruction, and where registers are saved: by each its distance from the frame's address."""
+        if name == "push":
+            if operands in X86.KEPT and operands not in saved:
+                saved = {**saved, operands: depth + 8}
+            return depth + 8, saved
+        if name == "pop":
+            if saved.get(operands) == depth:
+                saved = {register: at for register, at in saved.items() if register != operands}
+            return depth - 8, saved
+        if operands.endswith(",%rsp") and name not in ("cmp", "test"):
+            found = re.fullmatch(r"\$(-?0x[0-9a-f]+),%rsp", operands)
+            assert found and name in ("add", "sub"), f"{name} {operands} isn't understood"
+            return depth + int(found[1], 16) * (1 if name == "sub" else -1), saved
+        assert name not in ("leave", "enter", "pushf", "popf"), f"{name} isn't understood"
+        return depth, saved
+
+
+class Aarch64:
+    """How code of aarch64 moves the stack pointer.
+
+    A depth is how far the stack pointer lies below the frame's address, which is its value before the call. A negative one is how far x9 lies below it, while
+    a loop makes a frame. The return address is in x30 until that is saved.
+    """
+
+    TOOLS = "aarch64-linux-gnu-"
+    SECTION_TYPE = "%progbits"
+    COMMENT = "//"
+    # DWARF's numbers: of the registers that a callee keeps, with the return address, of the stack pointer and of what says where a loop ends.
+    KEPT = {f"x{number}": number for number in range(19, 31)}
+    STACK, PROBED = 31, 9
+    AT_ENTRY = 0
+    ENDS = ("ret", "brk", "udf")
+    PADDING = ("nop", "udf", ".word", ".inst")
+    # The common part of all tables: the address is the stack pointer, and the return address is in x30.
+    HEAD = """.sleb128 -8
+.uleb128 30
+.uleb128 1
+.byte 0x1b
+.byte 0x0c
+.uleb128 31
+.uleb128 0
+"""
+    # A move between one or two registers and the stack, whose pointer may move before it or after it.
+    MOVED = re.compile(r"(?:(\w+), )?(\w+), \[sp(?:, #(-?\d+))?\](!?)(?:, #(-?\d+))?")
+    SIZED = re.compile(r"sp, sp, #(0x[0-9a-f]+)(, lsl #12)?")
+
+    @staticmethod
+    def is_jump(name, _operands):
+        return name == "b" or name.startswith("b.") or name in ("cbz", "cbnz", "tbz", "tbnz")
+
+    @staticmethod
+    def is_table_jump(name, _operands):
+        return name == "br"
+
+    @staticmethod
+    def goes_on(name):
+        return name not in ("b", "br", *Aarch64.ENDS)
+
+    @staticmethod
+    def target(operands):
+        return int(operands.rsplit(", ", 1)[-1].split()[0], 16)
+
+    @staticmethod
+    def is_return(name):
+        return name == "ret"
+
+    @staticmethod
+    def size_of(operands):
+        """How many bytes the stack pointer is moved by, as `sp, sp, #0x1, lsl #12` says."""
+        found = Aarch64.SIZED.fullmatch(operands)
+        assert found, f"sp is moved by {operands}"
+        return int(found[1], 16) << (12 if found[2] else 0)
+
+    @staticmethod
+    def probes(listing, place):
+        """The loop that makes a frame page by page: as for x86-64. Here the first instruction says how large, so it is part of what it returns."""
+        name, operands = listing[place]
+        if name != "sub" or not re.match(r"x9, sp, #0x[0-9a-f]+", operands):
+            return None
+        loop = [each for each in sorted(listing) if each >= place][:6]
+        names = [listing[each] for each in loop]
+        if names[1] != ("sub", "sp, sp, #0x1, lsl #12"):
+            return None
+        assert names[2] == ("cmp", "sp, x9") and names[3] == ("str", "xzr, [sp]"), f"a loop at {place:x} isn't understood"
+        assert names[4][0] == "b.ne" and Aarch64.target(names[4][1]) == loop[1], f"a loop at {place:x} isn't understood"
+        return Aarch64.size_of(operands.replace("x9", "sp", 1)), loop
+
+    @staticmethod
+    def moved(name, found, depth, saved):
+        """A store to the stack or a load from it."""
+        first, second, offset, before, past = found.groups()
+        if before:
+            depth, offset = depth - int(offset), 0
+        at = depth - int(offset or 0)
+        for register in filter(None, (first, second)):
+            if name.startswith("st") and register in Aarch64.KEPT and register not in saved:
+                saved = {**saved, register: at}
+            elif name.startswith("ld") and saved.get(register) == at:
+                saved = {other: where for other, where in saved.items() if other != register}
+            at -= 8
+        return depth - int(past or 0), saved
+
+    @staticmethod
+    def after(name, operands, depth, saved):
+        """As for x86-64."""
+        if name in ("stp", "str", "ldp", "ldr") and (found := Aarch64.MOVED.fullmatch(operands)):
+            return Aarch64.moved(name, found, depth, saved)
+        if operands.startswith("sp, ") and name not in ("cmp", "cmn", "tst"):
+            assert name in ("add", "sub"), f"{name} {operands} isn't understood"
+            return depth + Aarch64.size_of(operands) * (1 if name == "sub" else -1), saved
+        assert not re.search(r"\[sp.*\]!|\[sp\], ", operands), f"{name} {operands} isn't understood"
+        return depth, saved
+
+
+# By what readelf calls the processor.
+MACHINES = {"Advanced Micro Devices X86-64": X86, "AArch64": Aarch64}
 
 
 def run(*words):

@@ -9,7 +9,6 @@
 #include <inttypes.h>
 #include <sched.h>
 
-#include "edges.h"
 #include "waiting.h"
 #include "workers.h"
 

@@ -13,7 +13,6 @@
 #include <stdatomic.h>
 
 #include "client.h"
-#include "edges.h"
 
 enum { READERS = 3, CPUS = READERS + 1, WORDS = 32, PATIENCE = 200 };
 

@@ -9,7 +9,6 @@
 #include <stdatomic.h>
 
 #include "client.h"
-#include "edges.h"
 #include "waiting.h"
 
 enum { REGISTRIES = 2, READERS = 3, DESTROYERS = 2, PERFORMER = DESTROYERS, DEFERRER, CHANGERS, CPUS = READERS + CHANGERS, WORDS = 8, PATIENCE = 20, MOST = 100 };

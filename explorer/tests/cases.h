@@ -1,7 +1,6 @@
 /*
- * cases.h - how the seven drivers are used by threads: of each a way to begin, its threads, and a way to end
- *
- * The same cases are run with the right drivers, and with faults planted in them.
+ * cases.h - what the tests share: what they look for in what the explorer has found, and how the seven drivers are used by threads, of each a way to begin,
+ * its threads, and a way to end. These cases are run with the right drivers, and with faults planted in them.
  */
 #ifndef BENCH_CASES_H
 #define BENCH_CASES_H
@@ -12,6 +11,14 @@
 #include "../../c/examples/expect.h"
 #include "../../netbsd/tests/bodies.h"
 #include "../bench.h"
+
+static inline bool has_outcome(const struct bench_found *found, const char *text)
+{
+	for (unsigned at = 0; at < found->outcomes; at++)
+		if (strcmp(found->outcome[at].text, text) == 0)
+			return true;
+	return false;
+}
 
 struct driver_case {
 	const char *name;

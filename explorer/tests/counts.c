@@ -14,9 +14,7 @@
 #include <sys/systm.h>
 #include <xmmintrin.h>
 
-#include "found.h"
-#include "../../c/examples/expect.h"
-#include "../../netbsd/tests/bodies.h"
+#include "cases.h"
 
 static unsigned lengths[4];
 

@@ -3,7 +3,265 @@
  *
  *     drivers [CASE [SCHEDULE]]
  */
-#include "cases.inc"
+#include <errno.h>
+#include <sys/atomic.h>
+#include <sys/module.h>
+#include <sys/systm.h>
+
+#include "../../netbsd/examples/drivers.h"
+#include "cases.h"
+
+/* ---- bridge.c: a packet goes to each member while one is deleted and another is added. ---- */
+
+static void send_member(void *arg, unsigned index)
+{
+	unsigned *sum = arg;
+	bench_point();
+	*sum += index;
+}
+
+HANDLER(broadcast, unsigned sum = 0, sent = bridge_broadcast(send_member, &sum); KASSERT(sent <= sum))
+HANDLER(delete_member, KASSERT(bridge_delete(*(unsigned *)arg) == 0))
+
+static unsigned first = 1;
+
+static void begin_bridge(void)
+{
+	bridge_init();
+	(void)bridge_add(2);
+	(void)bridge_add(1);
+	bench_thread("broadcast", broadcast, NULL);
+	bench_thread("delete", delete_member, &first);
+}
+
+static void begin_bridge_wide(void) { begin_bridge(); bench_thread("another", broadcast, NULL); }
+
+/* ---- ifindex.c: a packet goes by an interface while that is detached, or while the table grows. ---- */
+
+static void transmit_one(unsigned index)
+{
+	bench_point();
+	KASSERT(index == 1);
+}
+
+HANDLER(transmit, (void)if_transmit(1, transmit_one))
+HANDLER(detach_one, KASSERT(if_detach(1) == 0))
+HANDLER(attach_one, (void)if_attach())
+
+static void begin_ifindex(void)
+{
+	ifindex_init();
+	(void)if_attach();
+	bench_thread("transmit", transmit, NULL);
+	bench_thread("detach", detach_one, NULL);
+}
+
+static void begin_growth(void)
+{
+	ifindex_init();
+	(void)if_attach();
+	bench_thread("transmit", transmit, NULL);
+	bench_thread("attach", attach_one, NULL);
+}
+
+static void begin_ifindex_wide(void)
+{
+	begin_ifindex();
+	bench_thread("another", transmit, NULL);
+	bench_thread("attach", attach_one, NULL);
+}
+
+/* ---- devsw.c: a device is opened while its driver is detached. ---- */
+
+static unsigned users;
+
+static int open_it(unsigned minor)
+{
+	(void)minor;
+	atomic_inc_uint(&users);
+	atomic_dec_uint(&users);
+	return 0;
+}
+
+static int close_it(unsigned minor)
+{
+	return minor < 2 ? 0 : EIO;
+}
+
+static const struct devsw device = {open_it, close_it};
+
+HANDLER(open_device, int error = cdev_open(0, 0); KASSERT(error == 0 || error == ENXIO))
+HANDLER(detach_device, KASSERT(devsw_detach(0) == 0); KASSERT(users == 0))
+
+static void begin_devsw(void)
+{
+	devsw_init();
+	(void)devsw_attach(0, &device);
+	bench_thread("open", open_device, NULL);
+	bench_thread("detach", detach_device, NULL);
+}
+
+static void begin_devsw_wide(void) { begin_devsw(); bench_thread("another", open_device, NULL); }
+
+/* ---- ioctl.c: an entry is read while it is replaced and deleted. ---- */
+
+static void get_entry(void *arg)
+{
+	struct entry_request request = {.er_key = 1};
+	int error = entry_ioctl(ENTRYGET, &request);
+	(void)arg;
+	KASSERT(error == ENOENT || (error == 0 && request.er_value >= 5));
+}
+
+static void delete_entry(void *arg)
+{
+	struct entry_request request = {.er_key = 1};
+	(void)arg;
+	KASSERT(entry_ioctl(ENTRYDEL, &request) == 0);
+}
+
+static void set_entry(void *arg)
+{
+	struct entry_request request = {.er_key = 1, .er_value = 6};
+	(void)arg;
+	KASSERT(entry_ioctl(ENTRYSET, &request) == 0);
+}
+
+static void begin_ioctl(void)
+{
+	struct entry_request request = {.er_key = 1, .er_value = 5};
+	entry_init();
+	(void)entry_ioctl(ENTRYSET, &request);
+	bench_thread("get", get_entry, NULL);
+	bench_thread("delete", delete_entry, NULL);
+}
+
+static void begin_replace(void)
+{
+	struct entry_request request = {.er_key = 1, .er_value = 5};
+	entry_init();
+	(void)entry_ioctl(ENTRYSET, &request);
+	bench_thread("get", get_entry, NULL);
+	bench_thread("set", set_entry, NULL);
+}
+
+static void begin_replace_wide(void) { begin_replace(); bench_thread("another", get_entry, NULL); }
+
+/* ---- rxintr.c: a packet comes in while a listener goes. ---- */
+
+static unsigned received;
+static void *listener;
+static int rx_error;
+
+static void input(void *arg, unsigned packet)
+{
+	KASSERT(packet == 7);
+	atomic_inc_uint((unsigned *)arg);
+}
+
+static void interrupt(void *arg)
+{
+	(void)arg;
+	if (rx_error == 0)
+		rx_interrupt(7);
+}
+
+static void unlisten(void *arg)
+{
+	(void)arg;
+	if (rx_error == 0)
+		rx_unlisten(listener);
+}
+
+static void begin_rxintr(void)
+{
+	rx_error = rx_init();
+	KASSERT(rx_error == 0 || rx_error == ENOMEM);
+	if (rx_error == 0)
+		listener = rx_listen(input, &received);
+	bench_thread("interrupt", interrupt, NULL);
+	bench_thread("unlisten", unlisten, NULL);
+}
+
+static void begin_rxintr_wide(void) { begin_rxintr(); bench_thread("another", interrupt, NULL); }
+
+static void end_rxintr(void)
+{
+	KASSERT(received <= 2);
+	if (rx_error == 0)
+		rx_fini();
+}
+
+/* ---- counters.c: the counters are read while they count. ---- */
+
+HANDLER(count_twice, counters_add(COUNT_IN, 1); counters_add(COUNT_IN, 2))
+
+static void sum_up(void *arg)
+{
+	uint64_t sums[COUNTERS];
+	(void)arg;
+	counters_sum(sums);
+	KASSERT(sums[COUNT_IN] == 0 || sums[COUNT_IN] == 1 || sums[COUNT_IN] == 3);
+	bench_outcome("%u", (unsigned)sums[COUNT_IN]);
+}
+
+static void begin_counters(void)
+{
+	counters_init();
+	bench_thread("count", count_twice, NULL);
+	bench_thread("sum", sum_up, NULL);
+}
+
+static void end_counters(void)
+{
+	uint64_t sums[COUNTERS];
+	counters_sum(sums);
+	KASSERT(sums[COUNT_IN] == 3);
+	counters_fini();
+}
+
+/* ---- unload.c: a module is unloaded while its hook is called, its worker runs and its callout ticks. ---- */
+
+int kupaldiz_ticker_modcmd(modcmd_t command, void *opaque);
+
+static void call_hook(void *arg)
+{
+	unsigned answer = 0;
+	int error = ticker_call(3, &answer);
+	(void)arg;
+	KASSERT(error == ENXIO || (error == 0 && answer == 4));
+}
+
+HANDLER(unload, KASSERT(kupaldiz_ticker_modcmd(MODULE_CMD_FINI, NULL) == 0))
+
+static void begin_unload(void)
+{
+	int error = kupaldiz_ticker_modcmd(MODULE_CMD_INIT, NULL);
+	KASSERT(error == 0 || error == ENOMEM);
+	bench_thread("call", call_hook, NULL);
+	if (error == 0)
+		bench_thread("unload", unload, NULL);
+}
+
+/* ---- All of them. ---- */
+
+const struct driver_case driver_cases[] = {
+	{"bridge", begin_bridge, bridge_fini, 0, false},
+	{"ifindex", begin_ifindex, ifindex_fini, 0, false},
+	{"growth", begin_growth, ifindex_fini, 0, false},
+	{"devsw", begin_devsw, devsw_fini, 0, false},
+	{"ioctl", begin_ioctl, entry_fini, 0, false},
+	{"replace", begin_replace, entry_fini, 0, false},
+	{"rxintr", begin_rxintr, end_rxintr, 0, false},
+	{"counters", begin_counters, end_counters, 0, false},
+	{"bridge-wide", begin_bridge_wide, bridge_fini, 0, false},
+	{"ifindex-wide", begin_ifindex_wide, ifindex_fini, 0, false},
+	{"devsw-wide", begin_devsw_wide, devsw_fini, 0, false},
+	{"replace-wide", begin_replace_wide, entry_fini, 0, false},
+	{"rxintr-wide", begin_rxintr_wide, end_rxintr, 0, false},
+	{"unload", begin_unload, NULL, 1, false},	/* the hook is there before and after the module */
+};
+const unsigned driver_case_count = sizeof(driver_cases) / sizeof(driver_cases[0]);
 
 int main(int count, char **words)
 {

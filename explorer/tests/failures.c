@@ -20,7 +20,7 @@
 
 #include "../../c/examples/expect.h"
 #include "../../netbsd/tests/bodies.h"
-#include "../../netbsd/tests/places.h"
+#include "../../netbsd/tests/child.h"
 #include "../bench.h"
 
 static kmutex_t lock;

@@ -6,8 +6,7 @@
 #include <stdio.h>
 #include <string.h>
 
-#include "../../netbsd/tests/bodies.h"
-#include "found.h"
+#include "cases.h"
 
 /* A row leaves out what its case doesn't have. */
 #pragma GCC diagnostic ignored "-Wmissing-field-initializers"

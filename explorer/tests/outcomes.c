@@ -23,9 +23,7 @@
 #include <sys/systm.h>
 #include <time.h>
 
-#include "found.h"
-#include "../../c/examples/expect.h"
-#include "../../netbsd/tests/bodies.h"
+#include "cases.h"
 
 enum { MOST = 4, LONGEST = 16 };
 

@@ -414,7 +414,7 @@ struct pserialize {
 	unsigned performing;	/* an atomic */
 };
 
-/* ---- pause.c: waits. ---- */
+/* ---- lock.c: the pauses of waits. ---- */
 
 /* A wait's pauses: how long the next one is, and when it says what it waits for. */
 struct pauses {

@@ -1,9 +1,10 @@
 /*
- * lock.c - a lock that knows its owner, and where threads wait
+ * lock.c - a lock that knows its owner, where threads wait, and the pauses of a wait
  *
  * A lock is one word: its owner, and a bit that says that somebody waits. Taking and giving a lock that nobody waits for is one atomic step. Whoever
  * waits is in the bucket of the lock's address, in the order of arrival.
  */
+#include <sched.h>
 #include <stdio.h>
 
 #include "layer.h"
@@ -234,4 +235,40 @@ void lock_await(uintptr_t *word, struct thread *me)
 		pthread_cond_wait(&me->cond, &bucket->mutex);
 	bucket_unlock(bucket);
 	end_wait(waits);
+}
+
+/* ---- The pauses of a wait, between two looks at what it waits for. ---- */
+
+struct pauses begin_pauses(void)
+{
+	return (struct pauses){0, time_after(KUPALDIZ_PATIENCE * INT64_C(1000000))};
+}
+
+static bool is_past(const struct timespec *time)
+{
+	struct timespec now = time_after(0);
+	return now.tv_sec > time->tv_sec || (now.tv_sec == time->tv_sec && now.tv_nsec >= time->tv_nsec);
+}
+
+/* Whether it is time to say what the wait waits for: once. */
+bool pauses_are_over(struct pauses *pauses)
+{
+	if (pauses->tells.tv_sec == 0 || !is_past(&pauses->tells))
+		return false;
+	pauses->tells.tv_sec = 0;
+	return true;
+}
+
+/* What it waits for is `met`, or NULL. Lets others run: at first at once, then for a time that doubles up to the longest pause. Whether it is time to say what it waits for. */
+bool pause_longer(struct pauses *pauses, const struct registry_stage *met)
+{
+	const struct timespec pause = {0, pauses->nanoseconds};
+	(void)met;
+	if (pauses->nanoseconds < 1000)
+		sched_yield();
+	else
+		nanosleep(&pause, NULL);
+	if (pauses->nanoseconds < LONGEST_PAUSE / 2)
+		pauses->nanoseconds = pauses->nanoseconds * 2 + 1;
+	return pauses_are_over(pauses);
 }

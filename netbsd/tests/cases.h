@@ -12,7 +12,7 @@
 
 #include "../../c/examples/expect.h"
 #include "bodies.h"
-#include "places.h"
+#include "child.h"
 
 struct stop_case {
 	void (*body)(void);

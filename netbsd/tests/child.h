@@ -1,8 +1,10 @@
-/* child.h - what a process of its own says on standard error, and how it ends */
+/* child.h - what a process of its own says on standard error, and how it ends; hides the places of such a text, which move with each change of a test */
 #ifndef NETBSD_CHILD_H
 #define NETBSD_CHILD_H
 
+#include <ctype.h>
 #include <stdio.h>
+#include <string.h>
 #include <sys/wait.h>
 #include <unistd.h>
 
@@ -32,6 +34,22 @@ static inline int run_in_child(void (*begin)(void), void (*body)(void), char *sa
 	close(ends[0]);
 	EXPECT(waitpid(child, &status, 0) == child);
 	return status;
+}
+
+/* Writes PLACE for each word in which ".c:" and digits stand. */
+static inline void hide_places(char *text)
+{
+	char *colon;
+	while ((colon = strstr(text, ".c:")) != NULL && isdigit((unsigned char)colon[3])) {
+		char *from = colon, *to = colon + 3;
+		while (from > text && from[-1] != ' ' && from[-1] != '\n')
+			from--;
+		while (isdigit((unsigned char)*to))
+			to++;
+		EXPECT(to - from >= 5);
+		memcpy(from, "PLACE", 5);
+		memmove(from + 5, to, strlen(to) + 1);
+	}
 }
 
 #endif

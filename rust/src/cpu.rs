@@ -2,10 +2,10 @@
 
 use crate::carried::Record;
 use crate::ffi;
+use crate::lock::Tasks;
 use crate::places::Hold;
 use crate::registry::Registry;
 use crate::shared::{Lease, Shared};
-use crate::tasks::Tasks;
 use std::cell::{Cell, UnsafeCell};
 use std::fmt;
 use std::mem;

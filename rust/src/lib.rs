@@ -166,7 +166,6 @@ mod section;
 mod settings;
 mod shared;
 mod table;
-mod tasks;
 mod values;
 
 pub use cpu::Cpu;

@@ -1,9 +1,11 @@
-//! The crate's locks: those of the standard library.
+//! The crate's locks, which are those of the standard library, and the tasks that wait for retired entries.
 #![allow(unknown_lints, unexpected_cfgs)]
 
-use std::hint;
+use std::sync::atomic::{fence, AtomicBool, Ordering};
 use std::sync::PoisonError;
 pub use std::sync::{Mutex, MutexGuard};
+use std::task::Waker;
+use std::{hint, mem};
 
 /// A lock's value. Nothing panics under our locks, and if it did, what they guard would be whole.
 pub fn locked<T>(mutex: &Mutex<T>) -> MutexGuard<'_, T> {
@@ -20,4 +22,43 @@ pub fn locked<T>(mutex: &Mutex<T>) -> MutexGuard<'_, T> {
 /// The value of a lock that nobody else knows.
 pub fn locked_mut<T>(mutex: &mut Mutex<T>) -> &mut T {
     mutex.get_mut().unwrap_or_else(PoisonError::into_inner)
+}
+
+/// Tasks that are woken as something is let go, and whether there are any. On cache lines of its own: each exit and each release reads the flag.
+#[derive(Default)]
+#[repr(align(128))]
+pub struct Tasks {
+    are_any: AtomicBool,
+    wakers: Mutex<Vec<Waker>>,
+}
+
+impl Tasks {
+    /// Notes a task, before it looks once more at what it waits for. Whoever lets something go writes that first, and then reads the flag. All four are
+    /// sequentially consistent, so either the task sees what was let go, or it is woken.
+    pub fn note(&self, waker: &Waker) {
+        let waker = waker.clone();
+        let mut wakers = locked(&self.wakers);
+        if !wakers.iter().any(|other| other.will_wake(&waker)) {
+            wakers.push(waker);
+        }
+        self.are_any.store(true, Ordering::SeqCst);
+        fence(Ordering::SeqCst);
+    }
+
+    /// Wakes all, after something was let go. Its caller has no lock.
+    #[inline]
+    pub fn wake(&self) {
+        if self.are_any.load(Ordering::SeqCst) {
+            self.wake_all();
+        }
+    }
+
+    #[cold]
+    fn wake_all(&self) {
+        let mut wakers = locked(&self.wakers);
+        self.are_any.store(false, Ordering::SeqCst);
+        let woken = mem::take(&mut *wakers);
+        drop(wakers);
+        woken.into_iter().for_each(Waker::wake);
+    }
 }

@@ -30,7 +30,7 @@ def parts():
             Fault(f"{part}: it isn't there", f"./{part}", ((part, PASSES, None),)),
         ]
     faults.append(Fault("no parts", "0 passed, 1 failed", (("gate", 'gate([Part("one", "./one"), Part("two", "./two")], [Part("alone", "./alone")])', "gate()"),)))
-    return Case("parts", ["parts.py", "counts.py"], tree, ["./gate"], faults)
+    return Case("parts", ["parts.py"], tree, ["./gate"], faults)
 
 
 # A gate of more parts than run at once is told to end once a part has begun, twice, as timeout(1) does it. It ends, and so does each part.
@@ -49,7 +49,7 @@ wait $limit
 def ending():
     tree = {"gate": WAITS, "one": PASSES, "two": "#!/bin/sh\n: >begun\nexec env WAITS=$PWD/wait sleep 20\n", "alone": PASSES, "ends": ENDS}
     faults = (Fault("parts that aren't ended", "it does not end", (("tools/parts.py", "os.kill(pid, number)", "pass"),)),)
-    return Case("ending", ["parts.py", "counts.py"], tree, ["./ends"], faults, counts=False)
+    return Case("ending", ["parts.py"], tree, ["./ends"], faults, counts=False)
 
 
 SHELL = """#!/usr/bin/env bash
@@ -88,7 +88,7 @@ BESIDE = {
     "bin/rt": '#!/bin/sh\necho "$PWD/kit/START-HERE.md"\n',
     # It proves over the library beside it, and writes what -o names.
     "kit/bin/rattle": '#!/bin/sh\n[ "$(cat src/lib.rt ../low.rlib/format)" = "face\nlow" ] || exit 7\nfor made; do :; done\necho proved >"$made"\n',
-    "tools/gate-edits.py": '#!/bin/sh\necho "$*, on $(nproc)" >out/tried\n',
+    "tools/try-edits.py": '#!/bin/sh\nshift\necho "$*, on $(nproc)" >out/tried\n',
     "tools/build-archive.sh": '#!/bin/sh\n[ $# = 2 ] && [ -f "$2" ] && cp "$1" out/libregistry.a\n',
     # The archive is what was proved, or there is none: else nothing else is said, and the fault goes untold.
     "beside": """#!/bin/sh
@@ -136,7 +136,7 @@ def archive():
         Fault("rt ci without its count", "nothing", ((ci, "echo 5 passed, 0 failed", "echo nothing"),)),
         *on_all_processors(),
     )
-    return Case("archive-beside", ["archive-beside.py", "kit.py", "parts.py", "counts.py"], BESIDE, ["./beside"], faults)
+    return Case("archive-beside", ["archive-beside.py", "kit.py", "parts.py"], BESIDE, ["./beside"], faults)
 
 
 def cases():

@@ -129,7 +129,7 @@ diff said rows
 
 
 def unwind_tables():
-    code, depth = "code.s", "tools/unwinding/x86_64.py"
+    code, depth = "code.s", "tools/unwind-tables.py"
     faults = (
         Fault("a stack pointer that moves otherwise", "isn't understood", ((code, "add $0x10,%rsp", "lea 0x10(%rsp),%rsp"),)),
         Fault("two depths", "two depths at", ((code, "pop %rbp\n1:\tret", "1:\ttest %rdi,%rdi\n\tpop %rbp\n\tret"),)),
@@ -141,7 +141,7 @@ def unwind_tables():
         Fault("a register that isn't told", "> rsp+16 c-16 c-8", ((depth, "saved = {**saved, operands: depth + 8}", "pass"),)),
         Fault("a register that isn't restored", "a return at", ((depth, "if saved.get(operands) == depth:", "if False:"),)),
     )
-    return Case("unwind-tables", ["unwind-tables.py", "unwinding"], {"code.s": CODE, "rows": ROWS, "look": UNWOUND}, ["./look"], faults, counts=False)
+    return Case("unwind-tables", ["unwind-tables.py"], {"code.s": CODE, "rows": ROWS, "look": UNWOUND}, ["./look"], faults, counts=False)
 
 
 # An archive of one object, in which one function is seen from outside and calls another one.
@@ -177,11 +177,9 @@ int registry_exit(volatile char *at) { char *block = malloc(8); int seen = at[0]
 """
 
 
-# A call that goes on in another function by a jump, which no relocation tells; and one that takes 116 bytes: its return address, 100, and malloc's.
+# A call that goes on in another function by a jump, which no relocation tells.
 JUMPS = r"""static __attribute__((used, noinline)) int wide(volatile char *at) { volatile char room[900]; for (int i = 0; i < 900; i++) room[i] = at[i]; return room[7]; }
 __asm__(".text\n.globl registry_jumps\n.type registry_jumps,@function\nregistry_jumps: jmp wide\n");
-int registry_enter"""
-MEASURED = r"""__asm__(".text\n.globl registry_measured\n.type registry_measured,@function\nregistry_measured: sub $100, %rsp\ncall malloc\nadd $100, %rsp\nret\n");
 int registry_enter"""
 
 

@@ -1,13 +1,15 @@
-"""Faults of programs: tools/conformance.py and tools/test-program.py."""
+"""Faults of programs, and those that the checkers beside the layer and the bench are to find: tools/conformance.py, tools/test-program.py,
+tools/before-gate.py, lines.py and names.py of netbsd/tests, told.py of explorer/tests."""
+import subprocess
 import sys
 
-from .trees import ROOT, Case, Fault, said_by
+from .trees import ROOT, Case, Fault, real, said_by
 
 PROVED = ROOT / "crates/registry_run/out/registry_run"
 VERBS = "domain,limits,attach,detach,enter,exit,find,ref,copy,held,read,drop,advance"
 # It replaces the program of the repository, too: whoever writes a kit asks that for its reports.
 FOREIGN = "#!/bin/sh\nexec tools/other_registry.py\n"
-KIT = ["conformance.py", "other_registry.py", "counts.py"]
+KIT = ["conformance.py", "other_registry.py", "parts.py"]
 TREE = {"program": FOREIGN, "crates/registry_run/out/registry_run": FOREIGN}
 
 
@@ -80,8 +82,140 @@ def test_program(proved):
     tree = {"program": '#!/bin/sh\nexec program.proved "$@"\n'.replace("program.proved", str(proved))}
     faults = [fault._replace(changes=tuple((path, old.replace("program.proved", str(proved)), new.replace("program.proved", str(proved)))
                                            for path, old, new in fault.changes)) for fault in faults]
-    return Case("test-program", ["test-program.py", "counts.py"], tree, ["tools/test-program.py", "./program"], faults)
+    return Case("test-program", ["test-program.py", "parts.py"], tree, ["tools/test-program.py", "./program"], faults)
+
+
+LINES = "netbsd/tests/lines.py"
+ASKED = [f"netbsd/tests/{name}.c" for name in ("misuses", "lacks", "tells")]
+TESTS = "netbsd/tests/**/*.c"
+PSREF = "netbsd/src/psref.c"
+
+
+def lines():
+    faults = (
+        Fault("a line that no test wants", 'psref.c: no test wants "the target is gone"', ((PSREF, '"the target is not live"', '"the target is gone"'),)),
+        Fault("a line that no test wants any more", 'no test wants "the reference was written over"', ((ASKED[0], "the reference was written over", "the reference is wrong"),)),
+        Fault("a wait that no test lets last", 'localcount.c: no test wants "waits for a release that is under way"',
+              ((ASKED[2], "waits for a release that is under way", "waits for a release"),)),
+        Fault("a line that another file's test wants", 'callout.c: no test wants "the thread does not have the lock"',
+              ((ASKED[0], "callout_halt: the thread does not have the lock", "callout_halt: it is free"),)),
+        Fault("a line about what no row of calls is given", 'callout.c: no test wants "the timer was destroyed"',
+              (("netbsd/src/callout.c", "the callout was destroyed", "the timer was destroyed"),)),
+        Fault("a file of tests that is gone", "lacks isn't there", ((ASKED[1], "#include", None),)),
+    )
+    return Case("lines", [], real(LINES, "netbsd/src/*.c", TESTS), [LINES], faults)
+
+
+NAMES = "netbsd/tests/names.py"
+LISTED = "netbsd/tests/names.txt"
+SYSTM = "netbsd/include/sys/systm.h"
+
+
+def names():
+    imin = "static inline int imin(int a, int b) { return a < b ? a : b; }\n"
+    faults = (
+        Fault("a call that its header doesn't have", "sys/systm.h: imin isn't there", ((SYSTM, imin, ""),)),
+        Fault("a call that the bench doesn't have", "sys/systm.h: imin isn't there", ((SYSTM, imin, f"#ifndef KUPALDIZ_BENCH\n{imin}#endif\n"),)),
+        Fault("a constant that is none", "sys/types.h: bool isn't there", ((LISTED, "sys/types.h type u_int u_long bool", "sys/types.h constant bool\nsys/types.h type u_int u_long"),)),
+        Fault("a macro that isn't there", "sys/cdefs.h: __gone isn't there", ((LISTED, "sys/cdefs.h macro ", "sys/cdefs.h macro __gone "),)),
+        Fault("a type that isn't there", "sys/types.h: gone_t isn't there", ((LISTED, "sys/types.h type ", "sys/types.h type gone_t "),)),
+        Fault("a name that no test uses", "sys/types.h: no test uses KUPALDIZ_NETBSD_SYS_TYPES_WRAPPED",
+              ((LISTED, "sys/types.h macro ", "sys/types.h macro KUPALDIZ_NETBSD_SYS_TYPES_WRAPPED "),)),
+        Fault("no compiler", "gone", command=[NAMES, "./gone"]),
+    )
+    subprocess.run([ROOT / "netbsd/named.sh"], check=True)
+    headers = [f"netbsd/include/{folder}/*.h" for folder in ("kupaldiz", "sys", "net")]
+    tests = TESTS, "netbsd/examples/*.c", "explorer/tests/*.c", "explorer/tests/*.inc"
+    tree = real(NAMES, LISTED, *headers, *tests)
+    # Those of three headers, which are soon compiled.
+    tree[LISTED] = "".join(f"{line}\n" for line in tree[LISTED].splitlines() if line.startswith(("sys/cdefs.h", "sys/types.h", "sys/systm.h")))
+    return Case("names", [], tree, [NAMES, "gcc"], faults)
+
+
+TOLD_BY = "explorer/tests/told.py"
+SHOWN = "netbsd/netbsd.map"
+CALLS = "explorer/src/calls.c"
+
+
+def points():
+    without = '"ends the thread or the run": "failed'
+    faults = (
+        Fault("a call without a point", "another has no point, and no reason is told", ((SHOWN, "\t\tkupaldiz_at;\n", "\t\tkupaldiz_at;\n\t\tkupaldiz_another;\n"),)),
+        Fault("a point that is gone", "cv_wait has no point", ((CALLS, "LAYER(void, cv_wait, ", "OTHER(void, cv_wait, "),)),
+        Fault("a reason for what has a point", "cv_wait has a point, or is no call", ((TOLD_BY, without, f"{without} cv_wait"),)),
+        Fault("a reason for what is no call", "gone has a point, or is no call", ((TOLD_BY, without, f"{without} gone"),)),
+    )
+    return Case("points", [], real(TOLD_BY, SHOWN, "explorer/src/*.c"), [TOLD_BY, "points"], faults)
+
+
+TABLES, FOUND_FAULTS = "explorer/README.md", "explorer/tests/faults.txt"
+TOLD = """# The explorer
+
+| Case | Threads | Schedules | Cut short | Points |
+|---|---|---|---|---|
+| bridge | a packet; a member is deleted | 57 | 0 | 2,251 |
+| growth | a packet; the table grows | 5 | 0 | 237 |
+
+| Driver | Fault | Explorer: run | Switches | Preemptions | Real threads |
+|---|---|---|---|---|---|
+| bridge | a perform forgotten | 34 | 2 | 1 | run 23,064 |
+"""
+PRINTED = """bridge: 57 schedules, 0 cut short, 40 states, 2251 points, 300 switches
+growth: 5 schedules, 0 cut short, 4 states, 237 points, 30 switches
+"""
+FOUND = "found  bridge  a perform forgotten   run     34, switches 2, preemptions 1: use of freed memory\n"
+
+
+def table(kind, printed, faults):
+    """A table beside what was printed."""
+    tree = {**real(TOLD_BY), TABLES: TOLD, FOUND_FAULTS: TOLD, "printed": printed, "compare": f"#!/bin/sh\nexec {TOLD_BY} {kind} <printed\n"}
+    return Case(f"table of {kind}", [], tree, ["./compare"], faults)
+
+
+def tables():
+    drivers = (
+        Fault("another number of schedules", "only the run says: growth, 6, 0, 237", (("printed", "growth: 5", "growth: 6"),)),
+        Fault("schedules that are cut short", "only the run says: growth, 5, 1, 237", (("printed", "5 schedules, 0 cut", "5 schedules, 1 cut"),)),
+        Fault("another number of points", "only the table says: bridge, 57, 0, 2252", ((TABLES, "2,251", "2,252"),)),
+        Fault("a driver that isn't run", "only the table says: growth, 5, 0, 237", (("printed", "growth", "no growth"),)),
+        Fault("a driver that isn't told", "only the run says: growth, 5, 0, 237", ((TABLES, "| growth | a packet; the table grows | 5 | 0 | 237 |\n", ""),)),
+        Fault("nothing is printed", "only the table says", (("printed", None, ""),)),
+    )
+    planted = (
+        Fault("a fault that isn't found", "only the table says: bridge, a perform forgotten, 34, 2, 1", (("printed", "found ", "missed"),)),
+        Fault("another run", "only the run says: bridge, a perform forgotten, 35, 2, 1", (("printed", "34", "35"),)),
+    )
+    return table("drivers", PRINTED, drivers), table("faults", FOUND, planted)
+
+
+SOURCE = "crates/one/src/lib.rt"
+EDITS, TESTED = "crates/one/edits/gate.edits", "crates/one/edits/tests.edits"
+# It lays out no file of a crate, except one that has a blank at the end of a line; and it refuses to compile what says y.
+RT = """#!/bin/sh
+case $1 in
+    fmt) grep -q ' $' src/lib.rt && echo 'rt: formatted src/lib.rt' ;;
+    check) grep -q y src/lib.rt && echo 'src/lib.rt:1:1: error: there is no y' ;;
+esac
+"""
+
+
+def before_gate():
+    look = "#!/bin/sh\nPATH=$PWD/bin:$PATH exec tools/before-gate.py \"$@\"\n"
+    tree = {"crates.txt": "one: std\n", SOURCE: "x + 1\n", EDITS: "edit: more\n# It adds nothing.\nfile: src/lib.rt\nold: x + 1\nnew: x\n",
+            TESTED: f"edit: less\n# It takes one.\nfile: {SOURCE}\nold: x + 1\nnew: x - 1\n", "bin/rt": RT, "look": look}
+    faults = (
+        Fault("a file that isn't laid out", "one: formatted src/lib.rt", ((SOURCE, "x + 1", "x + 1 "),)),
+        Fault("an edit that doesn't fit", "one/more: stands 0 times in crates/one/src/lib.rt", ((EDITS, "old: x + 1", "old: x + 2"),)),
+        Fault("an edit for the tests that doesn't fit", "one/less: stands 2 times in crates/one/src/lib.rt", ((SOURCE, "x + 1", "x + 1, x + 1"), (EDITS, "x + 1", "x + 1, x + 1"))),
+        Fault("an edit of a file that is gone", "one/less: there is no crates/one/src/gone.rt", ((TESTED, "lib.rt", "gone.rt"),)),
+        Fault("an edit that doesn't compile", "one/more: src/lib.rt:1:1: error: there is no y", ((EDITS, "new: x", "new: y"),), ["./look", "compile", "one"]),
+        Fault("an edit without a reason", "one/more: it has no reason", ((EDITS, "# It adds nothing.\n", ""),)),
+        Fault("two edits of one name", "one: two edits are called more", ((TESTED, "edit: less", "edit: more"),)),
+        Fault("a crate that isn't there", "before-gate.py compile [CRATE]", command=["./look", "compile", "none"]),
+    )
+    return Case("before-gate", ["before-gate.py", "parts.py", "edits.py"], tree, ["./look"], faults)
 
 
 def cases():
-    return [conformance_run(), conformance_write(), *([test_program(PROVED)] if PROVED.is_file() else [])]
+    program = [test_program(PROVED)] if PROVED.is_file() else []
+    return [conformance_run(), conformance_write(), *program, lines(), names(), points(), *tables(), before_gate()]

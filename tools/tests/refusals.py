@@ -1,4 +1,5 @@
-"""Faults of wrong bodies that the prover or a test must refuse: tools/gate-edits.py and tools/try-edits.py, over a kit of ours."""
+"""Faults of wrong bodies: of those that the prover or a test must refuse, tools/try-edits.py, over a kit of ours; and what
+tools/mutants.py makes of a small library, and says of those that its tests let through."""
 from .trees import Case, Fault
 
 SOURCE = """//! One more.
@@ -111,7 +112,7 @@ TREE = {
     "bin/rt": RT,
     "kit/KIT-ID": "kit\n",
     "kit/bin/rattle": RATTLE,
-    "try": f'#!/bin/sh\nexport XDG_CACHE_HOME=$PWD/kept PATH=$PWD/bin:$PATH LOW=$PWD/{LOW}\nexec tools/gate-edits.py "$@"\n',
+    "try": f'#!/bin/sh\nexport XDG_CACHE_HOME=$PWD/kept PATH=$PWD/bin:$PATH LOW=$PWD/{LOW}\nexec tools/try-edits.py gate "$@"\n',
 }
 
 HAND = "crates/one/edits/by-hand.edits"
@@ -131,7 +132,7 @@ old: //! One more.
 new: //! None.
 """,
     TESTED: "edit: twice\n# It doubles.\nfile: crates/one/src/lib.rt\nold:     x + 1\nnew:     x + x\n",
-    "try": TREE["try"].replace("gate-edits.py", "try-edits.py"),
+    "try": TREE["try"].replace("try-edits.py gate", "try-edits.py"),
 }
 
 
@@ -168,7 +169,7 @@ def by_tests():
     )
 
 
-def cases():
+def by_prover():
     faults = (
         Fault("a wrong body that is proved", "NOT REFUSED: more still proved", ((EDITS, "new:     x\n", "new:     x + 1 + 0\n"),)),
         Fault("a right body that is tried beside a wrong one", "NOT REFUSED: less still proved", ((EDITS, "new:     x - 2", "new:     x - 1 - 0"),)),
@@ -186,7 +187,7 @@ def cases():
         over_holes("a hole that isn't ours", "depends on a hole in `Rattle.one.proofs.other.Proof.other_spec`"),
         over_holes("a hole without a name", "depends on a hole in Rattle.one.proofs.most.Proof.most_spec"),
         Fault("a hole that is told of no file", "what its edits change isn't proved as it stands", (("kit/bin/rattle", "holes=1", "holes=2"),)),
-        Fault("a function that no edit changes, proved again", "what its edits change isn't proved as it stands", (("tools/assumed.py", '["loop {}"]', '["let most = 1;"]'),)),
+        Fault("a function that no edit changes, proved again", "what its edits change isn't proved as it stands", (("tools/edit_checks.py", '["loop {}"]', '["let most = 1;"]'),)),
         Fault("an edit without its name", "gate.edits: a block without its line edit: NAME", ((EDITS, "edit: same\n", ""),)),
         Fault("no edits", "0 passed, 1 failed", ((EDITS, "file:", None),)),
         after_a_run("a refusal over another library", "NOT REFUSED", f"echo strong >{LOW}"),
@@ -194,7 +195,94 @@ def cases():
         after_a_run("a refusal of another body", "NOT REFUSED", f"sed -i 's/^new:     x$/new:     x + 1 + 0/' {EDITS}"),
         after_a_run("a refusal of an edit that is no longer applied", "NOT REFUSED", "sed -i 's/path.write_text(text.replace(old, new))/pass/' tools/edits.py"),
     )
-    tools = ["kept.py", "edit_checks.py", "assumed.py", "counts.py", "edits.py", "functions.py", "contracts.py", "kit.py", "parts.py"]
-    return [Case("gate-edits", ["gate-edits.py", *tools], TREE, ["./try"], faults),
-            Case("try-edits", ["try-edits.py", *tools], BESIDE_GATE, ["./try", "prover"], by_hand()),
-            Case("try-edits by tests", ["try-edits.py", *tools], BESIDE_GATE, ["./try", "tests"], by_tests())]
+    tools = ["try-edits.py", "edit_checks.py", "edits.py", "contracts.py", "kit.py", "parts.py"]
+    return [Case("try-edits of the gate", tools, TREE, ["./try"], faults),
+            Case("try-edits", tools, BESIDE_GATE, ["./try", "prover"], by_hand()),
+            Case("try-edits by tests", tools, BESIDE_GATE, ["./try", "tests"], by_tests())]
+
+
+# A test of it sees that `most` answers the greater one, not that it may answer either where both are equal; and that `rest` ends at 0.
+WAITING = """int most(int a, int b)
+{
+	return a < b ? b : a;
+}
+
+int rest(int a)
+{
+	while (a > 0)
+		a -= 1;
+	return a;
+}
+"""
+MAKEFILE = """out/%: c/tests/%.c c/src/waiting.c
+	@mkdir -p out
+	gcc $(STRICT) -O1 -o $@ $^
+turns = out/turns
+"""
+QUIET = "int main(void) { return 0; }\n"
+SEES = """int most(int a, int b);
+int rest(int a);
+int main(void) { return most(1, 2) != 2 || most(4, 3) != 4 || rest(3) != 0; }
+"""
+ONLY = "c/src/waiting.c"
+
+
+def told(file, *said):
+    """A command that runs the tool on code with a survivor, and fails where it doesn't say each of these."""
+    tests = "".join(f'grep -qF -e "{it}" said || {{ echo "it does not say: {it}"; exit 1; }}\n' for it in said)
+    return f"#!/bin/sh\ntools/mutants.py --least 1 --only {file} >said 2>&1\nstatus=$?\ncat said\n[ $status = 1 ] || exit 3\n{tests}"
+
+
+# A crate, whose tests see all but what either answer is right for.
+CRATE = """pub fn most(a: u32, b: u32) -> u32 {
+    return if a < b { b } else { a };
+}
+
+pub fn rest(a: u32) -> u32 {
+    return a % 8;
+}
+
+#[cfg(test)]
+mod tests {
+    #[test]
+    fn a_rest() {
+        assert_eq!(super::rest(21), 5);
+    }
+}
+"""
+GREATER = """#[test]
+fn the_greater_one() {
+    assert_eq!((small::most(1, 2), small::most(4, 3)), (2, 4));
+}
+"""
+MANIFEST = '[package]\nname = "small"\nversion = "0.1.0"\nedition = "2021"\n'
+LIB = "rust/src/lib.rs"
+TAKEN = ["mutants.py", "parts.py"]
+
+
+def of_crate():
+    said = "a >= b { b } else { a };: killed by the crate's", "<= b { b } else { a };: survived", "return a % 9;: killed by the crate's own"
+    tree = {LIB: CRATE, "rust/tests/greater.rs": GREATER, "rust/Cargo.toml": MANIFEST, "good": told(LIB, *said)}
+    seen = "(small::most(1, 2), small::most(4, 3)), (2, 4)"
+    fault = Fault("a test of the crate that sees nothing", "it does not say: a >= b", (("rust/tests/greater.rs", seen, "2, 2"),))
+    return Case("mutants of a crate", TAKEN, tree, ["./good"], [fault], counts=False)
+
+
+def of_c():
+    programs = {f"c/tests/{it}.c": QUIET for it in ("deferred", "waits")}
+    survivor = f"survived: {ONLY}:3, comparison: return a < b ? b : a; -> return a <= b ? b : a;"
+    good = told(ONLY, "return a >= b ? b : a;: killed by turns", survivor, ": hung by turns")
+    run = ["tools/mutants.py", "--least", "1", "--only", f"{ONLY}:3"]
+    faults = (
+        Fault("a test that sees nothing", "return a >= b ? b : a;: survived", (("c/tests/turns.c", "most(1, 2) != 2 || most(4, 3) != 4 || ", ""),), run),
+        Fault("a test that fails at first", "turns fails on the tree as it stands", (("c/tests/turns.c", "most(4, 3) != 4", "most(4, 3) == 4"),), run),
+        Fault("a test that isn't built", "deferred fails on the tree as it stands", (("c/tests/deferred.c", "return 0;", "return gone();"),), run),
+        Fault("a file that isn't changed", "mutants: no code that is changed: c/tests/turns.c", command=["tools/mutants.py", "--only", "c/tests/turns.c"]),
+        Fault("a line without a wrong body", "mutants: no wrong body there", command=["tools/mutants.py", "--only", f"{ONLY}:2"]),
+    )
+    tree = {"c/src/waiting.c": WAITING, "c/tests/turns.c": SEES, "Makefile": MAKEFILE, "good": good, **programs}
+    return Case("mutants", TAKEN, tree, ["./good"], faults, counts=False)
+
+
+def cases():
+    return [*by_prover(), of_c(), of_crate()]

@@ -16,7 +16,7 @@ CARGO = '#!/bin/sh\nmkdir -p "$CARGO_TARGET_DIR/package" && echo crate >"$CARGO_
 PACKAGES = "#!/bin/sh\necho deb >../libkupaldiz0.1.deb && echo changes >../kupaldiz.changes\n"
 PARTS = ("heap", "composed", "strings", "limits")
 # tools/proof-record.py and what it takes.
-RECORDS = ("proof-record.py", "chosen.py", "limits.py", "kit.py")
+RECORDS = ("proof-record.py", "limits.py", "kit.py")
 SOURCES = {
     "crates.txt": "registry_values: std\nlow: registry_values std\nregistry_c staticlib: low std\n",
     **real("crates/registry_values/src/limits.rt", "crates/registry_values/specs/Limits.antt"),
@@ -77,8 +77,8 @@ exit $status
 
 def record(tree, built):
     """A record of the archive, as tools/proof-record.py writes it."""
-    summed = subprocess.run(["python3", "-c", "import sys; sys.path.insert(0, 'tools'); sys.dont_write_bytecode = True\nimport importlib, chosen\n"
-                             "print(importlib.import_module('proof-record').sum_of_sources(chosen.file({})))"],
+    summed = subprocess.run(["python3", "-c", "import sys; sys.path.insert(0, 'tools'); sys.dont_write_bytecode = True\nimport importlib, limits\n"
+                             "print(importlib.import_module('proof-record').sum_of_sources(limits.file({})))"],
                             cwd=tree, capture_output=True, text=True, check=True).stdout.strip()
     return (f"processor: x86_64\nlimits: --cpus 8\nkit: kit\nverdict: logic=proved functions=1\nsources: {summed}\ncommit: none\ncompiled: 0\n"
             f"object: {hashlib.sha256(built).hexdigest()}\n")
@@ -189,7 +189,7 @@ PATH=$PWD/bin:$PATH tools/proof-record.py check $out/libregistry.a
 """,
 }
 OTHER_RECORD = "out/cpus-16-slots-64/libregistry.proved"
-BUILD_TOOLS = ["build-archive.sh", "limits-header.py", *RECORDS]
+BUILD_TOOLS = ["build-archive.sh", "limits-header.py", "parts.py", *RECORDS]
 # What is asked for, and what is said of it.
 BAD_LIMITS = {
     "--cpus 7": "--cpus may be 8 to 128, in digits or as 2^5; it is 7",
@@ -286,7 +286,7 @@ sys.exit(any(not (page.parent / it).exists() for page, it in links))
 def laid():
     """What the scripts of packaging/ say of bad input; the source of a release is laid out whole, or not at all."""
     tree = real("Makefile", "packaging/*.*", "c/programs.mk", "explorer/*.mk", "packaging/debian/*.in", "docs/C.md",
-                "c/examples/client.h", "netbsd/netbsd.map", "explorer/bench.h", "c/examples/Makefile", "man/registry.3",
+                "c/examples/client.h", "netbsd/netbsd.map", "netbsd/named.sh", "netbsd/include/sys/param.h", "explorer/bench.h", "c/examples/Makefile", "man/registry.3.in",
                 "rust/*.*", "rust/*/packet.rs", "rust/*/lib.rs", "rust/tests/face.rs", "crates/registry_c/include/*.h",
                 "examples/retire-under-section.*")
     tree["follows.py"] = FOLLOWS

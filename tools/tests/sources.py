@@ -1,4 +1,4 @@
-"""Faults of sources: tools/check-limits.py, tools/check-imports.py and tools/event-table.py."""
+"""Faults of sources: tools/limits-header.py, tools/check-imports.py and tools/event-table.py."""
 from .trees import Case, Fault, real
 
 # Each place that says a limit again: a part of the line, with its number.
@@ -30,10 +30,10 @@ def check_limits():
                                           ("MOST_SECTIONS", "u64", "1 << 62"), ("MOST_COUNT", "u64", "1 << 40"), ("MOST_DEPTH", "u8", "255"),
                                           ("USUAL_CPUS", "usize", "8"), ("USUAL_SLOTS", "usize", "32"), ("USUAL_CHANGES", "u64", "1_000_000"),
                                           ("USUAL_SECTIONS", "u64", "1 << 40"), ("USUAL_COUNT", "u64", "1 << 40"))]
-    everywhere = f"sed -i 's/1 << 62/7/' {LIMITS}; for it in {HEADER} {' '.join(COPIES)}; do tools/limits-header.py >$it; done; exec tools/check-limits.py"
+    everywhere = f"sed -i 's/1 << 62/7/' {LIMITS}; for it in {HEADER} {' '.join(COPIES)}; do tools/limits-header.py >$it; done; exec tools/limits-header.py check"
     faults.append(Fault("another default, in all headers, too", "MOST_SECTIONS is 7, and 4611686018427387904 in the default build", command=["sh", "-c", everywhere]))
     tree = real(LIMITS, VERSION, HEADER, *COPIES, *{path for path, _, _ in PLACES})
-    return Case("check-limits", ["check-limits.py", "counts.py", "limits-header.py", "limits.py"], tree, ["tools/check-limits.py"], faults)
+    return Case("limits", ["parts.py", "limits-header.py", "limits.py"], tree, ["tools/limits-header.py", "check"], faults)
 
 
 # The header of the default limits and that of others, which two names tell apart; each is C and C++.
@@ -59,7 +59,7 @@ def limits_header():
     faults += [
         Fault("no version", f"limits-header: {VERSION} says no version", ((VERSION, "REGISTRY_VERSION_MINOR\t1", "REGISTRY_VERSION_SMALL\t1"),)),
     ]
-    return Case("limits-header", ["limits-header.py", "limits.py"], {**real(LIMITS, VERSION), "try": MAKES}, ["./try"], faults, counts=False)
+    return Case("limits-header", ["limits-header.py", "limits.py", "parts.py"], {**real(LIMITS, VERSION), "try": MAKES}, ["./try"], faults, counts=False)
 
 
 IMPORTS = {
@@ -85,10 +85,9 @@ def check_imports():
               (("crates/one/specs/More.antt", "use Rattle.one", "use Rattle.low.specs.Words.{Word};\nuse Rattle.one"),)),
         Fault("nothing that passes names on", "0 passed, 1 failed", (("crates/one/specs/Common.antt", "pub use Rattle.one", None),)),
     )
-    return Case("check-imports", ["check-imports.py", "counts.py"], IMPORTS, ["tools/check-imports.py"], faults)
+    return Case("check-imports", ["check-imports.py", "parts.py"], IMPORTS, ["tools/check-imports.py"], faults)
 
 
-STEP = "crates/cpu_words/src/steps/sections.rt"
 EDITS = "crates/cpu_words/edits/gate.edits"
 KEEPING = "crates/protocol/proofs/keeps/Keeping.antt"
 TABLED = ("crates/protocol/src/event.rt", "crates/protocol/specs/Events.antt", KEEPING, "crates/passive_core/src/machine/run.rt", "docs/EVENTS.md",
@@ -108,7 +107,7 @@ def event_table():
         Fault("an event that the machine doesn't make", "no method", (("crates/passive_core/src/machine/run.rt", "self.step_enter(c)", "enter(c)"),)),
         Fault("another word in the table", page, (("docs/EVENTS.md", "The CPU begins a section", "The CPU ends a section"),)),
     )
-    tools = ["event-table.py", "contracts.py", "counts.py", "edits.py", "functions.py"]
+    tools = ["event-table.py", "contracts.py", "parts.py", "edits.py"]
     return Case("event-table", tools, real(*TABLED), ["tools/event-table.py", "check"], faults)
 
 

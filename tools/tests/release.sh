@@ -1,0 +1,163 @@
+# Tries a release in a fresh root, where it is in /release: bash -eux -o pipefail release.sh PART. tools/test-release.sh runs it, and prints its lines `done: ..`.
+if command -v rt; then exit 1; fi
+
+# In a root with gcc and make alone: the release is unpacked, and the first packet is looked up. The last line says when.
+try_packet() {
+    if command -v rt || command -v pkg-config; then exit 1; fi
+    cd "$(mktemp -d)"
+    began=$(date +%s%N)
+    tar -xf "/release/kupaldiz-$VERSION-linux-x86_64.tar.xz"
+    cd "kupaldiz-$VERSION-linux-x86_64"
+    make -C examples out/packet
+    examples/out/packet | grep 'nobody sent by wm0 once it was taken out'
+    took=$((($(date +%s%N) - began) / 1000000))
+    [ "$took" -lt 60000 ]
+    echo "done: the first packet is looked up $took ms after unpacking began"
+}
+
+# In a root with gcc, make and pkg-config: the release is unpacked, its examples are built and run, and so is its source.
+try_c() {
+    [ "$(grep -c : /proc/net/dev)" -eq 1 ]
+    ls /release
+    room=$(mktemp -d)
+    cd "$room"
+    tar -xf "/release/kupaldiz-$VERSION-linux-x86_64.tar.xz"
+    make -C "kupaldiz-$VERSION-linux-x86_64/examples" check
+    echo "done: make -C examples check"
+    # Moved, and by pkg-config.
+    here="$room/a folder with blanks"
+    mv "kupaldiz-$VERSION-linux-x86_64" "$here"
+    cp -r "$here/examples" mine
+    export PKG_CONFIG_PATH=$here/lib/pkgconfig
+    make -C mine clean
+    LD_LIBRARY_PATH=$here/lib make -C mine check
+    make -C mine clean
+    make -C mine check LINK=-static
+    echo "done: the same by pkg-config alone, in a folder that was moved, shared and static"
+    if [ -x "$here/bin/registry_run" ]; then
+        "$here/bin/registry_run" storm 4 1000 | grep -x 'wrong 0'
+        echo "done: registry_run"
+    fi
+    unset PKG_CONFIG_PATH
+    tar -xf "/release/kupaldiz-$VERSION.tar.xz"
+    cd "kupaldiz-$VERSION"
+    make check
+    echo "done: make check in the source"
+    # Everything but this script's own folder.
+    files() {
+        find / -xdev \( -path "$room" -o -path /proc \) -prune -o \( -type f -o -type l \) -print | sort
+    }
+    files >"$room/before"
+    make install
+    make installcheck
+    echo "done: make install and make installcheck"
+    make dist
+    tar -tf "out/kupaldiz-$VERSION.tar.xz" | sed 's|/$||' | sort >"$room/again"
+    tar -tf "/release/kupaldiz-$VERSION.tar.xz" | sed 's|/$||' | sort | diff - "$room/again"
+    echo "done: make dist packs the same files again"
+    make uninstall
+    files | diff "$room/before" -
+    echo "done: make uninstall leaves nothing"
+}
+
+# In a root with gcc, make and cmake: the examples find the release by find_package.
+try_cmake() {
+    room=$(mktemp -d)
+    cd "$room"
+    tar -xf "/release/kupaldiz-$VERSION-linux-x86_64.tar.xz"
+    cmake -S "kupaldiz-$VERSION-linux-x86_64/examples" -B out -DCMAKE_PREFIX_PATH="$room/kupaldiz-$VERSION-linux-x86_64"
+    cmake --build out
+    (cd out && ctest --output-on-failure)
+    echo "done: find_package(kupaldiz): all examples are built and run, shared and static"
+}
+
+# In a root with cargo: a program depends on the crate by its path, and the crate's tests and examples run.
+try_cargo() {
+    if [ -x /rust/bin/cargo ]; then
+        export PATH=/rust/bin:$PATH
+    fi
+    cargo --version
+    room=$(mktemp -d)
+    export CARGO_HOME=$room/cargo
+    cd "$room"
+    tar -xf "/release/kupaldiz-$VERSION.crate"
+    mkdir -p mine/src
+    cat >mine/Cargo.toml <<PROJECT
+[package]
+name = "mine"
+version = "0.0.0"
+edition = "2021"
+
+[dependencies]
+kupaldiz = { path = "../kupaldiz-$VERSION" }
+PROJECT
+    cp "kupaldiz-$VERSION/examples/packet.rs" mine/src/main.rs
+    (cd mine && cargo run --offline)
+    echo "done: $(cargo --version): a path dependency"
+    cd "kupaldiz-$VERSION"
+    cargo test --offline --no-fail-fast 2>&1 | tee "$room/said"
+    grep -E '^test result' "$room/said" | grep -v ' 0 failed' && exit 1
+    echo "done: its tests: $(awk '/^test result/ { n += $4 } END { print n }' "$room/said") passed"
+    cargo build --offline --release --examples
+    target/release/examples/packet
+    target/release/examples/connections
+    target/release/examples/configuration
+    echo "done: its examples"
+}
+
+# In a root with gcc, make, pkg-config and cargo: the packages are installed by apt, programs are built over them, and all is removed to nothing.
+try_apt() {
+    export DEBIAN_FRONTEND=noninteractive
+    room=$(mktemp -d)
+    # Everything but this script's own folder, and what dpkg and apt keep for themselves.
+    files() {
+        find / -xdev \( -path /proc -o -path "$room" -o -path /var/lib/dpkg -o -path /var/lib/apt -o -path /var/cache -o -path /var/log \) -prune -o -print |
+            grep -v '^/etc/ld.so.cache$' | sort
+    }
+    files >"$room/before"
+    apt-get install -y --no-install-recommends /release/*_{amd64,all}.deb
+    dpkg -l | grep kupaldiz
+    echo "done: apt installs $(dpkg -l | grep -c '^ii.*kupaldiz') packages"
+    cp -r /usr/share/doc/libkupaldiz-dev/examples "$room/examples"
+    find "$room/examples" -name '*.gz' -exec gunzip {} +
+    make -C "$room/examples" check
+    make -C "$room/examples" clean
+    make -C "$room/examples" check LINK=-static
+    echo "done: the examples by pkg-config, shared and static"
+    registry_run storm 4 1000 | grep -x 'wrong 0'
+    echo "done: registry_run"
+    export CARGO_HOME=$room/cargo
+    mkdir -p "$CARGO_HOME" "$room/mine/src"
+    printf '[source.crates-io]\nreplace-with = "debian"\n[source.debian]\ndirectory = "/usr/share/cargo/registry"\n' >"$CARGO_HOME/config.toml"
+    printf '[package]\nname = "mine"\nversion = "0.0.0"\nedition = "2021"\n[dependencies]\nkupaldiz = "0.1"\n' >"$room/mine/Cargo.toml"
+    cp "/usr/share/cargo/registry/kupaldiz-$VERSION/examples/packet.rs" "$room/mine/src/main.rs"
+    (cd "$room/mine" && cargo run --offline)
+    echo "done: a program over librust-kupaldiz-dev"
+    apt-get purge -y libkupaldiz0.1 libkupaldiz-dev kupaldiz-tools librust-kupaldiz-dev
+    files >"$room/after"
+    diff "$room/before" "$room/after"
+    if dpkg -l | grep kupaldiz; then exit 1; fi
+    echo "done: apt removes them to nothing"
+}
+
+# In a root with a cross compiler and packages of arm64 beside its own: the Debian packages for arm64 are installed beside those for amd64, programs are built
+# over them and run under an emulator, and all is removed.
+try_arm64() {
+    export DEBIAN_FRONTEND=noninteractive
+    room=$(mktemp -d)
+    apt-get install -y --no-install-recommends /release/libkupaldiz{0.1,-dev}_*_{amd64,arm64}.deb
+    dpkg -l | grep kupaldiz
+    echo "done: apt installs $(dpkg -l | grep -c '^ii.*kupaldiz.*arm64') packages beside those for amd64"
+    cp -r /usr/share/doc/libkupaldiz-dev/examples "$room/examples"
+    find "$room/examples" -name '*.gz' -exec gunzip {} +
+    export PKG_CONFIG_LIBDIR=/usr/lib/aarch64-linux-gnu/pkgconfig RUN=qemu-aarch64-static CC=aarch64-linux-gnu-gcc
+    make -C "$room/examples" check
+    make -C "$room/examples" clean
+    make -C "$room/examples" check LINK=-static
+    echo "done: the examples by pkg-config, shared and static, under qemu"
+    apt-get purge -y libkupaldiz{0.1,-dev}:{amd64,arm64}
+    if dpkg -l | grep kupaldiz; then exit 1; fi
+    echo "done: apt removes them"
+}
+
+"try_$1"

@@ -1,1 +1,0 @@
-"""What tools/unwind-tables.py knows of each processor's instructions."""
