@@ -48,7 +48,7 @@ $(OVER_WAITING:%=$(OUT)/%): c/src/waiting.c c/include/waiting.h
 $(OUT)/turns: c/tests/turns.c c/src/waiting.c c/include/waiting.h c/tests/pauses.h
 $(OUT)/turns: CFLAGS += -include c/tests/pauses.h
 $(OUT)/turns: LINK = -Wl,--wrap=registry_destroy,--wrap=registry_perform_begin,--wrap=registry_perform_turn,--wrap=clock_gettime,--wrap=nanosleep,--wrap=sched_yield \
-    -Wl,--wrap=registry_local_release,--wrap=registry_local_give_up,--wrap=pthread_mutex_lock,--wrap=pthread_mutex_unlock
+    -Wl,--wrap=registry_local_release,--wrap=registry_local_give_up,--wrap=registry_advance,--wrap=pthread_mutex_lock,--wrap=pthread_mutex_unlock
 $(OUT)/deferred: c/tests/deferred.c c/tests/model.c c/tests/model.h
 $(OUT)/history: c/tests/history.c c/tests/model.c c/tests/model.h c/tests/wrapped_heap.h
 $(OUT)/history: LINK = $(WRAP)

@@ -540,11 +540,16 @@ static struct world *opened(const struct registry_settings *settings, uint64_t s
 	return world;
 }
 
+/* All or none is closed, whichever CPU is inside. */
 static void closed(struct world *world)
 {
-	for (unsigned c = 0; c < world->model.settings.cpus; c++)
-		DONE(registry_close_cpu(&world->cpus[c]));
-	DONE(registry_close_keeper(&world->keeper));
+	const unsigned cpus = (unsigned)world->model.settings.cpus;
+	for (unsigned c = 0; c < cpus; c++)
+		if (same(registry_enter(&world->cpus[c]), model_enter(&world->model, c)) == REGISTRY_DONE) {
+			EXPECT(registry_close(world->cpus, cpus, &world->keeper) == REGISTRY_INSIDE);
+			DONE(registry_exit(&world->cpus[c]));
+		}
+	DONE(registry_close(world->cpus, cpus, &world->keeper));
 	EXPECT(blocks == 0);
 	__real_free(world);
 }
