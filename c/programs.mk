@@ -131,6 +131,7 @@ $(ORDERED:%=$(OUT)/ordered-%): $(OUT)/ordered-%: %.c c/tests/ordered.c c/example
 
 # What ends with status 0 where it finds nothing wrong, with the words that make it brief; and the names of the pages, plain.
 CHECKED = smallest packet shared checked misuse refuse built turns $(OVER_WAITING) history walk entries crowd forwarder device_switch
+words_history = 300000
 words_together = 20
 words_walk = 200
 words_entries = 50

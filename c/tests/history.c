@@ -3,8 +3,8 @@
  *
  *     history [CHANGES [SEED [PART]]]
  *
- * The largest registry has room for CHANGES changes, by default ten million, and goes through them (`long`); smaller ones meet each limit (`small`), and
- * others come to the end of their sections (`sections`) or have very many references (`counts`). PART names one of these, to run alone.
+ * The largest registry has room for CHANGES changes, by default ten million, and goes through them (`long`). Smaller ones meet each limit (`small`), and two
+ * have very many references (`counts`). PART names one of these, to run alone.
  *
  * However many calls were made, a registry that is closed has no block of memory any more: the linker leads malloc, realloc and free here (--wrap), except
  * in the brief program. So the test knows the words of a registry's table. The section word of a CPU says how many sections it has begun: exactly as many
@@ -16,11 +16,11 @@
 #include "model.h"
 #include "wrapped_heap.h"
 
-/* Where each access takes long, the references to one entry, the small registries and the sections of a CPU that come to an end are fewer. */
+/* Where each access takes long, the references to one entry and the small registries are fewer. */
 #ifdef HISTORY_BRIEFLY
-enum { MANY = 101, MORE = 201, SMALL = 4, SECTIONS = 20 };
+enum { MANY = 101, MORE = 201, SMALL = 4 };
 #else
-enum { MANY = 70001, MORE = 1000001, SMALL = 200, SECTIONS = 1000 };
+enum { MANY = 70001, MORE = 1000001, SMALL = 200 };
 #endif
 
 /* The blocks that the archive's calls have taken and not freed. The table of the last registry, and its bytes: the last block of that size is it. */
@@ -448,13 +448,18 @@ static void let_all_go(struct world *world)
 		release_held(world, &world->locals[world->held - 1]);
 }
 
-/* And then what is retired is freed, twice over: an interface before the driver that its slot keeps. */
-static void settle(struct world *world)
+/* What is retired is freed if nothing holds it, twice over: an interface before the driver that its slot keeps. */
+static void free_retired(struct world *world)
 {
-	let_all_go(world);
 	for (unsigned s = 0; s < 2 * SLOTS; s++)
 		if (world->model.slots[s % SLOTS].state == RETIRED)
 			advance_number(world, world->model.slots[s % SLOTS].entry.number);
+}
+
+static void settle(struct world *world)
+{
+	let_all_go(world);
+	free_retired(world);
 }
 
 /* The CPU has begun as many sections as the model counts. */
@@ -495,8 +500,8 @@ static enum writer act(struct world *world)
 /* A few calls on one CPU, most of which change something: entries of each kind come and go. */
 static void hurry(struct world *world)
 {
-	static void (*const calls[])(struct world *) = {enter_find, acquire_local, leave, attach_iface, attach, look_up, attach, detach, attach, detach, destroy,
-	    detach, look_up, detach, get, detach, settle};
+	static void (*const calls[])(struct world *) = {enter_find, acquire_local, leave, attach_iface, release_local, attach, look_up, attach, detach, attach, detach,
+	    destroy, detach, look_up, detach, free_retired};
 	any_cpu(world);
 	world->stays = true;
 	for (unsigned i = 0; i < sizeof calls / sizeof *calls; i++) {
@@ -588,12 +593,18 @@ static uint64_t run_out(struct world *world)
 	return changes;
 }
 
+/* Whether CPU 0 has come to the end of its sections, where few are allowed. */
+static bool is_spent(const struct model *model)
+{
+	return model->settings.section_limit == REGISTRY_MOST_SECTIONS || model->cpus[0].sections == model->settings.section_limit;
+}
+
 /* A small registry to its end. */
 static void run(const struct registry_settings *settings, uint64_t seed)
 {
 	struct world *world = opened(settings, seed);
 	uint64_t changes = settings->change_limit - SLOTS - 2;
-	for (uint64_t turn = 1; world->model.changes < changes && turn < 200 * settings->change_limit; turn++) {
+	for (uint64_t turn = 1; (world->model.changes < changes || !is_spent(&world->model)) && turn < 200 * settings->change_limit; turn++) {
 		enum writer writer = act(world);
 		if (turn % 1024 == 0) {
 			settle(world);
@@ -602,32 +613,29 @@ static void run(const struct registry_settings *settings, uint64_t seed)
 		if (table != NULL)
 			same_writers(world, writer);
 	}
-	EXPECT(world->model.changes >= changes);
+	EXPECT(world->model.changes >= changes && is_spent(&world->model));
 	run_out(world);
 }
 
 /* The largest registry to the end of so many changes: by turns all calls, and those that change. */
 static uint64_t run_long(uint64_t changes, uint64_t seed)
 {
-	enum { TURNS = 1024, HURRIED = 200 };
+	enum { TURNS = 1024, HURRIED = 400 };
 	const struct registry_settings largest = {CPUS, SLOTS, changes, REGISTRY_MOST_SECTIONS, REGISTRY_MOST_COUNT, REGISTRY_MOST_COUNT};
 	struct world *world = opened(&largest, seed);
 	for (uint64_t turn = 0; world->model.changes + SLOTS + 2 < changes && turn < 20 * changes; turn++) {
+		if (turn % (TURNS + HURRIED) == TURNS)
+			settle(world);
 		if (turn % (TURNS + HURRIED) < TURNS)
 			act(world);
 		else
 			hurry(world);
-		if (turn % TURNS == 0)
-			settle(world);
 	}
 	EXPECT(world->model.changes + SLOTS + 2 >= changes);
 	return run_out(world);
 }
 
-/*
- * The registry's answers where sections, references and counts come to their limits: each registry is small, so that they come often. The sections of
- * each CPU are counted so: what the CPU remembers begins none.
- */
+/* The registry's answers where sections, references and counts come to their limits: each registry is small, so that they come often. */
 static void run_small(uint64_t seed)
 {
 	struct registry_settings settings = {1, 1, 300 + SLOTS + 2, REGISTRY_MOST_SECTIONS, 3, 3};
@@ -637,84 +645,6 @@ static void run_small(uint64_t seed)
 		settings.section_limit = i % 2 == 0 ? REGISTRY_MOST_SECTIONS : 5 + i % 97;
 		run(&settings, seed + i);
 	}
-}
-
-/* A CPU's sections come to an end. Then each enter is refused, except one nested in an open section. */
-static void spend_sections(void)
-{
-	const struct registry_settings settings = {1, 1, 10, 5, 1, 1};
-	struct world *world = opened(&settings, 1);
-	for (unsigned turn = 0; turn < 2000; turn++)
-		(below(world, 4) == 0 ? look_up : below(world, 2) ? enter : leave)(world);
-	EXPECT(world->model.cpus[0].sections == 5);
-	settle(world);
-	EXPECT(same(registry_enter(&world->cpus[0]), model_enter(&world->model, 0)) == REGISTRY_SECTIONS_SPENT);
-	closed(world);
-}
-
-/* What no CPU enters any more: each call that begins a section is refused. */
-static void expect_spent(struct world *world, unsigned cpu)
-{
-	struct registry_entry none = {0}, wanted = {0};
-	lookup *const calls[] = {registry_look_up, registry_enter_find, registry_get};
-	model_lookup *const model_calls[] = {model_look_up, model_enter_find, model_get};
-	EXPECT(same(registry_enter(&world->cpus[cpu]), model_enter(&world->model, cpu)) == REGISTRY_SECTIONS_SPENT);
-	for (unsigned i = 0; i < sizeof calls / sizeof *calls; i++) {
-		uint32_t answer = calls[i](&world->cpus[cpu], REGISTRY_DRIVER, &names[0], &none);
-		same_entry(answer, &none, model_calls[i](&world->model, cpu, REGISTRY_DRIVER, &names[0], &wanted), &wanted);
-		EXPECT(answer == REGISTRY_SECTIONS_SPENT);
-	}
-}
-
-/* A CPU goes through all its sections; a look-up beside each spends none, except the first. In the last one it refers to the driver, and enters once more. */
-static void spend(struct world *world, unsigned cpu)
-{
-	struct registry_cpu *own = &world->cpus[cpu];
-	struct registry_entry found = {0}, wanted = {0};
-	struct held *held = &world->locals[world->held++];
-	while (world->model.cpus[cpu].sections + 1 < world->model.settings.section_limit) {
-		DONE(same_entry(registry_look_up(own, REGISTRY_DRIVER, &names[0], &found), &found,
-		    model_look_up(&world->model, cpu, REGISTRY_DRIVER, &names[0], &wanted), &wanted));
-		DONE(same_entry(registry_enter_find(own, REGISTRY_DRIVER, &names[0], &found), &found,
-		    model_enter_find(&world->model, cpu, REGISTRY_DRIVER, &names[0], &wanted), &wanted));
-		DONE(same(registry_exit(own), model_exit(&world->model, cpu)));
-	}
-	DONE(same_entry(registry_enter_find(own, REGISTRY_DRIVER, &names[0], &found), &found,
-	    model_enter_find(&world->model, cpu, REGISTRY_DRIVER, &names[0], &wanted), &wanted));
-	DONE(same(registry_acquire(own, NULL), model_acquire(&world->model, cpu, &held->number)));
-	DONE(same(registry_local_acquire(own, &held->handle), model_local_acquire(&world->model, cpu, &held->number)));
-	DONE(same(registry_enter(own), model_enter(&world->model, cpu)));
-	for (unsigned depth = 2; depth > 0; depth--)
-		DONE(same(registry_exit(own), model_exit(&world->model, cpu)));
-	expect_spent(world, cpu);
-}
-
-/*
- * All CPUs come to the end of their sections. Then no call enters on any. What needs no section is done: a reference is read and released, an entry is
- * attached, detached and freed, a wait ends.
- */
-static void spend_all_sections(void)
-{
-	const struct registry_settings settings = {CPUS, SLOTS, 10, SECTIONS, 3, 3};
-	struct world *world = opened(&settings, 1);
-	struct registry_entry entry = {0}, wanted = {0};
-	DONE(same_entry(registry_attach(&world->keeper, &world->cpus[0], &names[0], 7, &entry), &entry,
-	    model_attach(&world->model, 0, 0, &names[0], 7, &wanted), &wanted));
-	for (unsigned c = 0; c < CPUS; c++)
-		spend(world, c);
-	DONE(same_entry(registry_detach(&world->keeper, &world->cpus[0], REGISTRY_DRIVER, &names[0], &entry), &entry,
-	    model_detach(&world->model, 0, REGISTRY_DRIVER, &names[0], &wanted), &wanted));
-	DONE(same_entry(registry_attach(&world->keeper, &world->cpus[0], &names[0], 8, &entry), &entry,
-	    model_attach(&world->model, 0, 0, &names[0], 8, &wanted), &wanted));
-	for (unsigned turn = 0; turn < 100; turn++)
-		(turn % 2 == 0 ? read_held : advance)(world);
-	begin_wait(world);
-	turn_wait(world);
-	audit(world);
-	end_history(world);
-	for (unsigned c = 0; c < CPUS; c++)
-		expect_spent(world, c);
-	closed(world);
 }
 
 /* Sections nest to the greatest depth, and no deeper. */
@@ -807,10 +737,6 @@ int main(int argc, char **argv)
 		char text[8];
 		snprintf(text, sizeof text, "n%u", i);
 		names[i] = name_of(text);
-	}
-	if (part == NULL || strcmp(part, "sections") == 0) {
-		spend_sections();
-		spend_all_sections();
 	}
 	if (part == NULL || strcmp(part, "counts") == 0) {
 		refer_often();
