@@ -8,8 +8,8 @@
  *
  * However many calls were made, a registry that is closed has no block of memory any more: the linker leads malloc, realloc and free here (--wrap), except
  * in the brief program. So the test knows the words of a registry's table. The section word of a CPU says how many sections it has begun: exactly as many
- * as the model counts, so what the CPU remembers begins none. In small registries no call of a CPU writes on a line of 64 bytes that another CPU or the
- * keeper writes on. The last line says how many calls were compared, of how many changes.
+ * as the model counts, so what the CPU remembers begins none. In small registries no call of one CPU alone writes on a line of 64 bytes that another one's
+ * calls or a detach write on. The last line says how many calls were compared, of how many changes.
  */
 #include <inttypes.h>
 

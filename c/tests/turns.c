@@ -38,7 +38,7 @@ struct planned {
 	uint32_t first;			/* what a begin or a release returns */
 	uint32_t refused, last;		/* what the first turns return, and the one after them */
 	unsigned refusals;		/* how many those are */
-	int64_t until;			/* the deadline in nanoseconds, or INT64_MAX */
+	int64_t until;			/* the deadline in nanoseconds; INT64_MAX if it never comes, or there is none */
 	struct timespec deadline;
 	bool has_deadline;
 	char next[8];			/* the steps that come next */
@@ -67,7 +67,6 @@ int __wrap_sched_yield(void);
 uint32_t __wrap_registry_destroy(struct registry_keeper *of, struct registry_cpu *on, uint64_t number, struct registry_stage *stage);
 uint32_t __wrap_registry_perform_begin(struct registry_keeper *of, struct registry_cpu *on, struct registry_wait *wait);
 uint32_t __wrap_registry_perform_turn(struct registry_keeper *of, struct registry_cpu *on, struct registry_wait *wait, uint64_t *waited);
-
 uint32_t __wrap_registry_local_release(struct registry_cpu *on, struct registry_local *of);
 uint32_t __wrap_registry_local_give_up(struct registry_keeper *of, struct registry_local *local);
 uint32_t __wrap_registry_advance(struct registry_keeper *of, uint64_t number, struct registry_stage *stage);
@@ -265,7 +264,10 @@ static void plan(struct planned *wait)
 {
 	static const uint32_t refusals[CALLS] = {REGISTRY_STILL_HELD, REGISTRY_WAITING, REGISTRY_STILL_HELD, REGISTRY_NO_MORE + 1};
 	static const char *const begins[CALLS] = {"l@", "lb", "l@", "r"};
-	*wait = (struct planned){.call = (enum call)below(CALLS), .mutex = (unsigned)below(PLACES), .keeper = (unsigned)below(PLACES), .cpu = (unsigned)below(PLACES)};
+	*wait = (struct planned){.call = (enum call)below(CALLS), .sleep = FIRST_SLEEP};
+	wait->mutex = (unsigned)below(PLACES);
+	wait->keeper = (unsigned)below(PLACES);
+	wait->cpu = (unsigned)below(PLACES);
 	wait->number = below(1000);
 	wait->refused = refusals[wait->call];
 	wait->last = wait->call == BARRIER || below(2) == 0 ? REGISTRY_DONE : (uint32_t)below(REGISTRY_NO_MORE + 1);
@@ -273,7 +275,6 @@ static void plan(struct planned *wait)
 		wait->last = REGISTRY_DONE;
 	wait->first = below(2) == 0 ? (uint32_t)below(REGISTRY_NO_MORE + 1) : wait->call == DROP ? REGISTRY_COLLECTED : REGISTRY_DONE;
 	wait->refusals = (unsigned)below(MOST_TURNS);
-	wait->sleep = FIRST_SLEEP;
 	wait->list = (struct registry_deferred){.keeper = &keepers[wait->keeper], .registry = keepers[wait->keeper].at, .count = 1};
 	wait->list.entries[0].number = wait->number;
 	plan_deadline(wait);
@@ -328,14 +329,14 @@ static void test_waits(void)
 	EXPECT(sleeps > WAITS && yields > WAITS && late > WAITS / 10 && beside > WAITS / 10);
 }
 
-/* A wait has no number of turns after which it ends: it ends with the answer, also if it has a deadline that never comes. */
+/* A wait has no number of turns after which it ends: it ends with the answer. A perform also if it has a deadline that never comes. */
 static void test_many_turns(unsigned turns)
 {
 	struct planned wait;
 	alone = true;
 	for (enum call which = DESTROY; which < DROP;) {
 		plan(&wait);
-		if (wait.call != which || wait.until != INT64_MAX || wait.last != REGISTRY_DONE || (which == PERFORM && wait.first != REGISTRY_DONE))
+		if (wait.call != which || wait.until != INT64_MAX || wait.has_deadline != (which == PERFORM) || wait.first != REGISTRY_DONE)
 			continue;
 		wait.refusals = turns - 1;
 		make(&wait);
