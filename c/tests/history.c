@@ -620,7 +620,7 @@ static void run(const struct registry_settings *settings, uint64_t seed)
 /* The largest registry to the end of so many changes: by turns all calls, and those that change. */
 static uint64_t run_long(uint64_t changes, uint64_t seed)
 {
-	enum { TURNS = 1024, HURRIED = 400 };
+	enum { TURNS = 32 * SLOTS, HURRIED = 600 };
 	const struct registry_settings largest = {CPUS, SLOTS, changes, REGISTRY_MOST_SECTIONS, REGISTRY_MOST_COUNT, REGISTRY_MOST_COUNT};
 	struct world *world = opened(&largest, seed);
 	for (uint64_t turn = 0; world->model.changes + SLOTS + 2 < changes && turn < 20 * changes; turn++) {

@@ -29,13 +29,13 @@ static const struct {
 	[FEW_LOCAL] = {"a CPU may have acquired 65,535 local references more than it has released", "counts"},
 	[LOST_BLOCKS] = {"from the 65,535th on a release of a local reference loses a block of memory", "counts"},
 	[LONG_IFACES] = {"a look-up of an interface begins a section from the 100,000th change on", "long"},
-	[LONG_ON_HIGH_CPUS] = {"a look-up on a CPU above 4 begins a section", "long"},
+	[LONG_ON_HIGH_CPUS] = {"a look-up on a CPU of the upper half begins a section", "long"},
 	[LONG_ABSENCES] = {"a look-up that finds nothing begins a section from the 100,000th change on", "long"},
 	[LONG_GETS] = {"a get begins a section if the CPU has 900,000 passive references", "counts"},
 	[SHARED_LINE] = {"an enter writes on the line of the next CPU", "small"},
 };
 
-enum { MOST_TOLD = 255, MOST_OF_16_BITS = 65535, MOST_OF_17_BITS = 131071, HIGHEST_SHORT = 4 };
+enum { MOST_TOLD = 255, MOST_OF_16_BITS = 65535, MOST_OF_17_BITS = 131071, HIGHEST_SHORT = REGISTRY_MOST_CPUS / 2 };
 
 static enum fault planted;
 
