@@ -2,7 +2,7 @@
  * bench.h - run a driver's threads in every order
  *
  * A test writes a function that prepares the driver and makes threads, and calls bench_explore with it. The threads call the driver, which includes
- * sys/ and net/ as with kupaldiz_netbsd(7). Each call of the layer, each atomic access and each barrier is a point: the bench may go on with another
+ * sys/ and net/ as with kupaldiz_netbsd(7). Each call of the layer, each atomic access and each barrier is a point: the explorer may go on with another
  * thread there. bench_explore runs the threads in one order after another, and stops at the first order in which something is wrong.
  *
  * A file that is compiled with -fsanitize=thread tells its plain accesses. Two to one memory are a data race, which is a fault, where one writes and nothing

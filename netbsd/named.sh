@@ -1,5 +1,5 @@
 #!/bin/sh
-# Writes the headers of include/sys that only give a header of include/kupaldiz the names by which the pages include it. One that is there stays; git keeps none.
+# Writes the headers of include/sys that only give a header of include/kupaldiz the names that the pages include. One that is there stays; git keeps none.
 cd "$(dirname "$0")/include/sys" || exit
 while read -r header names; do
     for name in $names; do

@@ -70,7 +70,7 @@ same libkupaldiz.a "$calls" "$(static "$out/libkupaldiz.a")"
 others='registry_(for_.*|name_.*|id_of_name|text|strerror|version|limits|lock_of_mutex|deferred_count|threads_.*|thread_cpu)'
 same registry_check.h "$(grep -vxE "$others" <<<"$calls")" "$(sed -nE 's/^#define (registry_[a-z_]+)\(.*/\1/p' c/include/registry_check.h | grep -vx registry_check_interlock | sort)"
 same libkupaldiz_check.a "$(packaging/calls-of.sh c/include/{registry_check,waiting}.h)" "$(static "$out/libkupaldiz_check.a")"
-# With the pages' names the bench has three calls more, its own, and those that the compiler makes with -fsanitize=thread.
+# With the pages' names the explorer has three calls more, its own, and those that the compiler makes with -fsanitize=thread.
 pages=$({ packaging/calls-of.sh netbsd/include/kupaldiz/*.h; grep '^registry_for_' <<<"$calls"; } | with_prefix)
 calls=$(grep -vxE 'kupaldiz_(point|from|unseen)' <<<"$pages")
 same netbsd.map "$(in_maps <<<"$calls")" "$(mapped netbsd/netbsd.map)"

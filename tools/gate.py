@@ -40,7 +40,7 @@ sys.exit(gate(
         Part("the bench", f"{FACE} bench"),
         Part("manual page", f"{FACE} page"),
         Part("program", "tools/test-program.py"),
-        # 960,008 changes behind the lock, each answer of which is judged: no test that is compiled without a proof comes so far.
+        # 960,008 changes behind the lock, each with its result judged: no test that is compiled without a proof comes so far.
         Part("a history almost to its end", f"{BENCH} changes 20000", STATUS),
         Part("examples", f"tools/run-examples.py --program {PROGRAM}"),
         Part("conformance kit", "tools/conformance.py test"),

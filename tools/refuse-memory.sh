@@ -1,6 +1,6 @@
 #!/bin/bash
-# Refuses each allocation of the memory tests in turn, the 1st, the 2nd and so on: want of memory must be answered as such, change
-# nothing, and the call made again must answer as it would have at first.
+# Refuses each allocation of the memory tests in turn, the 1st, the 2nd and so on. The call must say that memory ran out, and change
+# nothing; made again, it must return what it would have returned at first.
 #
 # The merge gate can't refuse memory, so it doesn't run this; run it by hand after a change of what allocates. Without arguments it goes
 # over each crate that has memory tests; else over the crates named. An allocation takes half a minute: FROM=45 goes on from the 45th, where a run

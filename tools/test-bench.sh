@@ -40,7 +40,7 @@ prints_what_was_tried() {
         grep -qx 'bridge: every schedule of its points was tried, or one that is the same as it' <("$out/plain/drivers" bridge)
 }
 
-# The tables of the README say what was printed.
+# The table of the README and that of tests/faults.txt say what was printed.
 drivers_as_told() {
     "$out/plain/drivers" | "$folder/tests/table.py" drivers
 }
@@ -132,7 +132,7 @@ check "the same with sanitizers" "$out/sanitized/outcomes" 61 4
 counted "faults in the reduction's rules are told by programs that are written there" make -s -C $folder rules EACH=1
 check "the outcomes of real threads are among the bench's" make -s -C $folder beside
 counted "each misuse of the layer's tests by the same line" make -s -C $folder misuses
-counted "faults in the seven drivers, as the README says" faults_as_told
+counted "faults in the seven drivers, as the table says" faults_as_told
 if command -v clang >/dev/null; then
     check "the bench is built by clang, no warning, and counts" with_clang
 fi

@@ -28,7 +28,7 @@ runs() {
     built smallest "$@" && "$room/smallest" | grep -x 'wm0 has value 1500' && built together "$@" && "$room/together" 2
 }
 
-# The same over musl, and waits that are interrupted, of which deadlines and cancellations are the C library's.
+# The same over musl, and waits that are interrupted: their deadlines and cancellations are the C library's.
 runs_over_musl() {
     runs musl-gcc "$@" && built interrupted musl-gcc "$@" && "$room/interrupted"
 }

@@ -2,7 +2,7 @@
  * storm CPUS TURNS - all CPUs at work at once, each on a thread
  *
  * In each turn a CPU enters a section, looks the interface `wm0` and then the driver `drv` up, acquires a passive and a local reference to the
- * driver, exits, reads the driver by both, releases the passive one, lays the local one into the next CPU's basket, and releases what it takes
+ * driver, and exits. It reads the driver by both, releases the passive one, lays the local one into the next CPU's basket, and releases what it takes
  * out of baskets. CPU 0 also attaches or detaches the interface in each turn, and works on what it has detached. At the end everything is
  * released, audited and destroyed on CPU 0. It prints what `registry_run storm` prints; `wrong` counts each result that wasn't
  * expected.

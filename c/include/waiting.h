@@ -241,8 +241,8 @@ REGISTRY_WORDS(struct registry_threads, 1);
  * Nobody else uses the CPUs, or moves their handles, until registry_threads_close. They may be some
  * of a registry's CPUs: the thread that makes changes may keep one.
  * Returns REGISTRY_NULL if `cpus` is NULL, REGISTRY_BAD_SETTINGS if `count` is 0 or more than
- * REGISTRY_MOST_CPUS, REGISTRY_EMPTY_HANDLE for that of a CPU, REGISTRY_FULL_HANDLE for that of the
- * pool, REGISTRY_NO_MEMORY if memory ran out, or keys of threads did.
+ * REGISTRY_MOST_CPUS; REGISTRY_EMPTY_HANDLE for that of a CPU, REGISTRY_FULL_HANDLE for that of the
+ * pool; REGISTRY_NO_MEMORY if memory ran out, or keys of threads did.
  */
 registry_answer registry_threads_open(struct registry_threads *threads, struct registry_cpu *cpus,
     size_t count) REGISTRY_NONNULL(1) REGISTRY_CHECKED;

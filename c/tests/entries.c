@@ -163,7 +163,7 @@ static uint64_t look_elsewhere(struct registry_cpu *cpu, helper *call)
 	return other.number;
 }
 
-/* Whatever a helper looks up in between, the entry that is meant is acquired, by either reference, and no other. */
+/* The entry that is meant is acquired, by either reference, and no other, also if a helper looks another one up in between. */
 static void check_redirected(struct registry_cpu *cpu, const struct registry_name *name)
 {
 	helper *const helpers[] = {registry_find, registry_look_up, registry_get, registry_enter_find};

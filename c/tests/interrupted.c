@@ -1,6 +1,6 @@
 /*
- * interrupted - each wait of waiting.h under a storm of signals, in a thread that is cancelled, and with handles that are empty, places that are NULL, and in
- * a section of its own; a wait for a CPU also with a deadline that never comes
+ * interrupted - each wait of waiting.h under a storm of signals; in a thread that is cancelled; with handles that are empty and places that are NULL; in a
+ * section of its own. A wait for a CPU also with a deadline that never comes
  */
 #include <pthread.h>
 #include <sched.h>

@@ -296,7 +296,7 @@ static void *fork_with_cpu(void *of)
 	return of;
 }
 
-/* Others have and want CPUs at the fork. The parent goes on. */
+/* At the fork some threads have CPUs and others wait for one. The parent goes on. */
 static void test_fork(void)
 {
 	pthread_t threads[THREADS];

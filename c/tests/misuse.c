@@ -441,7 +441,7 @@ static void check_null_rows(struct bench *bench)
 	DONE(registry_exit(cpu));
 }
 
-/* A cursor that is NULL, and one that was never begun; no place for the entries, of which there are two. */
+/* A cursor that is NULL, and one that was never begun; no place for the two entries. */
 static void check_cursors(struct bench *bench)
 {
 	struct registry_cpu *cpu = &bench->cpus[0];

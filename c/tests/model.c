@@ -383,7 +383,7 @@ static uint64_t kind_on(uint64_t driver)
 	return driver == 0 ? REGISTRY_DRIVER : REGISTRY_INTERFACE;
 }
 
-/* Why no such entry may be attached, whatever room there is. */
+/* Why no such entry may be attached, even if there is room. */
 static uint32_t unfit(struct model *model, unsigned cpu, uint64_t driver)
 {
 	if (is_inside(model, cpu))

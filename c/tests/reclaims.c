@@ -60,7 +60,7 @@ static pthread_mutex_t mutex;
 static struct registry_name wm;
 static const struct timespec PAST = {0, 0};
 
-/* What was freed: how many, the last one, and by which thread. */
+/* What was freed: how many, the last one, and the thread that did. */
 static atomic_uint freed;
 static atomic_uint_fast64_t last_freed;
 static pthread_t by;

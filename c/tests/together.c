@@ -39,7 +39,7 @@ static struct registry_name names[CHANGERS];
 static unsigned long rounds;
 static atomic_bool over;
 static atomic_uint freed, uses;
-/* Which changers are between two turns of a wait, a bit for each of both registries, and which were so with which others. */
+/* Which changers are between two turns of a wait, a bit for each of both registries, and which were so together. */
 static atomic_uint waiting, together[REGISTRIES * CHANGERS];
 static _Thread_local unsigned self;
 static _Thread_local bool waits;

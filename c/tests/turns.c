@@ -5,8 +5,8 @@
  * return what the test says, and time is the test's own. A wait is planned at random: which call, on which of some registries, CPUs and mutexes, with which
  * deadline, and what its turns return. While it lets time pass others begin, as on other threads, and end before it goes on.
  *
- * Each step has a letter, and the model knows which come next: l and u a mutex locked and unlocked, d a destroy's turn, b and p a perform's begin and
- * turn, a one of a barrier, y a yield, s a sleep, r a local reference's release and c its being given up.
+ * Each step has a letter, and the model knows which come next: l and u a mutex locked and unlocked; d a destroy's turn; b and p a perform's begin and
+ * turn; a one of a barrier; y a yield; s a sleep; r a local reference's release and c its being given up.
  * With `emulated` waits are shorter, and no robust mutex is tried: qemu-user marks none whose owner has ended.
  */
 #include <errno.h>
@@ -393,7 +393,7 @@ static void test_mutex(void)
 	EXPECT(pthread_mutex_trylock(&mutex) == 0 && pthread_mutex_unlock(&mutex) == 0);
 }
 
-/* Whatever a mutex fails with, the program is aborted. */
+/* The program is aborted if a mutex fails, with any error. */
 static void test_errors(void)
 {
 	pthread_mutex_t mutex;

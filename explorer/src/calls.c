@@ -30,7 +30,7 @@ void at_thing(const char *call, enum kind kind, const void *thing, size_t size, 
 	touch(kind, thing, 0, how);
 }
 
-/* ---- Calls for which the thread has its CPU. ---- */
+/* ---- Calls whose thread has its CPU. ---- */
 
 void at_cpu(const char *call, unsigned how)
 {

@@ -3,8 +3,8 @@
  *
  * This is dynamic partial-order reduction with source sets and sleep sets: Abdulla, Aronis, Jonsson, Sagonas, "Source Sets: A Foundation for Optimal
  * Dynamic Partial Order Reduction", Journal of the ACM 64(4), 2017. That paper begins with threads which no other thread disables. Here a lock, a
- * wake-up, a soft interrupt or the end of a handler disables others, and so two rules are from Flanagan, Godefroid, "Dynamic Partial-Order Reduction for
- * Model Checking Software", POPL 2005: the search looks back from a step to the last one at which its thread was enabled, and it does so from the
+ * wake-up, a soft interrupt or the end of a handler disables others, and so two rules are from Flanagan, Godefroid: "Dynamic Partial-Order Reduction for
+ * Model Checking Software", POPL 2005. The search looks back from a step to the last one at which its thread was enabled, and it does so from the
  * step that a disabled thread would make next, too.
  *
  * A step comes after another one if they conflict, and after what that one comes after. A guard's reads are among the accesses of its step, so a
@@ -12,8 +12,8 @@
  * have gone on before the earlier step. For each race the search adds a backtrack point: at the earlier step a thread is planned that leads to the later
  * step first.
  *
- * A plain access is no access of a step, unless it is a point of its own. Let two steps that commute here have plain accesses to one memory, one of which
- * writes. Where the two are neighbours nothing orders them, and so the run is wrong by a data race (plain.c), whichever comes first. As long as no run is
+ * A plain access is no access of a step, unless it is a point of its own. Let two steps that commute here have plain accesses to one memory, and one of
+ * them write. Where the two are neighbours nothing orders them, and so the run is wrong by a data race (plain.c), whichever comes first. As long as no run is
  * wrong, such neighbours leave the same memory in both orders. For this, two steps must conflict here if the one acquires the clock that the other
  * has released.
  */

@@ -1,4 +1,4 @@
-/* inside.h - what the parts of the bench share; no program includes it */
+/* inside.h - what the parts of the explorer share; no program includes it */
 #ifndef KUPALDIZ_BENCH_INSIDE_H
 #define KUPALDIZ_BENCH_INSIDE_H
 
@@ -66,7 +66,7 @@ typedef bool guard_fn(const struct routine *routine);
 
 typedef uint32_t clocks[THREADS];
 
-/* A thread as the bench has it. */
+/* A thread as the explorer has it. */
 struct routine {
 	void *stack;		/* where it was left */
 	void *fake_stack;

@@ -1,5 +1,5 @@
 /*
- * locks.c - lock.c, pause.c and the C library's threads, as the bench has them
+ * locks.c - lock.c, pause.c and the C library's threads, as the explorer has them
  *
  * A thread that waits names what it waits for; the scheduler asks that before it goes on with the thread. Nothing looks again and again.
  */

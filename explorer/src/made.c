@@ -1,4 +1,4 @@
-/* made.c - locks, callouts and works in queues, as far as they lie in memory that is given back; and wake-ups for which nobody waited */
+/* made.c - locks, callouts and works in queues, as far as they lie in memory that is given back; and wake-ups that nobody waited for */
 #include <stdio.h>
 #include <string.h>
 

@@ -1,3 +1,3 @@
-/* module_hooks.c - module_hook.c over the bench's calls, so that each of its calls and accesses is a point */
+/* module_hooks.c - module_hook.c over the explorer's calls, so that each of its calls and accesses is a point */
 #define KUPALDIZ_BENCH
 #include "module_hook.c"

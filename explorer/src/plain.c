@@ -1,9 +1,9 @@
 /*
- * plain.c - uses of memory, and data races: two uses of one memory that are unordered, one of which writes, and not both of which are atomic
+ * plain.c - uses of memory, and data races: two uses of one memory that are unordered; one writes, and not both are atomic
  *
  * The compiler's calls (tsan.c) tell each plain access, and the layer's calls tell what is given back. Whether two uses are ordered is read off the vector
- * clocks of words.c: Flanagan, Freund, "FastTrack: Efficient and Precise Dynamic Race Detection", PLDI 2009. Of each eight bytes the last uses are kept:
- * those that no later use of the same bytes stands for.
+ * clocks of words.c: Flanagan, Freund, "FastTrack: Efficient and Precise Dynamic Race Detection", PLDI 2009. It keeps the last uses of each eight bytes:
+ * those that no later use of the same bytes has replaced.
  */
 #include <string.h>
 
@@ -36,7 +36,7 @@ static bool is_again(const struct plain *old, const struct plain *now)
 	return old->thread == now->thread && old->at == now->at && covers(old, now);
 }
 
-/* A use of some of eight bytes: it takes the row of one that it stands for from now on. */
+/* A use of some of eight bytes: it takes the row of one that it replaces from now on. */
 static void record(const struct routine *me, struct plain now)
 {
 	struct plain *row = NULL;

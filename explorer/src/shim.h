@@ -1,5 +1,5 @@
 /*
- * shim.h - what the layer's sources call of the C library and of the registry, as the bench has it; the compiler reads it before each of them
+ * shim.h - what the layer's sources call of the C library and of the registry, as the explorer has it; the compiler reads it before each of them
  */
 #ifndef KUPALDIZ_BENCH_SHIM_H
 #define KUPALDIZ_BENCH_SHIM_H

@@ -1,8 +1,8 @@
 /*
- * softints.c - softint_thread.c, as the bench has it
+ * softints.c - softint_thread.c, as the explorer has it
  *
  * Each CPU has a thread for the soft interrupts of each level, as in the kernel: a handler that waits for a lock keeps no other level off. It can go on
- * where one waits there, and nobody has the CPU or somebody at a lower level, whatever point that thread is at. Of several levels the highest goes first. Whoever has the CPU goes on when the handlers have ended, or one of them waits for a lock.
+ * where one waits there, and nobody has the CPU or somebody at a lower level, at any point. The highest level goes first. Whoever has the CPU goes on when the handlers have ended, or one of them waits for a lock.
  */
 #include "inside.h"
 
@@ -110,7 +110,7 @@ void want_softint_thread(struct thread *me, struct cpu *cpu, int level)
 {
 	struct routine **softint = &softints[cpu->info.ci_index][level];
 	(void)me;
-	/* A soft interrupt is about to wait there, for which a callout's time may have come. */
+	/* A soft interrupt is about to wait there: a callout's time may have come for it. */
 	touch(ON_PENDING, NULL, cpu->info.ci_index, WRITES | RELEASES);
 	if (*softint != NULL)
 		return;

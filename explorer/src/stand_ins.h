@@ -1,4 +1,4 @@
-/* stand_ins.h - what stands in for calls of the C library and of the registry in the layer's sources; shim.h has their names */
+/* stand_ins.h - the layer's sources call these in place of the C library and of the registry; shim.h has their names */
 #ifndef KUPALDIZ_BENCH_STAND_INS_H
 #define KUPALDIZ_BENCH_STAND_INS_H
 

@@ -95,7 +95,7 @@ static void add_object(const struct dl_phdr_info *object)
 	}
 }
 
-/* The program comes first; of the others only the one that this function lies in is the bench's. */
+/* The program comes first; of the others only the one that this function lies in is the explorer's. */
 static int look_at(struct dl_phdr_info *object, size_t size, void *first)
 {
 	(void)size;

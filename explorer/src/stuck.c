@@ -81,7 +81,7 @@ static void append(char *text, size_t room, const char *more)
 	snprintf(text + length, room - length, "%s", more);
 }
 
-/* Where a thread waits, and for whom. */
+/* Where a thread waits, and who it waits for. */
 static const struct routine *report_wait(const struct routine *me, char *text, size_t room)
 {
 	char more[512];
@@ -105,7 +105,7 @@ static const struct routine *first_stuck(void)
 	return &run.routines[0];
 }
 
-/* Tells who waits for whom, up to one who waits for nobody, or for one that was told. */
+/* Tells who waits, and who each waits for, up to one who waits for nobody, or for one that was told. */
 void report_stuck(void)
 {
 	char text[BENCH_LINE] = "";

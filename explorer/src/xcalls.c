@@ -1,5 +1,5 @@
 /*
- * xcalls.c - xcall(9) is asynchronous: a thread of the bench's own goes to the CPUs, while the caller goes on until its xc_wait
+ * xcalls.c - xcall(9) is asynchronous: a thread of the explorer's own goes to the CPUs, while the caller goes on until its xc_wait
  *
  * The thread makes one call after another, each by the layer's own xc_broadcast or xc_unicast.
  */

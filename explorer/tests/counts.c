@@ -254,7 +254,7 @@ static void make_writers(void)
 	bench_thread("last", write_last, NULL);
 }
 
-/* Each of many words has a release of its own, by which its owner's clock is told. */
+/* Each of many words has a release of its own, which tells its owner's clock. */
 static void release_many(void *arg)
 {
 	(void)arg;

@@ -1,4 +1,4 @@
-/* finds.h - cases of what the bench finds: each runs, and its schedule is replayed */
+/* finds.h - cases of what the explorer finds: each runs, and its schedule is replayed */
 #ifndef BENCH_FINDS_H
 #define BENCH_FINDS_H
 
@@ -44,7 +44,7 @@ static inline bool is_line(const char *said, const char *looked_for)
 	return fnmatch(pattern, said, 0) == 0;
 }
 
-/* Whether the bench finds it, and its schedule replays it. */
+/* Whether the explorer finds it, and its schedule replays it. */
 static inline bool is_found(const struct find *find)
 {
 	struct bench_found found, again;

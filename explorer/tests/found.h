@@ -1,4 +1,4 @@
-/* found.h - what a test looks for in what the bench has found */
+/* found.h - what a test looks for in what the explorer has found */
 #ifndef BENCH_FOUND_H
 #define BENCH_FOUND_H
 

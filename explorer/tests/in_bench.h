@@ -1,5 +1,5 @@
 /*
- * in_bench.h - read by the compiler before misuses.c of netbsd/tests, in place of its stops.h: each case runs in the bench, which must find its line. All
+ * in_bench.h - read by the compiler before misuses.c of netbsd/tests, in place of its stops.h: each case runs in the explorer, which must find its line. All
  * threads are called as the program is, as there.
  */
 #ifndef NETBSD_STOPS_H
@@ -71,7 +71,7 @@ static inline void make_case(void)
 	bench_thread(PROGRAM, run_body, NULL);
 }
 
-/* Whether the bench says the case's line. */
+/* Whether the explorer says the case's line. */
 bool is_right(void (*begin)(void), const struct stop_case *the_case)
 {
 	struct bench_found found;

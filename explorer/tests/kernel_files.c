@@ -48,7 +48,7 @@ static void begin_key(void)
 
 static void end_key(void) { KASSERT(unrefs <= 1 && in_flight == NULL); key_fini(); }
 
-/* ---- subr_devsw.c: a device is opened while its driver is detached, and another driver is attached, for which the table grows. ---- */
+/* ---- subr_devsw.c: a device is opened while its driver is detached, and another driver is attached, so that the table grows. ---- */
 
 static u_int in_first;
 static int attached;

@@ -282,7 +282,7 @@ UNSEEN static void run_text(void *arg)
 #define WITH_CV		"wsTSqQ"
 #define WITH_SECTIONS	"<>PgDqQ"
 #define PLAINLY		"xyXYz#p"
-#define NOT_BESIDE	PLAINLY "v"	/* a processor may change the order of plain accesses, and real time is another one */
+#define NOT_BESIDE	PLAINLY "v"	/* a processor reorders plain accesses; real time is another one */
 
 /* A soft interrupt waits on CPU 0 from the beginning, and its thread is made before the others. */
 static void schedule_early(void) { kupaldiz_bind(0); softint_schedule(softint); kupaldiz_unbind(); }

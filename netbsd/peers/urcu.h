@@ -15,7 +15,7 @@ struct rcu_head {
 	void (*function)(struct rcu_head *head);
 };
 
-/* Of the threads that call callbacks there is one, for all. */
+/* One thread calls all callbacks. */
 struct call_rcu_data;
 
 void rcu_register_thread(void);

@@ -360,7 +360,7 @@ const void *live_owner(size_t *held)
 	return NULL;
 }
 
-/* Closes a CPU's handle, whatever the CPU was left in. */
+/* Closes a CPU's handle, also if the CPU was left in a section. */
 static void close_cpu(struct thread *me, struct registry_cpu *cpu)
 {
 	while (registry_exit(cpu) == REGISTRY_DONE)

@@ -24,7 +24,7 @@
  * one if that is of the same bank.
  * What isn't found is being destroyed. That a reader who met a target in the caller's list finds its entry, too, lies in the
  * order of the atomic steps: the attach came before the list had the target. No contract says it, since the reader's CPU hasn't heard of the
- * attach. Each reference is noted in a table of its CPU: whose it is, where it lies, and from which place it was acquired.
+ * attach. Each reference is noted in a table of its CPU: whose it is, where it lies, and where it was acquired.
  *
  * localcount_acquire finds its entry in a section as well, and acquires a local reference to it. That is a handle, and localcount_release gets
  * none: any release lets go of any reference. So the handles that are held lie on a stack in the row, under the row's lock.
@@ -188,7 +188,7 @@ struct thread {
 	struct lwp lwp;			/* what the code looks into; first */
 	const char *call, *place;	/* the call that it is in */
 	struct cpu *cpu;		/* where it runs, or ran last; NULL at first */
-	unsigned holds;			/* reasons for which it has its CPU */
+	unsigned holds;			/* reasons why it has its CPU */
 	unsigned depth;			/* open sections */
 	const char *entered;		/* where the outermost one was entered */
 	unsigned references;		/* passive references */

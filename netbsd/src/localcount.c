@@ -114,7 +114,7 @@ void localcount_acquire(struct localcount *lc)
 }
 
 /* Gives up a reference that a drain waits for, and wakes the drain, which goes on once the caller's lock is free. A soft interrupt takes that lock, too,
- * whatever its level: as in the kernel it sleeps if it must. */
+ * at any level: as in the kernel it sleeps if it must. */
 static void give_up(struct thread *me, struct bank *bank, struct registry_local *reference, kcondvar_t *cv, kmutex_t *interlock)
 {
 	take_mutex(me, interlock);

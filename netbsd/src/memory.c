@@ -7,8 +7,8 @@
 /* What stands before each block. */
 struct head {
 	size_t size;
-	uint64_t mark;		/* whose it is, while it is in use */
-	size_t before;		/* how far before the block its memory begins */
+	uint64_t mark;		/* its owner, while in use */
+	size_t before;		/* from its memory's begin to the block */
 	struct head *next;	/* of a cache's constructed objects that nobody uses */
 };
 

@@ -15,7 +15,7 @@ static struct pserialize psz;
 /* A call of another page, at the place of the call that it is made for. */
 #define AT(place, call)	(kupaldiz_at(place), (call))
 
-/* The place of a call for which a hook must be set, or must not be. */
+/* The place of a call that needs a hook to be set, or not to be. */
 static const char *begin_change(const char *call, const bool *hooked, bool is_set)
 {
 	struct thread *me = begin_call(call);

@@ -286,7 +286,7 @@ static void load_and_unload(void)
 	EXPECT(kupaldiz_ticker_modcmd(MODULE_CMD_STAT, NULL) == ENOTTY);
 }
 
-/* Those of which nothing more is asked. */
+/* Those that need nothing more. */
 static const struct simple {
 	void (*init)(void);
 	void *(*body)(void *);

@@ -294,7 +294,7 @@ STOPS("psref_release: the reference was moved by its bytes: it was acquired else
 STOPS("psref_copy: the reference was moved by its bytes: it was acquired elsewhere at PLACE, at PLACE",
     acquire(); struct psref bytes = psref; psref_copy(&second, &bytes, things))
 STOPS("psref_acquire: the reference is held already, at PLACE", acquire(); acquire())
-/* The table of the CPU is asked, whatever the storage says. */
+/* The table of the CPU is asked, and not the storage. */
 STOPS("psref_acquire: the reference is held already, at PLACE", acquire(); memset(&psref, 0, sizeof(psref)); acquire())
 STOPS("psref_copy: the reference is held already, at PLACE", acquire(); psref_copy(&second, &psref, things); psref_copy(&second, &psref, things))
 /* The place in the table is used again by another reference. */

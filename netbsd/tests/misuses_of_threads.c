@@ -71,7 +71,7 @@ THREAD(end_holding,
     static unsigned rounds; EXPECT(pthread_setspecific(early, &rounds) == 0); kupaldiz_bind(1); psref_acquire(&psref, &target, things))
 STOPS("pthread_exit: the thread has passive references", on_thread(end_holding))
 
-/* Of two that join one thread the first has found it, and doesn't wait for it yet. */
+/* Two join one thread: the first has found it, and doesn't wait for it yet. */
 static void join_at(const char *place)
 {
 	kupaldiz_at(place);
@@ -114,7 +114,7 @@ STOPS("mutex_enter: the thread has the lock already, taken at the seventh place"
 	    kupaldiz_at(places[i]);
     EXPECT((mutex_tryenter)(&lock)); (mutex_enter)(&lock))
 
-/* A thread that was cancelled and hasn't come to its end yet. One line has the name of a thread, for which the layer asks the system. */
+/* A thread that was cancelled and hasn't come to its end yet. One line has the name of a thread: the layer asks the system for it. */
 THREAD(exit_cancelled, EXPECT(pthread_cancel(pthread_self()) == 0); pserialize_read_exit(0))
 STOPS("pserialize_read_exit: outside any read section, at PLACE", on_thread(exit_cancelled))
 THREAD(destroy_cancelled, EXPECT(pthread_cancel(pthread_self()) == 0); mutex_destroy(&held))

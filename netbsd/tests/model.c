@@ -167,7 +167,7 @@ static void count_in(struct actor *actor)
 	localcount_release(&object->count, &drained, &count_lock);
 }
 
-/* Releases whatever is on its way. */
+/* Releases the object that is on its way, if one is. */
 static void count_out(struct actor *actor)
 {
 	struct object *object = atomic_exchange(&handed[below(actor, HANDED)], NULL);

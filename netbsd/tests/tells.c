@@ -1,5 +1,5 @@
 /*
- * tells - a wait that lasts says for whom, once, by one line: over a layer whose patience is short
+ * tells - a wait that lasts names who it waits for, once, by one line: over a layer whose patience is short
  *
  * Each case runs in a child, which ends well. What is waited for ends once the line was written: the linker leads write here (--wrap), and what
  * acquires and releases a local reference in the archive, which may last. The last line counts the cases.

@@ -29,7 +29,7 @@ macro_rules! refusals {
                 }
             }
 
-            /// The error that an answer of the archive is. The crate's types rule out all others.
+            /// The error that the archive's number names. The crate's types rule out all others.
             #[cold]
             pub(crate) fn of(answer: u32) -> Refusal {
                 match [$(Refusal::$name),*].iter().find(|refusal| answer != ffi::DONE && refusal.number() == answer) {
@@ -93,7 +93,7 @@ macro_rules! errors_of_calls {
         }
 
         impl $name {
-            /// The error that an answer of the archive is.
+            /// The error that the archive's number names.
             #[inline]
             pub(crate) fn of(answer: u32) -> $name {
                 match answer {

@@ -39,7 +39,7 @@ impl<T> Registry<T> {
         Registry::open_by(settings, false)
     }
 
-    /// Opens a registry that notes by which line of the program, and on which thread, each reference is acquired and each section entered.
+    /// Opens a registry that notes the line of the program, and the thread, of each reference that is acquired and each section that is entered.
     /// [`holders`](Registry::holders) says so, and so does the error of a destroy that gives up. Each of these calls then takes a lock. A registry that
     /// [`open`](Registry::open) opens notes nothing; the errors are the same.
     ///
@@ -66,7 +66,7 @@ impl<T> Registry<T> {
         Ok((registry, cpus))
     }
 
-    /// By which lines an entry is held, live or retired, if the registry was opened by [`open_tracked`](Registry::open_tracked). A reference that was
+    /// The lines that hold an entry, live or retired, if the registry was opened by [`open_tracked`](Registry::open_tracked). A reference that was
     /// forgotten is among them, one that was dropped isn't. A call that another thread makes meanwhile may be noted or not.
     pub fn holders(&self, entry: &Entry) -> Option<Holders> {
         self.shared.noted(|notes| Some(notes.holders(entry)))

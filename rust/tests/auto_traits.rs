@@ -1,6 +1,6 @@
 //! Which types may go to another thread, which may be shared with one, and which may be cloned: a table of all public types, which a test walks.
 //!
-//! Each type is looked at with four kinds of `T`. What a column lists are the kinds for which the type has the trait: `b` a `T` that is both `Send`
+//! Each type is looked at with four kinds of `T`. A column lists the kinds that give the type the trait: `b` a `T` that is both `Send`
 //! and `Sync`, `y` one that is `Sync` alone, `s` one that is `Send` alone, `n` one that is neither. The last column has `Unpin`, `UnwindSafe`,
 //! `RefUnwindSafe` and `Clone` with a `T` that is a plain number: `p`, `u`, `r`, `c`.
 
@@ -26,7 +26,7 @@ macro_rules! has {
     }};
 }
 
-/// The letters of the kinds of `T` with which a type has a trait.
+/// The letters of the kinds of `T` that give a type a trait.
 macro_rules! kinds {
     ($type:ty, $trait:path) => {
         kinds!($type, $trait, b: u64, y: std::sync::MutexGuard<'static, u8>, s: std::cell::Cell<u8>, n: std::rc::Rc<u8>)

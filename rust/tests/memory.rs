@@ -32,13 +32,13 @@ unsafe impl GlobalAlloc for Counting {
             return ptr::null_mut();
         }
         count(layout.size() as isize, 1);
-        // SAFETY: the caller sees to it.
+        // SAFETY: the caller guarantees it.
         unsafe { System.alloc(layout) }
     }
 
     unsafe fn dealloc(&self, at: *mut u8, layout: Layout) {
         count(-(layout.size() as isize), -1);
-        // SAFETY: the caller sees to it.
+        // SAFETY: the caller guarantees it.
         unsafe { System.dealloc(at, layout) }
     }
 }

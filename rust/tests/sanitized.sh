@@ -7,7 +7,7 @@ cd "$(dirname "$0")/.." || exit
 export REGISTRY_LIB_DIR="${REGISTRY_LIB_DIR:-$PWD/../out}" CARGO_TARGET_DIR="${CARGO_TARGET_DIR:-$PWD/target}/sanitized"
 flags="$(tests/watching.sh) -Cunsafe-allow-abi-mismatch=sanitizer"
 mkdir -p "$CARGO_TARGET_DIR"
-# What the sanitizer can't see of libtest, and of the fence by which the last share of an Arc goes.
+# What the sanitizer can't see of libtest, and of the fence that ends the last share of an Arc.
 printf 'race:CompletedTest\nrace:drop_slow\n' >"$CARGO_TARGET_DIR/suppressed"
 # Some tests forget on purpose.
 export TSAN_OPTIONS="suppressions=$CARGO_TARGET_DIR/suppressed" ASAN_OPTIONS=detect_leaks=0

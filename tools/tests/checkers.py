@@ -68,15 +68,15 @@ def points():
 
 
 TABLE = "explorer/tests/table.py"
-TABLES = "explorer/README.md"
-TOLD = """# The bench
+TABLES, FOUND_FAULTS = "explorer/README.md", "explorer/tests/faults.txt"
+TOLD = """# The explorer
 
 | Case | Threads | Schedules | Cut short | Points |
 |---|---|---|---|---|
 | bridge | a packet; a member is deleted | 57 | 0 | 2,251 |
 | growth | a packet; the table grows | 5 | 0 | 237 |
 
-| Driver | Fault | Bench: run | Switches | Preemptions | Real threads |
+| Driver | Fault | Explorer: run | Switches | Preemptions | Real threads |
 |---|---|---|---|---|---|
 | bridge | a perform forgotten | 34 | 2 | 1 | run 23,064 |
 """
@@ -87,8 +87,8 @@ FOUND = "found  bridge  a perform forgotten   run     34, switches 2, preemption
 
 
 def table(kind, printed, faults):
-    """The table of the README beside what was printed."""
-    tree = {**real(TABLE), TABLES: TOLD, "printed": printed, "compare": f"#!/bin/sh\nexec {TABLE} {kind} <printed\n"}
+    """A table beside what was printed."""
+    tree = {**real(TABLE), TABLES: TOLD, FOUND_FAULTS: TOLD, "printed": printed, "compare": f"#!/bin/sh\nexec {TABLE} {kind} <printed\n"}
     return Case(f"table of {kind}", [], tree, ["./compare"], faults)
 
 
@@ -96,13 +96,13 @@ def tables():
     drivers = (
         Fault("another number of schedules", "only the run says: growth, 6, 0, 237", (("printed", "growth: 5", "growth: 6"),)),
         Fault("schedules that are cut short", "only the run says: growth, 5, 1, 237", (("printed", "5 schedules, 0 cut", "5 schedules, 1 cut"),)),
-        Fault("another number of points", "only the README says: bridge, 57, 0, 2252", ((TABLES, "2,251", "2,252"),)),
-        Fault("a driver that isn't run", "only the README says: growth, 5, 0, 237", (("printed", "growth", "no growth"),)),
+        Fault("another number of points", "only the table says: bridge, 57, 0, 2252", ((TABLES, "2,251", "2,252"),)),
+        Fault("a driver that isn't run", "only the table says: growth, 5, 0, 237", (("printed", "growth", "no growth"),)),
         Fault("a driver that isn't told", "only the run says: growth, 5, 0, 237", ((TABLES, "| growth | a packet; the table grows | 5 | 0 | 237 |\n", ""),)),
-        Fault("nothing is printed", "only the README says", (("printed", None, ""),)),
+        Fault("nothing is printed", "only the table says", (("printed", None, ""),)),
     )
     planted = (
-        Fault("a fault that isn't found", "only the README says: bridge, a perform forgotten, 34, 2, 1", (("printed", "found ", "missed"),)),
+        Fault("a fault that isn't found", "only the table says: bridge, a perform forgotten, 34, 2, 1", (("printed", "found ", "missed"),)),
         Fault("another run", "only the run says: bridge, a perform forgotten, 35, 2, 1", (("printed", "34", "35"),)),
     )
     return table("drivers", PRINTED, drivers), table("faults", FOUND, planted)

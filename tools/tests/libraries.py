@@ -214,7 +214,7 @@ def frames():
                prepare=archive)
 
 
-# An archive's function as objdump shows it, and a program that has it elsewhere, with the places by which it came to a table.
+# An archive's function as objdump shows it, and a program that has it elsewhere, with the places from where it came to a table.
 STEPS = """0000000000000000 <enter>:
    0:\tldaxr\tx9, [x8]
    4:\tstlxr\tw10, x9, [x8]

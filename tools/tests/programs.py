@@ -5,7 +5,7 @@ from .trees import ROOT, Case, Fault, said_by
 
 PROVED = ROOT / "crates/registry_run/out/registry_run"
 VERBS = "domain,limits,attach,detach,enter,exit,find,ref,copy,held,read,drop,advance"
-# It answers for the program of the repository, too: whoever writes a kit asks that for its reports.
+# It replaces the program of the repository, too: whoever writes a kit asks that for its reports.
 FOREIGN = "#!/bin/sh\nexec tools/other_registry.py\n"
 KIT = ["conformance.py", "other_registry.py", "counts.py"]
 TREE = {"program": FOREIGN, "crates/registry_run/out/registry_run": FOREIGN}

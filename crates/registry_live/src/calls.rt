@@ -188,7 +188,7 @@ pub fn count_one<D: Domain>(
 
 /// The record that the local reference in the place is to. It stays there.
 pub fn peek_at<D: Domain>(words: &Words, place: &mut Option<LocalRef<D>>) -> Result<Reading, Hitch>
-    requires words { words.now.table ≡ D.table }
+    requires words { AreWordsOf words.now D.table D.settings }
     ensures answer { Decides (unless_free place.old (λ _. None)) (λ seen. Has place.old (λ v. (seen.number ≡ v.entry.number) × (seen.value ≡ v.entry.rec.value))) result }
     ensures same { place.new ≡ place.old }
 {

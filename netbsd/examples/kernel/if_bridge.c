@@ -70,7 +70,7 @@ bridge_rtnode_lookup(struct bridge_softc *sc, uint64_t addr)
 	return NULL;
 }
 
-/* The member by which an address was seen last; 0 where none is known. */
+/* The member that saw an address last; 0 where none is known. */
 static unsigned
 bridge_rtlookup(struct bridge_softc *sc, uint64_t addr)
 {

@@ -59,7 +59,7 @@ int getticks(void);
 void delay(unsigned microseconds);
 #define DELAY(microseconds)	delay(microseconds)
 
-/* kpause - sleep for so many ticks, without the lock meanwhile, which may be NULL. Returns EWOULDBLOCK. In the bench a signal may end it if it is
+/* kpause - sleep for so many ticks, without the lock meanwhile, which may be NULL. Returns EWOULDBLOCK. In the explorer a signal may end it if it is
  * interruptible, and it returns EINTR. Stops where the thread mustn't sleep. */
 int kpause(const char *name, bool interruptible, int ticks, kmutex_t *mutex);
 

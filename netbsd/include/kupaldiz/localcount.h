@@ -9,7 +9,7 @@
  * - A release doesn't say which reference it ends, so those that are held are in one list of the count, under its lock. Each acquire and release takes
  *   this lock: a word that all CPUs write, which the kernel avoids.
  * - A drain waits for read sections, too. So a driver that forgets pserialize_perform may run well on real threads here and fail in the kernel.
- *   The bench, kupaldiz_bench(7), finds the reader that then acquires too late.
+ *   The explorer, kupaldiz_bench(7), finds the reader that then acquires too late.
  * - A drain looks again each millisecond, or when the last release wakes it; no CPU runs anything for it.
  * - Each CPU's part may differ from 0 by 2^40. It gets there with no reference held, if each one is acquired on that CPU and released on another.
  *   Acquires on that CPU then count on the writers' CPU, under the layer's lock, up to 2^40 more.

@@ -11,7 +11,7 @@
  *   of its CPU, where psref_release and psref_copy look it up. In the kernel a reference lies in a list of its CPU, and nothing is looked up.
  * - psref_target_destroy looks at the words of all CPUs, as pserialize_perform does; no CPU runs anything for it.
  * - psref_target_destroy waits for read sections, too: the ones that are open at the call, and the ones that are open as the last reference is released.
- *   So a driver that forgets pserialize_perform may run well on real threads here and fail in the kernel. The bench, kupaldiz_bench(7), finds
+ *   So a driver that forgets pserialize_perform may run well on real threads here and fail in the kernel. The explorer, kupaldiz_bench(7), finds
  *   the reader that then acquires too late.
  * - Each CPU has at most 2^40 references to a target at a time.
  *

@@ -78,7 +78,7 @@ typedef void (*xcfunc_t)(void *, void *);
 /*
  * xc_broadcast - have each CPU run `body(arg_a, arg_b)` once
  *
- * This thread runs it, on each CPU in turn, once no other thread of that CPU is inside a section; it has ended when the call returns. In the bench
+ * This thread runs it, on each CPU in turn, once no other thread of that CPU is inside a section; it has ended when the call returns. In the explorer
  * another thread runs it, as in the kernel, and it has ended when xc_wait returns. With XC_HIGHPRI it mustn't sleep. Returns what xc_wait takes. Stops
  * where the thread mustn't sleep, and where the function returns with what a handler mustn't return with.
  */
@@ -125,7 +125,7 @@ void callout_setfunc(callout_t *callout, void (*body)(void *), void *arg);
  * how late. It runs on the thread of this CPU's soft interrupts, at IPL_SOFTCLOCK, when such a handler can. Callouts that are due on one CPU run in
  * the order of their times, and those of one time in the order in which they were set. This CPU is the one that curcpu returns: for a thread that isn't
  * bound, the CPU that it had last, or the next one in turn if it never had any. A body that still runs on another CPU doesn't keep it from running
- * here. In the bench the clock is virtual (kupaldiz_bench(7)).
+ * here. In the explorer the clock is virtual (kupaldiz_bench(7)).
  */
 void callout_reset(callout_t *callout, int ticks, void (*body)(void *), void *arg);
 

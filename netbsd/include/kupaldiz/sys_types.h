@@ -44,7 +44,7 @@ void kupaldiz_point(const volatile void *address, size_t size, unsigned how, con
 void kupaldiz_from(const char *place);
 #define KUPALDIZ_FROM(call)		(kupaldiz_from(KUPALDIZ_HERE), (call))
 
-/* The compiler's calls of -fsanitize=thread tell the bench a file's plain accesses, and these what memcpy and the like access. Without that flag the file
+/* The compiler's calls of -fsanitize=thread tell the explorer a file's plain accesses, and these what memcpy and the like access. Without that flag the file
  * tells its name. */
 #if defined(__has_feature)
 #if __has_feature(thread_sanitizer)

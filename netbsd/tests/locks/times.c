@@ -1,6 +1,6 @@
 /*
- * times - time by a clock that the test moves, to the nanosecond: which tick it is, how long a delay and a pause last, until when a wait for a condition
- * variable lasts, how long the pauses of another wait are, and when that says what it waits for
+ * times - time by a clock that the test moves, to the nanosecond: which tick it is; how long a delay and a pause last; until when a wait for a condition
+ * variable lasts; how long the pauses of another wait are, and when that says what it waits for
  *
  * The linker leads the clock, the timed waits, the pauses and the lines of the layer here (--wrap).
  */

@@ -1,5 +1,5 @@
 /*
- * copies - a copy of a passive reference costs the same beside many references as beside few, but for the processor's caches
+ * copies - a copy of a passive reference costs the same beside many references as beside few, except for the processor's caches
  */
 #include <sys/psref.h>
 

@@ -154,7 +154,7 @@ static void *establish_others(void *arg)
 	return arg;
 }
 
-/* The thread that is interrupted has the lock that the handler wants: it goes on, and the handler runs on once it has given the lock back. */
+/* The thread that is interrupted has the lock that the handler waits for: it goes on, and the handler runs on once it has given the lock back. */
 static void test_blocked(void)
 {
 	pthread_t other;

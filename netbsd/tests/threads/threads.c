@@ -33,7 +33,7 @@ int __wrap_pthread_mutex_unlock(pthread_mutex_t *mutex)
 	return answer;
 }
 
-static atomic_bool waited;		/* some thread waits, or has waited, with the lock of the wait given back */
+static atomic_bool waited;		/* a thread waits, or has waited; it has given the wait's lock back */
 static _Thread_local bool goes_on;	/* this thread has nothing to wait for */
 
 int __wrap_pthread_cond_wait(pthread_cond_t *cond, pthread_mutex_t *mutex)

@@ -93,7 +93,7 @@ fn count_closed(answer: u32) {
 }
 
 /// The order of memory that a registry makes between its callers, told to the thread sanitizer, which sees no atomic step of the archive: what was
-/// written before an attach is seen by whoever finds the entry, and the last use before the exit or the release comes before the answer that it is
+/// written before an attach is seen by whoever finds the entry, and the last use before the exit or the release comes before the return that says it is
 /// freed. These two edges and no other; REGISTRY_WITHOUT says `find` or `freed`, and then that edge is left out. tests/sanitized.sh has the runs.
 #[cfg(all(registry_watched, registry_edges))]
 mod edges {
@@ -133,7 +133,7 @@ mod edges {
     /// An entry lies there.
     pub unsafe fn found(entry: Word) {
         let entry = entry as *const u64;
-        // SAFETY: the caller sees to it: a number, four words, and the value.
+        // SAFETY: the caller guarantees it: a number, four words, and the value.
         let (number, value) = unsafe { (*entry, *entry.add(5)) };
         FOUND.with(|found| found.borrow_mut().push(number));
         if !is_without("find") {
@@ -154,7 +154,7 @@ mod edges {
 
     pub fn before_local(local: Handle) {
         let mut entry = [0u64; 6];
-        // SAFETY: the caller of the wrapped call sees to the handle.
+        // SAFETY: the caller of the wrapped call guarantees the handle.
         if unsafe { super::__real_registry_local_read(local, entry.as_mut_ptr() as Word) } == super::DONE {
             before_release(entry[0]);
         }
@@ -171,7 +171,7 @@ mod edges {
     ///
     /// A stage lies there.
     pub unsafe fn is_freed(met: Word) -> bool {
-        // SAFETY: the caller sees to it.
+        // SAFETY: the caller guarantees it.
         unsafe { *(met as *const u64) == 3 }
     }
 }
@@ -197,13 +197,13 @@ macro_rules! wrapped {
                 $(drop(InUse::take(stringify!($real), &[$($once),*]));)?
                 InUse::take(stringify!($real), &[$($handle),*])
             };
-            // SAFETY: the caller sees to it.
+            // SAFETY: the caller guarantees it.
             $(let before = unsafe { *$local };)?
             #[cfg(registry_edges)]
             {
                 $($before)?
             }
-            // SAFETY: the caller sees to it.
+            // SAFETY: the caller guarantees it.
             let answer = unsafe { $real($($name),*) };
             #[cfg(registry_edges)]
             if answer == DONE {
@@ -219,7 +219,7 @@ macro_rules! wrapped {
     )*};
 }
 
-// SAFETY of what is told: the caller sees to the pointers, and a call that is done has written what it writes.
+// SAFETY of what is told: the caller guarantees the pointers, and a call that is done has written what it writes.
 #[cfg(registry_watched)]
 wrapped! {
     __wrap_registry_close_cpu(cpu: Handle) = __real_registry_close_cpu, [] once [cpu] closes cpu;

@@ -1,11 +1,8 @@
 -- `close`: the driver was freed by what the CPU knew, so in the last words it isn't live. They have the registry's settings.
-use Rattle.std.proofs.Common.{◌≡◌, ◌<◌, sym, subst, ◌∙◌, slice_index}
+use Rattle.std.proofs.Common.{◌≡◌, sym, subst, ◌∙◌, slice_index}
 use Rattle.name_registry.specs.Types.{Settings}
 use Rattle.cpu_words.specs.Common.{index, live_of}
 use Rattle.registry_examples.proofs.packet_loop.close.Goals as goal
-
-pub live-requires-clause-slot : goal.live-requires-clause-slot
-live-requires-clause-slot g c = subst (λ (z : Settings). c.args.driver.0 < z.slots) (sym c.close-words.ensures.settings) c.requires.slot
 
 pub returns : goal.returns
 returns g c = λ same.
