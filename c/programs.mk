@@ -4,7 +4,7 @@
 INCLUDES = -Ic/include -Ic/examples -Ic/tests -I$(HEADER)
 WRAP = -Wl,--wrap=malloc,--wrap=realloc,--wrap=free
 # What planted.c spoils of history, and the main of history.
-PLANTED = main $(addprefix registry_,open attach attach_iface detach replace replace_iface advance destroy audit acquire get copy release local_acquire local_release)
+PLANTED = main $(addprefix registry_,open attach attach_iface detach replace replace_iface advance destroy audit enter look_up acquire get copy release local_acquire local_release)
 
 # Where the programs lie.
 vpath %.c c/examples c/tests
@@ -48,7 +48,7 @@ $(OVER_WAITING:%=$(OUT)/%): c/src/waiting.c c/include/waiting.h
 $(OUT)/turns: c/tests/turns.c c/src/waiting.c c/include/waiting.h c/tests/pauses.h
 $(OUT)/turns: CFLAGS += -include c/tests/pauses.h
 $(OUT)/turns: LINK = -Wl,--wrap=registry_destroy,--wrap=registry_perform_begin,--wrap=registry_perform_turn,--wrap=clock_gettime,--wrap=nanosleep,--wrap=sched_yield \
-    -Wl,--wrap=registry_local_release,--wrap=registry_local_give_up,--wrap=pthread_mutex_lock,--wrap=pthread_mutex_unlock
+    -Wl,--wrap=registry_local_release,--wrap=registry_local_give_up,--wrap=registry_advance,--wrap=pthread_mutex_lock,--wrap=pthread_mutex_unlock
 $(OUT)/deferred: c/tests/deferred.c c/tests/model.c c/tests/model.h
 $(OUT)/history: c/tests/history.c c/tests/model.c c/tests/model.h c/tests/wrapped_heap.h
 $(OUT)/history: LINK = $(WRAP)
@@ -131,6 +131,7 @@ $(ORDERED:%=$(OUT)/ordered-%): $(OUT)/ordered-%: %.c c/tests/ordered.c c/example
 
 # What ends with status 0 where it finds nothing wrong, with the words that make it brief; and the names of the pages, plain.
 CHECKED = smallest packet shared checked misuse refuse built turns $(OVER_WAITING) history walk entries crowd forwarder device_switch
+words_history = 300000
 words_together = 20
 words_walk = 200
 words_entries = 50

@@ -1,26 +1,32 @@
 /*
  * history - registries to the end of their histories, on one thread, beside the plain model of model.h: each answer is compared
  *
- *     history [CHANGES [SEED]]
+ *     history [CHANGES [SEED [PART]]]
  *
- * The largest registry has room for CHANGES changes, by default a million, and goes through them; smaller ones meet each limit. However many calls were
- * made, a registry that is closed has no block of memory any more: the linker leads malloc, realloc and free here (--wrap), except in the brief program.
- * The last line says how many calls were compared, of how many changes.
+ * The largest registry has room for CHANGES changes, by default ten million, and goes through them (`long`). Smaller ones meet each limit (`small`), and two
+ * have very many references (`counts`). PART names one of these, to run alone.
+ *
+ * However many calls were made, a registry that is closed has no block of memory any more: the linker leads malloc, realloc and free here (--wrap), except
+ * in the brief program. So the test knows the words of a registry's table. The section word of a CPU says how many sections it has begun: exactly as many
+ * as the model counts, so what the CPU remembers begins none. In small registries no call of one CPU alone writes on a line of 64 bytes that another one's
+ * calls or a detach write on. The last line says how many calls were compared, of how many changes.
  */
 #include <inttypes.h>
 
 #include "model.h"
 #include "wrapped_heap.h"
 
-/* Where each access takes long, the references to one entry, the small registries and the sections of a CPU that come to an end are fewer. */
+/* Where each access takes long, the references to one entry and the small registries are fewer. */
 #ifdef HISTORY_BRIEFLY
-enum { MANY = 101, SMALL = 4, SECTIONS = 20 };
+enum { MANY = 101, MORE = 201, SMALL = 4 };
 #else
-enum { MANY = 70001, SMALL = 200, SECTIONS = 1000 };
+enum { MANY = 70001, MORE = 1000001, SMALL = 200 };
 #endif
 
-/* The blocks that the archive's calls have taken and not freed. */
+/* The blocks that the archive's calls have taken and not freed. The table of the last registry, and its bytes: the last block of that size is it. */
 static uint64_t blocks;
+uint64_t *table;
+static size_t table_bytes;
 
 #ifdef HISTORY_BRIEFLY
 #define __real_free free
@@ -29,6 +35,8 @@ void *__wrap_malloc(size_t size)
 {
 	void *block = __real_malloc(size);
 	blocks += block != NULL;
+	if (size == table_bytes)
+		table = block;
 	return block;
 }
 
@@ -46,7 +54,7 @@ void __wrap_free(void *block)
 }
 #endif
 
-enum { NAMES = SLOTS * 3 / 4, HANDLES = 3 * SLOTS + CPUS, LONGEST = 1000 * 1000 };
+enum { NAMES = SLOTS * 3 / 4, HANDLES = 3 * SLOTS + CPUS, LONGEST = 10 * 1000 * 1000, LINE = 64 };
 
 struct held {
 	struct registry_local handle;
@@ -63,6 +71,8 @@ struct world {
 	struct held locals[HANDLES];
 	unsigned held;
 	uint64_t random;
+	unsigned cpu;			/* the last call's */
+	bool stays;			/* on that CPU */
 };
 
 static struct registry_name names[NAMES];
@@ -79,7 +89,16 @@ static uint64_t below(struct world *world, uint64_t end)
 
 static unsigned any_cpu(struct world *world)
 {
-	return (unsigned)below(world, world->model.settings.cpus);
+	if (!world->stays)
+		world->cpu = (unsigned)below(world, world->model.settings.cpus);
+	return world->cpu;
+}
+
+/* A value of any length, also 0. */
+static uint64_t any_value(struct world *world)
+{
+	uint64_t shorter = below(world, 65);
+	return shorter == 64 ? 0 : world->random >> shorter;
 }
 
 /* One of so many names that those of both kinds are more than the slots. */
@@ -313,7 +332,7 @@ static void attach(struct world *world)
 	struct registry_entry made = {0}, wanted = {0};
 	unsigned cpu = any_cpu(world);
 	const struct registry_name *name = any_name(world);
-	uint64_t value = below(world, UINT64_MAX);
+	uint64_t value = any_value(world);
 	same(registry_room(&world->keeper), model_room(&world->model));
 	uint32_t answer = registry_attach(&world->keeper, &world->cpus[cpu], name, value, &made);
 	same_entry(answer, &made, model_attach(&world->model, cpu, 0, name, value, &wanted), &wanted);
@@ -324,7 +343,7 @@ static void attach_iface(struct world *world)
 	struct registry_entry made = {0}, wanted = {0};
 	unsigned cpu = any_cpu(world);
 	const struct registry_name *name = any_name(world);
-	uint64_t value = below(world, UINT64_MAX);
+	uint64_t value = any_value(world);
 	if (world->held == 0)
 		return;
 	struct held *held = &world->locals[below(world, world->held)];
@@ -340,7 +359,7 @@ static void replace(struct world *world)
 	struct registry_entry made[2] = {0}, wanted[2] = {0};
 	unsigned cpu = any_cpu(world);
 	const struct registry_name *name = any_name(world);
-	uint64_t value = below(world, UINT64_MAX);
+	uint64_t value = any_value(world);
 	struct held *held = world->held > 0 && below(world, 2) ? &world->locals[below(world, world->held)] : NULL;
 	uint32_t answer = held == NULL ? registry_replace(&world->keeper, &world->cpus[cpu], name, value, &made[0], &made[1])
 	    : registry_replace_iface(&world->keeper, &world->cpus[cpu], &held->handle, name, value, &made[0], &made[1]);
@@ -429,33 +448,87 @@ static void let_all_go(struct world *world)
 		release_held(world, &world->locals[world->held - 1]);
 }
 
-/* And then what is retired is freed, twice over: an interface before the driver that its slot keeps. */
-static void settle(struct world *world)
+/* What is retired is freed if nothing holds it, twice over: an interface before the driver that its slot keeps. */
+static void free_retired(struct world *world)
 {
-	let_all_go(world);
 	for (unsigned s = 0; s < 2 * SLOTS; s++)
 		if (world->model.slots[s % SLOTS].state == RETIRED)
 			advance_number(world, world->model.slots[s % SLOTS].entry.number);
 }
 
-/* What is done, and how often of a hundred. */
+static void settle(struct world *world)
+{
+	let_all_go(world);
+	free_retired(world);
+}
+
+/* The CPU has begun as many sections as the model counts. */
+static void same_sections(const struct world *world)
+{
+	const struct model_cpu *own = &world->model.cpus[world->cpu];
+	if (table != NULL)
+		EXPECT(table[TABLE_ROW(world->model.settings.slots, world->cpu)] == 2 * own->sections - (own->depth > 0));
+}
+
+/* Who writes shared words in a call: the CPU, the keeper, or both. */
+enum writer { CPU, KEEPER, BOTH };
+
+/* What is done, who writes in it, and how often of a hundred. */
 static const struct {
 	unsigned often;
+	enum writer writer;
 	void (*act)(struct world *);
 } deeds[] = {
-	{8, enter}, {10, leave}, {6, find}, {4, look_up}, {2, enter_find}, {3, get}, {1, walk}, {1, go_over}, {3, acquire}, {2, acquire_entry}, {2, copy}, {2, read_held},
-	{9, release}, {2, acquire_local}, {1, acquire_entry_local}, {4, release_local}, {1, give_up_local}, {8, attach}, {5, attach_iface}, {2, replace}, {10, detach},
-	{8, advance}, {2, destroy}, {1, begin_wait}, {2, turn_wait}, {1, audit},
+	{8, CPU, enter}, {10, CPU, leave}, {6, CPU, find}, {4, CPU, look_up}, {2, CPU, enter_find}, {3, CPU, get}, {1, CPU, walk}, {1, CPU, go_over},
+	{3, CPU, acquire}, {2, CPU, acquire_entry}, {2, CPU, copy}, {2, CPU, read_held}, {9, CPU, release}, {2, CPU, acquire_local},
+	{1, CPU, acquire_entry_local}, {4, BOTH, release_local}, {1, KEEPER, give_up_local}, {8, BOTH, attach}, {5, BOTH, attach_iface},
+	{2, BOTH, replace}, {10, KEEPER, detach}, {8, BOTH, advance}, {2, BOTH, destroy}, {1, KEEPER, begin_wait}, {2, KEEPER, turn_wait}, {1, KEEPER, audit},
 };
 
-static void act(struct world *world)
+/* Does one of them. Who writes in it. */
+static enum writer act(struct world *world)
 {
 	uint64_t which = below(world, 100);
-	for (unsigned i = 0; i < sizeof deeds / sizeof *deeds; which -= deeds[i++].often)
-		if (which < deeds[i].often) {
-			deeds[i].act(world);
-			return;
-		}
+	unsigned i = 0;
+	while (which >= deeds[i].often)
+		which -= deeds[i++].often;
+	deeds[i].act(world);
+	same_sections(world);
+	return deeds[i].writer;
+}
+
+/* A few calls on one CPU, most of which change something: entries of each kind come and go. */
+static void hurry(struct world *world)
+{
+	static void (*const calls[])(struct world *) = {enter_find, acquire_local, leave, attach_iface, release_local, attach, look_up, attach, detach, attach, detach,
+	    destroy, detach, look_up, detach, free_retired};
+	any_cpu(world);
+	world->stays = true;
+	for (unsigned i = 0; i < sizeof calls / sizeof *calls; i++) {
+		calls[i](world);
+		same_sections(world);
+	}
+	world->stays = false;
+}
+
+/* Who has written on each line of the last registry's table, and what its words were then. */
+static struct {
+	unsigned writers[TABLE_BYTES(SLOTS, CPUS) / LINE + 1];	/* 0 for none, 1 for the keeper, a CPU's number plus 2 */
+	uint64_t words[TABLE_BYTES(SLOTS, CPUS) / sizeof(uint64_t)];
+} lines;
+
+/* After a call: no line that was written on is another writer's. */
+static void same_writers(const struct world *world, enum writer writer)
+{
+	unsigned own = writer == CPU ? world->cpu + 2 : 1;
+	for (size_t i = 0; i < table_bytes / sizeof *table; i++) {
+		unsigned *of = &lines.writers[((uintptr_t)&table[i] - (uintptr_t)table / LINE * LINE) / LINE];
+		if (table[i] == lines.words[i])
+			continue;
+		lines.words[i] = table[i];
+		EXPECT(writer == BOTH || *of == 0 || *of == own);
+		*of = writer == BOTH ? *of : own;
+	}
 }
 
 static struct world *opened(const struct registry_settings *settings, uint64_t seed)
@@ -464,15 +537,24 @@ static struct world *opened(const struct registry_settings *settings, uint64_t s
 	EXPECT(world != NULL);
 	world->model.settings = *settings;
 	world->random = seed * 0x9e3779b97f4a7c15 | 1;
+	table_bytes = TABLE_BYTES(settings->slots, settings->cpus);
 	DONE(registry_open(settings, &world->keeper, world->cpus, settings->cpus));
+	memset(&lines, 0, sizeof lines);
+	if (table != NULL)
+		memcpy(lines.words, table, table_bytes);
 	return world;
 }
 
+/* All or none is closed, whichever CPU is inside. */
 static void closed(struct world *world)
 {
-	for (unsigned c = 0; c < world->model.settings.cpus; c++)
-		DONE(registry_close_cpu(&world->cpus[c]));
-	DONE(registry_close_keeper(&world->keeper));
+	const unsigned cpus = (unsigned)world->model.settings.cpus;
+	for (unsigned c = 0; c < cpus; c++)
+		if (same(registry_enter(&world->cpus[c]), model_enter(&world->model, c)) == REGISTRY_DONE) {
+			EXPECT(registry_close(world->cpus, cpus, &world->keeper) == REGISTRY_INSIDE);
+			DONE(registry_exit(&world->cpus[c]));
+		}
+	DONE(registry_close(world->cpus, cpus, &world->keeper));
 	EXPECT(blocks == 0);
 	__real_free(world);
 }
@@ -500,117 +582,69 @@ static void end_history(struct world *world)
 	EXPECT(live(world) == 0);
 }
 
-/* A registry through so many changes, or to its end. */
-static uint64_t run(const struct registry_settings *settings, uint64_t changes, uint64_t seed)
+/* The last changes before the limit, one by one, and the end. How many changes there were. */
+static uint64_t run_out(struct world *world)
 {
-	struct world *world = opened(settings, seed);
-	uint64_t limit = settings->change_limit - SLOTS - 2 < changes ? settings->change_limit - SLOTS - 2 : changes;
-	for (uint64_t turn = 1; world->model.changes < limit && turn < 200 * changes; turn++) {
-		act(world);
-		if (turn % 1024 == 0)
-			settle(world);
-	}
-	EXPECT(world->model.changes >= limit);
-	/* The last changes before the limit, one by one. */
 	for (unsigned turn = 0; turn < 100 * SLOTS; turn++)
 		act(world);
 	end_history(world);
-	changes = world->model.changes;
+	uint64_t changes = world->model.changes;
 	closed(world);
 	return changes;
 }
 
-/*
- * The registry's answers where sections, references and counts come to their limits: each registry is small, so that they come often. The sections of
- * each CPU are counted so: what the CPU remembers begins none.
- */
+/* Whether CPU 0 has come to the end of its sections, where few are allowed. */
+static bool is_spent(const struct model *model)
+{
+	return model->settings.section_limit == REGISTRY_MOST_SECTIONS || model->cpus[0].sections == model->settings.section_limit;
+}
+
+/* A small registry to its end. */
+static void run(const struct registry_settings *settings, uint64_t seed)
+{
+	struct world *world = opened(settings, seed);
+	uint64_t changes = settings->change_limit - SLOTS - 2;
+	for (uint64_t turn = 1; (world->model.changes < changes || !is_spent(&world->model)) && turn < 200 * settings->change_limit; turn++) {
+		enum writer writer = act(world);
+		if (turn % 1024 == 0) {
+			settle(world);
+			writer = BOTH;
+		}
+		if (table != NULL)
+			same_writers(world, writer);
+	}
+	EXPECT(world->model.changes >= changes && is_spent(&world->model));
+	run_out(world);
+}
+
+/* The largest registry to the end of so many changes: by turns all calls, and those that change. */
+static uint64_t run_long(uint64_t changes, uint64_t seed)
+{
+	enum { TURNS = 32 * SLOTS, HURRIED = 600 };
+	const struct registry_settings largest = {CPUS, SLOTS, changes, REGISTRY_MOST_SECTIONS, REGISTRY_MOST_COUNT, REGISTRY_MOST_COUNT};
+	struct world *world = opened(&largest, seed);
+	for (uint64_t turn = 0; world->model.changes + SLOTS + 2 < changes && turn < 20 * changes; turn++) {
+		if (turn % (TURNS + HURRIED) == TURNS)
+			settle(world);
+		if (turn % (TURNS + HURRIED) < TURNS)
+			act(world);
+		else
+			hurry(world);
+	}
+	EXPECT(world->model.changes + SLOTS + 2 >= changes);
+	return run_out(world);
+}
+
+/* The registry's answers where sections, references and counts come to their limits: each registry is small, so that they come often. */
 static void run_small(uint64_t seed)
 {
-	struct registry_settings settings = {1, 1, 400, REGISTRY_MOST_SECTIONS, 3, 3};
+	struct registry_settings settings = {1, 1, 300 + SLOTS + 2, REGISTRY_MOST_SECTIONS, 3, 3};
 	for (uint64_t i = 0; i < SMALL; i++) {
 		settings.cpus = 1 + i % CPUS;
 		settings.slots = 1 + i % SLOTS;
 		settings.section_limit = i % 2 == 0 ? REGISTRY_MOST_SECTIONS : 5 + i % 97;
-		run(&settings, 300, seed + i);
+		run(&settings, seed + i);
 	}
-}
-
-/* A CPU's sections come to an end. Then each enter is refused, except one nested in an open section. */
-static void spend_sections(void)
-{
-	const struct registry_settings settings = {1, 1, 10, 5, 1, 1};
-	struct world *world = opened(&settings, 1);
-	for (unsigned turn = 0; turn < 2000; turn++)
-		(below(world, 4) == 0 ? look_up : below(world, 2) ? enter : leave)(world);
-	EXPECT(world->model.cpus[0].sections == 5);
-	settle(world);
-	EXPECT(same(registry_enter(&world->cpus[0]), model_enter(&world->model, 0)) == REGISTRY_SECTIONS_SPENT);
-	closed(world);
-}
-
-/* What no CPU enters any more: each call that begins a section is refused. */
-static void expect_spent(struct world *world, unsigned cpu)
-{
-	struct registry_entry none = {0}, wanted = {0};
-	lookup *const calls[] = {registry_look_up, registry_enter_find, registry_get};
-	model_lookup *const model_calls[] = {model_look_up, model_enter_find, model_get};
-	EXPECT(same(registry_enter(&world->cpus[cpu]), model_enter(&world->model, cpu)) == REGISTRY_SECTIONS_SPENT);
-	for (unsigned i = 0; i < sizeof calls / sizeof *calls; i++) {
-		uint32_t answer = calls[i](&world->cpus[cpu], REGISTRY_DRIVER, &names[0], &none);
-		same_entry(answer, &none, model_calls[i](&world->model, cpu, REGISTRY_DRIVER, &names[0], &wanted), &wanted);
-		EXPECT(answer == REGISTRY_SECTIONS_SPENT);
-	}
-}
-
-/* A CPU goes through all its sections; a look-up beside each spends none, except the first. In the last one it refers to the driver, and enters once more. */
-static void spend(struct world *world, unsigned cpu)
-{
-	struct registry_cpu *own = &world->cpus[cpu];
-	struct registry_entry found = {0}, wanted = {0};
-	struct held *held = &world->locals[world->held++];
-	while (world->model.cpus[cpu].sections + 1 < world->model.settings.section_limit) {
-		DONE(same_entry(registry_look_up(own, REGISTRY_DRIVER, &names[0], &found), &found,
-		    model_look_up(&world->model, cpu, REGISTRY_DRIVER, &names[0], &wanted), &wanted));
-		DONE(same_entry(registry_enter_find(own, REGISTRY_DRIVER, &names[0], &found), &found,
-		    model_enter_find(&world->model, cpu, REGISTRY_DRIVER, &names[0], &wanted), &wanted));
-		DONE(same(registry_exit(own), model_exit(&world->model, cpu)));
-	}
-	DONE(same_entry(registry_enter_find(own, REGISTRY_DRIVER, &names[0], &found), &found,
-	    model_enter_find(&world->model, cpu, REGISTRY_DRIVER, &names[0], &wanted), &wanted));
-	DONE(same(registry_acquire(own, NULL), model_acquire(&world->model, cpu, &held->number)));
-	DONE(same(registry_local_acquire(own, &held->handle), model_local_acquire(&world->model, cpu, &held->number)));
-	DONE(same(registry_enter(own), model_enter(&world->model, cpu)));
-	for (unsigned depth = 2; depth > 0; depth--)
-		DONE(same(registry_exit(own), model_exit(&world->model, cpu)));
-	expect_spent(world, cpu);
-}
-
-/*
- * All CPUs come to the end of their sections. Then no call enters on any. What needs no section is done: a reference is read and released, an entry is
- * attached, detached and freed, a wait ends.
- */
-static void spend_all_sections(void)
-{
-	const struct registry_settings settings = {CPUS, SLOTS, 10, SECTIONS, 3, 3};
-	struct world *world = opened(&settings, 1);
-	struct registry_entry entry = {0}, wanted = {0};
-	DONE(same_entry(registry_attach(&world->keeper, &world->cpus[0], &names[0], 7, &entry), &entry,
-	    model_attach(&world->model, 0, 0, &names[0], 7, &wanted), &wanted));
-	for (unsigned c = 0; c < CPUS; c++)
-		spend(world, c);
-	DONE(same_entry(registry_detach(&world->keeper, &world->cpus[0], REGISTRY_DRIVER, &names[0], &entry), &entry,
-	    model_detach(&world->model, 0, REGISTRY_DRIVER, &names[0], &wanted), &wanted));
-	DONE(same_entry(registry_attach(&world->keeper, &world->cpus[0], &names[0], 8, &entry), &entry,
-	    model_attach(&world->model, 0, 0, &names[0], 8, &wanted), &wanted));
-	for (unsigned turn = 0; turn < 100; turn++)
-		(turn % 2 == 0 ? read_held : advance)(world);
-	begin_wait(world);
-	turn_wait(world);
-	audit(world);
-	end_history(world);
-	for (unsigned c = 0; c < CPUS; c++)
-		expect_spent(world, c);
-	closed(world);
 }
 
 /* Sections nest to the greatest depth, and no deeper. */
@@ -668,21 +702,50 @@ static void refer_often(void)
 	closed(world);
 }
 
+/* Very many references on the last CPU, none by a section: passive ones, and local ones that another CPU releases at once. */
+static void refer_more(void)
+{
+	const struct registry_settings settings = {CPUS, SLOTS, 2, REGISTRY_MOST_SECTIONS, REGISTRY_MOST_COUNT, REGISTRY_MOST_COUNT};
+	struct world *world = opened(&settings, 1);
+	struct registry_entry entry = {0}, wanted = {0};
+	struct registry_local local = {0};
+	uint64_t number;
+	world->cpu = CPUS - 1;
+	struct registry_cpu *cpu = &world->cpus[world->cpu];
+	same(registry_attach(&world->keeper, cpu, &names[0], 7, &entry), model_attach(&world->model, world->cpu, 0, &names[0], 7, &wanted));
+	for (unsigned i = 0; i < MORE; i++) {
+		DONE(same_entry(registry_get(cpu, REGISTRY_DRIVER, &names[0], &entry), &entry,
+		    model_get(&world->model, world->cpu, REGISTRY_DRIVER, &names[0], &wanted), &wanted));
+		same_sections(world);
+	}
+	DONE(same(registry_enter_find(cpu, REGISTRY_DRIVER, &names[0], &entry), model_enter_find(&world->model, world->cpu, REGISTRY_DRIVER, &names[0], &wanted)));
+	for (unsigned i = 0; i < MORE; i++) {
+		DONE(same(registry_local_acquire(cpu, &local), model_local_acquire(&world->model, world->cpu, &number)));
+		DONE(same(registry_local_release(&world->cpus[0], &local), model_local_release(&world->model, 0, number)));
+	}
+	audit(world);
+	end_history(world);
+	closed(world);
+}
+
 int main(int argc, char **argv)
 {
 	uint64_t changes = argc > 1 ? strtoull(argv[1], NULL, 10) : LONGEST;
 	uint64_t seed = argc > 2 ? strtoull(argv[2], NULL, 10) : 1;
-	const struct registry_settings largest = {CPUS, SLOTS, changes, REGISTRY_MOST_SECTIONS, REGISTRY_MOST_COUNT, REGISTRY_MOST_COUNT};
+	const char *part = argc > 3 ? argv[3] : NULL;
 	for (unsigned i = 0; i < NAMES; i++) {
 		char text[8];
 		snprintf(text, sizeof text, "n%u", i);
 		names[i] = name_of(text);
 	}
-	spend_sections();
-	spend_all_sections();
-	refer_often();
-	run_small(seed);
-	changes = run(&largest, changes, seed);
+	if (part == NULL || strcmp(part, "counts") == 0) {
+		refer_often();
+		refer_more();
+	}
+	if (part == NULL || strcmp(part, "small") == 0)
+		run_small(seed);
+	if (part == NULL || strcmp(part, "long") == 0)
+		changes = run_long(changes, seed);
 	printf("history: %" PRIu64 " calls compared, %" PRIu64 " changes\n", compared, changes);
 	return 0;
 }

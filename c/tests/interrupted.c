@@ -1,6 +1,6 @@
 /*
- * interrupted - each wait of waiting.h with a deadline that never comes: under a storm of signals; in a thread that is cancelled; with handles that are
- * empty and places that are NULL; in a section of its own
+ * interrupted - each wait of waiting.h under a storm of signals; in a thread that is cancelled; with handles that are empty and places that are NULL; in a
+ * section of its own. A wait for a CPU also with a deadline that never comes
  */
 #include <pthread.h>
 #include <sched.h>
@@ -108,11 +108,13 @@ static registry_answer get_cpu(const struct timespec *deadline)
 	return answer;
 }
 
+enum { FOR_CPU = 3 };
+
 static const struct way ways[] = {
     {hold_retired, leave, destroy, REGISTRY_STILL_HELD},
     {hold_section, leave, perform, REGISTRY_WAITING},
     {hold_in_list, leave, barrier, REGISTRY_STILL_HELD},
-    {hold_cpu, give_cpu, get_cpu, REGISTRY_NO_CPU},
+    [FOR_CPU] = {hold_cpu, give_cpu, get_cpu, REGISTRY_NO_CPU},
 };
 
 static void *wait_in_thread(void *of)
@@ -142,7 +144,7 @@ static void end(struct waiter *waiter)
 	EXPECT(pthread_join(waiter->thread, &result) == 0 && result == NULL && atomic_load(&waiter->ended));
 }
 
-/* A deadline that never comes ends no wait, however it is written. */
+/* A deadline that never comes ends no wait for a CPU, however it is written. turns.c has the other waits. */
 static void test_far(const struct way *way)
 {
 	static const struct timespec deadlines[] = {{INT64_MAX, 999999999}, {INT64_MAX, 0}, {INT32_MAX, 0}};
@@ -284,10 +286,10 @@ int main(void)
 	DONE(registry_open(&settings, &keeper, cpus, 3));
 	DONE(registry_threads_open(&pool, &cpus[2], 1));
 	for (unsigned i = 0; i < sizeof ways / sizeof *ways; i++) {
-		test_far(&ways[i]);
 		test_signals(&ways[i]);
 		test_cancelled(&ways[i]);
 	}
+	test_far(&ways[FOR_CPU]);
 	test_cancelled_stop();
 	test_refused();
 	test_past();

@@ -13,7 +13,7 @@
 #include "client.h"
 #include "waiting.h"
 
-enum { CPUS = 3, THREADS = 12, ROUNDS = 300 };
+enum { CPUS = REGISTRY_MOST_CPUS < 8 ? REGISTRY_MOST_CPUS : 8, THREADS = 12, ROUNDS = 300 };
 
 void *__real_malloc(size_t size);
 int __real_pthread_cond_init(pthread_cond_t *made, const pthread_condattr_t *attributes);
@@ -98,13 +98,17 @@ static void expect_all_free(void)
 /* Each call says what is wrong with it, and changes nothing. */
 static void test_misuse(void)
 {
-	struct registry_cpu none[1] = {{0}}, *cpu = none;
+	struct registry_cpu none[CPUS] = {{0}}, *cpu = none;
 	EXPECT(registry_threads_close(&pool) == REGISTRY_EMPTY_HANDLE && registry_thread_unregister(&pool) == REGISTRY_EMPTY_HANDLE);
 	EXPECT(registry_thread_register(&pool, NULL, &cpu) == REGISTRY_EMPTY_HANDLE && cpu == none && registry_thread_cpu(&pool) == NULL);
 	EXPECT(registry_threads_open(&pool, NULL, 1) == REGISTRY_NULL);
 	EXPECT(registry_threads_open(&pool, cpus, 0) == REGISTRY_BAD_SETTINGS);
 	EXPECT(registry_threads_open(&pool, cpus, REGISTRY_MOST_CPUS + 1) == REGISTRY_BAD_SETTINGS);
-	EXPECT(registry_threads_open(&pool, none, 1) == REGISTRY_EMPTY_HANDLE && pool.at == NULL);
+	for (unsigned i = 0; i < CPUS; i++) {
+		memcpy(none, cpus, sizeof none);
+		none[i].at = NULL;
+		EXPECT(registry_threads_open(&pool, none, CPUS) == REGISTRY_EMPTY_HANDLE && pool.at == NULL);
+	}
 	DONE(registry_threads_open(&pool, cpus, CPUS));
 	EXPECT(registry_threads_open(&pool, cpus, CPUS) == REGISTRY_FULL_HANDLE);
 	EXPECT(registry_thread_unregister(&pool) == REGISTRY_EMPTY_HANDLE && registry_thread_cpu(&pool) == NULL);
@@ -133,7 +137,40 @@ static void test_refused(void)
 	expect_all_free();
 }
 
-static atomic_uint users[CPUS], had[CPUS];
+static pthread_barrier_t everyone;
+
+/* The threads take the CPUs one after the other, and then give them back. Meanwhile the pool is kept open, also by the last one alone. */
+static void *hold(void *of)
+{
+	unsigned own = (unsigned)(uintptr_t)of;
+	for (unsigned turn = 0; turn < 2 * CPUS; turn++) {
+		struct registry_cpu *cpu;
+		if (turn == own) {
+			DONE(registry_thread_register(&pool, NULL, &cpu));
+			EXPECT(which(cpu) == own);
+		}
+		if (turn == CPUS + own) {
+			EXPECT(registry_threads_close(&pool) == REGISTRY_STILL_HELD);
+			DONE(registry_thread_unregister(&pool));
+		}
+		pthread_barrier_wait(&everyone);
+	}
+	return of;
+}
+
+static void test_held(void)
+{
+	pthread_t threads[CPUS];
+	EXPECT(pthread_barrier_init(&everyone, NULL, CPUS) == 0);
+	for (uintptr_t i = 0; i < CPUS; i++)
+		EXPECT(pthread_create(&threads[i], NULL, hold, (void *)i) == 0);
+	for (unsigned i = 0; i < CPUS; i++)
+		EXPECT(pthread_join(threads[i], NULL) == 0);
+	EXPECT(pthread_barrier_destroy(&everyone) == 0);
+	expect_all_free();
+}
+
+static atomic_uint users[CPUS], uses;
 
 /* Takes a CPU again and again, in turn for a call and beyond the thread's end. Nobody else has it meanwhile. */
 static void *use_cpus(void *of)
@@ -146,7 +183,7 @@ static void *use_cpus(void *of)
 		if (i % 8 == 0)
 			rest();
 		DONE(registry_exit(cpu));
-		atomic_fetch_add(&had[which(cpu)], 1);
+		atomic_fetch_add(&uses, 1);
 		EXPECT(atomic_fetch_sub(&users[which(cpu)], 1) == 1);
 		if (i + 1 < ROUNDS)
 			DONE(registry_thread_unregister(&pool));
@@ -157,16 +194,11 @@ static void *use_cpus(void *of)
 static void test_crowd(void)
 {
 	pthread_t threads[THREADS];
-	unsigned all = 0;
 	for (unsigned i = 0; i < THREADS; i++)
 		EXPECT(pthread_create(&threads[i], NULL, use_cpus, NULL) == 0);
 	for (unsigned i = 0; i < THREADS; i++)
 		EXPECT(pthread_join(threads[i], NULL) == 0);
-	for (unsigned i = 0; i < CPUS; i++) {
-		EXPECT(atomic_load(&had[i]) > 0);
-		all += atomic_load(&had[i]);
-	}
-	EXPECT(all == THREADS * ROUNDS);
+	EXPECT(atomic_load(&uses) == THREADS * ROUNDS);
 	expect_all_free();
 }
 
@@ -294,6 +326,7 @@ int main(void)
 {
 	DONE(registry_open(&settings, &keeper, cpus, CPUS));
 	test_misuse();
+	test_held();
 	test_refused();
 	test_crowd();
 	test_ends();

@@ -2,37 +2,53 @@
  * planted - history with a fault planted in the calls, which it must notice
  *
  * Each fault is one that no contract refuses: a call that is right up to a size, and wrong from there. The linker leads these calls here (--wrap), and
- * history's main too. That is run once with each fault, in a process of its own, and must fail. Once it is run briefly with none, and must pass.
+ * history's main too. The part that sees a fault is run with it, in a process of its own, and must fail. Once all are run briefly with none, and must pass.
  */
 #include <sys/wait.h>
 #include <unistd.h>
 
 #include "client.h"
+#include "wrapped_heap.h"
 
-enum fault { NONE, FULL_EARLY, NOT_FOUND, SHORT_NUMBERS, SHORT_LOCALS, SLOT_KEPT_BACK, LARGE_AUDITS, FEW_PASSIVE, FEW_LOCAL, LOST_BLOCKS, FAULTS };
+enum fault { NONE, FULL_EARLY, NOT_FOUND, ADVANCE_LOST, SHORT_NUMBERS, SHORT_LOCALS, SLOT_KEPT_BACK, LARGE_AUDITS, LATE_AUDITS, FEW_PASSIVE, FEW_LOCAL,
+	LOST_BLOCKS, LONG_IFACES, LONG_ON_HIGH_CPUS, LONG_ABSENCES, LONG_GETS, SHARED_LINE, FAULTS };
 
-static const char *const TEXTS[FAULTS] = {
-	[FULL_EARLY] = "an attach says that the history is full after 200,000 changes",
-	[NOT_FOUND] = "a detach finds nothing from the 150,000th change on",
-	[SHORT_NUMBERS] = "a number is cut to 17 bits",
-	[SHORT_LOCALS] = "more than 255 local references are told as 255",
-	[SLOT_KEPT_BACK] = "the last slot is kept back while anything is retired",
-	[LARGE_AUDITS] = "an audit of all slots on all CPUs runs out of memory",
-	[FEW_PASSIVE] = "a CPU may have 65,535 passive references at once",
-	[FEW_LOCAL] = "a CPU may have acquired 65,535 local references more than it has released",
-	[LOST_BLOCKS] = "from the 65,535th on a release of a local reference loses a block of memory",
+/* What each is, and the part of history that sees it. */
+static const struct {
+	const char *text, *part;
+} FAULT[FAULTS] = {
+	[FULL_EARLY] = {"an attach says that the history is full after 200,000 changes", "long"},
+	[NOT_FOUND] = {"a detach finds no interface from the 150,000th change on", "long"},
+	[ADVANCE_LOST] = {"an advance does nothing from the 200,000th change on", "long"},
+	[SHORT_NUMBERS] = {"a number is cut to 17 bits", "long"},
+	[SHORT_LOCALS] = {"more than 255 local references are told as 255", "counts"},
+	[SLOT_KEPT_BACK] = {"the last slot is kept back while anything is retired", "long"},
+	[LARGE_AUDITS] = {"an audit of all slots on all CPUs runs out of memory", "long"},
+	[LATE_AUDITS] = {"an audit runs out of memory from the 100,000th change on", "long"},
+	[FEW_PASSIVE] = {"a CPU may have 65,535 passive references at once", "counts"},
+	[FEW_LOCAL] = {"a CPU may have acquired 65,535 local references more than it has released", "counts"},
+	[LOST_BLOCKS] = {"from the 65,535th on a release of a local reference loses a block of memory", "counts"},
+	[LONG_IFACES] = {"a look-up of an interface begins a section from the 100,000th change on", "long"},
+	[LONG_ON_HIGH_CPUS] = {"a look-up on a CPU of the upper half begins a section", "long"},
+	[LONG_ABSENCES] = {"a look-up that finds nothing begins a section from the 100,000th change on", "long"},
+	[LONG_GETS] = {"a get begins a section if the CPU has 900,000 passive references", "counts"},
+	[SHARED_LINE] = {"an enter writes on the line of the next CPU", "small"},
 };
 
-enum { MOST_TOLD = 255, MOST_OF_16_BITS = 65535, MOST_OF_17_BITS = 131071 };
+enum { MOST_TOLD = 255, MOST_OF_16_BITS = 65535, MOST_OF_17_BITS = 131071, HIGHEST_SHORT = REGISTRY_MOST_CPUS / 2 };
 
 static enum fault planted;
 
 /* What the registry that was opened last has come to: `passive` and `local` count the references of its first CPU. */
-static const struct registry_cpu *first;
+static struct registry_cpu *first;
 static uint64_t changes, retired, occupied;
 static int64_t passive, local;
-static unsigned releases;
+static unsigned releases, got;
 static void *volatile lost;	/* so that no compiler leaves it out */
+
+/* The table of that registry, which history knows, and its CPUs and slots. */
+extern uint64_t *table;
+static uint64_t cpu_count, slots;
 
 #define WRAPPED(call) extern __typeof__(call) __real_##call, __wrap_##call
 
@@ -46,12 +62,14 @@ WRAPPED(registry_advance);
 WRAPPED(registry_destroy);
 WRAPPED(registry_audit);
 WRAPPED(registry_acquire);
+WRAPPED(registry_enter);
+WRAPPED(registry_look_up);
 WRAPPED(registry_get);
 WRAPPED(registry_copy);
 WRAPPED(registry_release);
 WRAPPED(registry_local_acquire);
 WRAPPED(registry_local_release);
-int __real_main(int argc, char **argv);
+int __real_main(int argc, const char **argv);
 int __wrap_main(void);
 
 registry_answer __wrap_registry_open(const struct registry_settings *settings, struct registry_keeper *keeper, struct registry_cpu *cpus, size_t count)
@@ -59,6 +77,8 @@ registry_answer __wrap_registry_open(const struct registry_settings *settings, s
 	changes = retired = occupied = 0;
 	passive = local = 0;
 	first = cpus;
+	cpu_count = settings->cpus;
+	slots = settings->slots;
 	return __real_registry_open(settings, keeper, cpus, count);
 }
 
@@ -96,7 +116,7 @@ registry_answer __wrap_registry_attach_iface(struct registry_keeper *keeper, str
 registry_answer __wrap_registry_detach(struct registry_keeper *keeper, struct registry_cpu *cpu, uint64_t kind, const struct registry_name *name,
     struct registry_entry *gone)
 {
-	if (planted == NOT_FOUND && changes >= 149999)
+	if (planted == NOT_FOUND && kind == REGISTRY_INTERFACE && changes >= 149999)
 		return REGISTRY_NOT_FOUND;
 	registry_answer answer = __real_registry_detach(keeper, cpu, kind, name, gone);
 	changes += answer == REGISTRY_DONE;
@@ -140,6 +160,10 @@ static registry_answer advanced(registry_answer answer, struct registry_stage *m
 
 registry_answer __wrap_registry_advance(struct registry_keeper *keeper, uint64_t number, struct registry_stage *met)
 {
+	if (planted == ADVANCE_LOST && changes >= 199999) {
+		*met = (struct registry_stage){REGISTRY_GRACE, 0};
+		return REGISTRY_DONE;
+	}
 	return advanced(__real_registry_advance(keeper, cut(number), met), met);
 }
 
@@ -153,7 +177,7 @@ registry_answer __wrap_registry_audit(struct registry_keeper *keeper, struct reg
 {
 	registry_answer answer = __real_registry_audit(keeper, cpus, count, list, room, length);
 	bool is_large = answer == REGISTRY_DONE && count == REGISTRY_MOST_CPUS && *length == REGISTRY_MOST_SLOTS;
-	return planted == LARGE_AUDITS && is_large ? REGISTRY_NO_MEMORY : answer;
+	return (planted == LARGE_AUDITS && is_large) || (planted == LATE_AUDITS && changes >= 99999) ? REGISTRY_NO_MEMORY : answer;
 }
 
 /* Counts a call that is done on the first CPU. */
@@ -171,8 +195,35 @@ registry_answer __wrap_registry_acquire(struct registry_cpu *cpu, uint64_t *numb
 	return counted(__real_registry_acquire(cpu, number), cpu, &passive, 1);
 }
 
+/* Writes an unused word behind the section word of the next CPU's row. */
+registry_answer __wrap_registry_enter(struct registry_cpu *cpu)
+{
+	if (planted == SHARED_LINE && cpu_count > 1)
+		table[TABLE_ROW(slots, (uint64_t)(cpu - first + 1) % cpu_count) + 2 * slots + 1]++;
+	return __real_registry_enter(cpu);
+}
+
+/* A section more than there need be. */
+static void begin_section(struct registry_cpu *cpu)
+{
+	if (__real_registry_enter(cpu) == REGISTRY_DONE)
+		(void)registry_exit(cpu);
+}
+
+registry_answer __wrap_registry_look_up(struct registry_cpu *cpu, uint64_t kind, const struct registry_name *name, struct registry_entry *found)
+{
+	registry_answer answer = __real_registry_look_up(cpu, kind, name, found);
+	bool is_late = changes >= 99999;
+	if ((planted == LONG_IFACES && is_late && kind == REGISTRY_INTERFACE) || (planted == LONG_ABSENCES && is_late && answer == REGISTRY_NOT_FOUND) ||
+	    (planted == LONG_ON_HIGH_CPUS && cpu - first > HIGHEST_SHORT))
+		begin_section(cpu);
+	return answer;
+}
+
 registry_answer __wrap_registry_get(struct registry_cpu *cpu, uint64_t kind, const struct registry_name *name, struct registry_entry *found)
 {
+	if (planted == LONG_GETS && cpu == &first[cpu_count - 1] && ++got > 900000)
+		begin_section(cpu);
 	return counted(__real_registry_get(cpu, kind, name, found), cpu, &passive, 1);
 }
 
@@ -200,17 +251,17 @@ registry_answer __wrap_registry_local_release(struct registry_cpu *cpu, struct r
 	return counted(__real_registry_local_release(cpu, handle), cpu, &local, -1);
 }
 
-/* The status of history with a fault, through so many changes. */
-static int status_with(enum fault fault, char *wanted_changes)
+/* The status of a part of history with a fault, through so many changes; of all without a part. */
+static int status_with(enum fault fault, const char *wanted_changes, const char *part)
 {
-	char *words[] = {"history", wanted_changes, NULL};
+	const char *words[] = {"history", wanted_changes, "1", part, NULL};
 	int status;
 	pid_t child = fork();
 	EXPECT(child >= 0);
 	if (child == 0) {
 		EXPECT(freopen("/dev/null", "w", stdout) != NULL && freopen("/dev/null", "w", stderr) != NULL);
 		planted = fault;
-		exit(__real_main(2, words));
+		exit(__real_main(part == NULL ? 3 : 4, words));
 	}
 	EXPECT(waitpid(child, &status, 0) == child && WIFEXITED(status));
 	return WEXITSTATUS(status);
@@ -218,10 +269,10 @@ static int status_with(enum fault fault, char *wanted_changes)
 
 int __wrap_main(void)
 {
-	EXPECT(status_with(NONE, "3000") == 0);
+	EXPECT(status_with(NONE, "3000", NULL) == 0);
 	for (enum fault fault = NONE + 1; fault < FAULTS; fault++)
-		if (status_with(fault, "300000") != 1) {
-			fprintf(stderr, "planted: not noticed: %s\n", TEXTS[fault]);
+		if (status_with(fault, "300000", FAULT[fault].part) != 1) {
+			fprintf(stderr, "planted: not noticed: %s\n", FAULT[fault].text);
 			return 1;
 		}
 	printf("planted: %d faults, each is noticed\n", FAULTS - 1);

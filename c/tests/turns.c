@@ -1,12 +1,16 @@
 /*
- * turns [emulated] - each step that the waits of waiting.h make: which calls, in which order, how long they sleep, and that they stop where they should
+ * turns [emulated] - each step that the waits of waiting.h make, beside a model: which calls, in which order, how long they sleep, and where they stop
  *
  * The linker leads the registry's calls, the clock, nanosleep, sched_yield and a mutex's calls here (--wrap), and pauses.h the pause instruction. The calls
- * return what the test says, time is the test's own, and each step leaves a letter: t and g the interlock taken and given up; d a destroy's turn; b and p
- * a perform's begin and turn; y a yield; s a sleep; r a local reference's release and c its being given up; l and u a mutex locked and unlocked.
- * With `emulated` no robust mutex is tried: qemu-user marks none whose owner has ended.
+ * return what the test says, and time is the test's own. A wait is planned at random: which call, on which of some registries, CPUs and mutexes, with which
+ * deadline, and what its turns return. While it lets time pass others begin, as on other threads, and end before it goes on.
+ *
+ * Each step has a letter, and the model knows which come next: l and u a mutex locked and unlocked; d a destroy's turn; b and p a perform's begin and
+ * turn; a one of a barrier; y a yield; s a sleep; r a local reference's release and c its being given up.
+ * With `emulated` waits are shorter, and no robust mutex is tried: qemu-user marks none whose owner has ended.
  */
 #include <errno.h>
+#include <inttypes.h>
 #include <pthread.h>
 #include <sched.h>
 #include <signal.h>
@@ -17,26 +21,45 @@
 #include "pauses.h"
 #include "waiting.h"
 
-enum { SPINS = 16, MOST_PAUSES = 256, YIELDS = 8, FIRST_SLEEP = 16000, LONGEST_SLEEP = 8000000, MOST = 400, TURN = 100, MANY = 1000001 };
+enum { SPINS = 16, MOST_PAUSES = 256, YIELDS = 8, FIRST_SLEEP = 16000, LONGEST_SLEEP = 8000000, TURN = 100 };
+enum { WAITS = 20000, PLACES = 5, DEEPEST = 4, MOST_TURNS = 60, MANY = 5000001, SECOND = 1000000000, MOST_ERROR = 133 };
 
-static struct {
-	uint32_t begun;			/* what a begin answers */
-	uint32_t refused, last;		/* what the first turns answer, and the one after them */
+enum call { DESTROY, PERFORM, BARRIER, DROP, CALLS };
+
+/* A wait that is under way: what its calls return, and what the model knows of it. */
+struct planned {
+	enum call call;
+	unsigned mutex, keeper, cpu;
+	uint64_t number;
+	struct registry_stage met;
+	uint64_t waited;
+	struct registry_local local;
+	struct registry_deferred list;
+	uint32_t first;			/* what a begin or a release returns */
+	uint32_t refused, last;		/* what the first turns return, and the one after them */
 	unsigned refusals;		/* how many those are */
-} said;
+	int64_t until;			/* the deadline in nanoseconds; INT64_MAX if it never comes, or there is none */
+	struct timespec deadline;
+	bool has_deadline;
+	char next[8];			/* the steps that come next */
+	unsigned at, turns, pauses;	/* how many of them have come, turns so far, and pause instructions that come before the next step */
+	int64_t sleep;			/* the next one's length, if nothing cuts it */
+	uint32_t answer;		/* the last one's */
+	struct registry_wait *wait;	/* the perform's, which has a mark */
+	unsigned char mark;
+	struct planned *outer;		/* the wait beneath, which lets time pass */
+};
 
-static struct {
-	char steps[MOST];
-	unsigned count, turns, sleeps;
-	int64_t slept[MOST];
-	unsigned pauses[MOST + 1];	/* after so many turns */
-	const struct registry_wait *wait;
-} seen;
+static struct planned *under_way;
+static unsigned depth, waits;
+static uint64_t random_word = 1, turns_made, sleeps, yields, late, beside;
+static bool alone;	/* no other wait begins meanwhile */
 
 static int64_t now;	/* in nanoseconds: a turn takes TURN of them, and a sleep its length */
-static struct registry_keeper keeper;
-static struct registry_cpu cpu;
-static struct registry_stage met;
+static struct registry_keeper keepers[PLACES];
+static struct registry_cpu cpus[PLACES];
+static pthread_mutex_t mutexes[PLACES];
+static struct registry_lock locks[PLACES];
 
 int __wrap_clock_gettime(clockid_t clock, struct timespec *time);
 int __wrap_nanosleep(const struct timespec *length, struct timespec *left);
@@ -44,9 +67,9 @@ int __wrap_sched_yield(void);
 uint32_t __wrap_registry_destroy(struct registry_keeper *of, struct registry_cpu *on, uint64_t number, struct registry_stage *stage);
 uint32_t __wrap_registry_perform_begin(struct registry_keeper *of, struct registry_cpu *on, struct registry_wait *wait);
 uint32_t __wrap_registry_perform_turn(struct registry_keeper *of, struct registry_cpu *on, struct registry_wait *wait, uint64_t *waited);
-
 uint32_t __wrap_registry_local_release(struct registry_cpu *on, struct registry_local *of);
 uint32_t __wrap_registry_local_give_up(struct registry_keeper *of, struct registry_local *local);
+uint32_t __wrap_registry_advance(struct registry_keeper *of, uint64_t number, struct registry_stage *stage);
 int __real_pthread_mutex_lock(pthread_mutex_t *mutex);
 int __real_pthread_mutex_unlock(pthread_mutex_t *mutex);
 int __wrap_pthread_mutex_lock(pthread_mutex_t *mutex);
@@ -55,250 +78,272 @@ int __wrap_pthread_mutex_unlock(pthread_mutex_t *mutex);
 /* What locking and unlocking a mutex fail with, unless it is 0. */
 static int lock_error, unlock_error;
 
-/* Whether no step is kept: of a wait of very many turns only their number is. */
-static bool unkept;
-
-static void step(char letter)
+/* A number below `end`, by xorshift. */
+static uint64_t below(uint64_t end)
 {
-	if (unkept)
-		return;
-	EXPECT(seen.count < MOST - 1);
-	seen.steps[seen.count++] = letter;
+	random_word ^= random_word << 13;
+	random_word ^= random_word >> 7;
+	random_word ^= random_word << 17;
+	return (random_word >> 11) % end;
+}
+
+/* The steps that come next: those of a format, where each @ is the letter of the wait's turn. */
+static void expect_next(struct planned *wait, const char *steps)
+{
+	wait->at = 0;
+	snprintf(wait->next, sizeof wait->next, "%s", steps);
+	for (char *step = wait->next; *step != 0; step++)
+		*step = *step == '@' ? "dpa"[wait->call] : *step;
+}
+
+/* The step comes next, and all pauses between an unlocking and it were made. The wait that makes it. */
+static struct planned *step(char letter)
+{
+	struct planned *wait = under_way;
+	EXPECT(wait != NULL && (wait->pauses == 0 || letter == 'u') && wait->next[wait->at] == letter);
+	wait->at++;
+	return wait;
+}
+
+/* What comes after a turn that wasn't the last: pauses, twice as many each time, then yields, then sleeps, of which each is twice as long. */
+static void expect_pause(struct planned *wait)
+{
+	if (wait->turns <= SPINS) {
+		expect_next(wait, "ul@");
+		wait->pauses = wait->turns < 9 ? 1U << (wait->turns - 1) : MOST_PAUSES;
+	} else {
+		expect_next(wait, wait->turns <= SPINS + YIELDS ? "uyl@" : "usl@");
+	}
+}
+
+/* A turn: what it returns, and what comes next. */
+static uint32_t turn(struct planned *wait)
+{
+	now += TURN;
+	turns_made++;
+	bool is_last = wait->turns++ >= wait->refusals;
+	wait->answer = is_last ? wait->last : wait->refused;
+	late += wait->answer == wait->refused && wait->until <= now;
+	if (wait->answer != wait->refused || wait->until <= now)
+		expect_next(wait, "u");
+	else
+		expect_pause(wait);
+	return wait->answer;
+}
+
+static void run_wait(void);
+
+/* Time passes: now and then another thread waits. */
+static void pass(unsigned seldom)
+{
+	if (!alone && depth < DEEPEST && below(seldom) == 0) {
+		beside++;
+		run_wait();
+	}
 }
 
 int __wrap_clock_gettime(clockid_t clock, struct timespec *time)
 {
 	EXPECT(clock == CLOCK_MONOTONIC);
-	*time = (struct timespec){now / 1000000000, now % 1000000000};
+	*time = (struct timespec){now / SECOND, now % SECOND};
 	return 0;
 }
 
 int __wrap_nanosleep(const struct timespec *length, struct timespec *left)
 {
-	EXPECT(length->tv_sec == 0 && left == NULL);
-	step('s');
-	seen.slept[seen.sleeps++ % MOST] = length->tv_nsec;
+	struct planned *wait = step('s');
+	int64_t wanted = wait->until - now < wait->sleep ? wait->until - now : wait->sleep;
+	EXPECT(length->tv_sec == 0 && length->tv_nsec == wanted && left == NULL);
+	wait->sleep = wait->sleep * 2 < LONGEST_SLEEP ? wait->sleep * 2 : LONGEST_SLEEP;
 	now += length->tv_nsec;
+	sleeps++;
+	pass(50);
 	return 0;
 }
 
 int __wrap_sched_yield(void)
 {
 	step('y');
+	yields++;
+	pass(50);
 	return 0;
 }
 
+/* A pause stands behind the unlocking, and before the next step. */
 void pause_seen(void)
 {
-	seen.pauses[seen.turns < MOST ? seen.turns : MOST]++;
-}
-
-static uint32_t turn(char letter)
-{
-	step(letter);
-	now += TURN;
-	return seen.turns++ < said.refusals ? said.refused : said.last;
+	EXPECT(under_way->pauses > 0 && under_way->next[under_way->at] == 'l');
+	under_way->pauses--;
+	pass(5000);
 }
 
 uint32_t __wrap_registry_destroy(struct registry_keeper *of, struct registry_cpu *on, uint64_t number, struct registry_stage *stage)
 {
-	EXPECT(of == &keeper && on == &cpu && number == 5 && stage == &met);
-	return turn('d');
+	struct planned *wait = step('d');
+	EXPECT(of == &keepers[wait->keeper] && on == &cpus[wait->cpu] && number == wait->number && stage == &wait->met);
+	return turn(wait);
 }
 
+/* Each perform has a wait of its own, which nobody else writes. */
 uint32_t __wrap_registry_perform_begin(struct registry_keeper *of, struct registry_cpu *on, struct registry_wait *wait)
 {
-	EXPECT(of == &keeper && on == &cpu && seen.wait == NULL);
-	seen.wait = wait;
-	step('b');
-	return said.begun;
+	struct planned *own = step('b');
+	EXPECT(of == &keepers[own->keeper] && on == &cpus[own->cpu]);
+	own->wait = wait;
+	own->mark = (unsigned char)++waits;
+	memset(wait, own->mark, sizeof *wait);
+	own->answer = own->first;
+	expect_next(own, own->first == REGISTRY_DONE ? "ul@" : "u");
+	return own->first;
 }
 
 uint32_t __wrap_registry_perform_turn(struct registry_keeper *of, struct registry_cpu *on, struct registry_wait *wait, uint64_t *waited)
 {
-	EXPECT(of == &keeper && on == &cpu && wait == seen.wait);
-	*waited = 3;
-	return turn('p');
+	struct planned *own = step('p');
+	EXPECT(of == &keepers[own->keeper] && on == &cpus[own->cpu] && wait == own->wait && waited == &own->waited);
+	for (size_t i = 0; i < sizeof *wait; i++)
+		EXPECT(((unsigned char *)wait)[i] == own->mark);
+	return turn(own);
 }
 
-static struct registry_local local;
+/* A turn of a barrier works on the one entry of its list. */
+uint32_t __wrap_registry_advance(struct registry_keeper *of, uint64_t number, struct registry_stage *stage)
+{
+	struct planned *wait = step('a');
+	EXPECT(of == &keepers[wait->keeper] && number == wait->number);
+	*stage = (struct registry_stage){turn(wait) == REGISTRY_DONE ? REGISTRY_FREED : REGISTRY_GRACE, 0};
+	return REGISTRY_DONE;
+}
 
 uint32_t __wrap_registry_local_release(struct registry_cpu *on, struct registry_local *of)
 {
-	EXPECT(on == &cpu && of == &local);
-	step('r');
-	return said.begun;
+	struct planned *wait = step('r');
+	EXPECT(on == &cpus[wait->cpu] && of == &wait->local);
+	wait->answer = wait->first;
+	expect_next(wait, wait->first == REGISTRY_COLLECTED ? "lcu" : "");
+	return wait->first;
 }
 
 uint32_t __wrap_registry_local_give_up(struct registry_keeper *of, struct registry_local *given_up)
 {
-	EXPECT(of == &keeper && given_up == &local);
-	step('c');
-	return said.last;
+	struct planned *wait = step('c');
+	EXPECT(of == &keepers[wait->keeper] && given_up == &wait->local);
+	return wait->answer = wait->last;
 }
 
+/* No wait is under way where a mutex's errors are tried. */
 int __wrap_pthread_mutex_lock(pthread_mutex_t *mutex)
 {
-	step('l');
+	if (under_way != NULL)
+		EXPECT(mutex == &mutexes[step('l')->mutex]);
 	return lock_error != 0 ? lock_error : __real_pthread_mutex_lock(mutex);
 }
 
 int __wrap_pthread_mutex_unlock(pthread_mutex_t *mutex)
 {
-	step('u');
+	if (under_way != NULL)
+		EXPECT(mutex == &mutexes[step('u')->mutex]);
 	return unlock_error != 0 ? unlock_error : __real_pthread_mutex_unlock(mutex);
 }
 
-static void take(void *of)
+/* A deadline that is past, that never comes, or that is up to some seconds away. */
+static void plan_deadline(struct planned *wait)
 {
-	EXPECT(of == &said);
-	step('t');
+	static const struct timespec never[] = {{INT64_MAX, 999999999}, {INT64_MAX, 0}, {INT32_MAX, 0}};
+	uint64_t kind = below(8);
+	wait->has_deadline = kind > 0;
+	wait->until = kind == 2 ? INT64_MIN : kind < 2 ? INT64_MAX : now + (int64_t)below(UINT64_C(1) << below(33)) - (int64_t)below(3);
+	wait->deadline = (struct timespec){wait->until / SECOND, wait->until % SECOND};
+	if (kind == 1)
+		wait->deadline = never[below(3)];
+	if (kind == 2)
+		wait->deadline = (struct timespec){INT64_MIN, 0};
 }
 
-static void give(void *of)
+static void plan(struct planned *wait)
 {
-	EXPECT(of == &said);
-	step('g');
+	static const uint32_t refusals[CALLS] = {REGISTRY_STILL_HELD, REGISTRY_WAITING, REGISTRY_STILL_HELD, REGISTRY_NO_MORE + 1};
+	static const char *const begins[CALLS] = {"l@", "lb", "l@", "r"};
+	*wait = (struct planned){.call = (enum call)below(CALLS), .sleep = FIRST_SLEEP};
+	wait->mutex = (unsigned)below(PLACES);
+	wait->keeper = (unsigned)below(PLACES);
+	wait->cpu = (unsigned)below(PLACES);
+	wait->number = below(1000);
+	wait->refused = refusals[wait->call];
+	wait->last = wait->call == BARRIER || below(2) == 0 ? REGISTRY_DONE : (uint32_t)below(REGISTRY_NO_MORE + 1);
+	if (wait->last == wait->refused)
+		wait->last = REGISTRY_DONE;
+	wait->first = below(2) == 0 ? (uint32_t)below(REGISTRY_NO_MORE + 1) : wait->call == DROP ? REGISTRY_COLLECTED : REGISTRY_DONE;
+	wait->refusals = (unsigned)below(MOST_TURNS);
+	wait->list = (struct registry_deferred){.keeper = &keepers[wait->keeper], .registry = keepers[wait->keeper].at, .count = 1};
+	wait->list.entries[0].number = wait->number;
+	plan_deadline(wait);
+	expect_next(wait, begins[wait->call]);
 }
 
-static const struct registry_lock lock = {take, give, &said};
-
-/* What the calls answer from now on: so many refused turns, and the last one; nothing was seen yet. */
-static void say(uint32_t begun, uint32_t refused, unsigned refusals, uint32_t last)
+static registry_answer call(struct planned *wait)
 {
-	said.begun = begun;
-	said.refused = refused;
-	said.refusals = refusals;
-	said.last = last;
-	memset(&seen, 0, sizeof seen);
-}
-
-/* Between the first turns the wait spins, each time for twice as many pauses, up to the most; never before the first turn or after the last. */
-static void expect_pauses(unsigned turns)
-{
-	for (unsigned i = 0; i <= turns; i++) {
-		unsigned wanted = i == 0 || i > SPINS || i >= turns ? 0 : 1U << (i - 1);
-		EXPECT(seen.pauses[i] == (wanted < MOST_PAUSES ? wanted : MOST_PAUSES));
+	const struct timespec *deadline = wait->has_deadline ? &wait->deadline : NULL;
+	const struct registry_lock *lock = &locks[wait->mutex];
+	struct registry_keeper *keeper = &keepers[wait->keeper];
+	switch (wait->call) {
+	case DESTROY:
+		return registry_destroy_wait(lock, keeper, &cpus[wait->cpu], wait->number, deadline, &wait->met);
+	case PERFORM:
+		return registry_perform_wait(lock, keeper, &cpus[wait->cpu], deadline, &wait->waited);
+	case BARRIER:
+		return registry_deferred_barrier(lock, &wait->list, deadline);
+	default:
+		return registry_local_drop(&cpus[wait->cpu], &wait->local, &mutexes[wait->mutex], keeper);
 	}
 }
 
-/* The steps of so many turns with this letter, each but the last followed by a pause. */
-static void expect_turns(const char *begin, char letter, unsigned turns)
+/* Makes a planned wait: it ends with the step that the model knows, and returns the last answer. */
+static void make(struct planned *wait)
 {
-	char wanted[MOST] = "";
-	size_t length = (size_t)snprintf(wanted, sizeof wanted, "%s", begin);
-	for (unsigned i = 0; i < turns; i++) {
-		if (i > SPINS)
-			wanted[length++] = i <= SPINS + YIELDS ? 'y' : 's';
-		wanted[length++] = 't';
-		wanted[length++] = letter;
-		wanted[length++] = 'g';
+	wait->outer = under_way;
+	under_way = wait;
+	depth++;
+	EXPECT(call(wait) == wait->answer && wait->next[wait->at] == 0 && wait->pauses == 0);
+	depth--;
+	under_way = wait->outer;
+}
+
+static void run_wait(void)
+{
+	struct planned wait;
+	now += (int64_t)below(UINT64_C(1) << below(31));
+	plan(&wait);
+	make(&wait);
+}
+
+static void test_waits(void)
+{
+	for (unsigned i = 0; i < PLACES; i++) {
+		keepers[i].at = &keepers[i];
+		EXPECT(pthread_mutex_init(&mutexes[i], NULL) == 0);
+		locks[i] = registry_lock_of_mutex(&mutexes[i]);
 	}
-	EXPECT(strcmp(seen.steps, wanted) == 0);
-	expect_pauses(turns);
+	for (unsigned i = 0; i < WAITS; i++)
+		run_wait();
+	EXPECT(sleeps > WAITS && yields > WAITS && late > WAITS / 10 && beside > WAITS / 10);
 }
 
-/* Each sleep is twice as long as the one before, up to the longest; the last may be cut. */
-static void expect_sleeps(unsigned sleeps, int64_t last)
+/* A wait has no number of turns after which it ends: it ends with the answer. A perform also if it has a deadline that never comes. */
+static void test_many_turns(unsigned turns)
 {
-	int64_t length = FIRST_SLEEP;
-	EXPECT(seen.sleeps == sleeps);
-	for (unsigned i = 0; i < sleeps; i++) {
-		EXPECT(seen.slept[i] == (i + 1 == sleeps && last != 0 ? last : length));
-		length = length * 2 < LONGEST_SLEEP ? length * 2 : LONGEST_SLEEP;
+	struct planned wait;
+	alone = true;
+	for (enum call which = DESTROY; which < DROP;) {
+		plan(&wait);
+		if (wait.call != which || wait.until != INT64_MAX || wait.has_deadline != (which == PERFORM) || wait.first != REGISTRY_DONE)
+			continue;
+		wait.refusals = turns - 1;
+		make(&wait);
+		EXPECT(wait.turns == turns);
+		which++;
 	}
-}
-
-/* A destroy goes on while it is refused as held, and ends with the first other answer, whichever it is. */
-static void test_destroy_ends(void)
-{
-	const uint32_t ends[] = {REGISTRY_DONE, REGISTRY_NOT_RETIRED, REGISTRY_INSIDE, REGISTRY_EMPTY_HANDLE, REGISTRY_WAITING};
-	for (unsigned end = 0; end < sizeof ends / sizeof *ends; end++)
-		for (unsigned refusals = 0; refusals < 60; refusals++) {
-			say(REGISTRY_DONE, REGISTRY_STILL_HELD, refusals, ends[end]);
-			EXPECT(registry_destroy_wait(&lock, &keeper, &cpu, 5, NULL, &met) == ends[end]);
-			expect_turns("", 'd', refusals + 1);
-			expect_sleeps(refusals > SPINS + YIELDS ? refusals - SPINS - YIELDS : 0, 0);
-		}
-}
-
-/* A perform begins once, and each turn gets the wait that was begun; a refused begin has no turn. */
-static void test_perform_ends(void)
-{
-	const uint32_t ends[] = {REGISTRY_DONE, REGISTRY_INSIDE, REGISTRY_EMPTY_HANDLE, REGISTRY_NOT_BEGUN, REGISTRY_STILL_HELD};
-	uint64_t waited;
-	for (unsigned end = 0; end < sizeof ends / sizeof *ends; end++)
-		for (unsigned refusals = 0; refusals < 60; refusals++) {
-			say(REGISTRY_DONE, REGISTRY_WAITING, refusals, ends[end]);
-			waited = 9;
-			EXPECT(registry_perform_wait(&lock, &keeper, &cpu, NULL, &waited) == ends[end] && waited == 3);
-			expect_turns("tbg", 'p', refusals + 1);
-			expect_sleeps(refusals > SPINS + YIELDS ? refusals - SPINS - YIELDS : 0, 0);
-		}
-	say(REGISTRY_INSIDE, REGISTRY_WAITING, 9, REGISTRY_DONE);
-	EXPECT(registry_perform_wait(&lock, &keeper, &cpu, NULL, &waited) == REGISTRY_INSIDE);
-	expect_turns("tbg", 'p', 0);
-}
-
-/* A wait has no number of turns after which it ends: it ends with the answer. Each of its sleeps is the longest, from some on. */
-static void expect_many(const char *call, registry_answer answer)
-{
-	EXPECT(answer == REGISTRY_DONE);
-	if (seen.turns != MANY || seen.sleeps != MANY - 1 - SPINS - YIELDS || seen.slept[(seen.sleeps - 1) % MOST] != LONGEST_SLEEP) {
-		fprintf(stderr, "turns.c: %s: %u turns, %u sleeps\n", call, seen.turns, seen.sleeps);
-		exit(1);
-	}
-}
-
-static void test_many_turns(void)
-{
-	uint64_t waited;
-	struct timespec deadline = {INT32_MAX, 0};
-	unkept = true;
-	say(REGISTRY_DONE, REGISTRY_STILL_HELD, MANY - 1, REGISTRY_DONE);
-	expect_many("destroy", registry_destroy_wait(&lock, &keeper, &cpu, 5, NULL, &met));
-	say(REGISTRY_DONE, REGISTRY_STILL_HELD, MANY - 1, REGISTRY_DONE);
-	expect_many("destroy with a deadline", registry_destroy_wait(&lock, &keeper, &cpu, 5, &deadline, &met));
-	say(REGISTRY_DONE, REGISTRY_WAITING, MANY - 1, REGISTRY_DONE);
-	expect_many("perform", registry_perform_wait(&lock, &keeper, &cpu, NULL, &waited));
-	unkept = false;
-}
-
-/* A deadline so many nanoseconds from now. */
-static struct timespec in(int64_t nanoseconds)
-{
-	int64_t then = now + nanoseconds;
-	return (struct timespec){then / 1000000000, then % 1000000000};
-}
-
-/* A destroy that is always refused ends by this deadline, and has made so many turns. */
-static void expect_held(struct timespec deadline, unsigned turns)
-{
-	say(REGISTRY_DONE, REGISTRY_STILL_HELD, MOST, REGISTRY_DONE);
-	EXPECT(registry_destroy_wait(&lock, &keeper, &cpu, 5, &deadline, &met) == REGISTRY_STILL_HELD);
-	expect_turns("", 'd', turns);
-}
-
-/*
- * A sleep is cut to the deadline, so the wait ends with a turn that begins at the deadline and not later; while a nanosecond is left there is another
- * turn; a deadline that has passed leaves the first turn alone. The time crosses a full second in some of these.
- */
-static void test_deadlines(void)
-{
-	enum { AWAKE = (SPINS + YIELDS + 1) * TURN };
-	for (int64_t start = 0; start < 3; start++) {
-		now = start * 999980000;
-		expect_held(in(AWAKE + FIRST_SLEEP + TURN + 5000), SPINS + YIELDS + 3);
-		expect_sleeps(2, 5000);
-		expect_held(in(3 * TURN), 3);
-		expect_held(in(3 * TURN + 1), 4);
-		expect_held(in(start - 1), 1);
-		expect_held((struct timespec){INT64_MIN, 0}, 1);
-	}
-	say(REGISTRY_DONE, REGISTRY_STILL_HELD, 60, REGISTRY_DONE);
-	struct timespec deadline = in(5000000000);
-	EXPECT(registry_destroy_wait(&lock, &keeper, &cpu, 5, &deadline, &met) == REGISTRY_DONE);
-	expect_sleeps(60 - SPINS - YIELDS, 0);
+	alone = false;
 }
 
 /* A child that takes the interlock so often and gives it up so often is aborted, and says that this call failed so. */
@@ -351,17 +396,16 @@ static void test_mutex(void)
 /* The program is aborted if a mutex fails, with any error. */
 static void test_errors(void)
 {
-	static const int errors[] = {EINVAL, EAGAIN, EDEADLK, EBUSY, EPERM, ETIMEDOUT, EOWNERDEAD, ENOTRECOVERABLE};
 	pthread_mutex_t mutex;
 	const struct registry_lock of_mutex = make_mutex(&mutex, PTHREAD_MUTEX_NORMAL, PTHREAD_MUTEX_STALLED);
-	for (unsigned i = 0; i < sizeof errors / sizeof *errors; i++) {
-		lock_error = errors[i];
-		expect_abort(&of_mutex, 1, 0, "pthread_mutex_lock", errors[i]);
-		lock_error = 0;
-		unlock_error = errors[i];
-		expect_abort(&of_mutex, 1, 1, "pthread_mutex_unlock", errors[i]);
-		unlock_error = 0;
+	for (int i = 0; i < 2 * MOST_ERROR; i++) {
+		bool by_lock = i % 2 == 0;
+		int error = 1 + i / 2;
+		lock_error = by_lock ? error : 0;
+		unlock_error = by_lock ? 0 : error;
+		expect_abort(&of_mutex, 1, 1, by_lock ? "pthread_mutex_lock" : "pthread_mutex_unlock", error);
 	}
+	lock_error = unlock_error = 0;
 }
 
 static void *take_and_end(void *of_mutex)
@@ -393,36 +437,16 @@ static void test_robust(void)
 	expect_abort(&dies, 1, 0, "pthread_mutex_lock", EOWNERDEAD);
 }
 
-/* A drop that releases a local reference so makes these steps, and returns the result of the last one. */
-static void expect_drop(uint32_t released, uint32_t given_up, const char *steps)
-{
-	pthread_mutex_t mutex = PTHREAD_MUTEX_INITIALIZER;
-	say(released, REGISTRY_DONE, 0, given_up);
-	EXPECT(registry_local_drop(&cpu, &local, &mutex, &keeper) == (released == REGISTRY_COLLECTED ? given_up : released));
-	EXPECT(strcmp(seen.steps, steps) == 0);
-}
-
-static void test_drop(void)
-{
-	expect_drop(REGISTRY_DONE, REGISTRY_DONE, "r");
-	expect_drop(REGISTRY_EMPTY_HANDLE, REGISTRY_DONE, "r");
-	expect_drop(REGISTRY_COLLECTED, REGISTRY_DONE, "rlcu");
-	expect_drop(REGISTRY_COLLECTED, REGISTRY_EMPTY_HANDLE, "rlcu");
-}
-
 int main(int argc, char **argv)
 {
-	const bool marks_owners = argc != 2 || strcmp(argv[1], "emulated") != 0;
-	test_destroy_ends();
-	test_perform_ends();
-	test_deadlines();
-	test_many_turns();
+	const bool is_emulated = argc == 2 && strcmp(argv[1], "emulated") == 0;
+	test_waits();
+	test_many_turns(is_emulated ? MANY / 100 : MANY);
 	test_mutex();
 	test_errors();
 	test_recursive();
-	if (marks_owners)
+	if (!is_emulated)
 		test_robust();
-	test_drop();
-	puts("turns end");
+	printf("turns: %" PRIu64 " turns\n", turns_made);
 	return 0;
 }
