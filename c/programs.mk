@@ -17,6 +17,8 @@ PROGRAMS_x86_64 = recalls
 # A release's source has no bench.
 BENCH = bench
 BENCHED = $(if $(wildcard $(BENCH)/common.c),speed)
+# In the checking build, too, which says nothing of them.
+CHECKING = smallest row packet shared storm walk crowd forwarder device_switch together
 
 all: $(PROGRAMS:%=$(OUT)/%) $(OUT)/checked $(CHECKING:%=$(OUT)/checked-%)
 
@@ -70,8 +72,6 @@ $(PROGRAMS:%=$(OUT)/%): c/examples/client.h c/examples/expect.h $(FACE) $(ARCHIV
 	$(CC) $(STRICT) $(CPPFLAGS) $(CFLAGS) $(INCLUDES) $(LDFLAGS) -o $@ $(filter %.c,$^) $(ARCHIVE) -pthread $(LINK)
 
 # The checking build: the test of what it tells, and programs that it says nothing of.
-CHECKING = smallest row packet shared storm walk entries crowd forwarder device_switch together
-
 $(OUT)/checked: c/tests/checked.c
 $(OUT)/checked: LINK = -Wl,--wrap=registry_find
 $(CHECKING:%=$(OUT)/checked-%): $(OUT)/checked-%: %.c

@@ -209,7 +209,7 @@ test_c() {
     check "C: smallest in the checking build" smallest_says "$out/checked-smallest"
     check "C: row in the checking build" row_says "$out/checked-row"
     check "C: storm 4 2000 in the checking build" storm_says 4 2000 "$out/checked-storm"
-    for each in packet 'shared 500' 'walk 500' 'entries 50' 'crowd 200' 'forwarder 200' 'device_switch 20' 'together 20'; do
+    for each in packet 'shared 500' 'walk 500' 'crowd 200' 'forwarder 200' 'device_switch 20' 'together 20'; do
         # shellcheck disable=SC2086
         check "C: $each in the checking build" "$out"/checked-$each
     done
