@@ -26,6 +26,13 @@ int __wrap_pthread_condattr_init(pthread_condattr_t *made);
 int __wrap_pthread_key_create(pthread_key_t *made, void (*end)(void *));
 int __wrap_pthread_setspecific(pthread_key_t key, const void *value);
 
+/* In a child of several threads the address sanitizer's heap may stay locked for ever. */
+#ifdef __SANITIZE_ADDRESS__
+enum { FORKS = 0 };
+#else
+enum { FORKS = 1 };
+#endif
+
 /* What fails next. */
 static enum { NOTHING, MALLOC, ATTRIBUTES, CONDITION, KEY, OPENING, PLACE } fault;
 
@@ -331,7 +338,8 @@ int main(void)
 	test_crowd();
 	test_ends();
 	test_deadlines();
-	test_fork();
+	if (FORKS)
+		test_fork();
 	test_many();
 	DONE(registry_close(cpus, CPUS, &keeper));
 	puts("lent end");
