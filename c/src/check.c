@@ -44,7 +44,8 @@ struct record {
 	uint64_t registry;	/* a number of it, from 1 */
 	unsigned forks;		/* before it was opened */
 	struct event opened;
-	uint64_t on, cpu;	/* the CPU, or the one that acquired it: a number that no other CPU has, and its number in the registry */
+	uint64_t on;		/* of the CPU, or of the one that acquired it: a number that no other CPU has */
+	uint64_t cpu;		/* that CPU's number in its registry */
 	uint64_t number;	/* of the reference's entry, and its name */
 	char name[REGISTRY_NAME_ROOM];
 	uint32_t tag;

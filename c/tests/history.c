@@ -497,7 +497,7 @@ static enum writer act(struct world *world)
 	return deeds[i].writer;
 }
 
-/* A few calls on one CPU, most of which change something: entries of each kind come and go. */
+/* A few calls on one CPU. Most change something: entries of each kind come and go. */
 static void hurry(struct world *world)
 {
 	static void (*const calls[])(struct world *) = {enter_find, acquire_local, leave, attach_iface, release_local, attach, look_up, attach, detach, attach, detach,

@@ -2,7 +2,7 @@
  * turns [emulated] - each step that the waits of waiting.h make, beside a model: which calls, in which order, how long they sleep, and where they stop
  *
  * The linker leads the registry's calls, the clock, nanosleep, sched_yield and a mutex's calls here (--wrap), and pauses.h the pause instruction. The calls
- * return what the test says, and time is the test's own. A wait is planned at random: which call, on which of some registries, CPUs and mutexes, with which
+ * return what the test says, and time is the test's own. A wait is planned at random: its call, its registry, CPU and mutex, its
  * deadline, and what its turns return. While it lets time pass others begin, as on other threads, and end before it goes on.
  *
  * Each step has a letter, and the model knows which come next: l and u a mutex locked and unlocked; d a destroy's turn; b and p a perform's begin and
@@ -38,7 +38,7 @@ struct planned {
 	uint32_t first;			/* what a begin or a release returns */
 	uint32_t refused, last;		/* what the first turns return, and the one after them */
 	unsigned refusals;		/* how many those are */
-	int64_t until;			/* the deadline in nanoseconds; INT64_MAX if it never comes, or there is none */
+	int64_t until;			/* the deadline in nanoseconds. INT64_MAX: none, or one that never comes. */
 	struct timespec deadline;
 	bool has_deadline;
 	char next[8];			/* the steps that come next */
@@ -105,7 +105,7 @@ static struct planned *step(char letter)
 	return wait;
 }
 
-/* What comes after a turn that wasn't the last: pauses, twice as many each time, then yields, then sleeps, of which each is twice as long. */
+/* What comes after a turn that wasn't the last: pauses, twice as many each time, then yields, then sleeps, each twice as long. */
 static void expect_pause(struct planned *wait)
 {
 	if (wait->turns <= SPINS) {
@@ -169,7 +169,7 @@ int __wrap_sched_yield(void)
 	return 0;
 }
 
-/* A pause stands behind the unlocking, and before the next step. */
+/* A pause comes after the unlocking, and before the next step. */
 void pause_seen(void)
 {
 	EXPECT(under_way->pauses > 0 && under_way->next[under_way->at] == 'l');
