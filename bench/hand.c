@@ -1,5 +1,5 @@
 /* The steps of our registry, written by hand over the same words, each a sequentially consistent atomic operation.
-   Padded: the words of a CPU are 80 words from the next CPU's, as ours are. Packed: each CPU's word lies beside the next CPU's. Pointed: padded,
+   Padded: the words of a CPU are a row from the next CPU's, as ours are. Packed: each CPU's word lies beside the next CPU's. Pointed: padded,
    in a block made at run time, whose pointer is loaded at each step, as that of our table is. */
 #include "entries.h"
 
@@ -7,7 +7,7 @@
 
 enum layout { PADDED, PACKED, POINTED };
 
-enum { HEAD = 648, NEXT = 656, RECORD = 657, WORDS = 912 };
+enum { CPU_WORDS = 18 + 2 * MOST_ENTRIES, HEAD = CPU_WORDS * MOST_THREADS + 8, NEXT = HEAD + 8, RECORD = NEXT + 1, WORDS = NEXT + 8 * MOST_ENTRIES };
 
 #define BIAS (UINT64_C(1) << 48)
 
@@ -19,10 +19,10 @@ INLINE _Atomic uint64_t *word(enum layout layout, uint64_t place)
     return layout == POINTED ? &block[place] : &words[place];
 }
 
-/* The word `place` of a CPU: 0 the section, from 1 on its passive words by slot, from 33 on its count words by slot. */
+/* The word `place` of a CPU: 0 the section, from 1 on its passive words by slot, and then its count words by slot. */
 INLINE _Atomic uint64_t *own_word(enum layout layout, unsigned cpu, unsigned place)
 {
-    return word(layout, layout == PACKED ? 8 * place + cpu : 80 * cpu + place);
+    return word(layout, layout == PACKED ? MOST_THREADS * place + cpu : CPU_WORDS * cpu + place);
 }
 
 INLINE _Atomic uint64_t *passive_word(enum layout layout, unsigned cpu, unsigned slot)
@@ -32,7 +32,7 @@ INLINE _Atomic uint64_t *passive_word(enum layout layout, unsigned cpu, unsigned
 
 INLINE _Atomic uint64_t *count_word(enum layout layout, unsigned cpu, unsigned slot)
 {
-    return own_word(layout, cpu, 33 + slot);
+    return own_word(layout, cpu, 1 + MOST_ENTRIES + slot);
 }
 
 INLINE void publish(enum layout layout, unsigned slot)

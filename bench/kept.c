@@ -4,7 +4,7 @@
 
 #include <stdlib.h>
 
-enum { HEAD = 648, NEXT = 656, RECORD = 657, WORDS = 912, CPU_WORDS = 80 };
+enum { CPU_WORDS = 18 + 2 * MOST_ENTRIES, HEAD = CPU_WORDS * MOST_THREADS + 8, NEXT = HEAD + 8, RECORD = NEXT + 1, WORDS = NEXT + 8 * MOST_ENTRIES };
 
 /* The words, and how many sections a CPU may begin. */
 static struct {

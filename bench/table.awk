@@ -34,7 +34,6 @@ END {
 function compare_at_once(    l) {
     for (l = 1; l <= list_count; l++) {
         beside_lookup("read", lists[l])
-        beside_lookup("look_up", lists[l])
         beside_lookup("absent", lists[l])
     }
 }
@@ -90,8 +89,9 @@ function list_aims(entries,    o) {
     from_outside("batch", "from-Rust", entries, 1.3)
     from_outside("read", "from-C", entries, 1.3)
     from_outside("read", "from-Rust", entries, 1.3)
-    from_outside("look_up", "from-C", entries, 1.15)
-    from_outside("look_up", "from-Rust", entries, 1.15)
+    by_hand("look_up", "from-C", entries, 0.6)
+    beside_section("look_up", "from-C", entries, 1.15)
+    beside_section("look_up", "from-Rust", entries, 1.15)
     from_outside("get", "from-C", entries, 1.15)
     from_outside("get", "from-Rust", entries, 1.15)
     from_outside("local", "from-C", entries, 1.5)
@@ -118,6 +118,16 @@ function from_outside(operation, name, entries, goal,    t, threads, other) {
         other = time_of(name, threads, entries, operation)
         if (other > 0)
             aim(operation ": " name " / ours, " threads (threads == 1 ? " thread" : " threads"), other / time_of("registry_bench", threads, entries, operation), "at most", goal)
+    }
+}
+
+# The same, over our lookup in a section.
+function beside_section(operation, name, entries, goal,    t, threads, other) {
+    for (t = 1; t <= 2; t++) {
+        threads = t == 1 ? 1 : most
+        other = time_of(name, threads, entries, operation)
+        if (other > 0)
+            aim(operation ": " name " / our lookup in a section, " threads (threads == 1 ? " thread" : " threads"), other / ours(threads, entries), "at most", goal)
     }
 }
 

@@ -9,7 +9,7 @@ PLANTED = main $(addprefix registry_,open attach attach_iface detach replace rep
 # Where the programs lie.
 vpath %.c c/examples c/tests
 
-PROGRAMS = smallest row packet shared storm misuse refuse blocks allocs changes built $(OVER_WAITING) turns history planted walk entries names crowd forwarder device_switch $(PROGRAMS_$(PROCESSOR)) $(BENCHED)
+PROGRAMS = smallest row packet shared storm misuse refuse blocks allocs changes built $(OVER_WAITING) turns history largest planted walk entries names crowd forwarder device_switch $(PROGRAMS_$(PROCESSOR)) $(BENCHED)
 # Tests of waiting.h: each is compiled with it.
 OVER_WAITING = deferred together interrupted reclaims lent
 # They read registers of x86-64.
@@ -53,7 +53,9 @@ $(OUT)/turns: LINK = -Wl,--wrap=registry_destroy,--wrap=registry_perform_begin,-
     -Wl,--wrap=registry_local_release,--wrap=registry_local_give_up,--wrap=registry_advance,--wrap=pthread_mutex_lock,--wrap=pthread_mutex_unlock
 $(OUT)/deferred: c/tests/deferred.c c/tests/model.c c/tests/model.h
 $(OUT)/history: c/tests/history.c c/tests/model.c c/tests/model.h c/tests/wrapped_heap.h
-$(OUT)/history: LINK = $(WRAP)
+$(OUT)/history $(OUT)/largest: LINK = $(WRAP)
+$(OUT)/largest: c/tests/history.c c/tests/model.c c/tests/model.h c/tests/wrapped_heap.h
+$(OUT)/largest: CFLAGS += -DMODEL_OF_THE_LARGEST
 $(OUT)/planted: c/tests/planted.c c/tests/history.c c/tests/model.c c/tests/model.h c/tests/wrapped_heap.h
 $(OUT)/planted: LINK = $(WRAP) $(PLANTED:%=-Wl,--wrap=%)
 $(OUT)/forwarder: c/examples/forwarder.c c/src/waiting.c c/include/waiting.h c/examples/workers.h

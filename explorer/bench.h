@@ -20,9 +20,7 @@
 
 #include <kupaldiz/cpu.h>
 
-#ifdef __cplusplus
-extern "C" {
-#endif
+__BEGIN_DECLS
 
 enum {
 	BENCH_THREADS = 16,	/* at most, with the first one, the layer's own and the clock */
@@ -100,10 +98,8 @@ void bench_thread(const char *name, void (*body)(void *), void *arg);
 /* bench_point - a point of the test's own, which touches nothing. */
 void bench_point(void);
 
-/* bench_outcome - add a text to the outcome of this run. */
+/* bench_outcome - add a text to the outcome of this run, which has less than BENCH_TEXT bytes. */
 void bench_outcome(const char *format, ...) __attribute__((format(printf, 1, 2)));
 
-#ifdef __cplusplus
-}
-#endif
+__END_DECLS
 #endif

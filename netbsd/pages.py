@@ -85,7 +85,7 @@ def calls_of(text):
 
 def code_of(text):
     """A header without comments, without what stands in braces, and without what is for the preprocessor."""
-    code = COMMENT.sub("", text).replace('extern "C" {', "")
+    code = COMMENT.sub("", text)
     code = re.sub(r"^#(?:.*\\\n)*.*$", "", code, flags=re.M)
     while "{" in code:
         code, before = re.sub(r"\{[^{}]*\}", ";", code), code

@@ -4,7 +4,7 @@
 #     dist.sh OUT            packs it as OUT/kupaldiz-VERSION.tar.xz
 #     dist.sh --lay FOLDER   lays it out as that folder, which isn't there yet
 #
-# It works in the repository and in the source of a release alike. The time of every file is SOURCE_DATE_EPOCH, else that of packaging/CHANGELOG.md: so the same files
+# It works in the repository and in the source of a release alike. The time of every file is SOURCE_DATE_EPOCH, else that of packaging/VERSIONS.md: so the same files
 # make the same bytes.
 set -euo pipefail
 cd "$(dirname "$0")/.."
@@ -133,7 +133,7 @@ case "$#,${1-}" in
 *) action=pack to=$1 ;;
 esac
 need_archive
-: "${SOURCE_DATE_EPOCH:=$(stat -c %Y packaging/CHANGELOG.md)}"
+: "${SOURCE_DATE_EPOCH:=$(stat -c %Y packaging/VERSIONS.md)}"
 name=kupaldiz-$(make -s version)
 room=$(mktemp -d)
 trap 'rm -rf "$room"' EXIT

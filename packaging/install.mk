@@ -39,7 +39,7 @@ MINOR := $(call version_part,MINOR)
 VERSION := $(MAJOR).$(MINOR).$(call version_part,PATCH)
 # A minor version below 1.0 may change structs: it is in the sonames.
 ABI := $(MAJOR)$(if $(filter 0,$(MAJOR)),.$(MINOR))
-# The shared libraries of a build with other CPUs or slots have these in their names, as libkupaldiz-64x128.so.0.1: no program for another build starts with them.
+# The shared libraries of a build with other CPUs or slots have these in their names, as libkupaldiz-128x255.so.0.1: no program for another build starts with them.
 BUILD := $(shell sed -n 's/^\#define REGISTRY_BUILD[[:blank:]]*"\(.*\)"/\1/p' $(HEADER)/registry_limits.h)
 SONAME = libkupaldiz$(BUILD).so.$(ABI)
 SHARED = libkupaldiz$(BUILD).so.$(VERSION)
@@ -63,8 +63,8 @@ named_by = $(filter-out $(1),$(shell sed -n 's/^\.Nm \(registry_[a-z_]*\).*/\1/p
 NETBSD_PAGES = $(patsubst man/%.3,%,$(shell ls man/kupaldiz_*.3))
 netbsd_named_by = $(filter-out $(1),$(shell sed -n 's/^\.Nm \([A-Za-z_0-9]*\).*/\1/p' man/$(1).3 | sort -u))
 
-# What a library is compiled and linked with. A library of one object is joined without the compiler's link-time steps.
-COMPILED = $(STRICT) $(CPPFLAGS) $(filter-out -flto%,$(CFLAGS)) $(HARDENING) -fPIC -I$(HEADER)
+# What a library is compiled and linked with: no function has a frame above a page. A library of one object is joined without the compiler's link-time steps.
+COMPILED = $(STRICT) $(if $(LIMITS),,-Wframe-larger-than=4096) $(CPPFLAGS) $(filter-out -flto%,$(CFLAGS)) $(HARDENING) -fPIC -I$(HEADER)
 LINKED = $(filter-out -flto%,$(CFLAGS)) $(LDFLAGS) -shared $(LINK_HARDENING) -Wl,-z,defs,-z,text,-z,nodelete
 
 library: $(OUT)/libkupaldiz.a $(OUT)/$(SHARED) $(OUT)/libkupaldiz_check.a $(OUT)/libkupaldiz_netbsd.a $(OUT)/$(NETBSD_SHARED)
@@ -138,7 +138,7 @@ install: library pages
 	$(foreach page,$(PAGES),$(call install_page,$(page),$(call named_by,$(page))))
 	$(foreach page,$(NETBSD_PAGES),$(call install_page,$(page),$(call netbsd_named_by,$(page))))
 	$(INSTALL) -m 644 man/registry.7 man/kupaldiz_netbsd.7 $(DESTDIR)$(MANDIR)/man7/
-	$(INSTALL) -m 644 packaging/CHANGELOG.md packaging/VERSIONS.md $(DESTDIR)$(DOCDIR)/
+	$(INSTALL) -m 644 packaging/VERSIONS.md $(DESTDIR)$(DOCDIR)/
 
 # In a .pc file a blank is written as in a shell, and sed takes a \ of its own. Whatever umask there is, everyone may read what is installed.
 in_sed = $(subst \,\\,$(1))
@@ -184,7 +184,7 @@ uninstall: pages
 	rm -f $(addprefix $(DESTDIR)$(MANDIR)/man3/,$(foreach page,$(PAGES),$(page).3 $(addsuffix .3$(MANSUFFIX),$(call named_by,$(page)))))
 	rm -f $(addprefix $(DESTDIR)$(MANDIR)/man3/,$(foreach page,$(NETBSD_PAGES),$(page).3 $(addsuffix .3$(MANSUFFIX),$(call netbsd_named_by,$(page)))))
 	rm -f $(addprefix $(DESTDIR)$(MANDIR)/man7/,registry.7 kupaldiz_netbsd.7)
-	rm -f $(addprefix $(DESTDIR)$(DOCDIR)/,CHANGELOG.md VERSIONS.md)
+	rm -f $(DESTDIR)$(DOCDIR)/VERSIONS.md
 	-rmdir $(NETBSD_FOLDERS:%=$(DESTDIR)$(INCLUDEDIR)/kupaldiz/netbsd/%) $(DESTDIR)$(INCLUDEDIR)/kupaldiz/netbsd $(DESTDIR)$(INCLUDEDIR)/kupaldiz \
 	    $(DESTDIR)$(CMAKEDIR) $(DESTDIR)$(DOCDIR)
 

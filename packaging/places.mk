@@ -24,8 +24,8 @@ AR = $(CROSS)ar
 OBJCOPY = $(CROSS)objcopy
 
 # In the repository the header is the crate's, and archives are what tools/build-archive.sh makes. A release's source has both in folders of its own.
-# LIMITS names the folder of an archive with other limits, which has the headers beside it: `make LIMITS=wide` after `tools/build-archive.sh --wide`. Its limits
-# come first in each file, since the layer has a link to the default's.
+# LIMITS names the folder of an archive with other limits, which has the headers beside it: `make LIMITS=cpus-128` after `tools/build-archive.sh --cpus 128`.
+# Its limits come first in each file, since the layer has a link to the default's.
 LIMITS =
 OUT := $(TOP)out$(if $(filter-out x86_64,$(PROCESSOR)),/$(PROCESSOR))$(LIMITS:%=/%)
 HEADER := $(firstword $(if $(LIMITS),$(OUT)) $(wildcard $(TOP)include) $(TOP)crates/registry_c/include)
@@ -47,7 +47,7 @@ BENCH_STRICT = -std=gnu11 -D_GNU_SOURCE $(filter-out -Wpedantic,$(WARNINGS)) -fc
 BENCH_INSTEAD = lock softint_thread module_hook
 
 # Writes, for each call of the layer that the bench wraps, its name for the linker and what it is called in the bench: layer_ and the call's own name.
-BENCH_WRAPPED = sed -n 's/^\(LAYER\|WRAPPED\)([^,]*, \([a-z_]*\),.*/\2 layer_\2/p' $^ | sed '/^kupaldiz_/!s/^/kupaldiz_/' >$@
+BENCH_WRAPPED = sed -n 's/^\(LAYER\|WRAPPED\|AROUND\|ANSWERED\)([^,]*, \([a-z_]*\),.*/\2 layer_\2/p' $^ | sed '/^kupaldiz_/!s/^/kupaldiz_/' >$@
 
 # What hardens the libraries. Of CET it is the shadow stack: the archive's calls return where they were called from, but have no endbr64.
 HARDENING_x86_64 = -fcf-protection=full
@@ -57,4 +57,4 @@ HARDENING = $(HARDENING_$(PROCESSOR))
 LINK_HARDENING = -Wl,-z,relro,-z,now,-z,noexecstack $(LINKED_$(PROCESSOR))
 
 $(if $(LIMITS),$(FACE)) $(ARCHIVE):
-	@echo "there is no $@: tools/build-archive.sh$(if $(filter-out x86_64,$(PROCESSOR)), --for $(PROCESSOR))$(LIMITS:%= --%) proves and builds it, with the Rattle kit" >&2; exit 2
+	@echo "there is no $@: tools/build-archive.sh$(if $(filter-out x86_64,$(PROCESSOR)), --for $(PROCESSOR))$(if $(LIMITS), for $(LIMITS)) proves and builds it, with the Rattle kit" >&2; exit 2

@@ -37,14 +37,14 @@ shown_in_nodes() {
     ${NM:-nm} -D --defined-only "$1" | awk '$2 != "A" { sub(/registry_for_[0-9][^@]*/, "registry_for_*", $3); print $3 }' | sort
 }
 
-# What a shared library shows, without its versions' own names.
+# What a shared library shows, without its versions' own names, and without the layer's CPUs, which one name ends with.
 shared() {
-    ${NM:-nm} -D --defined-only "$1" | awk '$2 != "A" { sub(/@.*/, "", $3); print $3 }' | sort
+    ${NM:-nm} -D --defined-only "$1" | awk '$2 != "A" { sub(/(_on_[0-9]+)?(@.*)?$/, "", $3); print $3 }' | sort
 }
 
 # What other objects see of a static library.
 static() {
-    ${NM:-nm} -g --defined-only "$1" 2>/dev/null | awk 'NF == 3 { print $3 }' | sort
+    ${NM:-nm} -g --defined-only "$1" 2>/dev/null | awk 'NF == 3 { sub(/_on_[0-9]+$/, "", $3); print $3 }' | sort
 }
 
 # same WHAT NAMES OTHERS: two lists of names, as texts.

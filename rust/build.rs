@@ -60,21 +60,13 @@ fn main() {
 
 /// The first archive that is there, else the one that the repository would have.
 fn find(here: &Path) -> Archive {
-    let registry = |folder: PathBuf| Archive {
-        header: folder.clone(),
-        folder,
-        name: "registry",
-    };
+    let registry = |folder: PathBuf| Archive { header: folder.clone(), folder, name: "registry" };
     if let Some(folder) = env::var_os("REGISTRY_LIB_DIR") {
         return registry(PathBuf::from(folder));
     }
-    let processor = env::var("CARGO_CFG_TARGET_ARCH").unwrap();
-    let made = match processor.as_str() {
-        "x86_64" => here.join("../out"),
-        other => here.join("../out").join(other),
-    };
+    let (processor, out) = (env::var("CARGO_CFG_TARGET_ARCH").unwrap(), here.join("../out"));
     let within = registry(here.join("archive").join(&processor));
-    let made = registry(made);
+    let made = registry(if processor == "x86_64" { out } else { out.join(processor) });
     if within.path().exists() {
         within
     } else if made.path().exists() {
@@ -86,35 +78,24 @@ fn find(here: &Path) -> Archive {
 
 /// The library as it is installed, if pkg-config knows it.
 fn installed() -> Option<Archive> {
-    let archive = Archive {
-        folder: variable("libdir")?,
-        name: "kupaldiz",
-        header: variable("includedir")?.join("kupaldiz"),
-    };
+    let archive = Archive { folder: variable("libdir")?, name: "kupaldiz", header: variable("includedir")?.join("kupaldiz") };
     archive.path().exists().then_some(archive)
 }
 
 /// A folder of the installed library, as pkg-config says it.
 fn variable(name: &str) -> Option<PathBuf> {
     let command = env::var_os("PKG_CONFIG").unwrap_or_else(|| "pkg-config".into());
-    let said = Command::new(command)
-        .arg(format!("--variable={name}"))
-        .arg("kupaldiz")
-        .output()
-        .ok()?;
+    let said = Command::new(command).arg(format!("--variable={name}")).arg("kupaldiz").output().ok()?;
     let folder = String::from_utf8(said.stdout).ok()?;
     said.status.success().then(|| PathBuf::from(folder.trim()))
 }
 
 /// What this crate and its archive have in common: the major and the minor version, or from 1 on the major one.
 fn version() -> Vec<String> {
-    let major = env::var("CARGO_PKG_VERSION_MAJOR").unwrap();
-    let minor = env::var("CARGO_PKG_VERSION_MINOR").unwrap();
-    if major == "0" {
-        vec![major, minor]
-    } else {
-        vec![major]
-    }
+    let part = |name: &str| env::var(format!("CARGO_PKG_VERSION_{name}")).unwrap();
+    let mut parts = vec![part("MAJOR"), part("MINOR")];
+    parts.truncate(if parts[0] == "0" { 2 } else { 1 });
+    parts
 }
 
 /// Writes limits.rs, which src/ffi.rs includes: the limits of the header as constants, the version, and the call whose name has two limits and the version.
@@ -122,23 +103,13 @@ fn write_limits(header: &Path) {
     println!("cargo:rerun-if-changed={}", header.display());
     let text = fs::read_to_string(header).unwrap_or_else(|fault| panic!("{}: {fault}", header.display()));
     let said = |name: &str| {
-        let mut lines = text
-            .lines()
-            .filter_map(|line| line.strip_prefix("#define REGISTRY_")?.strip_prefix(name));
-        let value = lines
-            .next()
-            .unwrap_or_else(|| panic!("{} has no REGISTRY_{name}", header.display()));
+        let mut lines = text.lines().filter_map(|line| line.strip_prefix("#define REGISTRY_")?.strip_prefix(name));
+        let value = lines.next().unwrap_or_else(|| panic!("{} has no REGISTRY_{name}", header.display()));
         value.replace("UINT64_C", "").replace(['(', ')'], "").trim().to_string()
     };
     let mut limits = String::new();
-    for (name, kind) in [
-        ("CPUS", "usize"),
-        ("SLOTS", "usize"),
-        ("CHANGES", "u64"),
-        ("SECTIONS", "u64"),
-        ("COUNT", "u64"),
-        ("DEPTH", "u64"),
-    ] {
+    for (name, kind) in [("CPUS", "usize"), ("SLOTS", "usize"), ("CHANGES", "u64"), ("SECTIONS", "u64"), ("COUNT", "u64"), ("DEPTH", "u64")]
+    {
         limits += &format!("pub const MOST_{name}: {kind} = {};\n", said(&format!("MOST_{name}")));
     }
     let (built_for, name) = (said("BUILT_FOR"), version().join("_"));

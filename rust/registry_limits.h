@@ -9,10 +9,10 @@
 #include <stdint.h>
 
 /* CPUs of a registry, at most. */
-#define REGISTRY_MOST_CPUS	8
+#define REGISTRY_MOST_CPUS	64
 
 /* Entries of a registry at a time, live and retired, at most: its slots. */
-#define REGISTRY_MOST_SLOTS	32
+#define REGISTRY_MOST_SLOTS	255
 
 /* Attaches and detaches of a registry together, at most. */
 #define REGISTRY_MOST_CHANGES	(UINT64_C(1) << 40)
@@ -31,7 +31,7 @@
  * depend, and the version: major and minor, or from 1 on the major one. So a program that was compiled for others doesn't link or start with this
  * library.
  */
-#define REGISTRY_BUILT_FOR	registry_for_8_cpus_32_slots_v0_1
+#define REGISTRY_BUILT_FOR	registry_for_64_cpus_255_slots_v0_1
 
 /* What the shared libraries of this build have in their names. The default build has nothing. */
 #define REGISTRY_BUILD	""

@@ -1,7 +1,7 @@
 #!/usr/bin/env python3
 """A look before the gate, in a copy of the tree: what the gate would refuse for its form alone, and say at its end.
 
-    tools/before-gate.py                      each file as rt fmt writes it; each edit (docs/EDITS.md) fits its file
+    tools/before-gate.py                      each file as rt fmt writes it; each edit (docs/RECIPES.md) fits its file
     tools/before-gate.py compile [CRATE]..    the edits that the prover is to refuse compile, too; it needs the tree's crates proved
 
 It proves nothing, and ends with 'N passed, M failed'.

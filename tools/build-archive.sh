@@ -1,13 +1,12 @@
 #!/usr/bin/env bash
-# Proves and builds the static library of the C face, gives it unwind tables, and joins it with what is C of the archive into one object, in which only the
-# calls of registry.h are seen from outside: the three functions of the heap, and the few calls that are made of the others or tell the build. That object
-# alone is the archive libregistry.a. Beside it lie libregistry.proved, the record of the proof, and the two headers that it was compiled with, registry.h and
+# Proves and builds the static library of the C face, gives it unwind tables, and joins it with what is C of the archive into one object: the three functions
+# of the heap, and the few calls that are made of the others or tell the build. Only the calls of registry.h are seen from outside. That object alone is the
+# archive libregistry.a. Beside it lie libregistry.proved, the record of the proof, and the two headers that it was compiled with, registry.h and
 # registry_limits.h, which has its limits. A C program needs these, the archive and nothing else of the repository.
 #
 #     tools/build-archive.sh                  proves and builds the library first: out/libregistry.a
 #     tools/build-archive.sh LIBRARY LOG      takes libregistry_c.a as tools/archive-beside.py has proved and built it, and what the proof said
 #     tools/build-archive.sh --for PROCESSOR [LIBRARY LOG]     the same for that processor: out/PROCESSOR/libregistry.a
-#     tools/build-archive.sh --wide [..]      with 64 CPUs and 128 slots: out/wide/libregistry.a
 #     tools/build-archive.sh [--cpus N] [--slots N] [..]      with so many of them, in digits or as 2^5: out/NAME/libregistry.a, where NAME says
 #                                             them, as cpus-16-slots-64
 #
@@ -28,13 +27,10 @@ while [[ ${1-} = --* ]]; do
         [[ $2 =~ ^[a-z0-9_]+$ ]] || refuse "'$2' is no processor: x86_64 or aarch64"
         processor=$2
         shift 2 ;;
-    --wide)
-        chosen+=("$1")
-        shift ;;
     --cpus | --slots)
         chosen+=("${@:1:2}")
         shift $(($# > 1 ? 2 : 1)) ;;
-    *) refuse "it takes no $1: --for PROCESSOR, --wide, --cpus N, --slots N" ;;
+    *) refuse "it takes no $1: --for PROCESSOR, --cpus N, --slots N" ;;
     esac
 done
 case $# in

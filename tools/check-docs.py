@@ -69,10 +69,10 @@ BANNED = (
 PRIVATE = ((r"\b(?:seats?|ledgers?|deeds?|hears?|heard)\b", "no private word"),)
 
 # Pages for users, headers and manual pages among them: neither sort is accepted. Pages that explain the protocol: only private words are.
-USERS = ("README.md", "bench/README.md", "packaging/CHANGELOG.md", "packaging/INSTALL.md", "docs/C.md", "packaging/RELEASE.md", "c/include/*.h",
+USERS = ("README.md", "bench/README.md", "packaging/VERSIONS.md", "packaging/INSTALL.md", "docs/C.md", "c/include/*.h",
          "man/*.7", "man/registry*.in", "netbsd/include/kupaldiz/*.h", "rust/README.md", "crates/registry_c/include/registry.h",
          "docs/CHOOSING.md", "docs/SCRIPTS.md")
-EXPLAINING = ("docs/ARCHITECTURE.md", "docs/DRIVERS.md", "docs/GUARANTEES.md", "docs/NETBSD.md", "docs/RATTLE.md", "docs/TOUR.md")
+EXPLAINING = ("docs/ARCHITECTURE.md", "docs/GUARANTEES.md", "docs/NETBSD.md", "docs/RATTLE.md")
 
 FORMS = {forms: [(re.compile(form, re.IGNORECASE), better) for form, better in forms] for forms in (BANNED, PRIVATE)}
 

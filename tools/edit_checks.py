@@ -1,4 +1,4 @@
-"""Tries wrong bodies that the prover must refuse, by a check of the functions that they change (docs/EDITS.md).
+"""Tries wrong bodies that the prover must refuse, by a check of the functions that they change (docs/RECIPES.md).
 
 A check of an edited crate is of the function whose body the edit changes, or of those that the edit names in a line `only: MODULE::FUNCTION ..`; or it is
 of the whole crate, as an edit of a definition needs. What it checks is checked once as it stands, and each edit begins with what that check kept. Functions
@@ -41,7 +41,7 @@ NO_FUNCTION = "it changes no function: name those to check in a line only: MODUL
 STORE = pathlib.Path(os.environ.get("XDG_CACHE_HOME", pathlib.Path.home() / ".cache")) / "kupaldiz" / "edits"
 # The tools that decide what a check reads and what its result means.
 TOOLS = ("contracts", "edit_checks", "edits", "kit")
-# A function is proved of its body and of the contracts of what it calls, whatever these do. So each other function of the copy gets a body that never
+# A function is proved of its body and of the contracts of what it calls, not by what these do. So each other function of the copy gets a body that never
 # ends, which calls nothing, and in place of its proof a hole, which a check with --allow-holes takes as a proof. All lines stay where they are.
 PROOF = """use Rattle.{crate}.proofs.{path}.Statement.{{statement}}
 

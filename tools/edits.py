@@ -1,4 +1,4 @@
-"""Reads the wrong bodies that docs/EDITS.md describes, and writes them into a copy of the tree."""
+"""Reads the wrong bodies that docs/RECIPES.md describes, and writes them into a copy of the tree."""
 import collections
 import pathlib
 import re

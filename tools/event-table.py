@@ -1,7 +1,7 @@
 #!/usr/bin/env python3
-"""Makes the table of docs/EVENTS.md from the sources: for each event its step, its contract, its lemmas and its wrong bodies.
+"""Makes the table of docs/MODEL.md from the sources: for each event its step, its contract, its lemmas and its wrong bodies.
 
-    tools/event-table.py make     writes the table into docs/EVENTS.md
+    tools/event-table.py make     writes the table into docs/MODEL.md
     tools/event-table.py check    makes it again and compares
 
 A row is an event and a step of `cpu_words` that makes it. Every event needs a row; every row needs a definition, a lemma of each kind and an edit.
@@ -19,7 +19,7 @@ from parts import ended
 from edits import BY_HAND, GATE, ROOT, changes, chosen, file_of
 from contracts import functions_of
 
-PAGE = ROOT / "docs/EVENTS.md"
+PAGE = ROOT / "docs/MODEL.md"
 BEGIN, END = "<!-- tools/event-table.py make -->\n\n", "\n<!-- end -->\n"
 TABLE = re.compile(f"{re.escape(BEGIN)}(.*?){re.escape(END)}", re.S)
 EVENTS = ROOT / "crates/protocol/src/event.rt"
@@ -180,7 +180,7 @@ def main():
     if sys.argv[1] == "make":
         page = TABLE.sub(lambda _: BEGIN + made + END, page)
         PAGE.write_text(page)
-    wrong = list(faults(found)) + ([] if TABLE.findall(page) == [made] else ["docs/EVENTS.md: not as tools/event-table.py make writes it"])
+    wrong = list(faults(found)) + ([] if TABLE.findall(page) == [made] else ["docs/MODEL.md: not as tools/event-table.py make writes it"])
     for fault in wrong:
         print(fault)
     sys.exit(ended(max(len(found) + 1 - len(wrong), 0), len(wrong)))

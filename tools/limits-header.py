@@ -38,7 +38,7 @@ SAID = {
 }
 
 # Those that don't fit 32 bits in each build.
-WIDE = ("MOST_CHANGES", "MOST_SECTIONS", "MOST_COUNT")
+LARGE = ("MOST_CHANGES", "MOST_SECTIONS", "MOST_COUNT")
 
 TAIL = """
 /*
@@ -67,7 +67,7 @@ PLACES = (
 
 def in_c(name, value):
     """The number as C has it: a power of 2 as a shift."""
-    if name not in WIDE:
+    if name not in LARGE:
         return str(value)
     power = value.bit_length() - 1
     return f"(UINT64_C(1) << {power})" if value == 1 << power and power >= 10 else f"UINT64_C({value})"

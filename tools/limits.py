@@ -1,13 +1,13 @@
 #!/usr/bin/env python3
 """The limits of a build, as the proved code says them, and the version: for the tools that write them again or compare them. As a command it says what
-limits a build is to have: what `tools/build-archive.sh --wide`, or with --cpus and its like, is proved and built from.
+limits a build is to have: what `tools/build-archive.sh --cpus N --slots N` is proved and built from.
 
-    tools/limits.py name WORD..    prints what the build is called: `wide`, or each limit that isn't the default's, as cpus-16-slots-64; an empty
-                                   line where there is none
+    tools/limits.py name WORD..    prints what the build is called: each limit that isn't the default's, as cpus-16-slots-64; an empty line where
+                                   there is none
     tools/limits.py file WORD..    prints crates/registry_values/src/limits.rt with these limits
 
-WORD.. is --wide, or --cpus or --slots or both, each with a number in digits or as 2^5. A limit that isn't given is that of the file. From where to where
-it may go is read from `LimitsLeaveRoom`, which each build proves. Words that aren't right end in one line and status 2.
+WORD.. is --cpus or --slots or both, each with a number in digits or as 2^5. A limit that isn't given is that of the file. From where to where it may go
+is read from `LimitsLeaveRoom`, which each build proves. Words that aren't right end in one line and status 2.
 """
 import pathlib
 import re
@@ -23,12 +23,11 @@ ROOM = "crates/registry_values/specs/Limits.antt"
 HEADER = "crates/registry_c/include/registry.h"
 
 # The default build has this capacity, and keeps it.
-DEFAULTS = {"MOST_CPUS": 8, "MOST_SLOTS": 32, "MOST_CHANGES": 1 << 40, "MOST_SECTIONS": 1 << 62, "MOST_COUNT": 1 << 40, "MOST_DEPTH": 255}
+DEFAULTS = {"MOST_CPUS": 64, "MOST_SLOTS": 255, "MOST_CHANGES": 1 << 40, "MOST_SECTIONS": 1 << 62, "MOST_COUNT": 1 << 40, "MOST_DEPTH": 255}
 # Each build has these ranges for Rattle programs and scripts.
 RANGES = {"USUAL_CPUS": 8, "USUAL_SLOTS": 32, "USUAL_CHANGES": 1_000_000, "USUAL_SECTIONS": 1 << 40, "USUAL_COUNT": 1 << 40}
 # The limits that a build may choose, by their words.
 CHOSEN = {"cpus": "MOST_CPUS", "slots": "MOST_SLOTS"}
-WIDE = {"MOST_CPUS": 64, "MOST_SLOTS": 128}
 
 
 def number(word):
@@ -84,13 +83,11 @@ def within(word, text):
 
 def wanted(words):
     """The limits that the words name, by their constants."""
-    if words == ["--wide"]:
-        return WIDE
     found = {}
     for flag, text in zip(words[::2], [*words[1::2], None]):
         word = flag.removeprefix("--")
         if not flag.startswith("--") or word not in CHOSEN:
-            raise Fault(f"{flag} is no limit: it is --wide alone, or --{', --'.join(CHOSEN)}")
+            raise Fault(f"{flag} is no limit: it is --{' or --'.join(CHOSEN)}")
         if text is None:
             raise Fault(f"--{word} has no number")
         if CHOSEN[word] in found:
@@ -101,7 +98,7 @@ def wanted(words):
 
 def said(path=ROOT / LIMITS):
     """The limits that a file of limits has, of those that a build may choose."""
-    return {it: found for it, found in limits(path).items() if it in WIDE}
+    return {it: found for it, found in limits(path).items() if it in CHOSEN.values()}
 
 
 def words_of(of):
@@ -112,8 +109,6 @@ def words_of(of):
 def name(of):
     """What a build with these limits is called, a folder's name."""
     has = said()
-    if {**has, **of} == WIDE:
-        return "wide"
     return "-".join(f"{word}-{of[it]}" for word, it in CHOSEN.items() if of.get(it, has[it]) != has[it])
 
 

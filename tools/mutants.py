@@ -309,10 +309,10 @@ Library = collections.namedtuple("Library", "files tests compiled")
 MAKES_LAYER = ["make", "-s", "-C", "netbsd", C_FLAGS, BARE]
 MAKES_BENCH = ["make", "-s", "-C", "explorer", "WARNINGS=-w", BARE]
 # The ways in which the layer's Makefile builds its programs, and whether without sanitizers.
-WAYS = {"plain": True, "small": False, "busy": True, "late": False, "sanitized": False, "raced": False}
+WAYS = {"plain": True, "small": False, "busy": True, "wide": False, "sanitized": False, "raced": False}
 # The programs of the bench that see the layer, and of the layer what runs under valgrind, with their words.
-BENCH = {"counts": [], "drivers": [], "finds": [], "callouts": [], "failures": [], "kernel_files": [], "races": [], "refusals": [], "shortest": [], "named": [], "outcomes": ["1", "40"]}
-WATCHED = {"drained": [], "model": ["1", "300"]}
+BENCH = {"counts": [], "drivers": [], "finds": [], "callouts": [], "failures": [], "kernel_files": [], "refusals": [], "named": [], "outcomes": ["1", "40"]}
+WATCHED = {"model": ["1", "300"]}
 VALGRIND = "valgrind -q --fair-sched=try --error-exitcode=99 --leak-check=full --show-leak-kinds=definite --errors-for-leak-kinds=definite".split()
 # The tests of waiting.c, with their words.
 OVER_WAITING = {"turns": [], "reclaims": [], "lent": [], "deferred": [], "interrupted": [], "together": ["20"]}

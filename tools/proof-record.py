@@ -103,7 +103,7 @@ def sum_in(archive):
 def flags(archive):
     """How tools/build-archive.sh is called for an archive that lies there: in out, in a folder of a processor's, in one of a build's, or in both."""
     names = str(archive.parent).rpartition("out")[2].split("/")[1:]
-    return "".join(" --wide" if it == "wide" else f" {limits_in(it)}" if "-" in it else f" --for {it}" for it in names)
+    return "".join(f" {limits_in(it)}" if "-" in it else f" --for {it}" for it in names)
 
 
 def limits_in(folder):

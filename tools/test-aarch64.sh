@@ -57,7 +57,7 @@ archive_names() {
 
 # No call takes more stack than the page says.
 stack_within() {
-    tools/frames.py "$out/libregistry.a" 1024
+    tools/frames.py "$out/libregistry.a" 4096
 }
 
 # make_for FOLDER TARGET..: built for the processor, so that the emulator needs no library of it.

@@ -36,6 +36,7 @@ prints_what_was_tried() {
     "$out/plain/counts" >"$log.said"
     grep -qx 'bounds: 14 schedules, 0 cut short, [0-9]* states, [0-9]* points, [0-9]* switches' "$log.said" &&
         grep -qx 'bounds: left out: schedules with more than 1 preemptions, except 5 by random priorities, seed 1' "$log.said" &&
+        grep -qx 'steps: other outcomes: 668' "$log.said" && grep -qx 'change: no outcome: 1' "$log.said" &&
         grep -qx "cut bound: left out: schedules that weren't reached, except 5 by random priorities, seed 1" "$log.said" &&
         grep -qx 'bridge: every schedule of its points was tried, or one that is the same as it' <("$out/plain/drivers" bridge)
 }
@@ -57,8 +58,8 @@ is_fast() {
 
 # The bench by clang, with what it compiles of the layer, and two of its small programs.
 with_clang() {
-    make -s -C $folder CC=clang OUT="$room/clang" ARCHIVE="$PWD/out/libregistry.a" "$room/clang/plain/counts" "$room/clang/plain/races" &&
-        "$room/clang/plain/counts" && "$room/clang/plain/races"
+    make -s -C $folder CC=clang OUT="$room/clang" ARCHIVE="$PWD/out/libregistry.a" "$room/clang/plain/counts" "$room/clang/plain/finds" &&
+        "$room/clang/plain/counts" && "$room/clang/plain/finds"
 }
 
 # On another processor the compiler says what the bench is for.
@@ -98,15 +99,13 @@ check "bench.h alone, in four C standards" header_alone bench.h -DKUPALDIZ_BENCH
 counted "each call has a point, or a reason for none" $folder/tests/told.py points
 for way in plain sanitized; do
     check "the bench and its tests are built, no warning: $way" make -s -C $folder $way
-    check "counts, $way" "$out/$way/counts"
+    counted "counts, and each answer to a question, $way" "$out/$way/counts"
     [ "$way" = plain ] || check "the seven drivers in every order, $way" "$out/$way/drivers"
-    counted "what it finds, $way" "$out/$way/finds"
+    counted "what it finds, data races too, $way" "$out/$way/finds"
     counted "callouts, $way" "$out/$way/callouts"
     counted "failures, works, callouts and hooks, $way" "$out/$way/failures"
     check "four files in the idiom of the kernel's own, $way" "$out/$way/kernel_files"
-    counted "data races, $way" "$out/$way/races"
     counted "what it refuses, $way" "$out/$way/refusals"
-    check "a fault by the fewest switches, $way" "$out/$way/shortest"
     check "each name that a driver may use does what its page says, $way" "$out/$way/named"
 done
 counted "the seven drivers in every order, as the README says" drivers_as_told

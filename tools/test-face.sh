@@ -7,15 +7,10 @@
 #     tools/test-face.sh --built              takes out/libregistry.a as it stands
 #     tools/test-face.sh --built PART..       some parts alone, which may run beside each other once build has ended:
 #                                             page build c watched heap netbsd rust rust-watched
-#
-# LIMITS names the folder of an archive with other limits, as in packaging/places.mk: after `tools/build-archive.sh --wide`,
-# `LIMITS=wide tools/test-face.sh --built` runs all parts over it, except page and bench. It isn't part of the gate.
 set -uo pipefail
 cd "$(dirname "$0")/.."
-limits=${LIMITS-}
-out=out${limits:+/$limits}
+out=out
 header=crates/registry_c/include/registry.h
-[ -z "$limits" ] || header=$out/registry.h
 page=man/registry.3
 warnings=(-Wall -Wextra -Werror -Wpedantic -Wconversion -Wcast-qual -Wwrite-strings)
 # shellcheck source=tools/checks.sh
@@ -44,18 +39,9 @@ page_lints() {
     mandoc -T lint man/*.[137] >"$log" 2>&1 && [ ! -s "$log" ]
 }
 
-make_clients() {
-    make LIMITS="$limits" "$@"
-}
-
 # A header fits a window beside another one.
 header_is_narrow() {
     ! expand "$header" c/include/waiting.h | grep -nE '.{101}'
-}
-
-# The most CPUs of the build.
-most_cpus() {
-    sed -nE 's/^#define REGISTRY_MOST_CPUS[[:blank:]]+//p' "${header%.h}_limits.h"
 }
 
 # Its proofs may take longer than a program may run.
@@ -68,9 +54,9 @@ archive_names() {
     diff <(packaging/calls-of.sh "${header%.h}"{,_limits}.h) <(nm -g --defined-only "$out/libregistry.a" 2>/dev/null | awk 'NF == 3 { print $3 }' | sort)
 }
 
-# No call takes more stack than the page says, or, with other limits, more than a page.
+# No call takes more stack than the page says.
 stack_within() {
-    tools/frames.py "$out/libregistry.a" "$([ -n "$limits" ] && echo 4096 || echo 1024)"
+    tools/frames.py "$out/libregistry.a" 4096
 }
 
 # C takes the header alone, without a warning, and so does C++ where it is there.
@@ -169,7 +155,7 @@ catches() {
 }
 
 test_page() {
-    check "the pages are made of the headers" make_clients pages
+    check "the pages are made of the headers" make pages
     check "the page: mandoc -T lint says nothing" page_lints
     check "the page names the header's calls" names "$header" "$page"
     check "the page of the waits names their calls" names c/include/waiting.h man/registry_waiting.3
@@ -180,28 +166,16 @@ test_page() {
     check "a handle that is NULL is warned of" warned nonnull '(void)cpu; (void)entry; registry_exit(NULL);'
 }
 
-# The libraries with these limits are installed under a scratch folder; programs that know them by pkg-config alone are built and run.
-test_installed() {
-    local room
-    room=$(mktemp -d)
-    check "C: headers, maps and libraries have the same names" make_clients symbols
-    check "C: it is installed" make_clients install DESTDIR="$room" PREFIX=/usr
-    counted "C: programs over what is installed" make_clients installcheck DESTDIR="$room" PREFIX=/usr
-    check "C: it is uninstalled" make_clients uninstall DESTDIR="$room" PREFIX=/usr
-    rm -rf "$room"
-}
-
 test_c() {
-    local each cpus
-    cpus=$(most_cpus)
+    local each
     check "C: smallest" smallest_says "$out/smallest"
     check "C: row" row_says "$out/row"
-    for each in packet 'shared 2000' misuse refuse allocs blocks built turns deferred together interrupted reclaims lent history planted 'walk 5000' 'entries 1000' names \
-        recalls 'crowd 2000' forwarder device_switch 'speed 2 8 1000' 'changes 20' "changes 20 $cpus"; do
+    for each in packet 'shared 2000' misuse refuse allocs blocks built turns deferred together interrupted reclaims lent history 'largest 30000 1 long' planted 'walk 5000' 'entries 1000' names \
+        recalls 'crowd 1000' forwarder device_switch 'speed 2 8 1000' 'changes 20' 'changes 20 2 4' 'changes 20 64 255'; do
         # shellcheck disable=SC2086
         check "C: $each" "$out"/$each
     done
-    for each in '1 1000' '2 3' '4 20000' "$cpus $((40000 / cpus))"; do
+    for each in '1 1000' '2 3' '4 20000' '64 600'; do
         # shellcheck disable=SC2086
         check "C: storm $each" storm_says $each "$out/storm"
     done
@@ -214,18 +188,13 @@ test_c() {
         check "C: $each in the checking build" "$out"/checked-$each
     done
     counted "C: programs compiled for other limits" packaging/other-limits.sh "${header%/*}" "$out/libregistry.a"
-    if [ -n "$limits" ]; then
-        test_installed
-    else
-        counted "C: installed, used by pkg-config alone, and uninstalled" tools/test-install.sh
-        counted "C: built as users build" tools/test-builds.sh
-    fi
+    counted "C: installed, used by pkg-config alone, and uninstalled" tools/test-install.sh
+    counted "C: built as users build" tools/test-builds.sh
 }
 
 # The same programs, where each access of the client's, or of all, is watched.
 test_watched() {
-    local each cpus
-    cpus=$(most_cpus)
+    local each
     check "C: smallest under valgrind" smallest_says guarded "$out/smallest"
     check "C: row under valgrind" row_says guarded "$out/row"
     check "C: storm 4 100 under valgrind" storm_says 4 100 guarded "$out/storm"
@@ -235,7 +204,7 @@ test_watched() {
     done
     check "C: smallest with sanitizers" smallest_says "$out/sanitized-smallest"
     check "C: row with sanitizers" row_says "$out/sanitized-row"
-    check "C: storm $cpus $((8000 / cpus)) with sanitizers" storm_says "$cpus" $((8000 / cpus)) "$out/sanitized-storm"
+    check "C: storm 8 1000 with sanitizers" storm_says 8 1000 "$out/sanitized-storm"
     for each in misuse packet 'shared 500' built 'together 50' reclaims lent 'walk 1000' 'entries 300' names 'crowd 300' forwarder device_switch; do
         # shellcheck disable=SC2086
         check "C: $each with sanitizers" "$out"/sanitized-$each
@@ -260,18 +229,17 @@ test_heap() {
 
 # All that the parts below run, except the crate's programs, which cargo builds when they are wanted.
 test_build() {
-    [ -z "$limits" ] || check "the archive is proved, and of these sources" tools/proof-record.py check "$out/libregistry.a"
     check "the archive has the header's calls" archive_names
     check "no call takes more stack than the page says" stack_within
-    check "the clients in C are built, no warning" make_clients all
-    check "C: all of them are built with sanitizers" make_clients sanitized
-    check "C: heap_stress is built nine times" make_clients stresses
-    check "the manual pages' own names are built" make -C netbsd LIMITS="$limits" all sanitized
+    check "the clients in C are built, no warning" make all
+    check "C: all of them are built with sanitizers" make sanitized
+    check "C: heap_stress is built nine times" make stresses
+    check "the manual pages' own names are built" make -C netbsd all sanitized
 }
 
 # A part that is run without build finds what it runs all the same; that it can't is a failure.
 need_built() {
-    make_clients all sanitized stresses >"$log" 2>&1 || judge "the clients in C are built" 1
+    make all sanitized stresses >"$log" 2>&1 || judge "the clients in C are built" 1
 }
 
 test_netbsd() {
@@ -345,7 +313,6 @@ test_rust_watched() {
 }
 
 parts=(page build c watched heap netbsd bench rust rust-watched)
-[ -z "$limits" ] || parts=(build c watched heap netbsd rust rust-watched)
 is_built=
 if [ "${1-}" = --built ]; then
     is_built=yes
@@ -362,7 +329,7 @@ export REGISTRY_LIB_DIR=$PWD/$out CARGO_TARGET_DIR=$PWD/$out/rust
 examples=$out/rust/release/examples
 
 install_missing
-if [ -z "$is_built$limits" ]; then
+if [ -z "$is_built" ]; then
     check "the archive, proved and built" build_archive
 fi
 if [ ! -e "$out/libregistry.a" ] && [ "${parts[*]}" != page ]; then

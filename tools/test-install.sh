@@ -61,11 +61,8 @@ calls_of_headers() {
 
 # A program of the pages' names that is compiled for other CPUs than the library has doesn't link, and the linker names them.
 refused_by_linker() {
-    local other=$room/other
-    rm -rf "$other" && cp -r "$stage$prefix/include" "$other" &&
-        sed -i -E 's/(MOST_CPUS[[:blank:]]+).*/\116/; s/registry_for_[0-9]+/registry_for_16/' "$other"/kupaldiz/{,netbsd/kupaldiz/}registry_limits.h || return
-    ! gcc -o "$room/for_other" -I"$other/kupaldiz/netbsd" c/tests/installed_netbsd.c -L"$stage$libdir" -lkupaldiz_netbsd -lkupaldiz -pthread >"$room/said" 2>&1 &&
-        grep 'undefined reference to .kupaldiz_registry_for_16_cpus_' "$room/said"
+    ! gcc -DKUPALDIZ_CPUS=15 -o "$room/for_other" -I"$stage$prefix/include/kupaldiz/netbsd" c/tests/installed_netbsd.c -L"$stage$libdir" -lkupaldiz_netbsd -lkupaldiz -pthread >"$room/said" 2>&1 &&
+        grep 'undefined reference to .kupaldiz_registry_for_.*_on_15' "$room/said"
 }
 
 # An #include of a plain name, as <cpu.h>, finds nothing of these libraries: what the folders for the compiler offer is in folders of its own.
@@ -168,7 +165,7 @@ wanted() {
         echo "l 777 $me $libdir/$library.so -> $library.so.$abi"
     done
     for file in "$libdir"/libkupaldiz_check.a "$libdir"/pkgconfig/kupaldiz{,-netbsd,-bench}.pc "$libdir"/cmake/kupaldiz/kupaldizConfig{,Version}.cmake \
-        "$prefix"/include/kupaldiz/{registry,registry_limits,registry_waiting,registry_check,bench}.h "$prefix"/share/doc/kupaldiz/{CHANGELOG,VERSIONS}.md; do
+        "$prefix"/include/kupaldiz/{registry,registry_limits,registry_waiting,registry_check,bench}.h "$prefix"/share/doc/kupaldiz/VERSIONS.md; do
         echo "f 644 $me $file"
     done
     (cd "$top/netbsd/include" && find . -name '*.h') | sed "s|^\.|f 644 $me $prefix/include/kupaldiz/netbsd|"
@@ -328,7 +325,7 @@ if command -v cmake >/dev/null; then
     check "CMake: it refuses another version" refused_by_cmake
 fi
 check "each call has a page" pages_are_found
-check "the change log names the version" grep -q "^## $(version)\$" "$stage$prefix/share/doc/kupaldiz/CHANGELOG.md"
+check "the change log names the version" grep -q "^## $(version)\$" "$stage$prefix/share/doc/kupaldiz/VERSIONS.md"
 check "uninstall" made uninstall
 check "uninstall leaves nothing" leaves_nothing
 

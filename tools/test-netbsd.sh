@@ -1,18 +1,17 @@
 #!/usr/bin/env bash
 # Builds the manual pages' own names over the archive, netbsd, and runs their tests: the pages' patterns and seven drivers on threads, plain, with
 # the sanitizers of addresses and undefined behaviour, with that of races, and some under valgrind; each misuse in a process of its own; what is beyond
-# one registry's limits; random programs against a model. out/libregistry.a stands already, or out/LIMITS/libregistry.a where LIMITS names
-# an archive with other limits, as for packaging/places.mk. The last line is 'N passed, M failed'.
+# one registry's limits; random programs against a model. out/libregistry.a stands already. The last line is 'N passed, M failed'.
 set -uo pipefail
 cd "$(dirname "$0")/.."
 folder=netbsd
-out=out${LIMITS:+/$LIMITS}/netbsd
+out=out/netbsd
 # shellcheck source=tools/checks.sh
 . tools/checks.sh
 trap forget_log EXIT
 
 make_layer() {
-    make -s -C $folder LIMITS="${LIMITS-}" "$@"
+    make -s -C $folder "$@"
 }
 
 # The cases of a program that counts them in its last line.
@@ -73,13 +72,13 @@ for header in $(cd $folder/include && ls kupaldiz/*.h sys/*.h net/*.h); do
 done
 counted "each line of the layer is in a test" netbsd/tests/lines.py
 counted "each name that a driver may use, for the layer and for the bench" netbsd/tests/names.py gcc
-for way in plain sanitized raced small late busy; do
+for way in plain sanitized raced small wide busy; do
     check "the layer and its tests are built, no warning: $way" make_layer $way
     for test in $(make_layer list-$way); do
         try_program "$test" $way
     done
 done
-check "limits, plain: more than a million changes, in the registry that there is" "$out/plain/limits" full
+check "limits, plain: more than two million changes and a million names, in the registry that there is" "$out/plain/limits" full
 if command -v clang >/dev/null; then
     check "the layer is built by clang, no warning" with_clang
 fi
@@ -90,9 +89,6 @@ fi
 check "the layer is built into a shared object that is closed" make_layer unloaded
 check "a thread ends after its layer was closed" "$out/unloaded" "$out/plugin.so"
 if command -v valgrind >/dev/null; then
-    for test in drained "model 1 300"; do
-        # shellcheck disable=SC2086
-        check "$test, under valgrind" watched "$out"/plain/$test
-    done
+    check "model, under valgrind" watched "$out/plain/model" 1 300
 fi
 finish

@@ -1,5 +1,5 @@
 #!/usr/bin/env python3
-"""Tries wrong bodies (docs/EDITS.md): the prover, or a test, must refuse each.
+"""Tries wrong bodies (docs/RECIPES.md): the prover, or a test, must refuse each.
 
     tools/try-edits.py gate   [--anew] [CRATE | CRATE/EDIT]..    crates/CRATE/edits/gate.edits:    the prover must refuse each; the gate tries them
     tools/try-edits.py prover [--anew] [CRATE | CRATE/EDIT]..    crates/CRATE/edits/by-hand.edits: so it must each of these

@@ -12,7 +12,7 @@
 #include "waiting.h"
 #include "workers.h"
 
-enum { FORWARDERS = 3, CPUS = FORWARDERS + 1, PORTS = 6, CHANGES = 4000, ROUNDS_A_CHANGE = 24, PACKET_BYTES = 256 };
+enum { FORWARDERS = 3, CPUS = FORWARDERS + 1, PORTS = 6, SLOTS = PORTS + 3, CHANGES = 4000, ROUNDS_A_CHANGE = 24, PACKET_BYTES = 256 };
 
 /* What a port has for each CPU, and no other CPU writes: a buffer and how many packets went through it. */
 struct lane {
@@ -162,7 +162,7 @@ static void open_all(void)
 {
 	/* Each port that is attached counts one more on its CPU, and what a freed port gives up lowers no CPU's count: the limit is far off. */
 	const struct registry_settings settings = {
-	    CPUS, PORTS + 3, REGISTRY_MOST_CHANGES, REGISTRY_MOST_SECTIONS, 100, REGISTRY_MOST_COUNT};
+	    CPUS, SLOTS, REGISTRY_MOST_CHANGES, REGISTRY_MOST_SECTIONS, 100, REGISTRY_MOST_COUNT};
 	struct registry_entry made;
 	driver = name_of("fwd");
 	for (unsigned i = 0; i < PORTS; i++) {
@@ -190,7 +190,8 @@ int main(void)
 {
 	static struct worker forwarders[FORWARDERS];
 	uint64_t in_ports = 0;
-	struct registry_deferred deferred = {.keeper = &keeper, .freed = free_port, .of = &in_ports};
+	struct registry_entry row[SLOTS];
+	struct registry_deferred deferred = {.keeper = &keeper, .entries = row, .room = SLOTS, .freed = free_port, .of = &in_ports};
 	open_all();
 	start_workers(forwarders, FORWARDERS, forward_all);
 	uint64_t changes = change_all(&deferred);

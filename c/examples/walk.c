@@ -31,8 +31,8 @@ static atomic_bool over;
 /* Adds up what all interfaces carried, in one section. */
 static uint64_t bytes_of_all(struct registry_cpu *cpu)
 {
-	struct registry_cursor cursor;
-	struct registry_entry entry;
+	struct registry_entry row[SLOTS], entry;
+	struct registry_cursor cursor = {.row = row, .room = SLOTS};
 	uint64_t bytes = 0, last = UINT64_MAX;
 	unsigned staying = 0;
 
@@ -127,15 +127,15 @@ static void open_all(void)
 	attach_port("wm1", true);
 }
 
-/* A row that is too short is told, and nothing is written to it. */
+/* A row that is too short is told, and has the newest entries. */
 static void walk_without_room(void)
 {
-	struct registry_entry row[2] = {{.number = 77}, {.number = 77}};
+	struct registry_entry row[3] = {[2].number = 77};
 	size_t count = 0;
 	EXPECT(registry_walk(&cpus[0], row, 2, &count) == REGISTRY_OUTSIDE && count == 0);
 	DONE(registry_enter(&cpus[0]));
 	EXPECT(registry_walk(&cpus[0], row, 2, &count) == REGISTRY_NO_ROOM);
-	EXPECT(count == 4 && row[0].number == 77 && row[1].number == 77);
+	EXPECT(count == 4 && row[0].number == 4 && row[1].number == 3 && row[2].number == 77);
 	DONE(registry_exit(&cpus[0]));
 }
 

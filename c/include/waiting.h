@@ -113,24 +113,25 @@ registry_answer registry_local_drop(struct registry_cpu *cpu, struct registry_lo
 
 /*
  * The entries that were detached and aren't freed yet, oldest first. {0} is the empty list. The
- * caller then sets `keeper`, `freed` and `of`. NULL for `deferred`, or a list that was never set,
- * is undefined behaviour. Only the list works on its entries: nothing else advances or destroys
- * one. It has room for all entries that a registry can have, and allocates no memory. It is empty
- * before its keeper is closed: registry_deferred_barrier. `freed` is called under the interlock,
- * and throws no C++ exception.
+ * caller then sets the first five members. NULL for `deferred`, or a list that was never set, is
+ * undefined behaviour. Only the list works on its entries: nothing else advances or destroys one.
+ * With as many places as its registry has slots it is never full. It allocates no memory. It is
+ * empty before its keeper is closed: registry_deferred_barrier. `freed` is called under the
+ * interlock, and throws no C++ exception.
  */
 struct registry_deferred {
 	struct registry_keeper *keeper;		/* of the list's registry */
+	struct registry_entry *entries;		/* a row, which only the list writes from now on */
+	size_t room;				/* how many places it has */
 	/* Called for each entry once it is gone, or NULL. Makes no call with keeper or list. */
 	void (*freed)(void *of, const struct registry_entry *gone);
 	void *of;
 	void *reclaimer;	/* private, as is what follows */
 	void *registry;
 	size_t count;
-	struct registry_entry entries[REGISTRY_MOST_SLOTS];
 };
 
-REGISTRY_WORDS(struct registry_deferred, 6 + 6 * REGISTRY_MOST_SLOTS);
+REGISTRY_WORDS(struct registry_deferred, 8);
 
 /*
  * registry_deferred_count - the number of entries that wait in the list
@@ -140,10 +141,10 @@ size_t registry_deferred_count(const struct registry_deferred *deferred) REGISTR
 /*
  * registry_deferred_free - free the entries that nothing holds any more, oldest first
  *
- * It makes one registry_advance for each entry that waits, REGISTRY_MOST_SLOTS at most. The caller
- * may be inside a section. An entry that this section may hold isn't freed. One that nothing holds
- * may stay in the list if another CPU is in a registry_get just then. The call never waits. With
- * REGISTRY_DONE the number of freed entries is written to `freed`, which may be NULL.
+ * It makes one registry_advance for each entry that waits. The caller may be inside a section. An
+ * entry that this section may hold isn't freed. One that nothing holds may stay in the list if
+ * another CPU is in a registry_get just then. The call never waits. With REGISTRY_DONE the number
+ * of freed entries is written to `freed`, which may be NULL.
  * Returns REGISTRY_EMPTY_HANDLE if `keeper` is NULL or its handle is empty, REGISTRY_FULL_HANDLE if
  * entries of another registry than the keeper's wait in the list.
  */
@@ -154,8 +155,9 @@ registry_answer registry_deferred_free(struct registry_deferred *deferred, size_
  * registry_deferred_detach - registry_detach, and append the detached entry to the list
  *
  * It frees as registry_deferred_free first.
- * Returns the errors of registry_deferred_free, then the result of registry_detach. If that fails,
- * nothing is appended, and what was freed stays freed.
+ * Returns the errors of registry_deferred_free, then REGISTRY_NO_ROOM if the row has fewer places
+ * than the registry has slots, and as many entries wait; then the result of registry_detach. If
+ * that fails, nothing is appended, and what was freed stays freed.
  */
 registry_answer registry_deferred_detach(struct registry_deferred *deferred,
     struct registry_cpu *cpu, uint64_t kind, const struct registry_name *name,

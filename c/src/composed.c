@@ -107,12 +107,12 @@ registry_answer registry_local_acquire_entry(struct registry_cpu *cpu, const str
 	return answer == REGISTRY_DONE ? registry_local_acquire(cpu, local) : answer;
 }
 
-/* ---- The cursor: a row that registry_walk has written. ---- */
+/* ---- The cursor: a row of the caller's that registry_walk has written. ---- */
 
 registry_answer registry_first(struct registry_cpu *cpu, struct registry_cursor *cursor, struct registry_entry *entry)
 {
 	size_t count;
-	registry_answer answer = registry_walk(cpu, cursor != NULL ? cursor->row : NULL, REGISTRY_MOST_SLOTS, &count);
+	registry_answer answer = registry_walk(cpu, cursor != NULL ? cursor->row : NULL, cursor != NULL ? cursor->room : 1, &count);
 	if (answer != REGISTRY_DONE)
 		return answer;
 	cursor->count = count;

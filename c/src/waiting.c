@@ -225,10 +225,17 @@ static void append(struct registry_deferred *deferred, const struct registry_ent
 {
 	struct reclaimer *reclaimer = deferred->reclaimer;
 	deferred->registry = deferred->keeper->at;
-	/* Each entry that waits is retired and has a slot of its own, and this one was live: the list has room. */
 	deferred->entries[deferred->count++] = *entry;
 	if (reclaimer != NULL)
 		tell(reclaimer, &reclaimer->more);
+}
+
+/* Whether the list takes one entry more. With a place for each slot it does, or nothing is live: each entry that waits has a slot. */
+static bool has_room(const struct registry_deferred *deferred)
+{
+	struct registry_settings settings;
+	return deferred->count < deferred->room
+	    || (registry_settings_of(deferred->keeper, &settings) == REGISTRY_DONE && settings.slots <= deferred->room);
 }
 
 registry_answer registry_deferred_detach(struct registry_deferred *deferred, struct registry_cpu *cpu, uint64_t kind, const struct registry_name *name,
@@ -237,7 +244,7 @@ registry_answer registry_deferred_detach(struct registry_deferred *deferred, str
 	struct registry_entry entry;
 	registry_answer answer = registry_deferred_free(deferred, NULL);
 	if (answer == REGISTRY_DONE)
-		answer = registry_detach(deferred->keeper, cpu, kind, name, &entry);
+		answer = has_room(deferred) ? registry_detach(deferred->keeper, cpu, kind, name, &entry) : REGISTRY_NO_ROOM;
 	if (answer != REGISTRY_DONE)
 		return answer;
 	append(deferred, &entry);
@@ -260,32 +267,34 @@ registry_answer registry_deferred_attach_iface(struct registry_deferred *deferre
 	return answer != REGISTRY_DONE ? answer : registry_attach_iface(deferred->keeper, cpu, driver, name, value, made);
 }
 
-/* The numbers of the entries that a barrier waits for. */
+/* The numbers of the entries that a barrier waits for, in the list's order. */
 struct awaited {
 	size_t count;
 	uint64_t numbers[REGISTRY_MOST_SLOTS];
 };
 
-static bool is_awaited(const struct awaited *awaited, uint64_t number)
+/* Keeps the numbers that wait still. The list keeps its order, and what isn't awaited was appended since. */
+static void keep_waiting(struct awaited *awaited, const struct registry_deferred *deferred)
 {
-	for (size_t i = 0; i < awaited->count; i++)
-		if (awaited->numbers[i] == number)
-			return true;
-	return false;
+	size_t kept = 0;
+	for (size_t i = 0; i < awaited->count && kept < deferred->count; i++)
+		if (awaited->numbers[i] == deferred->entries[kept].number)
+			awaited->numbers[kept++] = awaited->numbers[i];
+	awaited->count = kept;
 }
 
 /* Frees what it can. With `awaited` empty all that waits then is awaited. STILL_HELD if something awaited waits. */
 static registry_answer turn_of_barrier(struct registry_deferred *deferred, struct awaited *awaited)
 {
-	struct awaited left = {0};
 	registry_answer answer = registry_deferred_free(deferred, NULL);
 	if (answer != REGISTRY_DONE)
 		return answer;
-	for (size_t i = 0; i < deferred->count; i++)
-		if (awaited->count == 0 || is_awaited(awaited, deferred->entries[i].number))
-			left.numbers[left.count++] = deferred->entries[i].number;
-	*awaited = left;
-	return left.count == 0 ? REGISTRY_DONE : REGISTRY_STILL_HELD;
+	if (awaited->count != 0)
+		keep_waiting(awaited, deferred);
+	else
+		for (; awaited->count < deferred->count; awaited->count++)
+			awaited->numbers[awaited->count] = deferred->entries[awaited->count].number;
+	return awaited->count == 0 ? REGISTRY_DONE : REGISTRY_STILL_HELD;
 }
 
 registry_answer registry_deferred_barrier(const struct registry_lock *lock, struct registry_deferred *deferred, const struct timespec *deadline)

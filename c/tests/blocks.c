@@ -99,10 +99,10 @@ static const struct registry_settings SETTINGS = {CPUS, SLOTS, 100, 100, 10, MOS
 static const struct registry_settings UNFIT = {CPUS, 0, 100, 100, 10, 10};
 
 /*
- * What an opening takes: the words, their share, the keeper, each CPU, and three blocks that it frees again, a copy of the words and two rows of
- * CPUs. What is freed at the end: each handle's own block as it is closed, and with the last of them all that they share.
+ * What an opening takes: the words and what shares them, the keeper with two rows, each CPU with five, and three blocks that it frees again, a copy of the words and
+ * two rows of CPUs. What is freed at the end: each handle's own blocks as it is closed, and with the last of them all that they share.
  */
-enum { OPENING = 10, PASSING = 3, SHARED = OPENING - PASSING - CPUS - 1 };
+enum { OF_KEEPER = 3, OF_CPU = 6, PASSING = 3, SHARED = 3, OPENING = PASSING + SHARED + OF_KEEPER + CPUS * OF_CPU };
 
 static struct registry_keeper keeper;
 static struct registry_cpu cpus[CPUS];
@@ -141,7 +141,7 @@ static void open_registry(void)
 static void read_and_refer(void)
 {
 	struct registry_entry row[SLOTS];
-	struct registry_cursor cursor;
+	struct registry_cursor cursor = {.row = row, .room = SLOTS};
 	size_t count;
 	bool flag;
 	PLAIN(REGISTRY_DONE, registry_name_parse("wm", 2, &wm, &number));
@@ -275,13 +275,13 @@ static void forget_locals(void)
 /* Each handle's own block goes with it, and with a CPU's the one that it keeps: CPU 1 keeps none. The last one takes along what they share. */
 static void close_registry(void)
 {
-	CALL(REGISTRY_DONE, 0, 2, registry_close_cpu(&cpus[0]));
+	CALL(REGISTRY_DONE, 0, OF_CPU + 1, registry_close_cpu(&cpus[0]));
 	PLAIN(REGISTRY_EMPTY_HANDLE, registry_close_cpu(&cpus[0]));
-	CALL(REGISTRY_DONE, 0, 1, registry_close_keeper(&keeper));
+	CALL(REGISTRY_DONE, 0, OF_KEEPER, registry_close_keeper(&keeper));
 	PLAIN(REGISTRY_EMPTY_HANDLE, registry_close_keeper(&keeper));
-	CALL(REGISTRY_DONE, 0, 1, registry_close_cpu(&cpus[1]));
+	CALL(REGISTRY_DONE, 0, OF_CPU, registry_close_cpu(&cpus[1]));
 	expect_apart(cpus[2].at, locals[1].at);
-	CALL(REGISTRY_DONE, 0, 2 + SHARED, registry_close_cpu(&cpus[2]));
+	CALL(REGISTRY_DONE, 0, OF_CPU + 1 + SHARED, registry_close_cpu(&cpus[2]));
 	CALL(REGISTRY_DONE, 0, 1, registry_local_forget(&locals[1]));
 	CALL(REGISTRY_DONE, 0, 1, registry_local_forget(&locals[2]));
 	EXPECT(in_use == 0);

@@ -325,7 +325,8 @@ static void waits_inside(void)
 static void barrier_inside(void)
 {
 	const struct registry_lock lock = registry_lock_of_mutex(&interlock);
-	struct registry_deferred deferred = {.keeper = &one.keeper};
+	struct registry_entry row[1];
+	struct registry_deferred deferred = {.keeper = &one.keeper, .entries = row, .room = 1};
 	DONE(AT(0, registry_enter(&one.cpus[1])));
 	DONE(registry_deferred_detach(&deferred, &one.cpus[0], REGISTRY_DRIVER, &wm, &found));
 	(void)!AT(1, registry_deferred_barrier(&lock, &deferred, NULL));

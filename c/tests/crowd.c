@@ -1,9 +1,10 @@
 /*
- * crowd ROUNDS - every CPU of the build at work on a thread of its own, and every slot in use
+ * crowd ROUNDS - 64 CPUs at work on threads of their own, and 255 slots in use
  *
  * Each CPU has names of its own; all together they are more than twice the slots. First all slots are filled. Then each CPU makes so many rounds on its
- * thread. It walks over all entries. It finds one of any CPU, refers to it in both ways, and hands the local reference to the next CPU. It detaches or
- * attaches an entry of its own. What a value points to is spoilt and freed as soon as a destroy says that nobody holds the entry. At the end all is given back.
+ * thread. It walks over all entries. It looks entries of any CPU up, and refers to them in each way; it hands a local reference to the next CPU. It detaches,
+ * replaces or attaches an entry of its own, and an interface on any. What a value points to is spoilt and freed as soon as a turn says that nobody holds
+ * the entry. At the end all is given back.
  */
 #include <inttypes.h>
 #include <pthread.h>
@@ -24,7 +25,7 @@ struct object {
 struct worker {
 	unsigned id;
 	uint64_t random, changes, references, without_slot;
-	bool live[OWN];
+	bool live[OWN], has_iface;
 	struct registry_entry retired[SLOTS];
 	unsigned retired_count;
 	pthread_t thread;
@@ -107,16 +108,44 @@ static void detach(struct worker *worker, unsigned own)
 	worker->changes++;
 }
 
+/* Attaches a new object under a live entry's name instead of it, if a slot is vacant for it. */
+static void replace(struct worker *worker, unsigned own)
+{
+	unsigned name = worker->id * OWN + own;
+	struct object *object = make_object(name);
+	struct registry_entry *gone = &worker->retired[worker->retired_count], made;
+	pthread_mutex_lock(&interlock);
+	registry_answer room = registry_room(&keeper);
+	registry_answer answer = registry_replace(&keeper, &cpus[worker->id], &names[name], (uint64_t)(uintptr_t)object, gone, &made);
+	pthread_mutex_unlock(&interlock);
+	EXPECT(answer == room);
+	if (answer == REGISTRY_NO_SLOT) {
+		free_object(object);
+		return;
+	}
+	DONE(answer);
+	worker->retired_count++;
+	worker->changes++;
+}
+
+/* One turn on a retired entry, by either call: whether it is freed. */
+static bool is_freed(struct worker *worker, uint64_t number)
+{
+	struct registry_stage met = {0, 0};
+	bool by_destroy = below(worker, 2) == 0;
+	pthread_mutex_lock(&interlock);
+	registry_answer answer = by_destroy ? registry_destroy(&keeper, &cpus[worker->id], number, &met) : registry_advance(&keeper, number, &met);
+	pthread_mutex_unlock(&interlock);
+	EXPECT(answer == REGISTRY_DONE || (by_destroy && answer == REGISTRY_STILL_HELD));
+	return answer == REGISTRY_DONE && met.stage == REGISTRY_FREED;
+}
+
 /* Frees the objects of those retired entries that nobody holds any more. */
 static void free_retired(struct worker *worker)
 {
 	for (unsigned i = worker->retired_count; i-- > 0;) {
-		pthread_mutex_lock(&interlock);
-		registry_answer answer = registry_destroy(&keeper, &cpus[worker->id], worker->retired[i].number, NULL);
-		pthread_mutex_unlock(&interlock);
-		if (answer == REGISTRY_STILL_HELD)
+		if (!is_freed(worker, worker->retired[i].number))
 			continue;
-		DONE(answer);
 		check_object(&worker->retired[i]);
 		free_object(object_of(&worker->retired[i]));
 		worker->retired[i] = worker->retired[--worker->retired_count];
@@ -126,14 +155,17 @@ static void free_retired(struct worker *worker)
 /* Meets all live entries in one section, the newest first. */
 static void walk(struct registry_cpu *cpu)
 {
-	struct registry_entry row[SLOTS];
-	size_t count;
+	struct registry_entry row[SLOTS], entry;
+	struct registry_cursor cursor = {.row = row, .room = SLOTS};
+	uint64_t last = UINT64_MAX;
 	DONE(registry_enter(cpu));
-	DONE(registry_walk(cpu, row, SLOTS, &count));
-	for (size_t i = 0; i < count; i++) {
-		EXPECT(i == 0 || row[i].number < row[i - 1].number);
-		check_object(&row[i]);
+	registry_answer answer = registry_first(cpu, &cursor, &entry);
+	for (; answer == REGISTRY_DONE; answer = registry_next(cpu, &cursor, &entry)) {
+		EXPECT(entry.number < last);
+		last = entry.number;
+		check_object(&entry);
 	}
+	EXPECT(answer == REGISTRY_NO_MORE);
 	DONE(registry_exit(cpu));
 }
 
@@ -172,6 +204,62 @@ static void refer(struct worker *worker)
 	worker->references++;
 }
 
+/* Looks an entry up and gets it without a section, and acquires it once more in one. */
+static void get(struct worker *worker)
+{
+	struct registry_cpu *cpu = &cpus[worker->id];
+	const struct registry_name *name = &names[below(worker, NAMES)];
+	struct registry_entry found, read;
+	bool held = false;
+	registry_answer answer = registry_look_up(cpu, REGISTRY_DRIVER, name, &found);
+	EXPECT(answer == REGISTRY_DONE || answer == REGISTRY_NOT_FOUND);
+	answer = registry_get(cpu, REGISTRY_DRIVER, name, &found);
+	if (answer == REGISTRY_NOT_FOUND)
+		return;
+	DONE(answer);
+	DONE(registry_copy(cpu, found.number));
+	DONE(registry_enter(cpu));
+	DONE(registry_acquire_entry(cpu, &found));
+	DONE(registry_exit(cpu));
+	for (unsigned i = 0; i < 3; i++) {
+		DONE(registry_read(cpu, found.number, &read));
+		check_object(&read);
+		DONE(registry_release(cpu, found.number));
+	}
+	DONE(registry_held(cpu, found.number, &held));
+	EXPECT(!held);
+	worker->references++;
+}
+
+/* Attaches the own interface on any driver, if there is one and a slot is vacant, or detaches it. */
+static void change_iface(struct worker *worker)
+{
+	struct registry_cpu *cpu = &cpus[worker->id];
+	const struct registry_name *own = &names[worker->id * OWN];
+	struct registry_local driver = {0};
+	struct registry_entry found, *gone = &worker->retired[worker->retired_count];
+	if (!worker->has_iface) {
+		if (registry_enter_find(cpu, REGISTRY_DRIVER, &names[below(worker, NAMES)], &found) != REGISTRY_DONE)
+			return;
+		DONE(registry_local_acquire_entry(cpu, &found, &driver));
+		DONE(registry_exit(cpu));
+	}
+	struct object *object = worker->has_iface ? NULL : make_object(worker->id * OWN);
+	pthread_mutex_lock(&interlock);
+	registry_answer answer = worker->has_iface ? registry_detach(&keeper, cpu, REGISTRY_INTERFACE, own, gone)
+	                                           : registry_attach_iface(&keeper, cpu, &driver, own, (uint64_t)(uintptr_t)object, NULL);
+	pthread_mutex_unlock(&interlock);
+	if (answer == REGISTRY_NO_SLOT) {
+		give_back(cpu, &driver);
+		free_object(object);
+		return;
+	}
+	DONE(answer);
+	worker->retired_count += worker->has_iface;
+	worker->has_iface = !worker->has_iface;
+	worker->changes++;
+}
+
 static void empty_basket(unsigned id)
 {
 	struct registry_local local = {0};
@@ -203,8 +291,11 @@ static void *work(void *of)
 		unsigned own = below(worker, OWN);
 		walk(&cpus[worker->id]);
 		refer(worker);
+		get(worker);
 		empty_basket(worker->id);
-		(worker->live[own] ? detach : attach)(worker, own);
+		(!worker->live[own] ? attach : below(worker, 2) == 0 ? replace : detach)(worker, own);
+		if (below(worker, 4) == 0)
+			change_iface(worker);
 		free_retired(worker);
 		if (below(worker, 16) == 0)
 			perform(&cpus[worker->id]);
@@ -226,7 +317,7 @@ static void expect_entries(size_t wanted)
 /* Opens the largest registry, and fills it. */
 static void open_registry(void)
 {
-	const struct registry_settings settings = {CPUS, SLOTS, REGISTRY_MOST_CHANGES, REGISTRY_MOST_SECTIONS, 1, REGISTRY_MOST_COUNT};
+	const struct registry_settings settings = {CPUS, SLOTS, REGISTRY_MOST_CHANGES, REGISTRY_MOST_SECTIONS, 3, REGISTRY_MOST_COUNT};
 	DONE(registry_open(&settings, &keeper, cpus, CPUS));
 	for (unsigned i = 0; i < NAMES; i++) {
 		char text[REGISTRY_NAME_ROOM];
@@ -243,11 +334,15 @@ static void open_registry(void)
 	expect_entries(SLOTS);
 }
 
-/* Once nobody refers to anything, each entry is taken out and freed in one turn. */
+/* Once nobody refers to anything, each entry is taken out and freed in one turn, the interfaces first. */
 static void close_registry(void)
 {
-	for (unsigned id = 0; id < CPUS; id++)
+	for (unsigned id = 0; id < CPUS; id++) {
 		empty_basket(id);
+		if (workers[id].has_iface)
+			change_iface(&workers[id]);
+		free_retired(&workers[id]);
+	}
 	for (unsigned id = 0; id < CPUS; id++) {
 		for (unsigned own = 0; own < OWN; own++)
 			if (workers[id].live[own])

@@ -40,7 +40,8 @@ static void note(void *of, const struct registry_entry *gone)
 	told.entries[told.count++] = *gone;
 }
 
-static struct registry_deferred list = {.keeper = &keeper, .freed = note, .of = &told};
+static struct registry_entry row[SLOTS];
+static struct registry_deferred list = {.keeper = &keeper, .entries = row, .room = SLOTS, .freed = note, .of = &told};
 
 /* Whether the model's list has to let the entry go now: it is free, which is added to `freed`, or it was freed by others. */
 static bool is_over(const struct registry_entry *entry, struct told *freed)

@@ -11,7 +11,7 @@
 
 #include "client.h"
 
-enum { USERS = 3, CPUS = USERS + 1, CHANGER = USERS, DRIVERS = 2, MOST_PASSIVES = 2, MOST_LOCALS = 10 };
+enum { USERS = 3, CPUS = USERS + 1, CHANGER = USERS, SLOTS = 4, DRIVERS = 2, MOST_PASSIVES = 2, MOST_LOCALS = 10 };
 
 static struct registry_keeper keeper;
 static struct registry_cpu cpus[CPUS];
@@ -20,7 +20,7 @@ static struct registry_name names[DRIVERS];
 
 static void open_registry(uint64_t passive_limit)
 {
-	const struct registry_settings settings = {CPUS, 4, REGISTRY_MOST_CHANGES, REGISTRY_MOST_SECTIONS, passive_limit, MOST_LOCALS};
+	const struct registry_settings settings = {CPUS, SLOTS, REGISTRY_MOST_CHANGES, REGISTRY_MOST_SECTIONS, passive_limit, MOST_LOCALS};
 	DONE(registry_open(&settings, &keeper, cpus, CPUS));
 }
 
@@ -378,8 +378,8 @@ static void use_object(struct registry_cpu *cpu, const struct registry_entry *dr
 /* Goes over all entries up to this one, lets others on, and acquires it, unless it is gone by then. */
 static void use_one(struct registry_cpu *cpu, unsigned which)
 {
-	struct registry_cursor cursor;
-	struct registry_entry met;
+	struct registry_entry row[SLOTS], met;
+	struct registry_cursor cursor = {.row = row, .room = SLOTS};
 	DONE(registry_enter(cpu));
 	registry_answer answer = registry_first(cpu, &cursor, &met);
 	for (unsigned i = 0; i < which && answer == REGISTRY_DONE; i++)

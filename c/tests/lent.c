@@ -13,7 +13,7 @@
 #include "client.h"
 #include "waiting.h"
 
-enum { CPUS = REGISTRY_MOST_CPUS < 8 ? REGISTRY_MOST_CPUS : 8, THREADS = 12, ROUNDS = 300 };
+enum { CPUS = 8, THREADS = 12, ROUNDS = 300 };
 
 void *__real_malloc(size_t size);
 int __real_pthread_cond_init(pthread_cond_t *made, const pthread_condattr_t *attributes);

@@ -412,8 +412,8 @@ static void check_null_counts(struct bench *bench)
 	DONE(registry_attach(&bench->keeper, cpu, &wm0, 8, &out.entry));
 	EXPECT(registry_walk(cpu, row, 2, NULL) == REGISTRY_OUTSIDE);
 	DONE(registry_enter(cpu));
-	EXPECT(registry_walk(cpu, row, 0, NULL) == REGISTRY_NO_ROOM && registry_walk(cpu, row, 1, NULL) == REGISTRY_NO_ROOM);
-	EXPECT(row[0].number == 99);
+	EXPECT(registry_walk(cpu, row, 0, NULL) == REGISTRY_NO_ROOM && row[0].number == 99);
+	EXPECT(registry_walk(cpu, row, 1, NULL) == REGISTRY_NO_ROOM && row[0].value == 8 && row[1].number == 0);
 	EXPECT(registry_walk(cpu, row, 2, NULL) == REGISTRY_DONE && row[0].value == 8 && row[1].number == 1);
 	DONE(registry_exit(cpu));
 	EXPECT(registry_audit(&bench->keeper, bench->cpus, 1, list, 2, NULL) == REGISTRY_MISSING_CPU);
@@ -441,11 +441,12 @@ static void check_null_rows(struct bench *bench)
 	DONE(registry_exit(cpu));
 }
 
-/* A cursor that is NULL, and one that was never begun; no place for the two entries. */
+/* A cursor that is NULL, one that was never begun, and rows that lack or are too short; no place for the two entries. */
 static void check_cursors(struct bench *bench)
 {
 	struct registry_cpu *cpu = &bench->cpus[0];
-	struct registry_cursor cursor = {0};
+	struct registry_entry row[2];
+	struct registry_cursor cursor = {0}, lacking = {.room = 1}, small = {.row = row, .room = 1};
 	REFUSED(registry_first(cpu, NULL, &out.entry), REGISTRY_NULL);
 	REFUSED(registry_next(cpu, NULL, &out.entry), REGISTRY_NULL);
 	REFUSED(registry_first(cpu, &cursor, &out.entry), REGISTRY_OUTSIDE);
@@ -454,6 +455,10 @@ static void check_cursors(struct bench *bench)
 	REFUSED(registry_first(cpu, NULL, &out.entry), REGISTRY_NULL);
 	REFUSED(registry_next(cpu, NULL, &out.entry), REGISTRY_NULL);
 	REFUSED(registry_next(cpu, &cursor, &out.entry), REGISTRY_NO_MORE);
+	REFUSED(registry_first(cpu, &lacking, &out.entry), REGISTRY_NULL);
+	REFUSED(registry_first(cpu, &small, &out.entry), REGISTRY_NO_ROOM);
+	REFUSED(registry_first(cpu, &cursor, &out.entry), REGISTRY_NO_ROOM);
+	cursor = (struct registry_cursor){.row = row, .room = 2};
 	DONE(registry_first(cpu, &cursor, NULL));
 	DONE(registry_next(cpu, &cursor, NULL));
 	REFUSED(registry_next(cpu, &cursor, NULL), REGISTRY_NO_MORE);

@@ -27,47 +27,53 @@ static struct model_slot *live_slot(struct model *model, uint64_t kind, const st
 	return NULL;
 }
 
-static uint64_t hint_of(const struct registry_name *name)
+/* The place of a name among so many. */
+static uint64_t place_of(const struct registry_name *name, uint64_t count)
 {
-	return (name->high + name->low) * 0xc4ceb9fe1a85ec53 >> 56;
+	return ((name->high + name->low) * 0xc4ceb9fe1a85ec53 >> 32) * count >> 32;
 }
 
-static uint64_t *places_of(struct model_cpu *own, const struct registry_name *name)
+static uint64_t *hints_of(struct model *model, unsigned cpu, const struct registry_name *name)
 {
-	return own->places[hint_of(name)];
+	return model->cpus[cpu].hints[place_of(name, HINTS * model->settings.slots)];
+}
+
+static struct registry_entry *miss_of(struct model *model, unsigned cpu, const struct registry_name *name)
+{
+	return &model->cpus[cpu].misses[place_of(name, model->settings.slots + SPARE_MISSES)];
 }
 
 /* The entry that the CPU remembers with this kind and name, or NULL. */
-static struct registry_entry *remembered(struct model_cpu *own, uint64_t kind, const struct registry_name *name)
+static struct registry_entry *remembered(struct model *model, unsigned cpu, uint64_t kind, const struct registry_name *name)
 {
-	const uint64_t *places = places_of(own, name);
+	const uint64_t *hints = hints_of(model, cpu, name);
 	for (unsigned i = 0; i < 2; i++)
-		if (places[i] != 0 && is_of(&own->rows[places[i] - 1], kind, name))
-			return &own->rows[places[i] - 1];
+		if (hints[i] != 0 && is_of(&model->cpus[cpu].rows[hints[i] - 1], kind, name))
+			return &model->cpus[cpu].rows[hints[i] - 1];
 	return NULL;
 }
 
 /* The CPU remembers what a search has found: the slot, or that there is none. */
-static void remember(struct model_cpu *own, uint64_t kind, const struct registry_name *name, const struct model_slot *slot)
+static void remember(struct model *model, unsigned cpu, uint64_t kind, const struct registry_name *name, const struct model_slot *slot)
 {
 	struct registry_entry *row;
-	uint64_t *places = places_of(own, name);
+	uint64_t *hints = hints_of(model, cpu, name);
 	if (slot == NULL) {
-		while ((row = remembered(own, kind, name)) != NULL)
+		while ((row = remembered(model, cpu, kind, name)) != NULL)
 			row->number = 0;
 		return;
 	}
-	if (places[0] != slot->entry.slot + 1) {
-		places[1] = places[0];
-		places[0] = slot->entry.slot + 1;
+	if (hints[0] != slot->entry.slot + 1) {
+		hints[1] = hints[0];
+		hints[0] = slot->entry.slot + 1;
 	}
-	own->rows[slot->entry.slot] = slot->entry;
+	model->cpus[cpu].rows[slot->entry.slot] = slot->entry;
 }
 
 /* Whether the CPU remembers the live entry with this kind and name, if the slot isn't NULL. */
-static bool is_known(struct model_cpu *own, uint64_t kind, const struct registry_name *name, const struct model_slot *slot)
+static bool is_known(struct model *model, unsigned cpu, uint64_t kind, const struct registry_name *name, const struct model_slot *slot)
 {
-	const struct registry_entry *row = remembered(own, kind, name);
+	const struct registry_entry *row = remembered(model, cpu, kind, name);
 	return row != NULL && slot != NULL && row->number == slot->entry.number;
 }
 
@@ -81,7 +87,7 @@ static bool may_recall(const struct model *model, unsigned cpu)
 static struct model_slot *recalled(struct model *model, unsigned cpu, uint64_t kind, const struct registry_name *name)
 {
 	struct model_slot *slot = live_slot(model, kind, name);
-	return is_known(&model->cpus[cpu], kind, name, slot) ? slot : NULL;
+	return is_known(model, cpu, kind, name, slot) ? slot : NULL;
 }
 
 /* The live entry with the greatest number below `below`, or NULL. */
@@ -97,17 +103,16 @@ static const struct registry_entry *next_older(const struct model *model, uint64
 }
 
 /* Whether the CPU knows that there is no such entry: none is live, or the CPU missed it while the newest one was the same. */
-static bool is_missed(const struct model *model, unsigned cpu, uint64_t kind, const struct registry_name *name)
+static bool is_missed(struct model *model, unsigned cpu, uint64_t kind, const struct registry_name *name)
 {
-	const struct registry_entry *newest = next_older(model, UINT64_MAX), *miss = &model->cpus[cpu].misses[hint_of(name)];
+	const struct registry_entry *newest = next_older(model, UINT64_MAX), *miss = miss_of(model, cpu, name);
 	return newest == NULL || (is_of(miss, kind, name) && miss->number == newest->number);
 }
 
 /* The CPU remembers that a search from outside has found none: some entry is live. */
 static void remember_miss(struct model *model, unsigned cpu, uint64_t kind, const struct registry_name *name)
 {
-	uint64_t newest = next_older(model, UINT64_MAX)->number;
-	model->cpus[cpu].misses[hint_of(name)] = (struct registry_entry){newest, 0, kind, *name, 0};
+	*miss_of(model, cpu, name) = (struct registry_entry){next_older(model, UINT64_MAX)->number, 0, kind, *name, 0};
 }
 
 uint32_t model_enter(struct model *model, unsigned cpu)
@@ -143,8 +148,8 @@ uint32_t model_find(struct model *model, unsigned cpu, uint64_t kind, const stru
 		return REGISTRY_OUTSIDE;
 	const struct model_slot *slot = live_slot(model, kind, name);
 	own->found = slot == NULL ? 0 : slot->entry.number;
-	if (!is_known(own, kind, name, slot))
-		remember(own, kind, name, slot);
+	if (!is_known(model, cpu, kind, name, slot))
+		remember(model, cpu, kind, name, slot);
 	if (slot == NULL)
 		return REGISTRY_NOT_FOUND;
 	*found = slot->entry;
@@ -226,10 +231,8 @@ uint32_t model_walk(struct model *model, unsigned cpu, struct registry_entry *ro
 	*count = 0;
 	for (uint64_t below = UINT64_MAX; (next = next_older(model, below)) != NULL; below = next->number)
 		all[(*count)++] = *next;
-	if (*count > room)
-		return REGISTRY_NO_ROOM;
-	memcpy(row, all, *count * sizeof *row);
-	return REGISTRY_DONE;
+	memcpy(row, all, (*count < room ? *count : room) * sizeof *row);
+	return *count > room ? REGISTRY_NO_ROOM : REGISTRY_DONE;
 }
 
 uint32_t model_acquire(struct model *model, unsigned cpu, uint64_t *number)

@@ -9,7 +9,13 @@
 
 #include "client.h"
 
-enum { CPUS = REGISTRY_MOST_CPUS, SLOTS = REGISTRY_MOST_SLOTS, HINTS = 256 };
+#ifdef MODEL_OF_THE_LARGEST
+enum { CPUS = REGISTRY_MOST_CPUS, SLOTS = REGISTRY_MOST_SLOTS };
+#else
+enum { CPUS = 8, SLOTS = 32 };
+#endif
+/* So many hints a slot a CPU keeps, and so many misses more than slots. */
+enum { HINTS = 8, SPARE_MISSES = 8 };
 
 enum state { VACANT, LIVE, RETIRED };
 
@@ -30,8 +36,8 @@ struct model_cpu {
 	uint64_t sections;		/* outermost sections begun */
 	uint64_t found;			/* the number of the last found entry, or 0 */
 	struct registry_entry rows[SLOTS];	/* the entry that the CPU found last in that slot */
-	uint64_t places[HINTS][2];	/* the slots plus 1 where entries with that hint were found last and before, or 0 */
-	struct registry_entry misses[HINTS];	/* the last kind and name of that hint that no entry had, while the newest entry was the one with this number */
+	uint64_t hints[HINTS * SLOTS][2];	/* the slots plus 1 where entries with that hint were found last and before, or 0 */
+	struct registry_entry misses[SLOTS + SPARE_MISSES];	/* the last kind and name of that place that no entry had, while the newest entry had this number */
 };
 
 /* A wait of a perform: the CPUs whose section was open as it began, and is open still. */

@@ -7,7 +7,7 @@
 #include <sys/wait.h>
 #include <unistd.h>
 
-#include "client.h"
+#include "model.h"
 #include "wrapped_heap.h"
 
 enum fault { NONE, FULL_EARLY, NOT_FOUND, ADVANCE_LOST, SHORT_NUMBERS, SHORT_LOCALS, SLOT_KEPT_BACK, LARGE_AUDITS, LATE_AUDITS, FEW_PASSIVE, FEW_LOCAL,
@@ -35,7 +35,7 @@ static const struct {
 	[SHARED_LINE] = {"an enter writes on the line of the next CPU", "small"},
 };
 
-enum { MOST_TOLD = 255, MOST_OF_16_BITS = 65535, MOST_OF_17_BITS = 131071, HIGHEST_SHORT = REGISTRY_MOST_CPUS / 2 };
+enum { MOST_TOLD = 255, MOST_OF_16_BITS = 65535, MOST_OF_17_BITS = 131071, HIGHEST_SHORT = CPUS / 2 };
 
 static enum fault planted;
 
@@ -87,7 +87,7 @@ static registry_answer refused(void)
 {
 	if (planted == FULL_EARLY && changes >= 200000)
 		return REGISTRY_HISTORY_FULL;
-	if (planted == SLOT_KEPT_BACK && occupied == REGISTRY_MOST_SLOTS - 1 && retired > 0)
+	if (planted == SLOT_KEPT_BACK && occupied == SLOTS - 1 && retired > 0)
 		return REGISTRY_NO_SLOT;
 	return REGISTRY_DONE;
 }
@@ -176,7 +176,7 @@ registry_answer __wrap_registry_audit(struct registry_keeper *keeper, struct reg
     size_t *length)
 {
 	registry_answer answer = __real_registry_audit(keeper, cpus, count, list, room, length);
-	bool is_large = answer == REGISTRY_DONE && count == REGISTRY_MOST_CPUS && *length == REGISTRY_MOST_SLOTS;
+	bool is_large = answer == REGISTRY_DONE && count == CPUS && *length == SLOTS;
 	return (planted == LARGE_AUDITS && is_large) || (planted == LATE_AUDITS && changes >= 99999) ? REGISTRY_NO_MEMORY : answer;
 }
 

@@ -73,7 +73,8 @@ static void note(void *of, const struct registry_entry *gone)
 	atomic_fetch_add(&freed, 1);
 }
 
-static struct registry_deferred list = {.keeper = &keeper, .freed = note, .of = &freed};
+static struct registry_entry row[8];
+static struct registry_deferred list = {.keeper = &keeper, .entries = row, .room = 8, .freed = note, .of = &freed};
 
 static void wait_for_freed(unsigned count)
 {
@@ -184,6 +185,25 @@ static void test_two_registries(void)
 	EXPECT(count == 1 && atomic_load(&freed) == 2);
 	list.keeper = &keeper;
 	DONE(registry_close(others, 1, &other));
+}
+
+/* While its row is full, the list takes no entry, and detaches none. */
+static void test_full(void)
+{
+	atomic_store(&freed, 0);
+	list.room = 1;
+	uint64_t held = put_held(), live = attach();
+	EXPECT(registry_deferred_detach(&list, &cpus[1], REGISTRY_DRIVER, &wm, NULL) == REGISTRY_NO_ROOM && registry_deferred_count(&list) == 1);
+	DONE(registry_look_up(&cpus[0], REGISTRY_DRIVER, &wm, NULL));
+	DONE(registry_release(&cpus[0], held));
+	lock_it();
+	DONE(registry_deferred_detach(&list, &cpus[1], REGISTRY_DRIVER, &wm, NULL));
+	unlock_it();
+	EXPECT(atomic_load(&freed) == 1 && atomic_load(&last_freed) == held && list.entries[0].number == live);
+	DONE(registry_deferred_barrier(&lock, &list, &PAST));
+	list.room = 0;
+	EXPECT(registry_deferred_detach(&list, &cpus[1], REGISTRY_DRIVER, &wm, NULL) == REGISTRY_NO_ROOM);
+	list.room = 8;
 }
 
 /* A thread in a barrier, and whether that has ended. */
@@ -309,6 +329,7 @@ int main(void)
 	DONE(registry_open(&settings, &keeper, cpus, 2));
 	test_drop();
 	test_two_registries();
+	test_full();
 	test_barrier();
 	test_reclaimer();
 	test_sleeps();

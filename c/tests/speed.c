@@ -45,7 +45,7 @@ static void attach_all(const struct plan *plan)
 static void open_registry(const struct plan *plan)
 {
 	const struct registry_settings settings = {
-	    plan->threads, REGISTRY_MOST_SLOTS, REGISTRY_MOST_CHANGES, REGISTRY_MOST_SECTIONS, REGISTRY_MOST_COUNT, REGISTRY_MOST_COUNT};
+	    plan->threads, plan->entries < 32 ? 32 : plan->entries, REGISTRY_MOST_CHANGES, REGISTRY_MOST_SECTIONS, REGISTRY_MOST_COUNT, REGISTRY_MOST_COUNT};
 	struct registry_cpu cpus[MOST_THREADS] = {{0}};
 	DONE(registry_open(&settings, &keeper, cpus, plan->threads));
 	for (unsigned i = 0; i < plan->threads; i++)

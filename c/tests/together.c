@@ -11,7 +11,7 @@
 #include "client.h"
 #include "waiting.h"
 
-enum { REGISTRIES = 2, READERS = 3, DESTROYERS = 2, PERFORMER = DESTROYERS, DEFERRER, CHANGERS, CPUS = READERS + CHANGERS, WORDS = 8, PATIENCE = 20, MOST = 100 };
+enum { REGISTRIES = 2, READERS = 3, DESTROYERS = 2, PERFORMER = DESTROYERS, DEFERRER, CHANGERS, CPUS = READERS + CHANGERS, WORDS = 8, SLOTS = 32, PATIENCE = 20, MOST = 100 };
 
 struct object {
 	uint64_t words[WORDS];
@@ -23,6 +23,7 @@ struct world {
 	pthread_mutex_t mutex;
 	struct registry_lock lock;
 	struct registry_deferred deferred;
+	struct registry_entry row[SLOTS];	/* of the list */
 	_Atomic(struct object *) current;	/* behind no entry */
 };
 
@@ -229,11 +230,11 @@ static void free_of(void *of, const struct registry_entry *gone)
 static void open_world(struct world *world, const pthread_mutexattr_t *type)
 {
 	const struct registry_settings settings = {
-	    CPUS, REGISTRY_MOST_SLOTS, REGISTRY_MOST_CHANGES, REGISTRY_MOST_SECTIONS, REGISTRY_MOST_COUNT, REGISTRY_MOST_COUNT};
+	    CPUS, SLOTS, REGISTRY_MOST_CHANGES, REGISTRY_MOST_SECTIONS, REGISTRY_MOST_COUNT, REGISTRY_MOST_COUNT};
 	DONE(registry_open(&settings, &world->keeper, world->cpus, CPUS));
 	EXPECT(pthread_mutex_init(&world->mutex, type) == 0);
 	world->lock = (struct registry_lock){take, give, &world->mutex};
-	world->deferred = (struct registry_deferred){.keeper = &world->keeper, .freed = free_of, .of = &freed};
+	world->deferred = (struct registry_deferred){.keeper = &world->keeper, .entries = world->row, .room = SLOTS, .freed = free_of, .of = &freed};
 	atomic_store(&world->current, make_object());
 	DONE(registry_reclaimer_start(&world->lock, &world->deferred));
 }

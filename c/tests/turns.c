@@ -35,6 +35,7 @@ struct planned {
 	uint64_t waited;
 	struct registry_local local;
 	struct registry_deferred list;
+	struct registry_entry row[1];
 	uint32_t first;			/* what a begin or a release returns */
 	uint32_t refused, last;		/* what the first turns return, and the one after them */
 	unsigned refusals;		/* how many those are */
@@ -275,8 +276,8 @@ static void plan(struct planned *wait)
 		wait->last = REGISTRY_DONE;
 	wait->first = below(2) == 0 ? (uint32_t)below(REGISTRY_NO_MORE + 1) : wait->call == DROP ? REGISTRY_COLLECTED : REGISTRY_DONE;
 	wait->refusals = (unsigned)below(MOST_TURNS);
-	wait->list = (struct registry_deferred){.keeper = &keepers[wait->keeper], .registry = keepers[wait->keeper].at, .count = 1};
-	wait->list.entries[0].number = wait->number;
+	wait->list = (struct registry_deferred){.keeper = &keepers[wait->keeper], .entries = wait->row, .room = 1, .registry = keepers[wait->keeper].at, .count = 1};
+	wait->row[0].number = wait->number;
 	plan_deadline(wait);
 	expect_next(wait, begins[wait->call]);
 }

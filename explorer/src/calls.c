@@ -52,8 +52,6 @@ void leaving_cpu(const char *call)
 
 /* ---- mutex(9). ---- */
 
-LAYER(int, mutex_tryenter, (kmutex_t *mutex));
-
 static bool is_mutex(const kmutex_t *mutex)
 {
 	return is_live(mutex) && mutex->mtx_made == A_MUTEX;
@@ -90,19 +88,7 @@ WRAPPED(void, mutex_spin_enter, (kmutex_t *mutex), (mutex), at_mutex(__func__, m
 WRAPPED(void, mutex_exit, (kmutex_t *mutex), (mutex), at_mutex(__func__, mutex, NULL, RELEASES))
 WRAPPED(void, mutex_spin_exit, (kmutex_t *mutex), (mutex), at_mutex(__func__, mutex, NULL, RELEASES))
 
-/* What a call returns that may have taken a lock. */
-static int taken(const void *lock, int answer)
-{
-	if (answer)
-		acquire_clock(ON_LOCK, lock, 0);
-	return answer;
-}
-
-int mutex_tryenter(kmutex_t *mutex)
-{
-	at_mutex(__func__, mutex, NULL, 0);
-	return taken(mutex, layer_mutex_tryenter(mutex));
-}
+ANSWERED(int, mutex_tryenter, (kmutex_t *mutex), (mutex), at_mutex(__func__, mutex, NULL, 0), if (answer) acquire_clock(ON_LOCK, mutex, 0))
 
 WRAPPED(void, mutex_destroy, (kmutex_t *mutex), (mutex), AT(ON_LOCK, mutex, WRITES); track_ended(mutex))
 WRAPPED(void, mutex_obj_hold, (kmutex_t *mutex), (mutex), AT(ON_LOCK, mutex, WRITES))
@@ -110,60 +96,28 @@ WRAPPED(bool, mutex_obj_free, (kmutex_t *mutex), (mutex), AT(ON_LOCK, mutex, WRI
 
 /* ---- condvar(9). ---- */
 
-LAYER(void, cv_wait, (kcondvar_t *cv, kmutex_t *mutex));
-LAYER(int, cv_wait_sig, (kcondvar_t *cv, kmutex_t *mutex));
-LAYER(int, cv_timedwait, (kcondvar_t *cv, kmutex_t *mutex, int ticks));
-LAYER(int, cv_timedwait_sig, (kcondvar_t *cv, kmutex_t *mutex, int ticks));
 
 /* A wait gives the lock back, and takes it again in the step in which the thread goes on. */
-static struct routine *begin_cv_wait(const char *call, kcondvar_t *cv, kmutex_t *mutex)
+static void begin_cv_wait(const char *call, kcondvar_t *cv, kmutex_t *mutex)
 {
-	struct routine *me = here(call);
 	at_call(call);
 	check_live(call, cv, sizeof(*cv));
 	check_live(call, mutex, sizeof(*mutex));
 	touch(ON_CV, cv, 0, WRITES);
 	touch(ON_LOCK, mutex, 0, WRITES | RELEASES);
-	me->relock = mutex;
-	return me;
+	run.current->relock = mutex;
 }
 
-static void end_cv_wait(struct routine *me, kmutex_t *mutex)
+static void end_cv_wait(kmutex_t *mutex)
 {
 	touch(ON_LOCK, mutex, 0, WRITES | ACQUIRES);
-	me->relock = NULL;
+	run.current->relock = NULL;
 }
 
-void cv_wait(kcondvar_t *cv, kmutex_t *mutex)
-{
-	struct routine *me = begin_cv_wait(__func__, cv, mutex);
-	layer_cv_wait(cv, mutex);
-	end_cv_wait(me, mutex);
-}
-
-int cv_wait_sig(kcondvar_t *cv, kmutex_t *mutex)
-{
-	struct routine *me = begin_cv_wait(__func__, cv, mutex);
-	int answer = layer_cv_wait_sig(cv, mutex);
-	end_cv_wait(me, mutex);
-	return answer;
-}
-
-int cv_timedwait(kcondvar_t *cv, kmutex_t *mutex, int ticks)
-{
-	struct routine *me = begin_cv_wait(__func__, cv, mutex);
-	int answer = layer_cv_timedwait(cv, mutex, ticks);
-	end_cv_wait(me, mutex);
-	return answer;
-}
-
-int cv_timedwait_sig(kcondvar_t *cv, kmutex_t *mutex, int ticks)
-{
-	struct routine *me = begin_cv_wait(__func__, cv, mutex);
-	int answer = layer_cv_timedwait_sig(cv, mutex, ticks);
-	end_cv_wait(me, mutex);
-	return answer;
-}
+AROUND(void, cv_wait, (kcondvar_t *cv, kmutex_t *mutex), (cv, mutex), begin_cv_wait(__func__, cv, mutex), end_cv_wait(mutex))
+ANSWERED(int, cv_wait_sig, (kcondvar_t *cv, kmutex_t *mutex), (cv, mutex), begin_cv_wait(__func__, cv, mutex), end_cv_wait(mutex))
+ANSWERED(int, cv_timedwait, (kcondvar_t *cv, kmutex_t *mutex, int ticks), (cv, mutex, ticks), begin_cv_wait(__func__, cv, mutex), end_cv_wait(mutex))
+ANSWERED(int, cv_timedwait_sig, (kcondvar_t *cv, kmutex_t *mutex, int ticks), (cv, mutex, ticks), begin_cv_wait(__func__, cv, mutex), end_cv_wait(mutex))
 
 static void at_wake(const char *call, kcondvar_t *cv)
 {
@@ -179,32 +133,11 @@ WRAPPED(void, cv_destroy, (kcondvar_t *cv), (cv), AT(ON_CV, cv, WRITES); track_e
 
 /* ---- rwlock(9): a thread that waits for one is in the lock's own queue. ---- */
 
-LAYER(void, rw_enter, (krwlock_t *rw, const krw_t how));
-LAYER(int, rw_tryenter, (krwlock_t *rw, const krw_t how));
-LAYER(int, rw_tryupgrade, (krwlock_t *rw));
-
-void rw_enter(krwlock_t *rw, const krw_t how)
-{
-	AT(ON_LOCK, rw, WRITES);
-	layer_rw_enter(rw, how);
-	touch(ON_LOCK, rw, 0, WRITES);
-	acquire_clock(ON_LOCK, rw, 0);
-}
-
-int rw_tryenter(krwlock_t *rw, const krw_t how)
-{
-	AT(ON_LOCK, rw, WRITES);
-	return taken(rw, layer_rw_tryenter(rw, how));
-}
-
+AROUND(void, rw_enter, (krwlock_t *rw, const krw_t how), (rw, how), AT(ON_LOCK, rw, WRITES),
+    touch(ON_LOCK, rw, 0, WRITES); acquire_clock(ON_LOCK, rw, 0))
+ANSWERED(int, rw_tryenter, (krwlock_t *rw, const krw_t how), (rw, how), AT(ON_LOCK, rw, WRITES), if (answer) acquire_clock(ON_LOCK, rw, 0))
 WRAPPED(void, rw_exit, (krwlock_t *rw), (rw), AT(ON_LOCK, rw, WRITES); release_clock(ON_LOCK, rw, 0))
-
-int rw_tryupgrade(krwlock_t *rw)
-{
-	AT(ON_LOCK, rw, WRITES);
-	return taken(rw, layer_rw_tryupgrade(rw));
-}
-
+ANSWERED(int, rw_tryupgrade, (krwlock_t *rw), (rw), AT(ON_LOCK, rw, WRITES), if (answer) acquire_clock(ON_LOCK, rw, 0))
 WRAPPED(void, rw_downgrade, (krwlock_t *rw), (rw), AT(ON_LOCK, rw, WRITES); release_clock(ON_LOCK, rw, 0))
 WRAPPED(void, rw_destroy, (krwlock_t *rw), (rw), AT(ON_LOCK, rw, WRITES); track_ended(rw))
 
@@ -214,42 +147,21 @@ WRAPPED(int, rw_lock_held, (krwlock_t *rw), (rw), AT(ON_LOCK, rw, 0))
 
 /* ---- pserialize(9). ---- */
 
-LAYER(void, pserialize_perform, (pserialize_t psz));
-
 WRAPPED(int, pserialize_read_enter, (void), (), at_cpu(__func__, 0))
 WRAPPED(void, pserialize_read_exit, (int s), (s), leaving_cpu(__func__))
-
-void pserialize_perform(pserialize_t psz)
-{
-	at_thing(__func__, ON_TARGET, psz, 1, 0);
-	layer_pserialize_perform(psz);
-	touch(ON_TARGET, psz, 0, 0);
-}
-
+AROUND(void, pserialize_perform, (pserialize_t psz), (psz), at_thing(__func__, ON_TARGET, psz, 1, 0), touch(ON_TARGET, psz, 0, 0))
 WRAPPED(void, pserialize_destroy, (pserialize_t psz), (psz), at_thing(__func__, ON_TARGET, psz, 1, WRITES))
 
 /* ---- psref(9). ---- */
-
-LAYER(void, psref_target_destroy, (struct psref_target *target, struct psref_class *psref_class));
-LAYER(void, psref_release, (struct psref *psref, const struct psref_target *target, struct psref_class *psref_class));
 
 WRAPPED(void, psref_class_destroy, (struct psref_class *psref_class), (psref_class),
     at_thing(__func__, ON_TARGET, psref_class, 1, WRITES))
 WRAPPED(void, psref_target_init, (struct psref_target *target, struct psref_class *psref_class), (target, psref_class),
     AT(ON_TARGET, target, WRITES); check_live(__func__, psref_class, 1); touch(ON_TARGET, psref_class, 0, 0))
 
-void psref_target_destroy(struct psref_target *target, struct psref_class *psref_class)
-{
-	struct routine *me = here(__func__);
-	AT(ON_TARGET, target, WRITES);
-	check_live(__func__, psref_class, 1);
-	touch(ON_TARGET, psref_class, 0, 0);
-	me->target = target;
-	layer_psref_target_destroy(target, psref_class);
-	me->target = NULL;
-	touch(ON_TARGET, psref_class, 0, 0);
-	acquire_clock(ON_REFERENCES, target, 0);
-}
+AROUND(void, psref_target_destroy, (struct psref_target *target, struct psref_class *psref_class), (target, psref_class),
+    AT(ON_TARGET, target, WRITES); check_live(__func__, psref_class, 1); touch(ON_TARGET, psref_class, 0, 0); run.current->target = target,
+    run.current->target = NULL; touch(ON_TARGET, psref_class, 0, 0); acquire_clock(ON_REFERENCES, target, 0))
 
 /* A call with a reference of this CPU's to a target or a count. */
 static void at_reference(const char *call, const void *target, size_t size, unsigned how)
@@ -263,15 +175,8 @@ static void at_reference(const char *call, const void *target, size_t size, unsi
 
 WRAPPED(void, psref_acquire, (struct psref *psref, const struct psref_target *target, struct psref_class *psref_class),
     (psref, target, psref_class), at_reference(__func__, target, sizeof(*target), WRITES))
-
-void psref_release(struct psref *psref, const struct psref_target *target, struct psref_class *psref_class)
-{
-	at_reference(__func__, target, sizeof(*target), WRITES);
-	release_clock(ON_REFERENCES, target, 0);
-	layer_psref_release(psref, target, psref_class);
-	++*releases_of(target);
-}
-
+AROUND(void, psref_release, (struct psref *psref, const struct psref_target *target, struct psref_class *psref_class), (psref, target, psref_class),
+    at_reference(__func__, target, sizeof(*target), WRITES); release_clock(ON_REFERENCES, target, 0), ++*releases_of(target))
 WRAPPED(void, psref_copy, (struct psref *to, const struct psref *from, struct psref_class *psref_class),
     (to, from, psref_class), at_reference(__func__, from->psref_target, sizeof(*from->psref_target), WRITES))
 WRAPPED(bool, psref_held, (const struct psref_target *target, struct psref_class *psref_class), (target, psref_class),
@@ -279,35 +184,14 @@ WRAPPED(bool, psref_held, (const struct psref_target *target, struct psref_class
 
 /* ---- localcount(9). ---- */
 
-LAYER(void, localcount_drain, (struct localcount *lc, kcondvar_t *cv, kmutex_t *interlock));
-LAYER(void, localcount_release, (struct localcount *lc, kcondvar_t *cv, kmutex_t *interlock));
-
 WRAPPED(void, localcount_init, (struct localcount *lc), (lc), AT(ON_TARGET, lc, WRITES))
 WRAPPED(void, localcount_fini, (struct localcount *lc), (lc), AT(ON_TARGET, lc, WRITES))
-
-void localcount_drain(struct localcount *lc, kcondvar_t *cv, kmutex_t *interlock)
-{
-	struct routine *me = here(__func__);
-	AT(ON_TARGET, lc, WRITES);
-	check_live(__func__, interlock, sizeof(*interlock));
-	touch(ON_LOCK, interlock, 0, WRITES | RELEASES);
-	me->target = lc;
-	me->relock = interlock;
-	layer_localcount_drain(lc, cv, interlock);
-	end_cv_wait(me, interlock);
-	me->target = NULL;
-	acquire_clock(ON_REFERENCES, lc, 0);
-}
-
+AROUND(void, localcount_drain, (struct localcount *lc, kcondvar_t *cv, kmutex_t *interlock), (lc, cv, interlock),
+    AT(ON_TARGET, lc, WRITES); check_live(__func__, interlock, sizeof(*interlock)); touch(ON_LOCK, interlock, 0, WRITES | RELEASES);
+    run.current->target = lc; run.current->relock = interlock,
+    end_cv_wait(interlock); run.current->target = NULL; acquire_clock(ON_REFERENCES, lc, 0))
 WRAPPED(void, localcount_acquire, (struct localcount *lc), (lc), at_reference(__func__, lc, sizeof(*lc), WRITES))
-
-void localcount_release(struct localcount *lc, kcondvar_t *cv, kmutex_t *interlock)
-{
-	at_reference(__func__, lc, sizeof(*lc), WRITES);
-	release_clock(ON_REFERENCES, lc, 0);
-	layer_localcount_release(lc, cv, interlock);
-	++*releases_of(lc);
-}
-
+AROUND(void, localcount_release, (struct localcount *lc, kcondvar_t *cv, kmutex_t *interlock), (lc, cv, interlock),
+    at_reference(__func__, lc, sizeof(*lc), WRITES); release_clock(ON_REFERENCES, lc, 0), ++*releases_of(lc))
 WRAPPED(uint32_t, localcount_debug_refcnt, (const struct localcount *lc), (lc),
     AT(ON_TARGET, lc, 0); touch(ON_REFERENCES, lc, ANY, 0))

@@ -82,13 +82,6 @@ static bool comes_after(const uint32_t *clock, unsigned at)
 	return clock[search->steps[at].chosen] >= at + 1;
 }
 
-static void join(uint32_t *clock, const uint32_t *other)
-{
-	for (unsigned number = 0; number < THREADS; number++)
-		if (other[number] > clock[number])
-			clock[number] = other[number];
-}
-
 /* The last step of this step's thread before it; else the one in which the thread was made; -1 for none. */
 static int step_before(unsigned at)
 {

@@ -5,6 +5,7 @@
  * goes wrong, schedules with fewer switches are tried until one of them does.
  */
 #include <limits.h>
+#include <malloc.h>
 #include <signal.h>
 #include <stdarg.h>
 #include <stdio.h>
@@ -297,6 +298,9 @@ static enum end in_child(void (*body)(void), bool silent)
 	if (child == 0) {
 		if (silent && freopen("/dev/null", "w", stderr) == NULL)
 			_exit(2);
+		/* The memory of a run's registry is the next one's: the system gets none of it back meanwhile. */
+		mallopt(M_MMAP_THRESHOLD, 1 << 25);
+		mallopt(M_TRIM_THRESHOLD, -1);
 		save_state();
 		body();
 		search->over = true;
@@ -490,7 +494,7 @@ static void run_body(void *of)
 	const struct body body = *(const struct body *)of;
 	kupaldiz_self = named_thread("bench_thread", body.name);
 	body.body(body.arg);
-	end_of_thread(kupaldiz_self);
+	end_self();
 }
 
 void bench_thread(const char *name, void (*body)(void *), void *arg)
@@ -512,6 +516,8 @@ void bench_outcome(const char *format, ...)
 	size_t length = strlen(run.outcome);
 	va_list words;
 	va_start(words, format);
-	vsnprintf(run.outcome + length, sizeof(run.outcome) - length, format, words);
+	length += (size_t)vsnprintf(run.outcome + length, sizeof(run.outcome) - length, format, words);
 	va_end(words);
+	if (length >= sizeof(run.outcome))
+		refuse("an outcome has more than %d bytes", BENCH_TEXT - 1);
 }

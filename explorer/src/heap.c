@@ -115,25 +115,30 @@ static const char *at_or_nothing(const char *place, char *text, size_t room)
 	return text;
 }
 
-static void check_use(const char *what, const char *where, const struct block *block, const volatile unsigned char *at, size_t size)
+/* Whether these bytes are a live block's. */
+static bool is_within(const struct block *block, const volatile void *at, size_t size)
 {
-	char freed[256];
-	if (!block->live)
-		fail("%s%s%s: use of freed memory: thread \"%s\" gave it back by %s%s", what, where[0] == '\0' ? "" : " at ", where,
-		    run.routines[block->freed_by].name, block->freed_call, at_or_nothing(block->freed_place, freed, sizeof(freed)));
-	if (at + size > block->at + block->size)
-		fail("%s%s%s: beyond a block of %zu bytes", what, where[0] == '\0' ? "" : " at ", where, block->size);
+	return block->live && (const volatile unsigned char *)at + size <= block->at + block->size;
+}
+
+static _Noreturn void tell_use(const char *what, const char *place, const struct block *block)
+{
+	char where[256], freed[256];
+	if (block->live)
+		fail("%s%s: beyond a block of %zu bytes", what, at_or_nothing(place, where, sizeof(where)), block->size);
+	fail("%s%s: use of freed memory: thread \"%s\" gave it back by %s%s", what, at_or_nothing(place, where, sizeof(where)),
+	    run.routines[block->freed_by].name, block->freed_call, at_or_nothing(block->freed_place, freed, sizeof(freed)));
 }
 
 /* Stops where the memory was given back, or lies beyond its block. That it is used comes before or after its end. */
 void check_live(const char *call, const volatile void *at, size_t size)
 {
 	const struct block *block = block_at(at);
-	const char *where = run.current->place;
 	if (block == NULL)
 		return;
 	touch_memory(at, size, 0);
-	check_use(call, where == NULL ? "" : where, block, at, size);
+	if (!is_within(block, at, size))
+		tell_use(call, run.current->pc != NULL ? place_of(run.current->place, run.current->pc) : run.current->place, block);
 }
 
 /* The same of a plain access, which must come after the call that took the memory, too. */
@@ -142,8 +147,8 @@ void check_usable(const struct routine *me, const volatile void *at, size_t size
 	const struct block *block = block_at(at);
 	if (block == NULL)
 		return;
-	if (!block->live || (const volatile unsigned char *)at + size > block->at + block->size)
-		check_use(use->writes ? "plain write" : "plain read", place_of(use->place, use->pc), block, at, size);
+	if (!is_within(block, at, size))
+		tell_use(use->writes ? "plain write" : "plain read", place_of(use->place, use->pc), block);
 	if (me->clock[block->by] < block->made_at)
 		fail("data race: thread \"%s\" takes memory by %s at %s, and thread \"%s\" %s it at %s", run.routines[block->by].name, block->call,
 		    place_of(block->place, NULL), me->name, use->verb, place_of(use->place, use->pc));

@@ -10,8 +10,7 @@
 
 enum { THREADS = BENCH_THREADS, POINTS = BENCH_POINTS, ACCESSES = 12, ANY = 0xffff, NOBODY = 0xff };
 
-/* A routine's stack. With more CPUs and slots some calls need more of it. */
-enum { CELLS = REGISTRY_MOST_CPUS * REGISTRY_MOST_SLOTS, STACK = (64 + (CELLS > 256 ? CELLS / 32 : 0)) * 4096 };
+enum { STACK = 64 * 4096 };	/* of a routine */
 #define NEVER	INT64_MAX
 
 /* ---- What a step touches. ---- */
@@ -65,6 +64,14 @@ struct routine;
 typedef bool guard_fn(const struct routine *routine);
 
 typedef uint32_t clocks[THREADS];
+
+/* What comes before either. */
+static inline void join(uint32_t *clock, const uint32_t *other)
+{
+	for (unsigned number = 0; number < THREADS; number++)
+		if (other[number] > clock[number])
+			clock[number] = other[number];
+}
 
 /* A thread as the explorer has it. */
 struct routine {
@@ -292,6 +299,25 @@ uint32_t enabled_now(void);
 		return layer_##name arguments; \
 	}
 
+/* AROUND, ANSWERED - the same, with what comes behind the layer's own: of a call that returns nothing, and of one whose `answer` that may look at. */
+#define AROUND(type, name, parameters, arguments, before, after) \
+	LAYER(type, name, parameters); \
+	type name parameters \
+	{ \
+		before; \
+		layer_##name arguments; \
+		after; \
+	}
+#define ANSWERED(type, name, parameters, arguments, before, after) \
+	LAYER(type, name, parameters); \
+	type name parameters \
+	{ \
+		before; \
+		type answer = layer_##name arguments; \
+		after; \
+		return answer; \
+	}
+
 struct cpu *cpu_here(const struct routine *me);
 void at_call(const char *call);
 void at_thing(const char *call, enum kind kind, const void *thing, size_t size, unsigned how);
@@ -337,6 +363,7 @@ bool is_made(const struct routine *me);
 const struct routine *xcaller(void);
 uint64_t *releases_of(const void *target);
 void sleep_until(int64_t time);
+void end_self(void);
 
 /* ---- commute.c ---- */
 

@@ -348,13 +348,21 @@ struct start {
 	void *arg;
 };
 
+/* The end of the thread that runs: it isn't bound any more. */
+void end_self(void)
+{
+	if (is_bound(kupaldiz_self))
+		touch(ON_BOUND, NULL, kupaldiz_self->cpu->info.ci_index, WRITES);
+	end_of_thread(kupaldiz_self);
+}
+
 /* The body of a thread that the layer makes. */
 static void run_start(void *of)
 {
 	struct start start = *(struct start *)of;
 	start.body(start.arg);
 	if (kupaldiz_self != NULL)
-		end_of_thread(kupaldiz_self);
+		end_self();
 }
 
 int bench_create(pthread_t *id, void *(*body)(void *), void *arg, const char *file)
@@ -389,7 +397,7 @@ int bench_join(pthread_t id)
 
 void bench_exit(void)
 {
-	end_of_thread(kupaldiz_self);
+	end_self();
 	end_routine();
 }
 

@@ -5,7 +5,6 @@
 /* ---- kmem(9), pool(9), percpu(9). ---- */
 
 LAYER(void, percpu_foreach, (percpu_t *percpu, percpu_callback_t look, void *arg));
-LAYER(void, percpu_foreach_xcall, (percpu_t *percpu, unsigned flags, percpu_callback_t look, void *arg));
 
 /* A call that gives memory back. */
 static void at_block(const char *call, const void *block, size_t size)
@@ -92,8 +91,6 @@ WRAPPED(void, percpu_free, (percpu_t *percpu, size_t size), (percpu, size),
 
 LAYER(int, curlwp_bind, (void));
 LAYER(void, curlwp_bindx, (int bound));
-LAYER(void, kupaldiz_bind, (unsigned cpu));
-LAYER(void, kupaldiz_unbind, (void));
 
 static void touch_bound(const struct cpu *cpu)
 {
@@ -119,24 +116,8 @@ void curlwp_bindx(int bound)
 	layer_curlwp_bindx(bound);
 }
 
-void kupaldiz_bind(unsigned cpu)
-{
-	(void)here(__func__);
-	if (cpu < KUPALDIZ_CPUS)
-		touch_bound(&cpus[cpu]);
-	layer_kupaldiz_bind(cpu);
-}
-
-void kupaldiz_unbind(void)
-{
-	struct routine *me = here(__func__);
-	if (me->self != NULL)
-		touch_bound(cpu_here(me));
-	layer_kupaldiz_unbind();
-}
-
-LAYER(void, softint_disestablish, (void *cookie));
-
+WRAPPED(void, kupaldiz_bind, (unsigned cpu), (cpu), (void)here(__func__); if (cpu < KUPALDIZ_CPUS) touch_bound(&cpus[cpu]))
+WRAPPED(void, kupaldiz_unbind, (void), (), struct routine *me = here(__func__); if (me->self != NULL) touch_bound(cpu_here(me)))
 WRAPPED(void, kpreempt_disable, (void), (), at_cpu(__func__, 0))
 WRAPPED(void, kpreempt_enable, (void), (), leaving_cpu(__func__))
 
@@ -152,6 +133,8 @@ WRAPPED(void, splx, (int level), (level),
     leaving_cpu(__func__); at_level(); release_clock(ON_LOCK, &cpu_here(run.current)->hold, 0))
 WRAPPED(void, softint_schedule, (void *cookie), (cookie), at_cpu(__func__, RELEASES))
 
+LAYER(void, softint_disestablish, (void *cookie));
+
 void softint_disestablish(void *cookie)
 {
 	at_call(__func__);
@@ -162,18 +145,11 @@ void softint_disestablish(void *cookie)
 }
 
 /* Each CPU is a point of its own. */
-void percpu_foreach_xcall(percpu_t *percpu, unsigned flags, percpu_callback_t look, void *arg)
-{
-	struct routine *me = here(__func__);
-	at_call(__func__);
-	me->visits = true;
-	layer_percpu_foreach_xcall(percpu, flags, look, arg);
-	me->visits = false;
-}
+AROUND(void, percpu_foreach_xcall, (percpu_t *percpu, unsigned flags, percpu_callback_t look, void *arg), (percpu, flags, look, arg),
+    at_call(__func__); run.current->visits = true, run.current->visits = false)
 
 /* ---- callout(9), kthread(9), time and copies. ---- */
 
-LAYER(void, callout_init, (callout_t *callout, unsigned flags));
 LAYER(void, delay, (unsigned microseconds));
 
 static void at_callout(const char *call, callout_t *callout)
@@ -183,14 +159,8 @@ static void at_callout(const char *call, callout_t *callout)
 }
 
 /* The layer's own soft interrupt for callouts is never ended. */
-void callout_init(callout_t *callout, unsigned flags)
-{
-	track_made(__func__, callout);
-	run.own_memory = true;
-	layer_callout_init(callout, flags);
-	run.own_memory = false;
-}
-
+AROUND(void, callout_init, (callout_t *callout, unsigned flags), (callout, flags), track_made(__func__, callout); run.own_memory = true,
+    run.own_memory = false)
 WRAPPED(void, callout_destroy, (callout_t *callout), (callout), at_callout(__func__, callout); track_ended(callout))
 WRAPPED(void, callout_setfunc, (callout_t *callout, void (*body)(void *), void *arg), (callout, body, arg),
     at_callout(__func__, callout))
@@ -225,17 +195,9 @@ WRAPPED(int, copyoutstr, (const void *kernel, void *user, size_t length, size_t 
 
 /* ---- workqueue(9): a queue's thread is the layer's own. ---- */
 
-LAYER(void, workqueue_enqueue, (struct workqueue *queue, struct work *work, struct cpu_info *cpu));
-
 /* Memory with a work isn't given back before the work's function is called. */
-void workqueue_enqueue(struct workqueue *queue, struct work *work, struct cpu_info *cpu)
-{
-	at_call(__func__);
-	check_live(__func__, queue, 1);
-	check_live(__func__, work, sizeof(*work));
-	layer_workqueue_enqueue(queue, work, cpu);
-	track_made(__func__, work);
-}
+AROUND(void, workqueue_enqueue, (struct workqueue *queue, struct work *work, struct cpu_info *cpu), (queue, work, cpu),
+    at_call(__func__); check_live(__func__, queue, 1); check_live(__func__, work, sizeof(*work)), track_made(__func__, work))
 
 void bench_dequeued(const void *work)
 {

@@ -86,9 +86,13 @@ static void show_unseen(FILE *to)
 
 static void show_outcomes(FILE *to, const struct bench_found *found)
 {
-	for (unsigned at = 0; at < found->outcomes; at++)
-		if (found->outcome[at].text[0] != '\0')
-			fprintf(to, "%s: outcome %s: %llu\n", options.name, found->outcome[at].text, (unsigned long long)found->outcome[at].count);
+	for (unsigned at = 0; at < found->outcomes; at++) {
+		const struct bench_outcome *outcome = &found->outcome[at];
+		if (outcome->text[0] != '\0')
+			fprintf(to, "%s: outcome %s: %llu\n", options.name, outcome->text, (unsigned long long)outcome->count);
+		else if (found->outcomes > 1)
+			fprintf(to, "%s: no outcome: %llu\n", options.name, (unsigned long long)outcome->count);
+	}
 	if (found->others > 0)
 		fprintf(to, "%s: other outcomes: %llu\n", options.name, (unsigned long long)found->others);
 }

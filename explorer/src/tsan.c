@@ -14,18 +14,15 @@
 #pragma GCC diagnostic ignored "-Wbuiltin-declaration-mismatch"
 #endif
 
-void __tsan_init(void);
 void __tsan_init(void)
 {
 }
 
-void __tsan_func_entry(const void *caller);
 void __tsan_func_entry(const void *caller)
 {
 	(void)caller;
 }
 
-void __tsan_func_exit(void);
 void __tsan_func_exit(void)
 {
 }
@@ -33,7 +30,6 @@ void __tsan_func_exit(void)
 /* ---- Plain accesses. ---- */
 
 #define ACCESS(name, size, writes) \
-	void __tsan_##name(void *at); \
 	void __tsan_##name(void *at) \
 	{ \
 		access_plainly(at, size, writes, PC); \
@@ -52,26 +48,22 @@ ACCESSES_OF(8)
 ACCESSES_OF(16)
 ACCESS(vptr_read, sizeof(void *), false)
 
-void __tsan_vptr_update(void **at, void *value);
 void __tsan_vptr_update(void **at, void *value)
 {
 	if (*at != value)
 		access_plainly(at, sizeof(*at), true, PC);
 }
 
-void __tsan_read_range(void *at, size_t size);
 void __tsan_read_range(void *at, size_t size)
 {
 	access_plainly(at, size, false, PC);
 }
 
-void __tsan_write_range(void *at, size_t size);
 void __tsan_write_range(void *at, size_t size)
 {
 	access_plainly(at, size, true, PC);
 }
 
-void *__tsan_memcpy(void *to, const void *from, size_t size);
 void *__tsan_memcpy(void *to, const void *from, size_t size)
 {
 	access_plainly(from, size, false, PC);
@@ -79,7 +71,6 @@ void *__tsan_memcpy(void *to, const void *from, size_t size)
 	return memcpy(to, from, size);
 }
 
-void *__tsan_memmove(void *to, const void *from, size_t size);
 void *__tsan_memmove(void *to, const void *from, size_t size)
 {
 	access_plainly(from, size, false, PC);
@@ -87,7 +78,6 @@ void *__tsan_memmove(void *to, const void *from, size_t size)
 	return memmove(to, from, size);
 }
 
-void *__tsan_memset(void *to, int byte, size_t size);
 void *__tsan_memset(void *to, int byte, size_t size)
 {
 	access_plainly(to, size, true, PC);
@@ -114,7 +104,6 @@ static void access_by_language(const volatile void *at, size_t size, unsigned ho
 }
 
 #define CHANGE(bits, name) \
-	uint##bits##_t __tsan_atomic##bits##_##name(volatile uint##bits##_t *at, uint##bits##_t value, int order); \
 	uint##bits##_t __tsan_atomic##bits##_##name(volatile uint##bits##_t *at, uint##bits##_t value, int order) \
 	{ \
 		access_by_language(at, sizeof(*at), KUPALDIZ_LOADS | KUPALDIZ_STORES | order_of(order), PC); \
@@ -122,7 +111,6 @@ static void access_by_language(const volatile void *at, size_t size, unsigned ho
 	}
 
 #define EXCHANGE(bits, name) \
-	int __tsan_atomic##bits##_##name(volatile uint##bits##_t *at, uint##bits##_t *expected, uint##bits##_t value, int order, int otherwise); \
 	int __tsan_atomic##bits##_##name(volatile uint##bits##_t *at, uint##bits##_t *expected, uint##bits##_t value, int order, int otherwise) \
 	{ \
 		(void)otherwise; \
@@ -131,19 +119,16 @@ static void access_by_language(const volatile void *at, size_t size, unsigned ho
 	}
 
 #define ATOMICS(bits) \
-	uint##bits##_t __tsan_atomic##bits##_load(const volatile uint##bits##_t *at, int order); \
 	uint##bits##_t __tsan_atomic##bits##_load(const volatile uint##bits##_t *at, int order) \
 	{ \
 		access_by_language(at, sizeof(*at), KUPALDIZ_LOADS | (order_of(order) & KUPALDIZ_ACQUIRES), PC); \
 		return __atomic_load_n(at, __ATOMIC_SEQ_CST); \
 	} \
-	void __tsan_atomic##bits##_store(volatile uint##bits##_t *at, uint##bits##_t value, int order); \
 	void __tsan_atomic##bits##_store(volatile uint##bits##_t *at, uint##bits##_t value, int order) \
 	{ \
 		access_by_language(at, sizeof(*at), KUPALDIZ_STORES | (order_of(order) & KUPALDIZ_RELEASES), PC); \
 		__atomic_store_n(at, value, __ATOMIC_SEQ_CST); \
 	} \
-	uint##bits##_t __tsan_atomic##bits##_exchange(volatile uint##bits##_t *at, uint##bits##_t value, int order); \
 	uint##bits##_t __tsan_atomic##bits##_exchange(volatile uint##bits##_t *at, uint##bits##_t value, int order) \
 	{ \
 		access_by_language(at, sizeof(*at), KUPALDIZ_LOADS | KUPALDIZ_STORES | order_of(order), PC); \
@@ -158,8 +143,6 @@ static void access_by_language(const volatile void *at, size_t size, unsigned ho
 	EXCHANGE(bits, compare_exchange_strong) \
 	EXCHANGE(bits, compare_exchange_weak) \
 	uint##bits##_t __tsan_atomic##bits##_compare_exchange_val(volatile uint##bits##_t *at, uint##bits##_t expected, uint##bits##_t value, int order, \
-	    int otherwise); \
-	uint##bits##_t __tsan_atomic##bits##_compare_exchange_val(volatile uint##bits##_t *at, uint##bits##_t expected, uint##bits##_t value, int order, \
 	    int otherwise) \
 	{ \
 		(void)otherwise; \
@@ -173,13 +156,11 @@ ATOMICS(16)
 ATOMICS(32)
 ATOMICS(64)
 
-void __tsan_atomic_thread_fence(int order);
 void __tsan_atomic_thread_fence(int order)
 {
 	access_by_language(NULL, 0, order_of(order), PC);
 }
 
-void __tsan_atomic_signal_fence(int order);
 void __tsan_atomic_signal_fence(int order)
 {
 	(void)order;
@@ -200,7 +181,6 @@ void check_own_calls(void)
 		refuse("the program is linked with -fsanitize=thread: compile with it, and link without it");
 }
 
-void kupaldiz_unseen(const char *file);
 void kupaldiz_unseen(const char *file)
 {
 	if (unseen_count < MOST_UNSEEN)

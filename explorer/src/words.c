@@ -8,13 +8,6 @@
 
 #include "inside.h"
 
-static void join(uint32_t *clock, const uint32_t *other)
-{
-	for (unsigned number = 0; number < THREADS; number++)
-		if (other[number] > clock[number])
-			clock[number] = other[number];
-}
-
 /* What was left at a thing. */
 static uint32_t *left_at(enum kind kind, const volatile void *address, unsigned cpu)
 {

@@ -8,7 +8,6 @@
 LAYER(uint64_t, xc_broadcast, (unsigned flags, xcfunc_t body, void *arg_a, void *arg_b));
 LAYER(uint64_t, xc_unicast, (unsigned flags, xcfunc_t body, void *arg_a, void *arg_b, struct cpu_info *cpu));
 LAYER(void, xc_wait, (uint64_t ticket));
-LAYER(void, xc_barrier, (unsigned flags));
 
 /* A call that was asked for. */
 struct xcall {
@@ -112,11 +111,4 @@ void xc_wait(uint64_t ticket)
 }
 
 /* It goes to each CPU in turn: each is a point of its own. */
-void xc_barrier(unsigned flags)
-{
-	struct routine *me = here(__func__);
-	at_call(__func__);
-	me->visits = true;
-	layer_xc_barrier(flags);
-	me->visits = false;
-}
+AROUND(void, xc_barrier, (unsigned flags), (flags), at_call(__func__); run.current->visits = true, run.current->visits = false)

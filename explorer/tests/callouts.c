@@ -82,12 +82,11 @@ UNSEEN static void await_run(const struct timer *timer, unsigned runs, int from,
 /* ---- Times. ---- */
 
 /* Below one tick is one tick. */
-static void set_each(void *arg)
+BODY(set_each)
 {
 	static const struct {
 		int ticks, lasts;
 	} each[] = {{INT_MIN, 1}, {-1, 1}, {0, 1}, {1, 1}, {2, 2}, {99, 99}, {100, 100}, {101, 101}, {250, 250}};
-	(void)arg;
 	for (unsigned at = 0; at < __arraycount(each); at++) {
 		int from = getticks();
 		set_on(at % KUPALDIZ_CPUS, &timers[0], each[at].ticks);
@@ -97,10 +96,9 @@ static void set_each(void *arg)
 }
 
 /* The most ticks are many. What is set again, or stopped, doesn't run at its first time, unless that has come before. */
-static void set_again(void *arg)
+BODY(set_again)
 {
 	int from = getticks();
-	(void)arg;
 	set_on(3, &timers[0], 200);
 	set_on(4, &timers[1], 100);
 	set_on(1, &timers[2], INT_MAX);
@@ -127,9 +125,8 @@ static unsigned met;
 HANDLER(note_met, atomic_store_relaxed(&met, 1))
 
 /* A callout and a pause of one time, once the clock has hurried: either may be the first, to the nanosecond. */
-static void meet(void *arg)
+BODY(meet)
 {
-	(void)arg;
 	(void)kpause("callouts", false, 300, NULL);
 	int from = getticks();
 	set_on(2, &timers[1], 1);
@@ -143,10 +140,9 @@ static void meet(void *arg)
 }
 
 /* Those of one CPU whose times have come run in the order of their times. A CPU that is kept keeps no other one's off. */
-UNSEEN static void keep_cpu(void *arg)
+UNSEEN BODY(keep_cpu)
 {
 	static const int ticks[] = {3, 1, 2};
-	(void)arg;
 	int from = getticks();
 	set_on(5, &timers[3], 2);
 	int until = getticks();
@@ -173,11 +169,10 @@ UNSEEN static void keep_cpu(void *arg)
 /* ---- Halts. ---- */
 
 /* The first call may be made anywhere. So may a halt that doesn't have to wait, and it keeps its lock. */
-static void use_inside(void *arg)
+BODY(use_inside)
 {
 	callout_t callout;
 	kmutex_t spin;
-	(void)arg;
 	mutex_init(&spin, MUTEX_DEFAULT, IPL_VM);
 	int s = pserialize_read_enter();
 	mutex_enter(&spin);
@@ -208,9 +203,8 @@ UNSEEN static void stay_and_set(void *of)
 }
 
 /* What a body sets while a halt waits doesn't run. After the halt it neither runs nor is set. */
-static void halt_staying(void *arg)
+BODY(halt_staying)
 {
-	(void)arg;
 	kupaldiz_bind(1);
 	callout_reset(&timers[0].callout, 1, stay_and_set, &timers[0]);
 	kupaldiz_unbind();
@@ -230,10 +224,9 @@ static void end_itself(void *of)
 	kmem_intr_free(of, sizeof(callout_t));
 }
 
-static void set_to_end(void *arg)
+BODY(set_to_end)
 {
 	callout_t *own = kmem_intr_alloc(sizeof(*own), KM_NOSLEEP);
-	(void)arg;
 	callout_init(own, CALLOUT_MPSAFE);
 	callout_reset(own, 1, end_itself, own);
 	(void)kpause("callouts", false, 2, NULL);
@@ -256,9 +249,8 @@ UNSEEN static void note_set(void)
 HANDLER(lock_once, mutex_enter(&lock); mutex_exit(&lock))
 
 /* What others set while a halt waits doesn't run either. Nothing comes between the end of the halt and the look. */
-static void halt_locked(void *arg)
+BODY(halt_locked)
 {
-	(void)arg;
 	kupaldiz_bind(1);
 	callout_reset(&timers[0].callout, 1, lock_once, NULL);
 	kupaldiz_unbind();
@@ -270,9 +262,8 @@ static void halt_locked(void *arg)
 	mutex_exit(&lock);
 }
 
-static void set_meanwhile(void *arg)
+BODY(set_meanwhile)
 {
-	(void)arg;
 	(void)kpause("callouts", false, 1, NULL);
 	callout_reset(&timers[0].callout, 100, note_run, &timers[0]);
 	note_set();
@@ -294,9 +285,8 @@ UNSEEN static void end_beside(void *of)
 	end_it(&timer->callout);
 }
 
-static void run_beside(void *arg)
+BODY(run_beside)
 {
-	(void)arg;
 	for (unsigned cpu = 1; cpu <= 4; cpu += 3) {
 		kupaldiz_bind(cpu);
 		callout_reset(&timers[0].callout, 1, end_beside, &timers[0]);
@@ -331,5 +321,5 @@ static const struct find finds[] = {
 int main(int count, char **words)
 {
 	(void)words;
-	return run_finds(finds, sizeof(finds) / sizeof(finds[0]), count > 1);
+	return run_finds(finds, sizeof(finds) / sizeof(finds[0]), count > 1, 0);
 }

@@ -12,9 +12,8 @@
 #include <sys/percpu.h>
 #include <sys/rwlock.h>
 #include <sys/systm.h>
-#include <xmmintrin.h>
 
-#include "cases.h"
+#include "finds.h"
 
 static unsigned lengths[4];
 
@@ -134,55 +133,105 @@ static void test_random(void)
 	EXPECT(bench_explore(make_racers, &options) == 1 && found.random == again.random && strcmp(found.schedule, again.schedule) == 0);
 }
 
-/* ---- What a thread sets of its processor is its own. ---- */
+/* ---- Outcomes: some have no room, and some runs have none. ---- */
 
-enum { MXCSR_UP = 0x5f80, MXCSR_NEAR = 0x1f80, X87_UP = 0x0b7f, X87_NEAR = 0x037f };
+enum { STEPS = 6 };
 
-static unsigned x87_word(void)
+static void step_aloud(void *letter)
 {
-	uint16_t control;
-	__asm__ volatile("fnstcw %0" : "=m"(control));
-	return control;
+	for (unsigned at = 0; at < STEPS; at++) {
+		bench_point();
+		bench_outcome("%s", (const char *)letter);
+	}
 }
 
-static void round_up(void *arg)
+static void make_steppers(void)
 {
-	const uint16_t up = X87_UP;
-	(void)arg;
-	_mm_setcsr(MXCSR_UP);
-	__asm__ volatile("fldcw %0" : : "m"(up));
-	bench_point();
-	KASSERT(_mm_getcsr() == MXCSR_UP && x87_word() == X87_UP);
+	bench_thread("one", step_aloud, "a");
+	bench_thread("two", step_aloud, "b");
 }
 
-static void round_to_nearest(void *arg)
+HANDLER(change_word, atomic_inc_uint(&word))
+HANDLER(tell_change, if (atomic_load_relaxed(&word) != 0) bench_outcome("changed"))
+static void make_teller(void) { bench_thread("one", change_word, NULL); bench_thread("two", tell_change, NULL); }
+
+static void test_outcomes(void)
 {
-	(void)arg;
-	KASSERT(_mm_getcsr() == MXCSR_NEAR && x87_word() == X87_NEAR);
-	bench_point();
-	KASSERT(_mm_getcsr() == MXCSR_NEAR && x87_word() == X87_NEAR);
+	struct bench_found found;
+	struct bench_options options = {.name = "steps", .whole = true, .found = &found};
+	EXPECT(bench_explore(make_steppers, &options) == 0 && found.outcomes == BENCH_OUTCOMES);
+	EXPECT(found.schedules == binomial(2 * STEPS, STEPS) && found.others == found.schedules - BENCH_OUTCOMES);
+	options.name = "change";
+	EXPECT(bench_explore(make_teller, &options) == 0 && found.outcomes == 2);
 }
 
-static void make_rounders(void)
+/* ---- A step that touches more than a set has room for: what it touches last counts, too. ---- */
+
+enum { WAITERS = 12 };
+
+static kmutex_t own_locks[WAITERS];
+static kcondvar_t cv;
+static unsigned begun, found_cpu;
+
+/* It is bound to CPU 0 in the step in which it wakes all others. */
+HANDLER(wake_all, mutex_enter(&own_locks[WAITERS - 1]); mutex_exit(&own_locks[WAITERS - 1]); cv_broadcast(&cv); kupaldiz_bind(0);
+    bench_point())
+
+/* Each comes once the one before it waits. */
+BODY(wait_in_chain)
 {
-	bench_thread("up", round_up, NULL);
-	bench_thread("near", round_to_nearest, NULL);
+	kmutex_t *own = &own_locks[begun++];
+	if (own > own_locks) {
+		mutex_enter(own - 1);
+		mutex_exit(own - 1);
+	}
+	mutex_enter(own);
+	if (begun < WAITERS)
+		bench_thread("waiter", wait_in_chain, NULL);
+	else
+		bench_thread("waker", wake_all, NULL);
+	cv_wait(&cv, own);
+	mutex_exit(own);
 }
 
-static void test_rounding(void) { EXPECT(explore(make_rounders, true).schedules > 1); }
+/* It is on CPU 0, and is bound to that unless the other one is. */
+HANDLER(find_cpu, bench_point(); (void)curlwp_bind(); found_cpu = cpu_number())
+
+static void make_chain(void)
+{
+	cv_init(&cv, "all");
+	for (unsigned at = 0; at < WAITERS; at++)
+		mutex_init(&own_locks[at], MUTEX_DEFAULT, IPL_NONE);
+	bench_thread("finds", find_cpu, NULL);
+	bench_thread("waiter", wait_in_chain, NULL);
+}
+
+static void end_chain(void)
+{
+	bench_outcome("%u", found_cpu);
+	cv_destroy(&cv);
+	for (unsigned at = 0; at < WAITERS; at++)
+		mutex_destroy(&own_locks[at]);
+}
+
+static void test_full_set(void)
+{
+	struct bench_found found;
+	const struct bench_options options = {.name = "chain", .finish = end_chain, .reliable = true, .found = &found};
+	EXPECT(bench_explore(make_chain, &options) == 0 && found.exhausted);
+	EXPECT(found.outcomes == 2 && has_outcome(&found, "0") && has_outcome(&found, "1"));
+}
 
 /* ---- A thread that spins for another one. ---- */
 
-static void spin(void *arg)
+BODY(spin)
 {
-	(void)arg;
 	while (atomic_load_acquire(&lengths[0]) == 0)
 		atomic_inc_uint(&word);
 }
 
-static void step_slowly(void *arg)
+BODY(step_slowly)
 {
-	(void)arg;
 	for (unsigned at = 0; at < 30; at++)
 		atomic_inc_uint(&word);
 	atomic_store_release(&lengths[0], 1);
@@ -198,9 +247,8 @@ static void make_spinners(void)
 
 HANDLER(set_length, atomic_store_release(&lengths[0], 1))
 
-static void spin_for_length(void *arg)
+BODY(spin_for_length)
 {
-	(void)arg;
 	while (atomic_load_acquire(&lengths[0]) == 0)
 		;
 }
@@ -229,84 +277,9 @@ static void test_barred(void)
 	EXPECT(found.throttled > 0 && !found.exhausted && found.random == 0);
 }
 
-/* ---- More of a kind than any table has room for at first. ---- */
-
-enum { MANY = 700 };
-
-static kmutex_t many_locks[MANY];
-static unsigned many_words[MANY];
-
-/* The last of many words is accessed without an order. */
-static void write_many(void *arg)
-{
-	(void)arg;
-	for (unsigned at = 0; at < MANY; at++)
-		many_words[at] = 1;
-}
-
-HANDLER(write_last, many_words[MANY - 1] = 2)
-
-static void make_writers(void)
-{
-	bench_thread("many", write_many, NULL);
-	bench_thread("last", write_last, NULL);
-}
-
-/* Each of many words has a release of its own, which tells its owner's clock. */
-static void release_many(void *arg)
-{
-	(void)arg;
-	for (unsigned at = 0; at < MANY; at++)
-		atomic_store_release(&many_words[at], 1);
-	word = 1;
-	atomic_store_release(&many_words[0], 2);
-}
-
-static void acquire_another(void *arg)
-{
-	(void)arg;
-	if (atomic_load_acquire(&many_words[1]) == 1)
-		word = 1;
-}
-
-static void make_releasers(void)
-{
-	bench_thread("many", release_many, NULL);
-	bench_thread("one", acquire_another, NULL);
-}
-
-static void destroy_all_but_one(void)
-{
-	for (unsigned at = 0; at < MANY; at++)
-		if (at != 600)
-			mutex_destroy(&many_locks[at]);
-}
-
-static void make_locks(void)
-{
-	for (unsigned at = 0; at < MANY; at++)
-		mutex_init(&many_locks[at], MUTEX_DEFAULT, IPL_NONE);
-	bench_thread("one", do_nothing, NULL);
-}
-
-static void test_many(void (*setup)(void), void (*finish)(void), const char *line)
-{
-	struct bench_found found;
-	const struct bench_options options = {.quiet = true, .finish = finish, .found = &found};
-	EXPECT(bench_explore(setup, &options) == 1 && strstr(found.line, line) != NULL);
-}
-
-static void test_tables(void)
-{
-	test_many(make_writers, NULL, "data race: ");
-	test_many(make_releasers, NULL, "data race: ");
-	test_many(make_locks, destroy_all_but_one, "1 locks, condition variables or callouts are left at the end");
-}
-
 /* ---- Questions: what one thread asks another one may change at the same time, so both answers are come to. ---- */
 
 static krwlock_t rw;
-static kcondvar_t cv;
 static kmutex_t lock;
 static struct localcount local;
 static percpu_t *parts;
@@ -319,9 +292,8 @@ HANDLER(end_cv, cv_destroy(&cv))
 HANDLER(ask_cv, bench_outcome("%d", cv_is_valid(&cv)))
 
 /* Adds to the part of CPU 0, and then to that of CPU 1. */
-static void add_to_parts(void *arg)
+BODY(add_to_parts)
 {
-	(void)arg;
 	for (unsigned cpu = 0; cpu < 2; cpu++) {
 		kupaldiz_bind(cpu);
 		atomic_inc_uint(percpu_getref(parts));
@@ -344,10 +316,9 @@ static bool ready;
 HANDLER(set_ready, mutex_enter(&lock); ready = true; cv_signal(&cv); mutex_exit(&lock))
 
 /* The time may be over before the wake-up, or not. */
-static void wait_for_a_tick(void *arg)
+BODY(wait_for_a_tick)
 {
 	const char *how = "ready";
-	(void)arg;
 	mutex_enter(&lock);
 	if (!ready)
 		how = cv_timedwait(&cv, &lock, 1) == EWOULDBLOCK ? "late" : "woken";
@@ -356,10 +327,9 @@ static void wait_for_a_tick(void *arg)
 }
 
 /* Two waits of one length: either thread may be the first that goes on. */
-static void pause_for_a_tick(void *arg)
+BODY(pause_for_a_tick)
 {
 	(void)kpause("question", false, 1, NULL);
-	(void)arg;
 	bench_outcome("%u", atomic_inc_uint_nv(&word));
 }
 
@@ -368,9 +338,8 @@ static void *softint;
 HANDLER(handle, bench_outcome("%u", atomic_load_relaxed(&word)))
 
 /* The handler runs before the change, after it, or never: disestablishing it takes it off the queue. */
-static void schedule_and_end(void *arg)
+BODY(schedule_and_end)
 {
-	(void)arg;
 	softint_schedule(softint);
 	atomic_store_relaxed(&word, 1);
 	softint_disestablish(softint);
@@ -378,9 +347,8 @@ static void schedule_and_end(void *arg)
 }
 
 /* While this CPU's level is raised the handler is kept off. */
-static void raise_and_lower(void *arg)
+BODY(raise_and_lower)
 {
-	(void)arg;
 	kupaldiz_bind(0);
 	softint_schedule(softint);
 	int before = splnet();
@@ -396,10 +364,9 @@ static callout_t callouts[2];
 HANDLER(tell, bench_outcome("%u", *(unsigned *)arg))
 
 /* Soft interrupts of one level run in the order in which they were scheduled. */
-static void schedule_two(void *arg)
+BODY(schedule_two)
 {
 	static unsigned numbers[] = {1, 2};
-	(void)arg;
 	kupaldiz_bind(0);
 	peers[0] = softint_establish(SOFTINT_BIO, tell, &numbers[0]);
 	peers[1] = softint_establish(SOFTINT_BIO, tell, &numbers[1]);
@@ -411,19 +378,17 @@ static void schedule_two(void *arg)
 	kupaldiz_unbind();
 }
 
-static void go_again(void *arg)
+BODY(go_again)
 {
-	(void)arg;
 	bench_outcome("g");
 	if (atomic_inc_uint_nv(&word) < 4)
 		softint_schedule(peers[1]);
 }
 
 /* One that schedules itself doesn't keep its peers off. */
-static void schedule_greedy(void *arg)
+BODY(schedule_greedy)
 {
 	static unsigned number = 2;
-	(void)arg;
 	kupaldiz_bind(0);
 	peers[0] = softint_establish(SOFTINT_BIO, tell, &number);
 	peers[1] = softint_establish(SOFTINT_BIO, go_again, NULL);
@@ -435,10 +400,9 @@ static void schedule_greedy(void *arg)
 }
 
 /* Callouts that are due at one time run in the order in which they were set, or are halted before that. */
-static void set_two(void *arg)
+BODY(set_two)
 {
 	static unsigned numbers[] = {1, 2};
-	(void)arg;
 	for (unsigned at = 0; at < 2; at++)
 		callout_init(&callouts[at], CALLOUT_MPSAFE);
 	kupaldiz_bind(0);
@@ -458,26 +422,7 @@ static void set_two(void *arg)
 HANDLER(write_once, rw_enter(&rw, RW_WRITER); rw_exit(&rw))
 HANDLER(ask_writer, bench_outcome("%d", rw_lock_held(&rw)))
 
-static const struct question {
-	void (*change)(void *), (*ask)(void *);
-	const char *answers[4];
-} questions[] = {
-	{set_ready, wait_for_a_tick, {"late", "ready", "woken"}},
-	{pause_for_a_tick, pause_for_a_tick, {"12"}},
-	{schedule_and_end, do_nothing, {"", "0", "1"}},
-	{raise_and_lower, do_nothing, {"0", "3"}},
-	{schedule_two, do_nothing, {"21"}},
-	{schedule_greedy, do_nothing, {"g2ggg"}},
-	{set_two, do_nothing, {"", "12", "2"}},
-	{write_once, ask_writer, {"0", "1"}},
-	{read_once, ask_readers, {"0", "1", "2"}},
-	{count_once, ask_count, {"0", "1"}},
-	{end_cv, ask_cv, {"0", "1"}},
-	{add_to_parts, ask_parts, {"00", "01", "10", "11"}},
-};
-static const struct question *asked;
-
-static void make_question(void)
+static void make_things(void)
 {
 	rw_init(&rw);
 	cv_init(&cv, "question");
@@ -485,11 +430,9 @@ static void make_question(void)
 	localcount_init(&local);
 	softint = softint_establish(SOFTINT_NET | SOFTINT_MPSAFE, handle, NULL);
 	parts = percpu_alloc(sizeof(unsigned));
-	bench_thread("change", asked->change, NULL);
-	bench_thread("ask", asked->ask, NULL);
 }
 
-static void end_question(void)
+static void end_things(void)
 {
 	rw_destroy(&rw);
 	if (cv_is_valid(&cv))
@@ -508,25 +451,22 @@ static void end_question(void)
 		softint_disestablish(peers[at]);
 }
 
-static void test_question(const struct question *question, bool whole)
-{
-	struct bench_found found;
-	const struct bench_options options = {.quiet = true, .whole = whole, .finish = end_question, .reliable = true, .found = &found};
-	unsigned answers = 0;
-	asked = question;
-	EXPECT(bench_explore(make_question, &options) == 0 && found.exhausted);
-	for (unsigned at = 0; at < found.outcomes; at++)
-		printf("question %u, %s: %s\n", (unsigned)(question - questions), whole ? "whole" : "reduced", found.outcome[at].text);
-	while (answers < 4 && question->answers[answers] != NULL)
-		EXPECT(has_outcome(&found, question->answers[answers++]));
-	EXPECT(found.outcomes == answers);
-}
+#define QUESTION(first, second, ...)	{#first, NULL, first, second, .finish = end_things, .outcomes = {__VA_ARGS__}}
 
-static void test_questions(void)
-{
-	for (unsigned at = 0; at < 2 * sizeof(questions) / sizeof(questions[0]); at++)
-		test_question(&questions[at / 2], at % 2 == 1);
-}
+static const struct find questions[] = {
+	QUESTION(set_ready, wait_for_a_tick, "late", "ready", "woken"),
+	QUESTION(pause_for_a_tick, pause_for_a_tick, "12"),
+	QUESTION(schedule_and_end, NULL, "", "0", "1"),
+	QUESTION(raise_and_lower, NULL, "0", "3"),
+	QUESTION(schedule_two, NULL, "21"),
+	QUESTION(schedule_greedy, NULL, "g2ggg"),
+	QUESTION(set_two, NULL, "", "12", "2"),
+	QUESTION(write_once, ask_writer, "0", "1"),
+	QUESTION(read_once, ask_readers, "0", "1", "2"),
+	QUESTION(count_once, ask_count, "0", "1"),
+	QUESTION(end_cv, ask_cv, "0", "1"),
+	QUESTION(add_to_parts, ask_parts, "00", "01", "10", "11"),
+};
 
 /* ---- What two threads of one CPU do where each may be the first to bind. ---- */
 
@@ -563,19 +503,17 @@ static void test_binds(void)
 int main(void)
 {
 	test_binds();
-	test_questions();
 	test_bounds();
 	test_cut_bound();
 	test_random();
-	test_rounding();
+	test_outcomes();
+	test_full_set();
 	test_random_spins();
 	test_barred();
-	test_tables();
 	test_count(1, 1, 0, 0);
 	test_count(3, 3, 0, 0);
 	test_count(2, 2, 2, 0);
 	test_count(4, 3, 2, 0);
 	test_count(2, 2, 2, 2);
-	puts("the counts are right");
-	return 0;
+	return run_finds(questions, sizeof(questions) / sizeof(questions[0]), false, 0);
 }

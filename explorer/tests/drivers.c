@@ -105,25 +105,22 @@ static void begin_devsw_wide(void) { begin_devsw(); bench_thread("another", open
 
 /* ---- ioctl.c: an entry is read while it is replaced and deleted. ---- */
 
-static void get_entry(void *arg)
+BODY(get_entry)
 {
 	struct entry_request request = {.er_key = 1};
 	int error = entry_ioctl(ENTRYGET, &request);
-	(void)arg;
 	KASSERT(error == ENOENT || (error == 0 && request.er_value >= 5));
 }
 
-static void delete_entry(void *arg)
+BODY(delete_entry)
 {
 	struct entry_request request = {.er_key = 1};
-	(void)arg;
 	KASSERT(entry_ioctl(ENTRYDEL, &request) == 0);
 }
 
-static void set_entry(void *arg)
+BODY(set_entry)
 {
 	struct entry_request request = {.er_key = 1, .er_value = 6};
-	(void)arg;
 	KASSERT(entry_ioctl(ENTRYSET, &request) == 0);
 }
 
@@ -159,16 +156,14 @@ static void input(void *arg, unsigned packet)
 	atomic_inc_uint((unsigned *)arg);
 }
 
-static void interrupt(void *arg)
+BODY(interrupt)
 {
-	(void)arg;
 	if (rx_error == 0)
 		rx_interrupt(7);
 }
 
-static void unlisten(void *arg)
+BODY(unlisten)
 {
-	(void)arg;
 	if (rx_error == 0)
 		rx_unlisten(listener);
 }
@@ -196,10 +191,9 @@ static void end_rxintr(void)
 
 HANDLER(count_twice, counters_add(COUNT_IN, 1); counters_add(COUNT_IN, 2))
 
-static void sum_up(void *arg)
+BODY(sum_up)
 {
 	uint64_t sums[COUNTERS];
-	(void)arg;
 	counters_sum(sums);
 	KASSERT(sums[COUNT_IN] == 0 || sums[COUNT_IN] == 1 || sums[COUNT_IN] == 3);
 	bench_outcome("%u", (unsigned)sums[COUNT_IN]);
@@ -224,11 +218,10 @@ static void end_counters(void)
 
 int kupaldiz_ticker_modcmd(modcmd_t command, void *opaque);
 
-static void call_hook(void *arg)
+BODY(call_hook)
 {
 	unsigned answer = 0;
 	int error = ticker_call(3, &answer);
-	(void)arg;
 	KASSERT(error == ENXIO || (error == 0 && answer == 4));
 }
 

@@ -1,5 +1,5 @@
 /*
- * finds - one small piece of code for each thing that the bench finds, and what it says
+ * finds - one small piece of code for each thing that the bench finds, data races too, and what it says; and for each order that makes none
  *
  * The last line counts the cases.
  */
@@ -16,6 +16,7 @@
 #include <sys/rwlock.h>
 #include <sys/systm.h>
 #include <sys/xcall.h>
+#include <xmmintrin.h>
 
 #include "finds.h"
 
@@ -25,7 +26,7 @@ static kcondvar_t cv;
 static pserialize_t psz;
 static struct psref_class *things;
 static struct psref_target target;
-static unsigned word;
+static unsigned word, other_word;
 static bool flag;
 static unsigned *block;
 
@@ -42,14 +43,29 @@ static void make_things(void)
 HANDLER(one_two, mutex_enter(&one); mutex_enter(&two); mutex_exit(&two); mutex_exit(&one))
 HANDLER(two_one, mutex_enter(&two); mutex_enter(&one); mutex_exit(&one); mutex_exit(&two))
 HANDLER(read_twice, rw_enter(&rw, RW_READER); rw_enter(&rw, RW_READER); rw_exit(&rw); rw_exit(&rw))
+HANDLER(read_again, for (unsigned turn = 0; turn < 2; turn++) { rw_enter(&rw, RW_READER); rw_exit(&rw); })
 HANDLER(write_once, rw_enter(&rw, RW_WRITER); rw_exit(&rw))
 HANDLER(keep_lock, mutex_enter(&one))
 
+/* A writer that becomes a reader lets those go on that wait to read. */
+BODY(downgrade)
+{
+	rw_enter(&rw, RW_WRITER);
+	rw_downgrade(&rw);
+	KASSERT(rw_read_held(&rw) && !rw_write_held(&rw) && !rw_tryenter(&rw, RW_WRITER));
+	mutex_enter(&one);
+	while (!flag)
+		cv_wait(&cv, &one);
+	mutex_exit(&one);
+	rw_exit(&rw);
+}
+
+HANDLER(read_beside, rw_enter(&rw, RW_READER); mutex_enter(&one); flag = true; cv_signal(&cv); mutex_exit(&one); rw_exit(&rw))
+
 /* ---- Waking. ---- */
 
-static void wait_carelessly(void *arg)
+BODY(wait_carelessly)
 {
-	(void)arg;
 	if (!atomic_load_relaxed(&flag)) {
 		mutex_enter(&one);
 		cv_wait(&cv, &one);
@@ -77,10 +93,9 @@ static void freed_lock(void)
 	mutex_init(locked_block, MUTEX_DEFAULT, IPL_NONE);
 }
 
-static void forget_lock(void *arg)
+BODY(forget_lock)
 {
 	kmutex_t *lock = kmem_alloc(sizeof(*lock), KM_SLEEP);
-	(void)arg;
 	mutex_init(lock, MUTEX_DEFAULT, IPL_NONE);
 	kmem_free(lock, sizeof(*lock));
 }
@@ -96,6 +111,11 @@ UNSEEN static void write_unseen(unsigned *at)
 HANDLER(write_behind, write_unseen(block + 1); kmem_free(block, sizeof(*block)))
 HANDLER(write_freed, kmem_free(block, sizeof(*block)); write_unseen(block))
 
+enum { LONG = 4096 };
+
+static void make_long_block(void) { block = kmem_zalloc(LONG, KM_SLEEP); }
+HANDLER(write_last_freed, kmem_free(block, LONG); write_unseen(block + LONG / sizeof(*block) - 1))
+
 /* ---- References and sections. ---- */
 
 static void make_target(void)
@@ -105,12 +125,11 @@ static void make_target(void)
 	psref_target_init(&target, things);
 }
 
-static void hold_and_lock(void *arg)
+BODY(hold_and_lock)
 {
 	struct psref psref;
 	int bound = curlwp_bind(), s = pserialize_read_enter();
 	bool found = !atomic_load_acquire(&flag);
-	(void)arg;
 	if (found)
 		psref_acquire(&psref, &target, things);
 	pserialize_read_exit(s);
@@ -122,9 +141,8 @@ static void hold_and_lock(void *arg)
 	curlwp_bindx(bound);
 }
 
-static void destroy_locked(void *arg)
+BODY(destroy_locked)
 {
-	(void)arg;
 	mutex_enter(&one);
 	atomic_store_release(&flag, true);
 	pserialize_perform(psz);
@@ -134,18 +152,16 @@ static void destroy_locked(void *arg)
 	pserialize_destroy(psz);
 }
 
-static void never_ends(void *arg)
+BODY(never_ends)
 {
-	(void)arg;
 	while (!atomic_load_relaxed(&flag))
 		;
 }
 
 static unsigned *volatile nowhere;
 
-static void spin_for_flag(void *arg)
+BODY(spin_for_flag)
 {
-	(void)arg;
 	while (!atomic_load_acquire(&flag))
 		;
 }
@@ -153,15 +169,13 @@ static void spin_for_flag(void *arg)
 HANDLER(set_flag, atomic_store_release(&flag, true))
 
 /* The sanitizers, where the bench is built with them, leave the crash to it. */
-const char *__asan_default_options(void);
 const char *__asan_default_options(void)
 {
 	return "handle_segv=0";
 }
 
-__attribute__((no_sanitize("undefined"))) static void crash(void *arg)
+__attribute__((no_sanitize("undefined"))) BODY(crash)
 {
-	(void)arg;
 	if (atomic_load_relaxed(&word) == 1)
 		*(volatile unsigned *)nowhere = 1;
 }
@@ -171,10 +185,9 @@ HANDLER(assert_it, KASSERTMSG(atomic_load_relaxed(&word) == 0, "word is %u", ato
 HANDLER(dies, panic("out of %s", "luck"))
 HANDLER(exit_at_once, kthread_exit(0))
 
-static void join_never(void *arg)
+BODY(join_never)
 {
 	lwp_t *made;
-	(void)arg;
 	(void)kthread_create(PRI_NONE, KTHREAD_MUSTJOIN, NULL, exit_at_once, NULL, &made, "worker");
 }
 
@@ -188,9 +201,8 @@ static void *softint;
 HANDLER(use_in_handler, atomic_inc_uint(block))
 
 /* The handler may run between the two. */
-static void free_and_disestablish(void *arg)
+BODY(free_and_disestablish)
 {
-	(void)arg;
 	softint_schedule(softint);
 	kmem_free(block, sizeof(*block));
 	softint_disestablish(softint);
@@ -207,9 +219,8 @@ static unsigned slot;	/* 1: the old driver, 2: the new one. Under `one` */
 static bool detaching;
 
 /* The drain gives the lock up, also where nobody has a reference: what another thread attaches meanwhile is lost. */
-static void clear_after_drain(void *arg)
+BODY(clear_after_drain)
 {
-	(void)arg;
 	mutex_enter(&one);
 	slot = 0;
 	detaching = true;
@@ -219,9 +230,8 @@ static void clear_after_drain(void *arg)
 	localcount_fini(&local);
 }
 
-static void attach_meanwhile(void *arg)
+BODY(attach_meanwhile)
 {
-	(void)arg;
 	mutex_enter(&one);
 	bool attached = slot == 0 && detaching;
 	if (attached)
@@ -243,9 +253,8 @@ static void use_argument(void *arg, void *other)
 /* The call may still be made on some CPU. */
 HANDLER(wait_never, (void)xc_broadcast(0, use_argument, block, NULL); kmem_free(block, sizeof(*block)))
 
-static void wait_for_call(void *arg)
+BODY(wait_for_call)
 {
-	(void)arg;
 	xc_wait(xc_broadcast(0, use_argument, block, NULL));
 	KASSERT(atomic_load_relaxed(block) == KUPALDIZ_CPUS);
 	kmem_free(block, sizeof(*block));
@@ -255,9 +264,8 @@ static void wait_for_call(void *arg)
 HANDLER(release_in_handler, localcount_release(&local, &cv, &one))
 HANDLER(schedule_release, softint_schedule(softint))
 
-static void drain_local(void *arg)
+BODY(drain_local)
 {
-	(void)arg;
 	mutex_enter(&one);
 	localcount_drain(&local, &cv, &one);
 	mutex_exit(&one);
@@ -272,6 +280,22 @@ static void released_in_handler(void)
 	softint = softint_establish(SOFTINT_NET | SOFTINT_MPSAFE, release_in_handler, NULL);
 }
 
+/* Others may wait by a drain's condition variable, and came first: the last release wakes them all. */
+HANDLER(wait_beside, mutex_enter(&one); while (!flag) cv_wait(&cv, &one); mutex_exit(&one))
+
+BODY(drain_and_wake)
+{
+	mutex_enter(&one);
+	localcount_drain(&local, &cv, &one);
+	flag = true;
+	cv_broadcast(&cv);
+	mutex_exit(&one);
+	localcount_fini(&local);
+}
+
+HANDLER(release_last, localcount_release(&local, &cv, &one))
+static void acquire_one(void) { localcount_init(&local); localcount_acquire(&local); }
+
 /* One level's handler waits for the lock of a thread, and the thread for another level's handler. */
 static kmutex_t soft_lock;
 static void *levels[2];
@@ -279,9 +303,8 @@ static void *levels[2];
 HANDLER(lock_softly, mutex_enter(&soft_lock); mutex_exit(&soft_lock))
 HANDLER(wake_softly, atomic_store_relaxed(&flag, true))
 
-static void wait_for_level(void *arg)
+BODY(wait_for_level)
 {
-	(void)arg;
 	kupaldiz_bind(0);
 	mutex_enter(&soft_lock);
 	softint_schedule(levels[0]);
@@ -305,6 +328,106 @@ static void make_levels(unsigned blocked, unsigned wakes)
 static void higher_waits(void) { make_levels(SOFTINT_SERIAL, SOFTINT_CLOCK); }
 static void lower_waits(void) { make_levels(SOFTINT_CLOCK, SOFTINT_NET); }
 
+/* ---- Data races: under locks, and without. ---- */
+
+HANDLER(write_under_one, mutex_enter(&one); word = 1; mutex_exit(&one))
+HANDLER(read_under_two, mutex_enter(&two); KASSERT(word < 2); mutex_exit(&two))
+
+/* Where the race is told to be: the line of `word++`. */
+enum { COUNTED_AT = __LINE__ + 1 };
+HANDLER(count_plainly, word++)
+static char counted_twice[128];
+
+/* The first order of the locks puts the accesses in an order, the other one doesn't. */
+HANDLER(write_then_lock, bench_point(); word = 1; mutex_enter(&one); mutex_exit(&one))
+HANDLER(lock_then_write, mutex_enter(&one); mutex_exit(&one); word = 2)
+
+static char text[200], from[200];
+
+HANDLER(copy_text, memcpy(text, from, sizeof(text)))
+HANDLER(read_text, KASSERT(text[150] != 'x'))
+HANDLER(write_first_byte, text[0] = 'a')
+HANDLER(write_second_byte, text[1] = 'b')
+HANDLER(give_by_language, word = 1; __atomic_store_n(&flag, true, __ATOMIC_RELEASE))
+HANDLER(take_by_language, KASSERT(!__atomic_load_n(&flag, __ATOMIC_ACQUIRE) || word == 1))
+
+/* The last store that the load sees is relaxed: it gives nothing of what the release gave. */
+static unsigned state;
+
+HANDLER(store_state, word = 1; atomic_store_release(&state, 1))
+
+BODY(end_release)
+{
+	if (atomic_load_relaxed(&state) == 1)
+		atomic_store_relaxed(&state, 2);
+}
+
+HANDLER(read_second_state, KASSERT(atomic_load_acquire(&state) != 2 || word == 1))
+
+/* ---- Data races: atomics and barriers. ---- */
+
+HANDLER(read_word, KASSERT(!atomic_load_acquire(&flag) || word < 2))
+HANDLER(write_word_early, atomic_store_relaxed(&flag, true); word = 1)
+HANDLER(write_word_relaxed, word = 1; atomic_store_relaxed(&flag, true))
+HANDLER(write_word_released, word = 1; atomic_store_release(&flag, true))
+HANDLER(write_word_fenced, word = 1; membar_release(); atomic_store_relaxed(&flag, true))
+
+/* ---- Data races: memory. ---- */
+
+HANDLER(read_block, KASSERT(*block == 0))
+HANDLER(use_own_late, free_block(arg); read_block(arg))
+
+/* The call that takes the memory comes before no access of the other thread. */
+HANDLER(take_block, atomic_store_relaxed(&block, kmem_zalloc(sizeof(*block), KM_SLEEP)))
+
+BODY(use_given_block)
+{
+	const unsigned *given = atomic_load_relaxed(&block);
+	KASSERT(given == NULL || *given == 0);
+}
+
+HANDLER(write_behind_seen, *(volatile unsigned *)(block + 1) = 1)
+
+/* ---- Faults whose schedules are cut down to the fewest switches. ---- */
+
+/* A change is lost where the other thread changes the word in between. */
+BODY(add_slowly)
+{
+	unsigned before = atomic_load_relaxed(&word);
+	atomic_store_relaxed(&word, before + 1);
+	atomic_inc_uint(&other_word);
+	KASSERT(atomic_load_relaxed(&other_word) < 2 || atomic_load_relaxed(&word) == 2);
+}
+
+/* The search comes first to an order in which each thread is left in the middle. */
+BODY(step_up)
+{
+	for (unsigned at = 0; at < 3; at++)
+		atomic_inc_uint(&word);
+}
+
+BODY(look_twice)
+{
+	unsigned first = atomic_load_relaxed(&word);
+	bench_point();
+	KASSERT(first == 3 || atomic_load_relaxed(&word) == first || first == 0);
+}
+
+HANDLER(step_one_two, atomic_inc_uint(&word); one_two(arg))
+HANDLER(step_two_one, mutex_enter(&two); atomic_inc_uint(&word); mutex_enter(&one); mutex_exit(&one); mutex_exit(&two))
+
+/* With no preemption three threads must come in their order; with one, two are enough. */
+BODY(change_and_back)
+{
+	atomic_store_relaxed(&word, 1);
+	atomic_store_relaxed(&word, 0);
+	if (atomic_load_relaxed(&other_word) == 1)
+		atomic_store_relaxed(&other_word, 2);
+}
+
+HANDLER(look, KASSERT(atomic_load_relaxed(&word) == 0 && atomic_load_relaxed(&other_word) != 2))
+HANDLER(come_first, atomic_store_relaxed(&other_word, 1))
+
 /* ---- What is left at the end. ---- */
 
 static void left_class(void) { (void)psref_class_create("left", IPL_SOFTNET); }
@@ -313,37 +436,36 @@ HANDLER(count_in, localcount_acquire(&local))
 static void left_count(void) { localcount_init(&local); }
 
 /* More than one registry takes. Only the last is left. */
-enum { MANY = REGISTRY_MOST_SLOTS + 8 };
+enum { SOME = 32 + 8 };
 
-static struct psref_target targets[MANY];
-static struct localcount locals[MANY];
+static struct psref_target targets[SOME];
+static struct localcount locals[SOME];
 
 static void make_targets(void)
 {
 	make_target();
-	for (unsigned at = 0; at < MANY; at++)
+	for (unsigned at = 0; at < SOME; at++)
 		psref_target_init(&targets[at], things);
 	psref_target_destroy(&target, things);
-	for (unsigned at = 0; at + 1 < MANY; at++)
+	for (unsigned at = 0; at + 1 < SOME; at++)
 		psref_target_destroy(&targets[at], things);
 }
 
 static void make_counts(void)
 {
-	for (unsigned at = 0; at < MANY; at++)
+	for (unsigned at = 0; at < SOME; at++)
 		localcount_init(&locals[at]);
 	mutex_enter(&one);
-	for (unsigned at = 0; at + 1 < MANY; at++)
+	for (unsigned at = 0; at + 1 < SOME; at++)
 		localcount_drain(&locals[at], &cv, &one);
 	mutex_exit(&one);
 }
 
-HANDLER(count_last, localcount_acquire(&locals[MANY - 1]))
+HANDLER(count_last, localcount_acquire(&locals[SOME - 1]))
 
-static void keep_reference(void *arg)
+BODY(keep_reference)
 {
 	static struct psref psref;
-	(void)arg;
 	(void)curlwp_bind();
 	psref_acquire(&psref, &target, things);
 }
@@ -363,17 +485,91 @@ static void destroy_things(void)
 static void destroy_some(void) { mutex_destroy(&one); rw_destroy(&rw); cv_destroy(&cv); }
 static void end_locked(void) { mutex_enter(&one); }
 
+/* ---- What a thread sets of its processor is its own. ---- */
+
+enum { MXCSR_UP = 0x5f80, MXCSR_NEAR = 0x1f80, X87_UP = 0x0b7f, X87_NEAR = 0x037f };
+
+static unsigned x87_word(void)
+{
+	uint16_t control;
+	__asm__ volatile("fnstcw %0" : "=m"(control));
+	return control;
+}
+
+BODY(round_up)
+{
+	const uint16_t up = X87_UP;
+	_mm_setcsr(MXCSR_UP);
+	__asm__ volatile("fldcw %0" : : "m"(up));
+	bench_point();
+	KASSERT(_mm_getcsr() == MXCSR_UP && x87_word() == X87_UP);
+}
+
+BODY(round_to_nearest)
+{
+	KASSERT(_mm_getcsr() == MXCSR_NEAR && x87_word() == X87_NEAR);
+	bench_point();
+	KASSERT(_mm_getcsr() == MXCSR_NEAR && x87_word() == X87_NEAR);
+}
+
+/* ---- More of a kind than any table has room for at first. ---- */
+
+enum { MANY = 700 };
+
+static kmutex_t many_locks[MANY];
+static unsigned many_words[MANY];
+
+/* The last of many words is accessed without an order. */
+BODY(write_many)
+{
+	for (unsigned at = 0; at < MANY; at++)
+		many_words[at] = 1;
+}
+
+HANDLER(write_last, many_words[MANY - 1] = 2)
+
+/* Each of many words has a release of its own, which tells its owner's clock. */
+BODY(release_many)
+{
+	for (unsigned at = 0; at < MANY; at++)
+		atomic_store_release(&many_words[at], 1);
+	word = 1;
+	atomic_store_release(&many_words[0], 2);
+}
+
+BODY(acquire_another)
+{
+	if (atomic_load_acquire(&many_words[1]) == 1)
+		word = 1;
+}
+
+static void destroy_all_but_one(void)
+{
+	destroy_things();
+	for (unsigned at = 0; at < MANY; at++)
+		if (at != 600)
+			mutex_destroy(&many_locks[at]);
+}
+
+static void make_many_locks(void)
+{
+	for (unsigned at = 0; at < MANY; at++)
+		mutex_init(&many_locks[at], MUTEX_DEFAULT, IPL_NONE);
+}
+
 /* ---- What is found. ---- */
 
 static const struct find finds[] = {
 	{"two orders", "deadlock: thread \"first\" waits in mutex_enter at", one_two, two_one},
 	{"a reader that enters again behind a writer", "nobody can go on: thread \"first\" waits in rw_enter",
 	    read_twice, write_once},
+	{"a downgrade", NULL, downgrade, read_beside, .finish = destroy_things},
+	{"a writer between two readers", NULL, read_again, write_once, .finish = destroy_things},
 	{"a lock at the end of a thread", "pthread_exit: with a lock", keep_lock, write_once},
-	{"a lost wake-up", "came while nobody waited", wait_carelessly, wake},
+	{"a lost wake-up", "came while nobody waited", wait_carelessly, wake, .switches = 2},
 	{"freed memory", "data race: thread \"first\" writes at finds.c:*, and thread \"second\" frees at *finds.c:",
 	    use_block, free_block, .make = make_block},
-	{"freed memory by an atomic change of the thread itself", "atomic change at *: use of freed memory: thread \"first\" gave it back",
+	{"freed memory by an atomic change of the thread itself", "atomic change at finds.c:*: use of freed memory: thread \"first\" gave it back",
 	    change_own_late, write_once, .make = make_block},
 	{"a lock that is freed in use", "mutex_", lock_block, free_locked, .make = freed_lock},
 	{"freed twice", "use of freed memory", free_block, free_block, .make = make_block},
@@ -383,6 +579,7 @@ static const struct find finds[] = {
 	    forget_lock, write_once},
 	{"a write behind a block", "written behind a block of", write_behind, write_once, .make = make_block},
 	{"a write to freed memory", "something was written to freed memory", write_freed, write_once, .make = make_block},
+	{"a write to the last bytes of freed memory", "something was written to freed memory", write_last_freed, .make = make_long_block},
 	{"a destroy with the holder's lock", "waits in psref_target_destroy at",
 	    hold_and_lock, destroy_locked, .make = make_target},
 	{"a target that is left", "a target or a local count is left at the end", write_once, write_once, .make = make_target},
@@ -400,6 +597,7 @@ static const struct find finds[] = {
 	{"a cross call that isn't waited for", "use of freed memory", wait_never, write_once, .make = make_block},
 	{"a cross call that is", NULL, wait_for_call, write_once, .make = make_block},
 	{"a release in a soft interrupt", NULL, schedule_release, drain_local, .make = released_in_handler},
+	{"a drain beside another waiter", NULL, wait_beside, drain_and_wake, release_last, .make = acquire_one},
 	{"a higher level's handler that waits", NULL, wait_for_level, write_once, .make = higher_waits},
 	{"a lower level's handler that waits", NULL, wait_for_level, write_once, .make = lower_waits},
 	{"a class that is left", "taken by psref_class_create", write_once, write_once, .make = left_class},
@@ -418,10 +616,42 @@ static const struct find finds[] = {
 	{"a lock that is left", "1 locks, condition variables or callouts are left at the end, one of them made by mutex_init",
 	    write_once, write_once, .finish = destroy_some},
 	{"a lock that is held at the end", "pthread_exit: with a lock", write_once, write_once, .finish = end_locked},
+	{"one variable under two locks", "data race: thread \"first\" writes at finds.c:*, and thread \"second\" reads at finds.c:",
+	    write_under_one, read_under_two},
+	{"a count without a lock", counted_twice, count_plainly, count_plainly},
+	{"a lock that comes too late", "data race: ", write_then_lock, lock_then_write},
+	{"copied bytes", "data race: thread \"first\" writes at finds.c:*, and thread \"second\" reads at finds.c:",
+	    copy_text, read_text},
+	{"bytes side by side", NULL, write_first_byte, write_second_byte},
+	{"atomics of the language", NULL, give_by_language, take_by_language},
+	{"a release that another store ends", "data race: ", store_state, end_release, .third = read_second_state},
+	{"plain accesses without an order", "data race: ", read_word, write_word_early},
+	{"a relaxed store where a release is needed", "data race: ", read_word, write_word_relaxed},
+	{"a release", NULL, read_word, write_word_released},
+	{"a barrier", NULL, read_word, write_word_fenced},
+	{"freed memory by a plain access", "data race: thread \"first\" reads at finds.c:*, and thread \"second\" frees at *finds.c:",
+	    read_block, free_block, .make = make_block},
+	{"freed memory by the thread itself", "plain read at finds.c:*: use of freed memory: thread \"first\" gave it back ",
+	    use_own_late, write_once, .make = make_block},
+	{"memory that is given without a release", "data race: thread \"first\" takes memory by kmem_zalloc at ",
+	    take_block, use_given_block},
+	{"an access behind a block", "plain write at finds.c:*: beyond a block of ",
+	    write_behind_seen, write_once, .make = make_block},
+	{"a change that is lost", "KASSERT", add_slowly, add_slowly, .switches = 2},
+	{"a look between two steps", "KASSERT", look_twice, step_up, .switches = 3},
+	{"a step, and two locks in two orders", "deadlock", step_one_two, step_two_one, .switches = 1},
+	{"the last of many words", "data race: ", write_many, write_last},
+	{"the last of many releases", "data race: ", release_many, acquire_another},
+	{"one of many locks that is left", "1 locks, condition variables or callouts are left at the end", write_once, .make = make_many_locks,
+	    .finish = destroy_all_but_one},
+	{"a thread's own way to round", NULL, round_up, round_to_nearest},
+	{"a fault by two ways", "KASSERT", change_and_back, look, come_first, .switches = 1},
 };
 
 int main(int count, char **words)
 {
 	(void)words;
-	return run_finds(finds, sizeof(finds) / sizeof(finds[0]), count > 1);
+	snprintf(counted_twice, sizeof(counted_twice), "data race: thread \"first\" writes at finds.c:%d, and thread \"second\" * at finds.c:%d", COUNTED_AT,
+	    COUNTED_AT);
+	return run_finds(finds, sizeof(finds) / sizeof(finds[0]), count > 1, 0);
 }

@@ -1,4 +1,4 @@
-/* finds.h - cases of what the explorer finds: each runs, and its schedule is replayed */
+/* finds.h - small programs in a table, and what the explorer must find in each: a fault, which its schedule replays, or outcomes */
 #ifndef BENCH_FINDS_H
 #define BENCH_FINDS_H
 
@@ -6,6 +6,7 @@
 #include <stdio.h>
 #include <string.h>
 
+#include "../../netbsd/tests/child.h"
 #include "cases.h"
 
 /* A row leaves out what its case doesn't have. */
@@ -16,6 +17,10 @@ struct find {
 	void (*first)(void *), (*second)(void *), (*third)(void *);
 	void (*make)(void), (*finish)(void);
 	const char *outcome;		/* of some run */
+	const char *outcomes[8];	/* of all runs, with the reduction and without it */
+	const char *failed;		/* which calls had failed, or waits had ended early: both lines are whole then, with PLACE for a place */
+	unsigned failures;		/* so many are needed in a run */
+	unsigned switches;		/* those of the schedule, and no schedule has fewer */
 };
 
 /* What each case begins with. Whoever includes this file defines it. */
@@ -35,6 +40,22 @@ static inline void begin_find(void)
 		bench_thread("third", found_now->third, NULL);
 }
 
+/* Runs it with at most so many failures in a run. Whether it went wrong. */
+static inline bool goes_wrong(const struct find *find, struct bench_options options, unsigned failures, struct bench_found *found)
+{
+	options.finish = find->finish;
+	options.reliable = failures == 0;
+	options.failures = failures;
+	options.found = found;
+	found_now = find;
+	bool wrong = bench_explore(begin_find, &options) != 0;
+	if (find->failed != NULL) {
+		hide_places(found->line);
+		hide_places(found->failed);
+	}
+	return wrong;
+}
+
 /* Whether a line has a text in it, as fnmatch(3) has it. */
 static inline bool is_line(const char *said, const char *looked_for)
 {
@@ -43,32 +64,52 @@ static inline bool is_line(const char *said, const char *looked_for)
 	return fnmatch(pattern, said, 0) == 0;
 }
 
+/* Whether this is the fault: with fewer failures than it needs there is none. */
+static inline bool is_fault(const struct find *find, const struct bench_found *found)
+{
+	struct bench_found fewer;
+	if (find->failed == NULL)
+		return is_line(found->line, find->line);
+	return strcmp(found->line, find->line) == 0 && strcmp(found->failed, find->failed) == 0 &&
+	    (find->failures == 0 || !goes_wrong(find, (struct bench_options){.quiet = true}, find->failures - 1, &fewer));
+}
+
+/* Whether there are these outcomes and no others. */
+static inline bool has_outcomes(const struct find *find, const struct bench_found *found)
+{
+	unsigned wanted = 0;
+	bool right = found->exhausted;
+	while (wanted < 8 && find->outcomes[wanted] != NULL)
+		right &= has_outcome(found, find->outcomes[wanted++]);
+	return right && found->outcomes == wanted;
+}
+
 /* Whether the explorer finds it, and its schedule replays it. */
 static inline bool is_found(const struct find *find)
 {
 	struct bench_found found, again;
-	struct bench_options options = {.quiet = true, .found = &found, .reliable = true, .finish = find->finish};
-	found_now = find;
-	bool wrong = bench_explore(begin_find, &options) != 0;
+	const struct bench_options quiet = {.quiet = true}, whole = {.quiet = true, .whole = true, .schedules = 2000000};
+	bool wrong = goes_wrong(find, quiet, find->failures, &found);
+	if (find->line == NULL && find->outcomes[0] != NULL)
+		return !wrong && has_outcomes(find, &found) && !goes_wrong(find, whole, find->failures, &again) && has_outcomes(find, &again);
 	if (find->line == NULL)
 		return !wrong && found.complete && (find->outcome == NULL || has_outcome(&found, find->outcome));
-	options.found = &again;
-	options.replay = found.schedule;
-	return wrong && is_line(found.line, find->line) && bench_explore(begin_find, &options) == 1 && strcmp(found.line, again.line) == 0;
+	return wrong && is_fault(find, &found) && (find->switches == 0 || found.changes == find->switches) &&
+	    goes_wrong(find, (struct bench_options){.quiet = true, .replay = found.schedule}, find->failures, &again) && strcmp(found.line, again.line) == 0;
 }
 
-/* Runs the cases, and shows those that fail, or with `all` each. The last line counts them. */
-static inline int run_finds(const struct find *finds, size_t count, bool all)
+/* Runs the cases, and shows those that fail, or with `all` each. How many fail: the last line counts them, and those that passed before. */
+static inline int run_finds(const struct find *finds, size_t count, bool all, unsigned passed)
 {
-	unsigned passed = 0, failed = 0;
-	for (size_t at = 0; at < count; at++) {
-		bool right = is_found(&finds[at]);
+	unsigned failed = 0;
+	for (const struct find *find = finds; find < &finds[count]; find++) {
+		struct bench_found found;
+		bool right = is_found(find);
 		passed += right;
 		failed += !right;
 		if (!right || all) {
-			const struct bench_options options = {.name = finds[at].name, .reliable = true, .finish = finds[at].finish};
-			printf("%s %s\n", right ? "ok" : "FAILED", finds[at].name);
-			bench_explore(begin_find, &options);
+			printf("%s %s\n", right ? "ok" : "FAILED", find->name);
+			goes_wrong(find, (struct bench_options){.name = find->name}, find->failures, &found);
 		}
 	}
 	printf("%u passed, %u failed\n", passed, failed);

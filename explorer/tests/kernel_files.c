@@ -15,9 +15,8 @@ static struct ifnet *wm0;
 
 HANDLER(output_wm0, int error = if_output_byname("wm0"); KASSERT(error == 0 || error == ENXIO))
 
-static void detach_wm0(void *arg)
+BODY(detach_wm0)
 {
-	(void)arg;
 	if_detach(wm0);
 	kmem_free(wm0, sizeof(*wm0));
 }
@@ -67,9 +66,8 @@ static int open_second(devminor_t minor)
 
 static const struct cdevsw first_cdev = {.d_open = open_first}, second_cdev = {.d_open = open_second};
 
-static void open_devices(void *arg)
+BODY(open_devices)
 {
-	(void)arg;
 	for (devmajor_t major = 1; major <= 5; major += 4) {
 		int error = cdev_open(major, 0);
 		KASSERT(error == 0 || error == ENXIO);

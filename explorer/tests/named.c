@@ -1,13 +1,21 @@
-/* named - netbsd/tests/names.c in a thread of the bench: each name does what its page says there, too */
+/* named - names.c and kernel.c of netbsd/tests in threads of the bench: each name does what its page says there, too */
+#include "../../netbsd/tests/kernel.c"
 #include "../../netbsd/tests/names.c"
 
 #include "../bench.h"
 
-HANDLER(run_names, test_all())
-static void begin(void) { bench_thread("names", run_names, NULL); }
+static void (*test)(void);
+
+HANDLER(run_test, test())
+static void begin(void) { bench_thread("names", run_test, NULL); }
 
 int main(void)
 {
-	const struct bench_options options = {.name = "names", .reliable = true};
-	return bench_explore(begin, &options);
+	const struct bench_options options = {.name = "names", .reliable = true, .schedules = 20, .bounded = 20, .random = 20};
+	int wrong = 0;
+	for (unsigned at = 0; at <= __arraycount(kernel_tests); at++) {
+		test = at == 0 ? test_names : kernel_tests[at - 1];
+		wrong |= bench_explore(begin, &options);
+	}
+	return wrong;
 }

@@ -373,8 +373,9 @@ static uint64_t most_schedules = 15000;
 static struct bench_found explore(bool whole)
 {
 	struct bench_found found;
+	/* A real thread may be late by several ticks on a busy machine. */
 	const struct bench_options options = {.quiet = true, .whole = whole, .reliable = true, .schedules = most_schedules, .finish = finish, .found = &found, .bounded = 1,
-	    .preemptions = 1, .random = 1, .racy = racy};
+	    .preemptions = 1, .random = 1, .racy = racy, .ticks = prints ? 3 : 1};
 	bench_explore(begin, &options);
 	return found;
 }

@@ -54,12 +54,14 @@ static void make_many(void)
 HANDLER(take_much, (void)kmem_alloc(5u << 20, KM_SLEEP))
 static void make_taker(void) { bench_thread("taker", take_much, NULL); }
 
+HANDLER(tell_much, for (unsigned at = 0; at < BENCH_TEXT; at++) bench_outcome("%u", at % 10))
+static void make_teller(void) { bench_thread("teller", tell_much, NULL); }
+
 /* Its memory is no part of a run. */
 static unsigned *volatile shared;
 
-static void differ(void *arg)
+BODY(differ)
 {
-	(void)arg;
 	if ((*shared)++ % 2 == 0)
 		atomic_inc_uint(&other);
 	atomic_inc_uint(&word);
@@ -88,6 +90,7 @@ static const struct refusal {
 	{"a run inside of a run", "bench: bench_explore inside of a run\n", .setup = make_explorer},
 	{"too many threads", "bench: there are more than 15 threads\n", .setup = make_many},
 	{"too many bytes", "bench: the code takes more than 4194304 bytes in one run\n", .setup = make_taker},
+	{"a long outcome", "bench: an outcome has more than 63 bytes\n", .setup = make_teller},
 	{"a picture that can't be written", "bench: /no/such/folder/picture.svg can't be written\n", .setup = two_orders,
 	    .options = {.quiet = true, .picture = "/no/such/folder/picture.svg"}},
 	{"a schedule that is too long", "bench: the schedule is too long\n",

@@ -32,7 +32,7 @@ def points():
     """How many calls are as they should be, and what is wrong with the others."""
     shown = set(re.findall(r"^\t\tkupaldiz_([a-z0-9_]+);$", (BENCH.parent / "netbsd/netbsd.map").read_text(), re.M))
     sources = "".join(file.read_text() for file in sorted((BENCH / "src").glob("*.c")))
-    wrapped = {re.sub("^kupaldiz_", "", name) for name in re.findall(r"^(?:LAYER|WRAPPED)\([^,]*, ([a-z_]+),", sources, re.M)}
+    wrapped = {re.sub("^kupaldiz_", "", name) for name in re.findall(r"^(?:LAYER|WRAPPED|AROUND|ANSWERED)\([^,]*, ([a-z_]+),", sources, re.M)}
     wrapped -= TOUCHES
     without = TOUCHES | {name for names in WITHOUT.values() for name in names.split()}
     wrong = [f"{name} has no point, and no reason is told" for name in sorted(shown - wrapped - without)]

@@ -65,7 +65,7 @@
 /* The limits, which a test may change: of a bank; how many nanoseconds a drain waits before it looks again; how many milliseconds a wait lasts before it
  * says what it waits for. */
 #ifndef KUPALDIZ_ROWS
-#define KUPALDIZ_ROWS		REGISTRY_MOST_SLOTS
+#define KUPALDIZ_ROWS		32
 #endif
 #ifndef KUPALDIZ_BANKS
 #define KUPALDIZ_BANKS		8192
@@ -99,7 +99,7 @@ enum {
 	TICK = 1000000000 / 100		/* nanoseconds: hz is 100 */
 };
 
-_Static_assert((int)ALL_CPUS == (int)REGISTRY_MOST_CPUS, "each CPU of the registry is a thread's or the writers'");
+_Static_assert((int)ALL_CPUS <= (int)REGISTRY_MOST_CPUS && (int)ROWS <= (int)REGISTRY_MOST_SLOTS, "a registry has these CPUs, one of them the writers', and rows");
 
 /* clang says otherwise which sanitizers it compiles with. */
 #if defined(__has_feature) && !defined(__SANITIZE_THREAD__) && !defined(__SANITIZE_ADDRESS__)

@@ -172,31 +172,53 @@ static bool is_full(uint32_t answer)
 	return answer == REGISTRY_SECTIONS_SPENT || answer == REGISTRY_PASSIVE_FULL;
 }
 
+/* A call with the registry's CPU that counts: this thread's, or the writers', under the interlock. */
+static struct registry_cpu *begin_count(struct thread *me, struct found_row at, uint32_t via)
+{
+	if (via != WRITERS)
+		return handle_of(me, at.bank);
+	enter_interlock();
+	return writers(at.bank);
+}
+
+static void end_count(uint32_t via)
+{
+	if (via == WRITERS)
+		exit_interlock();
+}
+
+/* Has such a CPU count one reference more to the entry of a row. One that counts some counts one more of them, also of an entry that nobody finds. */
+static uint32_t count_one(struct thread *me, struct found_row at, uint32_t via, bool is_copy)
+{
+	struct registry_cpu *cpu = begin_count(me, at, via);
+	uint32_t answer = is_copy ? registry_copy(cpu, at.row->number) : REGISTRY_NOT_HELD;
+	if (answer == REGISTRY_NOT_HELD)
+		answer = registry_get(cpu, REGISTRY_DRIVER, &at.row->name, NULL);
+	end_count(via);
+	return answer;
+}
+
 /* Acquires a reference to the entry of a row. The registry's CPU that counts it. */
 static uint32_t acquire(struct thread *me, struct found_row at)
 {
-	uint32_t via = me->cpu->info.ci_index;
-	uint32_t answer = registry_get(handle_of(me, at.bank), REGISTRY_DRIVER, &at.row->name, NULL);
-	if (is_full(answer)) {
-		via = WRITERS;
-		enter_interlock();
-		answer = registry_get(writers(at.bank), REGISTRY_DRIVER, &at.row->name, NULL);
-		exit_interlock();
-	}
+	uint32_t via = me->cpu->info.ci_index, answer = count_one(me, at, via, false);
+	if (is_full(answer))
+		answer = count_one(me, at, via = WRITERS, false);
 	if (answer == REGISTRY_NOT_FOUND)
 		stop(me, "the target is being destroyed");
 	done(me, answer);
 	return via;
 }
 
-/* One more of those that this thread has. */
+/* One more of those that this thread has: it is counted where the first one is, or by the other CPU. */
 static uint32_t copy(struct thread *me, struct found_row at, uint32_t via)
 {
-	if (via == WRITERS)
-		enter_interlock();
-	uint32_t answer = registry_copy(via == WRITERS ? writers(at.bank) : handle_of(me, at.bank), at.row->number);
-	if (via == WRITERS)
-		exit_interlock();
+	uint32_t answer = count_one(me, at, via, true);
+	if (is_full(answer)) {
+		via = via == WRITERS ? me->cpu->info.ci_index : WRITERS;
+		if (count_one(me, at, via, true) == REGISTRY_DONE)
+			return via;
+	}
 	done(me, answer);
 	return via;
 }
@@ -204,11 +226,8 @@ static uint32_t copy(struct thread *me, struct found_row at, uint32_t via)
 static void release(struct thread *me, struct found_row at, uint64_t number, uint32_t via)
 {
 	COMES_BEFORE(&at.row->gone);
-	if (via == WRITERS)
-		enter_interlock();
-	uint32_t answer = registry_release(via == WRITERS ? writers(at.bank) : handle_of(me, at.bank), number);
-	if (via == WRITERS)
-		exit_interlock();
+	uint32_t answer = registry_release(begin_count(me, at, via), number);
+	end_count(via);
 	done(me, answer);
 }
 

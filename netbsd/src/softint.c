@@ -189,6 +189,8 @@ void schedule_on(struct thread *me, void *cookie, struct cpu *cpu)
 	pthread_mutex_lock(&pending_list);
 	want_established(me, softint);
 	want_softint_thread(me, cpu, softint->level);
+	/* The list was free while that thread began. */
+	want_established(me, softint);
 	enqueue(softint, cpu->info.ci_index);
 	note_pending(cpu);
 	pthread_cond_broadcast(&pending_changed);

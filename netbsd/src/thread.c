@@ -9,7 +9,7 @@
 
 #include "layer.h"
 
-const char KUPALDIZ_NAMED(REGISTRY_BUILT_FOR) = 0;
+const char KUPALDIZ_NAMED(REGISTRY_BUILT_FOR, KUPALDIZ_CPUS) = 0;
 struct cpu cpus[KUPALDIZ_CPUS];
 _Thread_local struct thread *kupaldiz_self;
 _Thread_local struct places kupaldiz_places;

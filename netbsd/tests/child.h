@@ -1,4 +1,4 @@
-/* child.h - what a process of its own says on standard error, and how it ends; hides the places of such a text, which move with each change of a test */
+/* child.h - what a process of its own says on standard error, and how it ends. The places in such a text are hidden: a change of a test moves them. */
 #ifndef NETBSD_CHILD_H
 #define NETBSD_CHILD_H
 

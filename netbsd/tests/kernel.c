@@ -1,28 +1,121 @@
 /*
- * kernel - the calls beside the three pages, except locks: memory, counters of each CPU, cross-calls, callouts, threads, copies
+ * kernel - the calls beside the three pages, as far as one thread and those that it makes see them
+ *
+ * It is compiled as a driver's file is. The bench runs it too: explorer/tests/named.c.
  */
 #include <sys/param.h>
 #include <sys/systm.h>
+#include <sys/atomic.h>
 #include <sys/callout.h>
 #include <sys/condvar.h>
+#include <sys/container_of.h>
+#include <sys/cpu.h>
 #include <sys/intr.h>
+#include <sys/kernel.h>
 #include <sys/kmem.h>
 #include <sys/kthread.h>
 #include <sys/localcount.h>
+#include <sys/module_hook.h>
 #include <sys/mutex.h>
 #include <sys/percpu.h>
 #include <sys/pool.h>
 #include <sys/proc.h>
 #include <sys/pserialize.h>
+#include <sys/workqueue.h>
 #include <sys/xcall.h>
+
+#include <net/net_stats.h>
 
 #include "test.h"
 
-static kmutex_t lock;
-static kcondvar_t cv;
-static unsigned plain, pair[2];	/* what was counted */
+/* ---- spl(9), and the levels' names. ---- */
 
-/* ---- Memory. ---- */
+static int level_now(void)
+{
+	return splraiseipl(makeiplcookie(IPL_NONE));
+}
+
+/* Each name raises the level to its own, and splx lowers it again. */
+#define TEST_LEVEL(raise, level) \
+	do { \
+		int before = raise(); \
+		EXPECT(before == IPL_NONE && level_now() == (level) && kpreempt_disabled()); \
+		splx(before); \
+		EXPECT(level_now() == IPL_NONE && !kpreempt_disabled()); \
+	} while (0)
+
+static void test_levels(void)
+{
+	const ipl_cookie_t cookie = makeiplcookie(IPL_SOFTSERIAL);
+	int s;
+	TEST_LEVEL(splsoftclock, IPL_SOFTCLOCK);
+	TEST_LEVEL(splsoftbio, IPL_SOFTBIO);
+	TEST_LEVEL(splsoftnet, IPL_SOFTNET);
+	TEST_LEVEL(splsoftserial, IPL_SOFTSERIAL);
+	TEST_LEVEL(splvm, IPL_VM);
+	TEST_LEVEL(splnet, IPL_NET);
+	TEST_LEVEL(splbio, IPL_BIO);
+	TEST_LEVEL(spltty, IPL_TTY);
+	TEST_LEVEL(splclock, IPL_CLOCK);
+	TEST_LEVEL(splsched, IPL_SCHED);
+	TEST_LEVEL(splserial, IPL_SERIAL);
+	TEST_LEVEL(splhigh, IPL_HIGH);
+	s = splraiseipl(cookie);
+	EXPECT(s == IPL_NONE && level_now() == IPL_SOFTSERIAL && splvm() == IPL_SOFTSERIAL);
+	spl0();
+	EXPECT(level_now() == IPL_NONE && !kpreempt_disabled() && !cpu_intr_p());
+	EXPECT((SOFTINT_BIO | SOFTINT_MPSAFE) != SOFTINT_BIO && (SOFTINT_SERIAL & SOFTINT_LVLMASK) == SOFTINT_SERIAL);
+}
+
+/* ---- mutex(9): which lock spins, by its type or by its level, and its CPU's level meanwhile. ---- */
+
+static void test_mutex(kmutex_type_t type, int level, int raised)
+{
+	kmutex_t lock;
+	mutex_init(&lock, type, level);
+	EXPECT(mutex_tryenter(&lock) == 1 && mutex_owned(&lock) && kpreempt_disabled() == (raised != IPL_NONE) && level_now() == raised);
+	mutex_exit(&lock);
+	EXPECT(!kpreempt_disabled());
+	mutex_destroy(&lock);
+}
+
+static void test_mutexes(void)
+{
+	test_mutex(MUTEX_DEFAULT, IPL_NONE, IPL_NONE);
+	test_mutex(MUTEX_DEFAULT, IPL_SOFTSERIAL, IPL_NONE);
+	test_mutex(MUTEX_DEFAULT, IPL_VM, IPL_VM);
+	test_mutex(MUTEX_DEFAULT, IPL_HIGH, IPL_HIGH);
+	test_mutex(MUTEX_DRIVER, IPL_SOFTBIO, IPL_NONE);
+	test_mutex(MUTEX_DRIVER, IPL_BIO, IPL_BIO);
+	test_mutex(MUTEX_ADAPTIVE, IPL_NONE, IPL_NONE);
+	test_mutex(MUTEX_NODEBUG, IPL_SCHED, IPL_SCHED);
+	test_mutex(MUTEX_SPIN, IPL_NONE, IPL_VM);
+	test_mutex(MUTEX_SPIN, IPL_SOFTNET, IPL_SOFTNET);
+}
+
+/* ---- kmem(9), pool(9), pool_cache(9). ---- */
+
+static void test_memory(void)
+{
+	const km_flag_t flags = KM_NOSLEEP;
+	unsigned char *zeros = kmem_intr_zalloc(40, flags);
+	struct pool pool;
+	size_t size = 0;
+	char *text, *object;
+	EXPECT(zeros != NULL && zeros[0] == 0 && zeros[39] == 0);
+	kmem_intr_free(zeros, 40);
+	text = kmem_strdup("bridge0", KM_SLEEP);
+	EXPECT(strcmp(text, "bridge0") == 0);
+	kmem_strfree(text);
+	text = kmem_strdupsize("bridge", &size, KM_SLEEP);
+	EXPECT(size == 7 && strcmp(text, "bridge") == 0);
+	kmem_strfree(text);
+	pool_init(&pool, 24, 8, 0, 0, "thingpl", NULL, IPL_NONE);
+	object = pool_get(&pool, PR_NOWAIT | PR_ZERO);
+	EXPECT(object != NULL && object[0] == 0 && object[23] == 0);
+	pool_put(&pool, object);
+	pool_destroy(&pool);
+}
 
 static int made, ended;
 
@@ -40,23 +133,9 @@ static void end(void *arg, void *object)
 	ended++;
 }
 
-static void test_memory(void)
+/* An object is constructed once, and the third one can't be. What was given back last is got first. */
+static void test_cache(void)
 {
-	size_t size = 0;
-	struct pool pool;
-	unsigned char *zeros = kmem_zalloc(100, KM_SLEEP);
-	for (unsigned i = 0; i < 100; i++)
-		EXPECT(zeros[i] == 0);
-	kmem_free(zeros, 100);
-	char *text = kmem_strdupsize("bridge", &size, KM_SLEEP);
-	EXPECT(size == 7 && strcmp(text, "bridge") == 0);
-	kmem_strfree(text);
-	EXPECT(kmem_intr_alloc(SIZE_MAX, KM_NOSLEEP) == NULL);
-	pool_init(&pool, 24, 8, 0, 0, "thingpl", NULL, IPL_NONE);
-	char *object = pool_get(&pool, PR_WAITOK | PR_ZERO);
-	EXPECT(object[23] == 0);
-	pool_put(&pool, object);
-	pool_destroy(&pool);
 	pool_cache_t cache = pool_cache_init(sizeof(int), 0, 0, 0, "intpl", NULL, IPL_NONE, make, end, &made);
 	void *first = pool_cache_get(cache, PR_WAITOK), *second = pool_cache_get(cache, PR_WAITOK);
 	EXPECT(first != NULL && second != NULL && pool_cache_get(cache, PR_WAITOK) == NULL);
@@ -67,6 +146,20 @@ static void test_memory(void)
 	pool_cache_put(cache, second);
 	pool_cache_destroy(cache);
 	EXPECT(ended == 2);
+}
+
+/* With PR_PSERIALIZE a reader still looks at an object that was given back; the end of the cache waits for such readers. */
+static void test_looked_at(void)
+{
+	static const int flags = PR_PSERIALIZE | PR_LARGECACHE | PR_NOTOUCH | PR_NOALIGN | PR_RECURSIVE;
+	pool_cache_t cache = pool_cache_init(sizeof(unsigned), 0, 0, (unsigned)flags, "lookpl", NULL, IPL_NONE, NULL, NULL, NULL);
+	unsigned *object = pool_cache_get(cache, PR_WAITOK | PR_LIMITFAIL);
+	int s = pserialize_read_enter();
+	*object = 5;
+	pool_cache_put(cache, object);
+	EXPECT(*object == 5);
+	pserialize_read_exit(s);
+	pool_cache_destroy(cache);
 }
 
 struct aligned {
@@ -96,89 +189,94 @@ static void test_alignment(void)
 	pool_destroy(&small);
 }
 
-/* ---- CPUs. ---- */
+/* ---- percpu(9), xcall(9), and counters. ---- */
 
-static void add_one(void *own, void *arg, struct cpu_info *cpu)
+enum { STAT_IN, STAT_OUT, STATS };
+
+static void sum_up(void *own, void *arg, struct cpu_info *cpu)
 {
-	EXPECT(arg == &plain && cpu_index(cpu) < KUPALDIZ_CPUS);
-	plain += *(unsigned *)own;
+	uint64_t *sums = arg, *counters = own;
+	EXPECT(cpu != NULL);
+	sums[STAT_IN] += counters[STAT_IN];
+	sums[STAT_OUT] += counters[STAT_OUT];
 }
 
-static void set_number(void *own, void *arg, struct cpu_info *cpu)
+static void count_visit(void *count, void *bound)
 {
-	*(unsigned *)own = arg == NULL ? cpu_index(cpu) : *(unsigned *)own;
+	*(unsigned *)count += bound == NULL && (curlwp->l_pflag & LP_BOUND) != 0;
+}
+
+static void test_counters(void)
+{
+	const percpu_callback_t look = sum_up;
+	const xcfunc_t visit = count_visit;
+	percpu_t *stats = percpu_alloc(STATS * sizeof(uint64_t));
+	uint64_t sums[STATS] = {0}, *own;
+	unsigned visits = 0;
+	_NET_STATINC(stats, STAT_IN);
+	_NET_STATADD(stats, STAT_OUT, 7);
+	_NET_STATDEC(stats, STAT_OUT);
+	own = _NET_STAT_GETREF(stats);
+	_NET_STATINC_REF(own, STAT_IN);
+	_NET_STATADD_REF(own, STAT_OUT, 4);
+	_NET_STAT_PUTREF(stats);
+	percpu_foreach(stats, look, sums);
+	EXPECT(sums[STAT_IN] == 2 && sums[STAT_OUT] == 10 && !kpreempt_disabled());
+	percpu_free(stats, STATS * sizeof(uint64_t));
+	xc_wait(xc_broadcast(XC_HIGHPRI_IPL(IPL_SOFTNET), visit, &visits, NULL));
+	EXPECT(visits == KUPALDIZ_CPUS);
 }
 
 /* How often each CPU was visited. */
 static unsigned visited[KUPALDIZ_CPUS];
 
-static void visit(void *arg, void *other)
+static void visit_cpu(void *high, void *other)
 {
-	EXPECT(arg == &pair && other == NULL && (curlwp->l_pflag & LP_BOUND) != 0);
-	pair[0]++;
+	EXPECT(other == NULL && (curlwp->l_pflag & LP_BOUND) != 0 && curlwp->l_cpu == curcpu() && kpreempt_disabled() == (high != NULL));
+	EXPECT(level_now() == (high != NULL ? IPL_SOFTSERIAL : IPL_NONE));
+	if (high == NULL)
+		kmem_free(kmem_alloc(8, KM_SLEEP), 8);
 	visited[cpu_number()]++;
+}
+
+/* With high priority the function has its CPU, at a level; without it may sleep. The thread is where it was once it has run, bound or not. */
+static void test_calls(void)
+{
+	kupaldiz_bind(3);
+	for (unsigned turn = 0; turn < 2; turn++) {
+		xc_wait(xc_broadcast(turn == 0 ? 0 : XC_HIGHPRI, visit_cpu, turn == 0 ? NULL : &visited, NULL));
+		EXPECT(cpu_number() == 3 && curlwp->l_cpu == kupaldiz_cpu(3) && (curlwp->l_pflag & LP_BOUND) != 0 && !kpreempt_disabled());
+	}
+	for (unsigned cpu = 0; cpu < KUPALDIZ_CPUS; cpu++)
+		EXPECT(visited[cpu] == 2);
+	kupaldiz_unbind();
+	xc_wait(xc_unicast(XC_HIGHPRI, visit_cpu, &visited, NULL, kupaldiz_cpu(KUPALDIZ_CPUS - 1)));
+	xc_wait(xc_unicast(0, visit_cpu, NULL, NULL, kupaldiz_cpu(0)));
+	EXPECT(visited[KUPALDIZ_CPUS - 1] == 3 && visited[0] == 3 && cpu_number() == 3 && (curlwp->l_pflag & LP_BOUND) == 0 && !kpreempt_disabled());
+	EXPECT(level_now() == IPL_NONE);
+	xc_barrier(0);
 }
 
 static void test_cpus(void)
 {
-	percpu_t *numbers = percpu_create(sizeof(unsigned), set_number, set_number, NULL);
-	unsigned *own = percpu_getref(numbers);
-	EXPECT(*own == cpu_number() && kpreempt_disabled());
-	percpu_putref(numbers);
-	plain = 0;
-	percpu_foreach(numbers, add_one, &plain);
-	percpu_foreach_xcall(numbers, XC_HIGHPRI, add_one, &plain);
-	EXPECT(plain == KUPALDIZ_CPUS * (KUPALDIZ_CPUS - 1));
-	percpu_free(numbers, sizeof(unsigned));
-	pair[0] = 0;
-	xc_wait(xc_broadcast(0, visit, &pair, NULL));
-	xc_wait(xc_broadcast(XC_HIGHPRI, visit, &pair, NULL));
-	for (unsigned cpu = 0; cpu < KUPALDIZ_CPUS; cpu++)
-		EXPECT(visited[cpu] == 2);
-	EXPECT(pair[0] == 2 * KUPALDIZ_CPUS);
-	xc_wait(xc_unicast(0, visit, &pair, NULL, kupaldiz_cpu(KUPALDIZ_CPUS - 1)));
-	EXPECT(pair[0] == 2 * KUPALDIZ_CPUS + 1 && visited[KUPALDIZ_CPUS - 1] == 3);
-	xc_barrier(0);
-	int s = splnet(), t = splsoftnet();
-	EXPECT(s == IPL_NONE && t == IPL_VM);
-	splx(t);
-	splx(s);
-}
-
-/* With high priority the function has its CPU, at a level; without it may sleep. */
-static void look_around(void *high, void *other)
-{
-	EXPECT(other == NULL && curlwp->l_cpu == curcpu() && kpreempt_disabled() == (high != NULL));
-	if (high == NULL)
-		kmem_free(kmem_alloc(8, KM_SLEEP), 8);
-	int s = splsoftclock();
-	EXPECT(s == (high != NULL ? IPL_SOFTSERIAL : IPL_NONE));
-	splx(s);
-}
-
-/* The thread is where it was when the function has run everywhere, bound or not. */
-static void test_back_from_calls(void)
-{
-	kupaldiz_bind(3);
-	xc_wait(xc_broadcast(0, look_around, NULL, NULL));
-	EXPECT(cpu_number() == 3 && curlwp->l_cpu == kupaldiz_cpu(3) && (curlwp->l_pflag & LP_BOUND) != 0 && !kpreempt_disabled());
-	xc_wait(xc_broadcast(XC_HIGHPRI, look_around, &pair, NULL));
-	EXPECT(cpu_number() == 3 && curlwp->l_cpu == kupaldiz_cpu(3) && (curlwp->l_pflag & LP_BOUND) != 0 && !kpreempt_disabled());
-	kupaldiz_unbind();
-	xc_wait(xc_unicast(XC_HIGHPRI, look_around, &pair, NULL, kupaldiz_cpu(5)));
-	xc_wait(xc_unicast(0, look_around, NULL, NULL, kupaldiz_cpu(0)));
-	EXPECT(cpu_number() == 3 && (curlwp->l_pflag & LP_BOUND) == 0 && !kpreempt_disabled());
-	int s = splsoftclock();
-	EXPECT(s == IPL_NONE);
-	splx(s);
+	struct cpu_info *cpu;
+	CPU_INFO_ITERATOR place;
+	int count = 0;
+	for (CPU_INFO_FOREACH(place, cpu))
+		EXPECT((int)cpu_index(cpu) == count++);
+	EXPECT(count == KUPALDIZ_CPUS && count == ncpu && pserialize_not_in_read_section());
 }
 
 /* Sections nest as deep as anybody likes, and counts and references are acquired in the deepest. */
 static void test_depth(void)
 {
-	enum { DEEP = 1000 };
+	enum { DEEP = 300 };
 	struct localcount count;
+	kmutex_t lock;
+	kcondvar_t cv;
 	static int levels[DEEP];
+	mutex_init(&lock, MUTEX_DEFAULT, IPL_NONE);
+	cv_init(&cv, "depth");
 	localcount_init(&count);
 	for (int i = 0; i < DEEP; i++)
 		EXPECT((levels[i] = pserialize_read_enter()) == i);
@@ -190,85 +288,113 @@ static void test_depth(void)
 	localcount_drain(&count, &cv, &lock);
 	mutex_exit(&lock);
 	localcount_fini(&count);
+	cv_destroy(&cv);
+	mutex_destroy(&lock);
 }
 
-/* ---- Callouts and threads. ---- */
+/* ---- kthread(9), callout(9), workqueue(9), time, and copies. ---- */
+
+BODY(run_once)
+{
+	EXPECT(strncmp(curlwp->l_name, "kind", 4) == 0 && cpu_number() == 4 && (curlwp->l_pflag & LP_BOUND) != 0);
+	atomic_inc_uint(arg);
+	kthread_exit(0);
+}
+
+/* Of threads that ended before each is joined once, by its own name. */
+static void test_threads(void)
+{
+	static const int kinds[] = {KTHREAD_INTR, KTHREAD_TS, KTHREAD_IDLE, KTHREAD_MPSAFE};
+	unsigned runs = 0;
+	lwp_t *threads[__arraycount(kinds)];
+	for (unsigned at = 0; at < __arraycount(kinds); at++) {
+		EXPECT(kthread_create(PRI_NONE, kinds[at] | KTHREAD_MUSTJOIN, kupaldiz_cpu(4), run_once, &runs, &threads[at], "kind%u", at) == 0);
+		while (atomic_load_relaxed(&runs) == at)
+			(void)kpause("join", false, 1, NULL);
+		for (unsigned other = 0; other < at; other++)
+			EXPECT(threads[other] != threads[at]);
+	}
+	for (unsigned at = 0; at < __arraycount(kinds); at++)
+		EXPECT(kthread_join(threads[at]) == 0);
+	EXPECT(runs == __arraycount(kinds));
+}
 
 static callout_t callout;
-static atomic_uint fired, in_body;
+static unsigned fired;
 
-static void fire(void *arg)
-{
-	EXPECT(arg == &fired && cpu_softintr_p() && callout_invoking(&callout));
-	callout_ack(&callout);
-	atomic_fetch_add(&in_body, 1);
-	mutex_enter(&lock);
-	mutex_exit(&lock);
-	atomic_fetch_add(&fired, 1);
-}
+HANDLER(fire, EXPECT(arg == &fired && cpu_softintr_p() && callout_invoking(&callout)); callout_ack(&callout); atomic_inc_uint(&fired))
 
-static void test_callouts(void)
+static void test_callout(void)
 {
 	callout_init(&callout, CALLOUT_MPSAFE);
-	callout_reset(&callout, 100000, fire, &fired);
-	EXPECT(callout_pending(&callout) && callout_active(&callout));
 	callout_reset(&callout, 1, fire, &fired);
-	await_least(&fired, 1);
+	while (atomic_load_acquire(&fired) == 0)
+		(void)kpause("callout", false, 1, NULL);
 	EXPECT(callout_expired(&callout) && !callout_pending(&callout) && !callout_invoking(&callout));
 	EXPECT(callout_stop(&callout) && !callout_expired(&callout));
 	callout_setfunc(&callout, fire, &fired);
 	callout_schedule(&callout, 100000);
-	EXPECT(!callout_stop(&callout) && !callout_pending(&callout));
-	/* It runs, and waits for the lock that the halt lets go of. */
-	mutex_enter(&lock);
-	callout_schedule(&callout, 1);
-	while (atomic_load(&in_body) == 1)
-		sleep_for(100);
-	EXPECT(atomic_load(&fired) == 1 && callout_halt(&callout, &lock) && atomic_load(&fired) == 2 && mutex_owned(&lock));
-	mutex_exit(&lock);
+	(void)callout_halt(&callout, NULL);	/* in the bench its time may have come */
+	EXPECT(!callout_pending(&callout) && !callout_active(&callout));
 	callout_destroy(&callout);
 }
 
-static void exit_at_once(void *arg)
+struct job {
+	unsigned number;
+	struct work work;
+};
+
+enum { JOBS = 20 };
+
+static unsigned jobs_done;
+
+static void do_job(struct work *work, void *arg)
 {
-	EXPECT(curlwp->l_name != NULL && strcmp(curlwp->l_name, "worker7") == 0 && cpu_number() == 4);
-	EXPECT((curlwp->l_pflag & LP_BOUND) != 0);
-	atomic_fetch_add((atomic_uint *)arg, 1);
-	kthread_exit(0);
+	struct job *job = container_of(work, struct job, work);
+	EXPECT(arg == &jobs_done && (strcmp(curlwp->l_name, "jobs") == 0 || strncmp(curlwp->l_name, "jobs/", 5) == 0));
+	EXPECT(strcmp(curlwp->l_name, "jobs") == 0 ? job->number == jobs_done : job->number % KUPALDIZ_CPUS == cpu_number());
+	atomic_inc_uint(&jobs_done);
+	kmem_free(job, sizeof(*job));
 }
 
-HANDLER(end_as, atomic_fetch_add((atomic_uint *)arg, 1); kthread_exit(0))
+HANDLER(enqueue_softly, workqueue_enqueue(*(struct workqueue **)arg, &((struct job *)kmem_intr_zalloc(sizeof(struct job), KM_NOSLEEP))->work, NULL))
 
-/* Of threads that ended long ago each is joined once, by its own name. */
-static void test_joins(void)
+/* Works are done in their order, or on their CPUs, and free themselves. The last of one queue is enqueued by a soft interrupt. */
+static void test_works(int flags)
 {
-	atomic_uint ran[4] = {0};
-	lwp_t *workers[4];
-	for (unsigned i = 0; i < 4; i++) {
-		EXPECT(kthread_create(PRI_NONE, KTHREAD_MUSTJOIN, NULL, end_as, &ran[i], &workers[i], "worker%u", i) == 0);
-		await_least(&ran[i], 1);
-		sleep_for(1000);
-		for (unsigned other = 0; other < i; other++)
-			EXPECT(workers[other] != workers[i]);
+	static struct workqueue *queue;
+	const bool each = (flags & WQ_PERCPU) != 0;
+	void *softint = softint_establish(SOFTINT_NET | SOFTINT_MPSAFE, enqueue_softly, &queue);
+	jobs_done = 0;
+	EXPECT(workqueue_create(&queue, "jobs", do_job, &jobs_done, PRI_SOFTNET, IPL_SOFTNET, flags) == 0);
+	kupaldiz_bind(0);
+	for (unsigned i = 0; i < JOBS; i++) {
+		struct job *job = kmem_zalloc(sizeof(*job), KM_SLEEP);
+		job->number = i;
+		workqueue_enqueue(queue, &job->work, each && i % KUPALDIZ_CPUS != 0 ? kupaldiz_cpu(i % KUPALDIZ_CPUS) : NULL);
 	}
-	for (unsigned i = 0; i < 4; i++)
-		EXPECT(kthread_join(workers[i]) == 0);
+	if (each)
+		softint_schedule(softint);
+	for (const unsigned all = JOBS + each; atomic_load_acquire(&jobs_done) < all;)
+		(void)kpause("jobs", false, 1, NULL);
+	kupaldiz_unbind();
+	workqueue_destroy(queue);
+	softint_disestablish(softint);
 }
 
-static void test_threads(void)
+static void test_time(void)
 {
-	atomic_uint ran = 0;
-	lwp_t *worker;
-	int before = getticks();
-	EXPECT(kthread_create(PRI_NONE, KTHREAD_MUSTJOIN | KTHREAD_MPSAFE, kupaldiz_cpu(4), exit_at_once, &ran, &worker, "worker%d", 7) == 0);
-	EXPECT(kthread_join(worker) == 0 && atomic_load(&ran) == 1);
-	EXPECT(kpause("wait", true, mstohz(20), NULL) == EWOULDBLOCK);
+	pri_t priorities[] = {PRI_NONE, PRI_IDLE, PRI_KERNEL, PRI_KTHREAD, PRI_BIO, PRI_IOFLUSH, PRI_VM, PRI_PGDAEMON, PRI_XCALL, PRI_USER_RT,
+	    PRI_KERNEL_RT, PRI_SOFTCLOCK, PRI_SOFTBIO, PRI_SOFTNET, PRI_SOFTSERIAL, PRI_COUNT};
+	time_t seconds = time_uptime;
+	int ticks = getticks();
+	for (size_t at = 1; at < sizeof(priorities) / sizeof(priorities[0]); at++)
+		EXPECT(priorities[at - 1] < priorities[at]);
+	EXPECT(kpause("wait", true, hz, NULL) == EWOULDBLOCK && hz == 100);
 	delay(100);
 	DELAY(1);
-	EXPECT(getticks() - before >= 1 && hz == 100);
+	EXPECT(getticks() - ticks >= hz && PRI_USER == PRI_IDLE && !cold && time_uptime - seconds >= 1 && time_uptime - seconds < 60);
 }
-
-/* ---- Copies. ---- */
 
 static void test_copies(void)
 {
@@ -294,22 +420,68 @@ static void test_empty_copies(void)
 	EXPECT(copyin(NULL, first, 0) == 0 && copyout(&here, NULL, 0) == 0 && copyin(&here, NULL, 0) == 0 && copyout(NULL, first, 0) == 0);
 }
 
+/* ---- module_hook(9). ---- */
+
+MODULE_HOOK(sum_hook, int, (int, int));
+struct sum_hook_t sum_hook;
+
+MODULE_HOOK(tell_hook, void, (void *));
+struct tell_hook_t tell_hook;
+
+static int sum(int one, int two)
+{
+	return one + two;
+}
+
+static int call_sum(int one, int two)
+{
+	int result;
+	MODULE_HOOK_CALL(sum_hook, (one, two), -1, result);
+	return result;
+}
+
+HANDLER(tell, atomic_inc_uint(arg))
+
+static unsigned call_tell(unsigned *calls)
+{
+	unsigned missed = 0;
+	MODULE_HOOK_CALL_VOID(tell_hook, (calls), missed++);
+	return missed;
+}
+
+static void test_void_hook(void)
+{
+	unsigned calls = 0;
+	EXPECT(call_tell(&calls) == 1 && calls == 0);
+	MODULE_HOOK_SET(tell_hook, tell);
+	EXPECT(call_tell(&calls) == 0 && calls == 1);
+	MODULE_HOOK_UNSET(tell_hook);
+}
+
+static void test_hook(void)
+{
+	for (unsigned turn = 0; turn < 3; turn++) {
+		EXPECT(call_sum(2, 3) == -1);
+		MODULE_HOOK_SET(sum_hook, sum);
+		EXPECT(call_sum(2, 3) == 5);
+		MODULE_HOOK_UNSET(sum_hook);
+	}
+}
+
+static void test_queue(void) { test_works(WQ_MPSAFE); }
+static void test_queues(void) { test_works(WQ_MPSAFE | WQ_PERCPU | WQ_FPU); }
+
+static void (*const kernel_tests[])(void) = {
+	test_levels, test_mutexes, test_memory, test_cache, test_looked_at, test_alignment, test_counters, test_calls, test_cpus, test_depth, test_threads,
+	test_callout, test_queue, test_queues, test_time, test_copies, test_empty_copies, test_hook, test_void_hook,
+};
+
+#ifndef KUPALDIZ_BENCH
 int main(void)
 {
-	mutex_init(&lock, MUTEX_DEFAULT, IPL_SOFTCLOCK);
-	cv_init(&cv, "kernel");
-	test_memory();
-	test_alignment();
-	test_cpus();
-	test_back_from_calls();
-	test_depth();
-	test_callouts();
-	test_threads();
-	test_joins();
-	test_copies();
-	test_empty_copies();
-	cv_destroy(&cv);
-	mutex_destroy(&lock);
+	for (unsigned at = 0; at < __arraycount(kernel_tests); at++)
+		kernel_tests[at]();
 	puts("the calls beside the three pages did as they say");
 	return 0;
 }
+#endif

@@ -10,6 +10,7 @@
 #include <sys/kmem.h>
 #include <sys/kthread.h>
 #include <sys/localcount.h>
+#include <sys/module_hook.h>
 #include <sys/mutex.h>
 #include <sys/percpu.h>
 #include <sys/pool.h>
@@ -18,9 +19,12 @@
 #include <sys/psref.h>
 #include <sys/rwlock.h>
 #include <sys/systm.h>
+#include <sys/workqueue.h>
 #include <sys/xcall.h>
 
 #include "stops.h"
+
+enum { ROWS = 32 };	/* of a registry, as layer.h has it */
 
 static struct psref_class *things;
 static struct psref_target target, other;
@@ -320,8 +324,8 @@ STOPS("psref_acquire: the target is not live, at PLACE",
 /* Bytes of anything name a row far beyond any registry; the first row of one that isn't there; one that no target ever had; and a count's. */
 STOPS("psref_acquire: the target is not live, at PLACE", memset(&target, 0xa5, sizeof(target)); psref_acquire(&psref, &target, things))
 STOPS("psref_acquire: the target is not live, at PLACE",
-    other.prt_serial = target.prt_serial; other.prt_row = REGISTRY_MOST_SLOTS; psref_acquire(&psref, &other, things))
-STOPS("psref_acquire: the target is not live, at PLACE", target.prt_row = REGISTRY_MOST_SLOTS - 1; psref_acquire(&psref, &target, things))
+    other.prt_serial = target.prt_serial; other.prt_row = ROWS; psref_acquire(&psref, &other, things))
+STOPS("psref_acquire: the target is not live, at PLACE", target.prt_row = ROWS - 1; psref_acquire(&psref, &target, things))
 STOPS("psref_acquire: the target is not live, at PLACE", target.prt_row = count.lc_row; psref_acquire(&psref, &target, things))
 /* A thread destroys the target and waits for a reference of CPU 0, which goes on acquiring. */
 STOPS("psref_acquire: the target is being destroyed, at PLACE",
@@ -340,7 +344,7 @@ STOPS("psref_target_init: it is live already, at PLACE",
     drain(NULL); localcount_fini(&count); memset(&target, 0, sizeof(target)); psref_target_init(&target, things))
 /* More are live than a registry takes. The last one's bytes are gone. */
 STOPS("psref_target_init: it is live already, at PLACE",
-    static struct psref_target many[REGISTRY_MOST_SLOTS + 8]; const unsigned last = sizeof(many) / sizeof(many[0]) - 1;
+    static struct psref_target many[ROWS + 8]; const unsigned last = sizeof(many) / sizeof(many[0]) - 1;
     for (unsigned at = 0; at <= last; at++)
 	    psref_target_init(&many[at], things);
     memset(&many[last], 0, sizeof(many[last])); psref_target_init(&many[last], things))
@@ -389,7 +393,7 @@ STOPS("localcount_fini: the count is not drained, at PLACE", count.lc_row = 1; l
 STOPS("localcount_fini: the count is not drained, at PLACE", drain(NULL); count.lc_serial = 7; localcount_fini(&count))
 STOPS("localcount_acquire: the count is not live, at PLACE", drain(NULL); count_in())
 STOPS("localcount_acquire: the count is not live, at PLACE", memset(&count, 0xa5, sizeof(count)); localcount_acquire(&count))
-STOPS("localcount_acquire: the count is not live, at PLACE", count.lc_row = REGISTRY_MOST_SLOTS; localcount_acquire(&count))
+STOPS("localcount_acquire: the count is not live, at PLACE", count.lc_row = ROWS; localcount_acquire(&count))
 /* A drain waits for a reference of this thread's, which goes on acquiring. */
 STOPS("localcount_acquire: the count is being drained, at PLACE",
     count_in(); start_alone(drain);
@@ -506,6 +510,7 @@ STOPS("kmem_zalloc: a block of no bytes, at PLACE", kmem_zalloc(0, KM_SLEEP))
 STOPS("kmem_alloc: neither KM_SLEEP nor KM_NOSLEEP alone, at PLACE", kmem_alloc(8, 0))
 STOPS("kmem_alloc: neither KM_SLEEP nor KM_NOSLEEP alone, at PLACE", kmem_alloc(8, KM_SLEEP | KM_NOSLEEP))
 STOPS("kmem_free: 64 bytes are given back of a block of 32, at PLACE", kmem_free(kmem_alloc(32, KM_SLEEP), 64))
+STOPS("kmem_free: 1 bytes are given back of a block of 2097152, at PLACE", kmem_free(kmem_alloc(1 << 21, KM_SLEEP), 1))
 STOPS("kmem_intr_free: 31 bytes are given back of a block of 32, at PLACE", kmem_intr_free(kmem_intr_zalloc(32, KM_NOSLEEP), 31))
 STOPS("kmem_free: no block, at PLACE", kmem_free(NULL, 8))
 STOPS("kmem_free: no block of kmem's, or one that was given back, at PLACE", static uint64_t words[8]; kmem_free(&words[4], 8))
@@ -524,6 +529,8 @@ static void end_object(void *arg, void *object)
 STOPS("pool_cache_put: no object of otherpl, or one that was given back, at PLACE",
     pool_cache_t ends = pool_cache_init(24, 0, 0, 0, "otherpl", NULL, IPL_NONE, NULL, end_object, NULL);
     pool_cache_put(ends, pool_cache_get(cache, PR_WAITOK)))
+STOPS("pool_cache_destroy: inside a read section, entered at PLACE, at PLACE",
+    cache = pool_cache_init(8, 0, 0, PR_PSERIALIZE, "lookpl", NULL, IPL_NONE, NULL, NULL, NULL); pserialize_read_enter(); pool_cache_destroy(cache))
 STOPS("percpu_free: 16 bytes are given back of 8, at PLACE", percpu_free(percpu, 16))
 STOPS("percpu_putref: without a percpu_getref, at PLACE", percpu_putref(percpu))
 STOPS("kmem_alloc: with preemption disabled, at PLACE", (void)percpu_getref(percpu); kmem_alloc(8, KM_SLEEP))
@@ -545,6 +552,46 @@ STOPS("xc_wait: no such call", xc_wait(0))
 STOPS("panic: it has run, at PLACE", xc_wait(xc_unicast(0, run_nothing, NULL, NULL, kupaldiz_cpu(1))); panic("it has run"))
 STOPS("xc_wait: no such call",
     xc_wait(xc_broadcast(0, run_nothing, NULL, NULL)); xc_wait(xc_unicast(0, run_nothing, NULL, NULL, kupaldiz_cpu(1))); xc_wait(3))
+
+/* ---- workqueue(9), module_hook(9). ---- */
+
+static struct workqueue *queue;
+static struct work first_work, second_work;
+
+#define WORK(name, ...)	static void name(struct work *work, void *arg) { (void)work; (void)arg; __VA_ARGS__; }
+
+WORK(work_long, sleep_for(20000000))
+WORK(work_raised, splsoftnet())
+WORK(destroy_own_queue, workqueue_destroy(queue))
+
+/* The queue's thread does the first work for long, or as a function says. */
+static void enqueue(void (*body)(struct work *, void *))
+{
+	EXPECT(workqueue_create(&queue, "queue", body, NULL, PRI_NONE, IPL_NONE, WQ_MPSAFE) == 0);
+	workqueue_enqueue(queue, &first_work, NULL);
+}
+
+STOPS("workqueue_enqueue: the work is enqueued already, at PLACE",
+    enqueue(work_long); workqueue_enqueue(queue, &second_work, NULL); workqueue_enqueue(queue, &second_work, NULL))
+STOPS("workqueue_enqueue: a CPU is named, and the queue is without WQ_PERCPU, at PLACE",
+    enqueue(work_long); workqueue_enqueue(queue, &second_work, kupaldiz_cpu(1)))
+STOPS("workqueue_enqueue: inside a read section, entered at PLACE, at PLACE",
+    enqueue(work_long); pserialize_read_enter(); workqueue_enqueue(queue, &second_work, NULL))
+STOPS("workqueue_wait: inside a read section, entered at PLACE, at PLACE",
+    enqueue(work_long); pserialize_read_enter(); workqueue_wait(queue, &first_work))
+STOPS("workqueue_destroy: a work is enqueued, at PLACE",
+    enqueue(work_long); workqueue_enqueue(queue, &second_work, NULL); workqueue_destroy(queue))
+STOPS("workqueue_destroy: in a function of the queue, at PLACE", enqueue(destroy_own_queue); sleep_for(20000000))
+STOPS("workqueue: the function returned at a raised level", enqueue(work_raised); sleep_for(20000000))
+
+MODULE_HOOK(no_hook, void, (void *));
+struct no_hook_t no_hook;
+
+STOPS("module_hook_set: the hook is set already, at PLACE", MODULE_HOOK_SET(no_hook, nothing); MODULE_HOOK_SET(no_hook, nothing))
+STOPS("module_hook_unset: the hook is not set, at PLACE", MODULE_HOOK_UNSET(no_hook))
+STOPS("module_hook_unset: the hook is not set, at PLACE", MODULE_HOOK_SET(no_hook, nothing); MODULE_HOOK_UNSET(no_hook); MODULE_HOOK_UNSET(no_hook))
+STOPS("module_hook_unset: inside a read section, entered at PLACE, at PLACE",
+    MODULE_HOOK_SET(no_hook, nothing); pserialize_read_enter(); MODULE_HOOK_UNSET(no_hook))
 
 /* ---- Threads, assertions, pauses. ---- */
 

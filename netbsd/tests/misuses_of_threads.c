@@ -1,15 +1,19 @@
 /*
- * misuses_of_threads - misuses that depend on a fork, on a cancellation, or on when a thread ends or joins, and the places that a line has where many were
- * noted: each case ends its process with its line
+ * misuses_of_threads - misuses that depend on a fork, on a cancellation, or on when a thread ends or joins; and the line itself: the places that it has
+ * where many were noted, the names of threads, and one that is too long or can't be written. Each case ends its process with its line
  *
- * The linker leads pthread_mutex_unlock here (--wrap): a thread may do something once it has given a lock back, while its call goes on. The last line
- * counts the cases.
+ * The linker leads here (--wrap) pthread_mutex_unlock, as a thread may do something once it has given a lock back, while its call goes on; pthread_create;
+ * write, open and close. The last line counts the cases.
  */
+#include <errno.h>
+#include <fcntl.h>
 #include <limits.h>
+#include <stdarg.h>
 #include <sys/cpu.h>
 #include <sys/intr.h>
 #include <sys/kthread.h>
 #include <sys/mutex.h>
+#include <sys/prctl.h>
 #include <sys/pserialize.h>
 #include <sys/psref.h>
 #include <sys/systm.h>
@@ -28,6 +32,57 @@ int __wrap_pthread_mutex_unlock(pthread_mutex_t *mutex)
 	if (does != NULL)
 		does();
 	return answer;
+}
+
+/* What runs on a thread of its own before the body of the next one that is started. */
+static _Atomic(void *(*)(void *)) comes_before;
+static void *(*comes_late)(void *);
+
+static void *begin_late(void *arg)
+{
+	on_thread(atomic_exchange(&comes_before, NULL));
+	return comes_late(arg);
+}
+
+int __wrap_pthread_create(pthread_t *thread, const pthread_attr_t *how, void *(*body)(void *), void *arg)
+{
+	if (atomic_load(&comes_before) == NULL || body == atomic_load(&comes_before))
+		return __real_pthread_create(thread, how, body, arg);
+	comes_late = body;
+	return __real_pthread_create(thread, how, begin_late, arg);
+}
+
+static bool is_full;	/* nothing can be written */
+static int file = -1;	/* that the layer has open */
+static const char *instead;	/* the file that the layer gets for each; NULL where it gets its own */
+/* No file is open any more where the line is written. */
+ssize_t __wrap_write(int to, const void *bytes, size_t length)
+{
+	EXPECT(file == -1);
+	if (!is_full)
+		return __real_write(to, bytes, length);
+	errno = ENOSPC;
+	return -1;
+}
+
+/* The layer opens files of /proc alone. No program that another thread starts meanwhile gets one. */
+int __wrap_open(const char *path, int how, ...)
+{
+	va_list more;
+	va_start(more, how);
+	unsigned mode = (how & O_CREAT) != 0 ? va_arg(more, unsigned) : 0;
+	va_end(more);
+	if (strncmp(path, "/proc/", 6) != 0)
+		return __real_open(path, how, mode);
+	EXPECT(file == -1 && (how & O_CLOEXEC) != 0);
+	return file = __real_open(instead == NULL ? path : instead, how);
+}
+
+int __wrap_close(int old)
+{
+	if (old == file)
+		file = -1;
+	return __real_close(old);
 }
 
 static kmutex_t lock, held;
@@ -106,6 +161,11 @@ STOPS("softint_schedule: the soft interrupt is not established, at PLACE",
 STOPS("softint_disestablish: the soft interrupt is not established, at PLACE",
     pthread_t ender; run_on_4(); start_thread(&ender, end_softint, NULL); on_thread(end_softint))
 
+/* The same while the thread for its handler begins. */
+HANDLER(run_never, (void)0)
+STOPS("softint_schedule: the soft interrupt is not established, at PLACE",
+    cookie = softint_establish(SOFTINT_NET, run_never, NULL); atomic_store(&comes_before, end_softint); softint_schedule(cookie))
+
 /* There is room for six places. One more begins anew: the call after the next one has none. */
 STOPS("mutex_enter: the thread has the lock already, taken at the seventh place",
     static const char *const places[] = {"the first place", "the second place", "the third place", "the fourth place", "the fifth place",
@@ -122,7 +182,62 @@ STOPS("mutex_destroy: the lock is held: thread \"misuses_of_thre\" took it at PL
 THREAD(assert_cancelled, EXPECT(pthread_cancel(pthread_self()) == 0); KASSERT(arg != NULL))
 STOPS("KASSERT: not so: arg != NULL, at PLACE", on_thread(assert_cancelled))
 
+/* ---- Lengths. ---- */
+
+enum { ROOM = 512, TEXT = 300, MOST = ROOM - 2 };	/* a line has MOST bytes, and its newline */
+
+static char long_text[TEXT + 1], long_place[MOST], whole[MOST + 1];
+
+/* The longest line that is written whole: a text of 300 bytes, and so long a place. */
+static size_t write_whole(void)
+{
+	memset(long_text, 'a', TEXT);
+	memset(long_place, 'b', sizeof(long_place) - 1);
+	size_t begun = (size_t)snprintf(whole, sizeof(whole), "KASSERT: not so: %s, at ", long_text);
+	memset(whole + begun, 'b', MOST - begun);
+	return MOST - begun;
+}
+
+static void say_with_place(size_t length)
+{
+	long_place[length] = '\0';
+	kupaldiz_failed("KASSERT", long_text, long_place);
+}
+STOPS(whole, say_with_place(write_whole()))
+STOPS(whole, say_with_place(write_whole() + 1))
+STOPS(whole, say_with_place(write_whole() + 2))
+/* What can't be written is told by the reason. */
+STOPS("KASSERT: No space left on device", is_full = true; kupaldiz_failed("KASSERT", "1 + 1 == 3", NULL))
+
+/* ---- Names. ---- */
+
+static atomic_bool ready;
+
+HANDLER(keep_lock, mutex_enter(&lock); atomic_store(&ready, true); sleep_for(20000000))
+THREAD(name_and_keep, EXPECT(prctl(PR_SET_NAME, arg) == 0); keep_lock(NULL))
+static void destroy_taken(void) { await_flag(&ready); mutex_destroy(&lock); }
+
+static void destroy_of(const char *name)
+{
+	pthread_t thread;
+	char text[16];
+	snprintf(text, sizeof(text), "%s", name);
+	start_thread(&thread, name_and_keep, text);
+	destroy_taken();
+}
+
+#define TAKEN_BY(name)	"mutex_destroy: the lock is held: thread \"" name "\" took it at PLACE, at PLACE"
+STOPS(TAKEN_BY("w"), EXPECT(kthread_create(PRI_NONE, 0, NULL, keep_lock, NULL, NULL, "w") == 0); destroy_taken())
+STOPS(TAKEN_BY("keeper"), destroy_of("keeper"))
+STOPS(TAKEN_BY("fifteen_letters"), destroy_of("fifteen_letters"))
+STOPS(TAKEN_BY(""), destroy_of(""))
+/* The first file that is opened then is the one of number 0. */
+STOPS(TAKEN_BY("keeper"), __real_close(STDIN_FILENO); destroy_of("keeper"))
+STOPS(TAKEN_BY("?"), instead = "/dev/null/none"; destroy_of("keeper"))
+STOPS(TAKEN_BY("?"), instead = "/dev/null"; destroy_of("keeper"))
+
 int main(void)
 {
+	write_whole();
 	return run_cases(begin);
 }

@@ -3,11 +3,12 @@
  *
  * Threads look objects up, nest sections, acquire, copy and release passive references, acquire local references and hand them on, schedule soft
  * interrupts, and take objects out. The model counts beside the layer: which sections are open, and how many references of each kind an object has. It
- * says what must hold when a call returns: after a perform each section that was open has ended, after a destroy or a drain no reference is
- * held, what was copied is held, and what is reached is not freed. An object's words are plain memory, so that the thread sanitizer, too, judges the order
+ * says what must hold when a call returns. A CPU has one thread's section at a time. After a perform each section that was open has ended. After a destroy
+ * or a drain no reference is held. What was copied is held, and what is reached is not freed. An object's words are plain memory, so that the thread sanitizer, too, judges the order
  * between the last use and the free.
  */
 #include <sys/condvar.h>
+#include <sys/cpu.h>
 #include <sys/intr.h>
 #include <sys/localcount.h>
 #include <sys/mutex.h>
@@ -40,6 +41,7 @@ static pserialize_t psz;
 static kmutex_t writer_lock, count_lock;
 static kcondvar_t drained;
 static _Atomic(struct object *) objects[OBJECTS];
+static atomic_bool entered[KUPALDIZ_CPUS];	/* a thread's section: no other one of this CPU is */
 static struct actor actors[THREADS];
 static _Atomic(struct object *) handed[HANDED];	/* local references on their way to whoever releases them */
 static atomic_uint performs, destroys, drains, copies, interrupts;
@@ -66,15 +68,19 @@ static int enter(struct actor *actor)
 {
 	int s = pserialize_read_enter();
 	EXPECT((unsigned)s == actor->sections_open);
-	if (actor->sections_open++ == 0)
+	if (actor->sections_open++ == 0) {
 		atomic_fetch_add(&actor->section, 1);
+		EXPECT(!atomic_exchange(&entered[cpu_number()], true));
+	}
 	return s;
 }
 
 static void leave(struct actor *actor, int s)
 {
-	if (--actor->sections_open == 0)
+	if (--actor->sections_open == 0) {
 		atomic_fetch_add(&actor->section, 1);
+		EXPECT(atomic_exchange(&entered[cpu_number()], false));
+	}
 	pserialize_read_exit(s);
 }
 
@@ -128,6 +134,7 @@ static void release(struct actor *actor)
 	EXPECT(psref_held(&object->target, objects_class));
 	atomic_fetch_sub(&object->passive, 1);
 	psref_release(&actor->held[place], &object->target, objects_class);
+	EXPECT(actor->held[place].psref_target == NULL);
 	actor->of[place] = NULL;
 	if (!inside)
 		return;
@@ -193,10 +200,9 @@ static void read_for_a_while(struct actor *actor)
 }
 
 /* A soft interrupt is a reader of its own. */
-static void interrupt(void *arg)
+BODY(interrupt)
 {
 	struct psref psref;
-	(void)arg;
 	int s = pserialize_read_enter();
 	EXPECT(s == 0);
 	struct object *object = atomic_load_explicit(&objects[cpu_number() % OBJECTS], memory_order_acquire);
@@ -251,7 +257,7 @@ static void end_object(struct actor *actor, struct object *object)
 			atomic_fetch_add(&drains, 1);
 		} else {
 			psref_target_destroy(&object->target, objects_class);
-			EXPECT(atomic_load(&object->passive) == 0);
+			EXPECT(atomic_load(&object->passive) == 0 && object->target.prt_class == NULL);
 			atomic_fetch_add(&destroys, 1);
 		}
 	}

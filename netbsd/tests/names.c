@@ -1,5 +1,5 @@
 /*
- * names - the names of names.txt that no driver and no other test uses: each does what its page says
+ * names - the names of names.txt that are no calls of the layer's: each does what its page says
  *
  * It is compiled as a driver's file is. The bench runs it too: explorer/tests/named.c.
  */
@@ -9,20 +9,13 @@ __KERNEL_RCSID(0, "$NetBSD$");
 #include <sys/param.h>
 #include <sys/systm.h>
 #include <sys/atomic.h>
-#include <sys/cpu.h>
+#include <sys/container_of.h>
 #include <sys/evcnt.h>
-#include <sys/intr.h>
-#include <sys/kmem.h>
+#include <sys/kernel.h>
 #include <sys/kthread.h>
 #include <sys/module.h>
-#include <sys/mutex.h>
-#include <sys/percpu.h>
-#include <sys/pool.h>
 #include <sys/pslist.h>
 #include <sys/queue.h>
-#include <sys/xcall.h>
-
-#include <net/net_stats.h>
 
 #include "test.h"
 
@@ -264,125 +257,7 @@ static void test_pslist(void)
 	PSLIST_DESTROY(&head);
 }
 
-/* ---- spl(9), and the levels' names. ---- */
-
-static int level_now(void)
-{
-	return splraiseipl(makeiplcookie(IPL_NONE));
-}
-
-/* Each name raises the level to its own, and splx lowers it again. */
-#define TEST_LEVEL(raise, level) \
-	do { \
-		int before = raise(); \
-		EXPECT(before == IPL_NONE && level_now() == (level) && kpreempt_disabled()); \
-		splx(before); \
-		EXPECT(level_now() == IPL_NONE && !kpreempt_disabled()); \
-	} while (0)
-
-static void test_levels(void)
-{
-	const ipl_cookie_t cookie = makeiplcookie(IPL_SOFTSERIAL);
-	int s;
-	TEST_LEVEL(splsoftclock, IPL_SOFTCLOCK);
-	TEST_LEVEL(splsoftbio, IPL_SOFTBIO);
-	TEST_LEVEL(splsoftnet, IPL_SOFTNET);
-	TEST_LEVEL(splsoftserial, IPL_SOFTSERIAL);
-	TEST_LEVEL(splvm, IPL_VM);
-	TEST_LEVEL(splnet, IPL_NET);
-	TEST_LEVEL(splbio, IPL_BIO);
-	TEST_LEVEL(spltty, IPL_TTY);
-	TEST_LEVEL(splclock, IPL_CLOCK);
-	TEST_LEVEL(splsched, IPL_SCHED);
-	TEST_LEVEL(splserial, IPL_SERIAL);
-	TEST_LEVEL(splhigh, IPL_HIGH);
-	s = splraiseipl(cookie);
-	EXPECT(s == IPL_NONE && level_now() == IPL_SOFTSERIAL && splvm() == IPL_SOFTSERIAL);
-	spl0();
-	EXPECT(level_now() == IPL_NONE && !kpreempt_disabled() && !cpu_intr_p());
-	EXPECT((SOFTINT_BIO | SOFTINT_MPSAFE) != SOFTINT_BIO && (SOFTINT_SERIAL & SOFTINT_LVLMASK) == SOFTINT_SERIAL);
-}
-
-/* ---- mutex(9): which lock spins. ---- */
-
-static void test_mutex(kmutex_type_t type, int level, bool spins)
-{
-	kmutex_t lock;
-	mutex_init(&lock, type, level);
-	mutex_enter(&lock);
-	EXPECT(mutex_owned(&lock) && kpreempt_disabled() == spins);
-	mutex_exit(&lock);
-	mutex_destroy(&lock);
-}
-
-static void test_mutexes(void)
-{
-	test_mutex(MUTEX_DEFAULT, IPL_NONE, false);
-	test_mutex(MUTEX_DEFAULT, IPL_SOFTNET, false);
-	test_mutex(MUTEX_DEFAULT, IPL_VM, true);
-	test_mutex(MUTEX_DRIVER, IPL_SOFTBIO, false);
-	test_mutex(MUTEX_DRIVER, IPL_BIO, true);
-	test_mutex(MUTEX_ADAPTIVE, IPL_NONE, false);
-	test_mutex(MUTEX_NODEBUG, IPL_SCHED, true);
-	test_mutex(MUTEX_SPIN, IPL_NONE, true);
-}
-
-/* ---- kmem(9), pool(9), percpu(9), xcall(9), and counters. ---- */
-
-static void test_memory(void)
-{
-	const km_flag_t flags = KM_NOSLEEP;
-	unsigned char *zeros = kmem_intr_zalloc(40, flags);
-	struct pool pool;
-	char *text;
-	void *object;
-	EXPECT(zeros != NULL && zeros[0] == 0 && zeros[39] == 0);
-	kmem_intr_free(zeros, 40);
-	text = kmem_strdup("bridge0", KM_SLEEP);
-	EXPECT(strcmp(text, "bridge0") == 0);
-	kmem_strfree(text);
-	pool_init(&pool, 24, 0, 0, 0, "thingpl", NULL, IPL_NONE);
-	object = pool_get(&pool, PR_NOWAIT | PR_ZERO);
-	EXPECT(object != NULL && *(uint64_t *)object == 0);
-	pool_put(&pool, object);
-	pool_destroy(&pool);
-}
-
-enum { STAT_IN, STAT_OUT, STATS };
-
-static void sum_up(void *own, void *arg, struct cpu_info *cpu)
-{
-	uint64_t *sums = arg, *counters = own;
-	EXPECT(cpu != NULL);
-	sums[STAT_IN] += counters[STAT_IN];
-	sums[STAT_OUT] += counters[STAT_OUT];
-}
-
-static void count_visit(void *count, void *bound)
-{
-	*(unsigned *)count += bound == NULL && (curlwp->l_pflag & LP_BOUND) != 0;
-}
-
-static void test_counters(void)
-{
-	const percpu_callback_t look = sum_up;
-	const xcfunc_t visit = count_visit;
-	percpu_t *stats = percpu_alloc(STATS * sizeof(uint64_t));
-	uint64_t sums[STATS] = {0}, *own;
-	unsigned visits = 0;
-	_NET_STATINC(stats, STAT_IN);
-	_NET_STATADD(stats, STAT_OUT, 7);
-	_NET_STATDEC(stats, STAT_OUT);
-	own = _NET_STAT_GETREF(stats);
-	_NET_STATINC_REF(own, STAT_IN);
-	_NET_STATADD_REF(own, STAT_OUT, 4);
-	_NET_STAT_PUTREF(stats);
-	percpu_foreach(stats, look, sums);
-	EXPECT(sums[STAT_IN] == 2 && sums[STAT_OUT] == 10 && !kpreempt_disabled());
-	percpu_free(stats, STATS * sizeof(uint64_t));
-	xc_wait(xc_broadcast(XC_HIGHPRI_IPL(IPL_SOFTNET), visit, &visits, NULL));
-	EXPECT(visits == KUPALDIZ_CPUS);
-}
+/* ---- evcnt(9). ---- */
 
 static struct evcnt events[2] = {EVCNT_INITIALIZER(EVCNT_TYPE_TRAP, NULL, "named", "first"), EVCNT_INITIALIZER(EVCNT_TYPE_MISC, &events[0], "named", "second")};
 EVCNT_ATTACH_STATIC2(events, 1);
@@ -398,21 +273,7 @@ static void test_events(void)
 	evcnt_detach(&events[1]);
 }
 
-/* ---- kthread(9) and module(9). ---- */
-
-HANDLER(run_once, atomic_inc_uint(arg); kthread_exit(0))
-
-static void test_threads(void)
-{
-	static const int kinds[] = {KTHREAD_INTR, KTHREAD_TS, KTHREAD_IDLE};
-	unsigned runs = 0;
-	lwp_t *made;
-	for (unsigned at = 0; at < __arraycount(kinds); at++) {
-		EXPECT(kthread_create(PRI_NONE, kinds[at] | KTHREAD_MUSTJOIN, NULL, run_once, &runs, &made, "kind%u", at) == 0);
-		EXPECT(kthread_join(made) == 0);
-	}
-	EXPECT(runs == __arraycount(kinds));
-}
+/* ---- module(9). ---- */
 
 MODULE(MODULE_CLASS_DRIVER, named, NULL);
 
@@ -482,7 +343,7 @@ static void test_numbers(void)
 	EXPECT(mstohz(21) == 3 && hztoms(3) == 30 && nullop(NULL) == 0);
 }
 
-static void test_all(void)
+static void test_names(void)
 {
 	test_atomics();
 	test_pointers();
@@ -492,12 +353,7 @@ static void test_all(void)
 	test_stailq();
 	test_tailq();
 	test_pslist();
-	test_levels();
-	test_mutexes();
-	test_memory();
-	test_counters();
 	test_events();
-	test_threads();
 	test_module();
 	test_words();
 	test_numbers();
@@ -506,7 +362,7 @@ static void test_all(void)
 #ifndef KUPALDIZ_BENCH
 int main(void)
 {
-	test_all();
+	test_names();
 	puts("each name did what its page says");
 	return 0;
 }

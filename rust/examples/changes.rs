@@ -3,22 +3,13 @@
 //! The calls and their order are those of `registry_bench changes`; `bench/README.md` of the repository says what one is. It prints a line as that
 //! program does.
 
-use kupaldiz::{Cpu, Freed, Holder, Kind, LocalRef, Name, Patience, Refusal, Refused, Registry, Settings, LIMITS};
+use kupaldiz::{Cpu, Freed, Holder, Kind, LocalRef, Name, Patience, Refusal, Refused, Registry, Settings};
 use std::error::Error;
 use std::time::Instant;
 
 /// So many entries stay in the list; all other slots are given and freed again and again.
 const STAYING: usize = 8;
-const SLOTS: u8 = LIMITS.slots as u8;
-const MOST_ROUNDS: u32 = 20_000;
-
-/// The nanoseconds that all attaches, all detaches and all turns that freed a slot took.
-#[derive(Default)]
-struct Replaced {
-    attach: f64,
-    detach: f64,
-    freed: f64,
-}
+const SLOTS: u8 = 32;
 
 /// The nanoseconds from one instant to another.
 fn nanoseconds(began: Instant, ended: Instant) -> f64 {
@@ -41,10 +32,9 @@ fn attach_each(registry: &Registry<u64>, cpu: &Cpu<u64>, names: &[Name]) -> Resu
     Ok(())
 }
 
-/// Gives all slots that are left and frees them, so many times.
-fn replace_all(registry: &Registry<u64>, cpu: &Cpu<u64>, names: &[Name], count: u32) -> Result<Replaced, Refusal> {
-    let mut replaced = Replaced::default();
-    let mut gone = Vec::with_capacity(names.len());
+/// Gives all slots that are left and frees them, so many times. The nanoseconds that all attaches, all detaches and all turns took.
+fn replace_all(registry: &Registry<u64>, cpu: &Cpu<u64>, names: &[Name], count: u32) -> Result<[f64; 3], Refusal> {
+    let (mut took, mut gone) = ([0.0; 3], Vec::with_capacity(names.len()));
     for _ in 0..count {
         let began = Instant::now();
         attach_each(registry, cpu, names)?;
@@ -57,11 +47,10 @@ fn replace_all(registry: &Registry<u64>, cpu: &Cpu<u64>, names: &[Name], count: 
             let freed: Freed<u64> = retired.advance()?;
             assert!(freed.value < u64::from(SLOTS));
         }
-        replaced.attach += nanoseconds(began, attached);
-        replaced.detach += nanoseconds(attached, detached);
-        replaced.freed += nanoseconds(detached, Instant::now());
+        let times = [began, attached, detached, Instant::now()];
+        took.iter_mut().zip(times.windows(2)).for_each(|(sum, pair)| *sum += nanoseconds(pair[0], pair[1]));
     }
-    Ok(replaced)
+    Ok(took)
 }
 
 /// The nanoseconds of so many turns on an entry that a section of the other CPU holds, and of as many while a local reference does.
@@ -89,7 +78,7 @@ fn run(count: u32) -> Result<(), Box<dyn Error>> {
     let (registry, cpus) = Registry::open(Settings::new(2, SLOTS))?;
     let (staying, changing) = names.split_at(STAYING);
     attach_each(&registry, &cpus[0], staying)?;
-    let replaced = replace_all(&registry, &cpus[0], changing, count)?;
+    let [attach, detach, freed] = replace_all(&registry, &cpus[0], changing, count)?;
     let (grace, local) = meet_all(&registry, &cpus, &changing[0], count)?;
     let perform = time(count, || registry.perform(&cpus[0], Patience::Turns(1)))?;
     let audit = time(count, || {
@@ -97,7 +86,6 @@ fn run(count: u32) -> Result<(), Box<dyn Error>> {
         Ok(())
     })?;
     let (each, many) = (f64::from(count), f64::from(count) * changing.len() as f64);
-    let Replaced { attach, detach, freed } = replaced;
     print!("changes {count} attach {:.1} detach {:.1} freed {:.1}", attach / many, detach / many, freed / many);
     print!(" grace {:.1} local {:.1}", grace / each, local / each);
     println!(" perform {:.1} audit {:.1}", perform / each, audit / each);
@@ -107,10 +95,7 @@ fn run(count: u32) -> Result<(), Box<dyn Error>> {
 fn main() -> Result<(), Box<dyn Error>> {
     let words: Vec<String> = std::env::args().collect();
     match &words[..] {
-        [_, count] => match count.parse() {
-            Ok(count @ 1..=MOST_ROUNDS) => run(count),
-            _ => Err("usage: changes COUNT".into()),
-        },
+        [_, count] => run(count.parse()?),
         _ => Err("usage: changes COUNT".into()),
     }
 }

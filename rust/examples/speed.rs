@@ -5,7 +5,7 @@
 //! reference by one call, reads what the entry carries, and releases it. `local` releases each local reference on the CPU, and `dropped` drops it and has the
 //! CPU release it then. The operations are those of `bench/` of the repository, whose README says what one is. It prints a line as the programs there do.
 
-use kupaldiz::{Cpu, Found, Kind, LocalRef, Name, PassiveRef, Refusal, Registry, Section, Settings, LIMITS};
+use kupaldiz::{Cpu, Found, Kind, LocalRef, Name, PassiveRef, Refusal, Registry, Section, Settings};
 use std::error::Error;
 use std::sync::Barrier;
 use std::thread;
@@ -33,10 +33,6 @@ fn finds(section: &Section<'_, u64>, name: &Name, value: u64) -> bool {
     section.find(Kind::Driver, name).map_or(false, |found| *found == value)
 }
 
-fn lookups(cpu: &Cpu<u64>, names: &[Name], count: u64) -> Result<u64, Refusal> {
-    each(names, count, |name, value| Ok(finds(&cpu.enter()?, name, value)))
-}
-
 fn batches(cpu: &Cpu<u64>, names: &[Name], count: u64) -> Result<u64, Refusal> {
     let (mut section, mut left) = (None, 0);
     each(names, count, |name, value| {
@@ -49,30 +45,6 @@ fn batches(cpu: &Cpu<u64>, names: &[Name], count: u64) -> Result<u64, Refusal> {
     })
 }
 
-fn plain_lookups(cpu: &Cpu<u64>, names: &[Name], count: u64) -> Result<u64, Refusal> {
-    each(names, count, |name, value| {
-        let section = cpu.enter()?;
-        let found = section.find(Kind::Driver, name);
-        Ok(found.map_or(false, |found| Found::entry(&found).number == value + 1))
-    })
-}
-
-fn reads(cpu: &Cpu<u64>, names: &[Name], count: u64) -> Result<u64, Refusal> {
-    each(names, count, |name, value| Ok(*cpu.read(Kind::Driver, name)? == value))
-}
-
-fn lookups_at_once(cpu: &Cpu<u64>, names: &[Name], count: u64) -> Result<u64, Refusal> {
-    each(names, count, |name, value| Ok(cpu.look_up(Kind::Driver, name)?.number == value + 1))
-}
-
-fn gets(cpu: &Cpu<u64>, names: &[Name], count: u64) -> Result<u64, Refusal> {
-    each(names, count, |name, value| Ok(*cpu.get(Kind::Driver, name)? == value))
-}
-
-fn walks(cpu: &Cpu<u64>, names: &[Name], count: u64) -> Result<u64, Refusal> {
-    each(names, count, |_, _| Ok(cpu.enter()?.entries().count() == names.len()))
-}
-
 /// One operation for each of so many times, on an entry that a section found.
 #[inline(always)]
 fn on_found(cpu: &Cpu<u64>, name: &Name, count: u64, operate: impl Fn(&Found<u64>) -> Result<(), Refusal>) -> Result<u64, Refusal> {
@@ -82,21 +54,31 @@ fn on_found(cpu: &Cpu<u64>, name: &Name, count: u64, operate: impl Fn(&Found<u64
     Ok(count)
 }
 
-fn passives(cpu: &Cpu<u64>, names: &[Name], count: u64) -> Result<u64, Refusal> {
-    on_found(cpu, &names[0], count, |found| Found::acquire(found).map(PassiveRef::release).map_err(Refusal::from))
-}
-
-fn locals(cpu: &Cpu<u64>, names: &[Name], count: u64) -> Result<u64, Refusal> {
-    on_found(cpu, &names[0], count, |found| Ok(LocalRef::release(Found::acquire_local(found)?, cpu)?))
-}
-
-fn drops(cpu: &Cpu<u64>, names: &[Name], count: u64) -> Result<u64, Refusal> {
-    on_found(cpu, &names[0], count, |found| {
-        drop(Found::acquire_local(found)?);
-        cpu.release_dropped();
-        Ok(())
-    })
-}
+/// Each kind of operation, by its name in the line.
+const KINDS: [(&str, Operations); 10] = [
+    ("lookup", |cpu, names, count| each(names, count, |name, value| Ok(finds(&cpu.enter()?, name, value)))),
+    ("batch", batches),
+    ("passive", |cpu, names, count| on_found(cpu, &names[0], count, |found| Ok(Found::acquire(found).map(PassiveRef::release)?))),
+    ("local", |cpu, names, count| on_found(cpu, &names[0], count, |found| Ok(LocalRef::release(Found::acquire_local(found)?, cpu)?))),
+    ("plain", |cpu, names, count| {
+        each(names, count, |name, value| {
+            let section = cpu.enter()?;
+            let found = section.find(Kind::Driver, name);
+            Ok(found.map_or(false, |found| Found::entry(&found).number == value + 1))
+        })
+    }),
+    ("walk", |cpu, names, count| each(names, count, |_, _| Ok(cpu.enter()?.entries().count() == names.len()))),
+    ("read", |cpu, names, count| each(names, count, |name, value| Ok(*cpu.read(Kind::Driver, name)? == value))),
+    ("look_up", |cpu, names, count| each(names, count, |name, value| Ok(cpu.look_up(Kind::Driver, name)?.number == value + 1))),
+    ("get", |cpu, names, count| each(names, count, |name, value| Ok(*cpu.get(Kind::Driver, name)? == value))),
+    ("dropped", |cpu, names, count| {
+        on_found(cpu, &names[0], count, |found| {
+            drop(Found::acquire_local(found)?);
+            cpu.release_dropped();
+            Ok(())
+        })
+    }),
+];
 
 /// The nanoseconds that an operation takes its thread: the time from the first thread's first to the last thread's last, over the operations
 /// of one thread. Each thread makes some before, which don't count, and begins when all have.
@@ -125,18 +107,15 @@ fn nanoseconds_each(cpus: &mut [Cpu<u64>], names: &[Name], make: Operations, cou
 
 fn run(threads: u8, entries: u8, count: u64) -> Result<(), Box<dyn Error>> {
     let names: Vec<Name> = (0..entries).map(|i| Name::parse(&format!("d{i:02}"))).collect::<Result<_, _>>()?;
-    let (registry, mut cpus) = Registry::open(Settings::new(threads, LIMITS.slots as u8))?;
+    let (registry, mut cpus) = Registry::open(Settings::new(threads, entries.max(32)))?;
     for (value, name) in (0..).zip(&names) {
         registry.attach(&cpus[0], name, value)?;
     }
-    let mut time = |make| nanoseconds_each(&mut cpus, &names, make, count);
-    print!("threads {threads} entries {entries} lookup {:.2}", time(lookups)?);
-    print!(" batch {:.2}", time(batches)?);
-    print!(" passive {:.2} local {:.2}", time(passives)?, time(locals)?);
-    print!(" plain {:.2} walk {:.2}", time(plain_lookups)?, time(walks)?);
-    print!(" read {:.2}", time(reads)?);
-    print!(" look_up {:.2} get {:.2}", time(lookups_at_once)?, time(gets)?);
-    println!(" dropped {:.2}", time(drops)?);
+    print!("threads {threads} entries {entries}");
+    for (what, make) in KINDS {
+        print!(" {what} {:.2}", nanoseconds_each(&mut cpus, &names, make, count)?);
+    }
+    println!();
     Ok(())
 }
 

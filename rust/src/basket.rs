@@ -28,13 +28,12 @@ pub struct Baskets {
     filled: Filled,
 }
 
-impl Default for Baskets {
-    fn default() -> Baskets {
-        Baskets { of_slot: (0..ffi::MOST_SLOTS).map(|_| Basket::default()).collect(), filled: Filled::default() }
-    }
-}
-
 impl Baskets {
+    /// Of a registry with so many slots.
+    pub fn new(slots: usize) -> Baskets {
+        Baskets { of_slot: (0..slots).map(|_| Basket::default()).collect(), filled: Filled::default() }
+    }
+
     /// Lays a reference in, which is to the entry in this slot. Where there is no memory for it, it is held for good: nobody is misled.
     pub fn lay(&self, slot: usize, mut local: ffi::Local) {
         let mut dropped = locked(&self.of_slot[slot].dropped);
@@ -46,7 +45,7 @@ impl Baskets {
         }
         dropped.push(local);
         if dropped.len() == 1 {
-            // As `Tasks::note` needs it.
+            // As `Tasks::poll` needs it.
             self.filled.words[slot / 64].fetch_or(1 << (slot % 64), Ordering::SeqCst);
         }
     }
@@ -73,7 +72,7 @@ impl Baskets {
 
     /// The slots that have something.
     pub fn slots(&self) -> impl Iterator<Item = usize> + '_ {
-        (0..ffi::MOST_SLOTS).filter(move |slot| self.has(*slot))
+        (0..self.of_slot.len()).filter(move |slot| self.has(*slot))
     }
 
     /// How many lie in all baskets.
@@ -97,10 +96,10 @@ mod tests {
     use super::Baskets;
     use crate::ffi;
 
-    /// Also the last one, in a build with more slots than a word has bits.
+    /// Also the last one, with more slots than a word has bits.
     #[test]
     fn each_slot_has_a_list_that_is_taken_whole() {
-        let baskets = Baskets::default();
+        let baskets = Baskets::new(ffi::MOST_SLOTS);
         for slot in [0, 5, ffi::MOST_SLOTS - 1] {
             assert!(!baskets.has_any());
             (0..100).for_each(|_| baskets.lay(slot, ffi::Local::EMPTY));

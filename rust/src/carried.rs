@@ -90,20 +90,6 @@ impl<T> Carried<T> {
         Carried { at: word as usize as *mut Block<T> }
     }
 
-    /// The value.
-    ///
-    /// # Safety
-    ///
-    /// It was attached with an entry, and something holds that entry for as long as the reference lives: an open section that found it, or a
-    /// reference that was acquired to it.
-    #[inline]
-    unsafe fn get<'a>(self) -> &'a T {
-        // SAFETY: the address is that of a block.
-        let value = unsafe { ptr::addr_of!((*self.at).value) };
-        // SAFETY: nobody takes nor writes the value as long as something holds the entry.
-        unsafe { &*value }
-    }
-
     /// The value, out of its block, which is freed.
     ///
     /// # Safety
@@ -136,12 +122,6 @@ impl Plain {
     pub fn entry(&self) -> Entry {
         Entry { number: self.number, slot: self.slot, kind: self.kind, name: Name::of_words(self.name) }
     }
-
-    /// The kind and the name, as C has them.
-    #[inline]
-    pub fn key(&self) -> (u64, &ffi::Name) {
-        (self.kind.number(), &self.name)
-    }
 }
 
 /// An entry as C wrote it, with the address of what it carries.
@@ -155,6 +135,13 @@ impl<T> Record<T> {
     pub fn of(entry: &ffi::Entry) -> Record<T> {
         let plain = Plain { number: entry.number, name: entry.name, slot: entry.slot as u8, kind: Kind::of(entry.kind), ticket: 0 };
         Record { plain, carried: Carried::of_word(entry.value) }
+    }
+
+    /// The entry as C has it.
+    #[inline]
+    pub fn to_c(self) -> ffi::Entry {
+        let Plain { number, name, slot, kind, .. } = self.plain;
+        ffi::Entry { number, slot: u64::from(slot), kind: kind.number(), name, value: self.carried.word() }
     }
 
     /// The record that a call writes where it is done; or the call's answer.
@@ -179,7 +166,9 @@ impl<T> Record<T> {
     /// Something holds the entry for as long as the reference lives: an open section that found it, or a reference that was acquired to it.
     #[inline]
     pub unsafe fn value<'a>(&self) -> &'a T {
-        // SAFETY: the value of each entry of a registry whose entries carry a `T` is the address of one that was attached with it.
-        unsafe { self.carried.get() }
+        // SAFETY: the address is that of a block: each entry of a registry whose entries carry a `T` was attached with one.
+        let value = unsafe { ptr::addr_of!((*self.carried.at).value) };
+        // SAFETY: nobody takes nor writes the value as long as something holds the entry.
+        unsafe { &*value }
     }
 }

@@ -100,25 +100,10 @@ impl<T> Registry<T> {
     /// `OtherRegistry`, `Inside`, `NotFound`.
     pub fn detach(&self, cpu: &Cpu<T>, kind: Kind, name: &Name) -> Result<Retired<T>, DetachError> {
         self.tidy(cpu)?;
-        self.detach_by(&mut self.shared.kept(), cpu, kind, name).map_err(DetachError::of)
+        self.detach_by(&mut self.shared.kept(), cpu, kind, name)
     }
 
     /// Detaches this entry, as [`detach`](Registry::detach) does, if it is still live. Another entry that has its kind and name by now stays.
-    ///
-    /// ```
-    /// use kupaldiz::{DetachError, Found, Kind, Name, Registry, Settings};
-    ///
-    /// let (registry, cpus) = Registry::open(Settings::new(1, 4)).unwrap();
-    /// let wm = Name::parse("wm").unwrap();
-    /// registry.attach(&cpus[0], &wm, 7).unwrap();
-    /// let section = cpus[0].enter().unwrap();
-    /// let listed: Vec<_> = section.entries().map(|found| Found::entry(&found)).collect();
-    /// section.exit();
-    /// registry.retire(&cpus[0], Kind::Driver, &wm).unwrap();
-    /// registry.attach(&cpus[0], &wm, 8).unwrap();
-    /// assert_eq!(registry.detach_entry(&cpus[0], &listed[0]).unwrap_err(), DetachError::NotFound);
-    /// assert_eq!(*cpus[0].get(Kind::Driver, &wm).unwrap(), 8);
-    /// ```
     ///
     /// # Errors
     ///
@@ -126,8 +111,8 @@ impl<T> Registry<T> {
     pub fn detach_entry(&self, cpu: &Cpu<T>, entry: &Entry) -> Result<Retired<T>, DetachError> {
         self.tidy(cpu)?;
         let mut kept = self.shared.kept();
-        if cpu.is_inside() || kept.has_live(|live| live == entry) {
-            self.detach_by(&mut kept, cpu, entry.kind, &entry.name).map_err(DetachError::of)
+        if cpu.is_inside() || kept.all_live().iter().any(|live| live.entry() == *entry) {
+            self.detach_by(&mut kept, cpu, entry.kind, &entry.name)
         } else {
             Err(DetachError::NotFound)
         }
@@ -172,61 +157,36 @@ impl<T> Registry<T> {
 
     /// Makes the change under one hold of the interlock. If it is refused, nothing has changed.
     fn make(&self, new: &mut New<'_, T>, carried: Carried<T>) -> Result<Made<T>, AttachError> {
-        let mut kept = self.shared.kept();
-        let old = if new.replaces { Some(self.detach_old(&mut kept, new)?) } else { None };
-        let made = self.attach_new(&mut kept, new, carried);
-        // The token may be dropped, which takes the interlock.
-        drop(kept);
-        Ok(Made(made?, old))
-    }
-
-    /// Detaches the entry that is replaced, after it has tested all that may refuse the attach.
-    fn detach_old(&self, kept: &mut Kept<T>, new: &New<'_, T>) -> Result<Retired<T>, AttachError> {
-        if new.cpu.is_inside() {
-            return Err(AttachError::Inside);
-        }
-        let kind = match &new.driver {
-            Some(driver) if LocalRef::entry(driver).kind != Kind::Driver => return Err(AttachError::NeedsDriver),
-            Some(_) => Kind::Iface,
-            None => Kind::Driver,
-        };
-        if !kept.has_live(|live| (live.kind, &live.name) == (kind, new.name)) {
-            return Err(AttachError::NotFound);
-        }
-        kept.check_room(&self.settings())?;
-        self.detach_by(kept, new.cpu, kind, new.name).map_err(AttachError::of)
-    }
-
-    fn attach_new(&self, kept: &mut Kept<T>, new: &mut New<'_, T>, carried: Carried<T>) -> Result<Entry, AttachError> {
-        let (keeper, cpu, name, word) = (&mut kept.keeper, new.cpu.handle(), &new.name.words, carried.word());
-        let call = |made: *mut ffi::Entry| match &mut new.driver {
-            // SAFETY: the keeper is locked, the CPU is this thread's, both are of one registry, and their handles aren't empty. The reference is of the same
-            // registry, and this is the only use of its handle. It is empty afterwards if the call is done, so dropping the reference releases nothing.
-            Some(driver) => unsafe { ffi::registry_attach_iface(keeper, cpu, driver.handle(), name, word, made) },
-            // SAFETY: as above, without a reference.
-            None => unsafe { ffi::registry_attach(keeper, cpu, name, word, made) },
-        };
+        let (mut kept, mut gone) = (self.shared.kept(), ffi::Entry::default());
+        // SAFETY: the keeper is locked, and of this registry, as the CPU and the driver are.
+        let call = |made: *mut ffi::Entry| unsafe { new.attach(&mut kept.keeper, carried.word(), &mut gone, made) };
         // SAFETY: the call is an attach, which registry.h says writes the entry, to this registry.
         let made = unsafe { Record::<T>::written(call) }.map_err(AttachError::of)?.plain;
+        let old = new.replaces.then(|| self.detached(&mut kept, &Record::of(&gone)));
         // SAFETY: the call has attached the entry with the value's address.
         unsafe { kept.note(made, carried) };
         if let Some(driver) = &new.driver {
-            self.shared.noted(|notes| notes.kept(driver.ticket(), made.number));
+            self.shared.noted(|notes| notes.kept(driver.record.plain.ticket, made.number));
         }
-        Ok(made.entry())
+        Ok(Made(made.entry(), old))
     }
 
     /// Detaches under the interlock.
-    fn detach_by(&self, kept: &mut Kept<T>, cpu: &Cpu<T>, kind: Kind, name: &Name) -> Result<Retired<T>, u32> {
+    fn detach_by(&self, kept: &mut Kept<T>, cpu: &Cpu<T>, kind: Kind, name: &Name) -> Result<Retired<T>, DetachError> {
         let keeper = &mut kept.keeper;
         // SAFETY: the keeper is locked, the CPU is this thread's, both are of one registry, and their handles aren't empty.
         let call = |gone: *mut ffi::Entry| unsafe { ffi::registry_detach(keeper, cpu.handle(), kind.number(), &name.words, gone) };
         // SAFETY: registry.h says of a detach that it writes the entry.
-        let gone = unsafe { Record::<T>::written(call) }?;
+        let gone = unsafe { Record::written(call) }.map_err(DetachError::of)?;
+        Ok(self.detached(kept, &gone))
+    }
+
+    /// The token of an entry that was just detached under the interlock.
+    fn detached(&self, kept: &mut Kept<T>, gone: &Record<T>) -> Retired<T> {
         kept.retire(gone.plain.number);
         self.shared.noted(|notes| notes.detached(gone.plain.number));
         // SAFETY: the entry was just detached.
-        Ok(unsafe { Retired::new(Arc::clone(&self.shared), gone.carried) })
+        unsafe { Retired::new(Arc::clone(&self.shared), gone.carried) }
     }
 }
 
@@ -236,6 +196,28 @@ struct New<'a, T> {
     name: &'a Name,
     driver: Option<&'a mut LocalRef<T>>,
     replaces: bool,
+}
+
+impl<T> New<'_, T> {
+    /// Makes the call of registry.h, which writes the entry that was attached, and the one that it replaces, if there is one.
+    ///
+    /// # Safety
+    ///
+    /// The keeper is locked, and the CPU and the driver are of its registry.
+    unsafe fn attach(&mut self, keeper: &mut ffi::Keeper, word: u64, gone: *mut ffi::Entry, made: *mut ffi::Entry) -> u32 {
+        let (cpu, name) = (self.cpu.handle(), &self.name.words);
+        match (self.driver.as_mut().map(|driver| &mut driver.handle), self.replaces) {
+            // SAFETY: as the caller says. The CPU is this thread's, and no handle is empty. This is the only use of the reference's handle. It is
+            // empty afterwards if the call is done, so dropping the reference releases nothing.
+            (Some(driver), true) => unsafe { ffi::registry_replace_iface(keeper, cpu, driver, name, word, gone, made) },
+            // SAFETY: as above.
+            (Some(driver), false) => unsafe { ffi::registry_attach_iface(keeper, cpu, driver, name, word, made) },
+            // SAFETY: as above, without a reference.
+            (None, true) => unsafe { ffi::registry_replace(keeper, cpu, name, word, gone, made) },
+            // SAFETY: as above, without a reference.
+            (None, false) => unsafe { ffi::registry_attach(keeper, cpu, name, word, made) },
+        }
+    }
 }
 
 type RefusedIface<T> = Refused<AttachError, (LocalRef<T>, T)>;

@@ -18,13 +18,11 @@ use std::sync::Arc;
 /// [`PassiveRc`](crate::PassiveRc). More threads than CPUs share them by a [`CpuPool`](crate::CpuPool).
 ///
 /// A CPU that is dropped goes back to its registry. [`Registry::cpu`] and [`Registry::any_cpu`] return it again.
-// A lookup writes `last`, so two CPUs lie on cache lines of their own.
+// A release writes `given_back`, so two CPUs lie on cache lines of their own.
 #[repr(align(128))]
 pub struct Cpu<T> {
     /// In a cell, so that sections and references can be had at once. A CPU isn't `Sync`, and no call calls back: one call at a time.
     handle: UnsafeCell<ffi::Cpu>,
-    /// The number of the last found entry, or 0. Past the section it says nothing.
-    pub(crate) last: Cell<u64>,
     lease: Arc<Lease<T>>,
     /// The share of a local reference that was released here, for the next one that is acquired.
     given_back: Cell<Option<Arc<Lease<T>>>>,
@@ -40,7 +38,6 @@ impl<T> Cpu<T> {
     pub(crate) unsafe fn new(shared: Arc<Shared<T>>, id: u8, handle: ffi::Cpu) -> Cpu<T> {
         Cpu {
             handle: UnsafeCell::new(handle),
-            last: Cell::new(0),
             is_tracked: shared.notes.is_some(),
             lease: Arc::new(Lease { shared }),
             given_back: Cell::new(None),

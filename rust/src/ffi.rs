@@ -9,35 +9,18 @@ use std::ptr;
 
 include!(concat!(env!("OUT_DIR"), "/limits.rs"));
 
-/// Done.
-pub const DONE: u32 = 0;
-pub const NO_MEMORY: u32 = 1;
-pub const BAD_SETTINGS: u32 = 2;
-pub const NAME_TAKEN: u32 = 3;
-pub const NO_SLOT: u32 = 4;
-pub const HISTORY_FULL: u32 = 5;
-pub const NOT_FOUND: u32 = 6;
-pub const INSIDE: u32 = 7;
-pub const SECTIONS_SPENT: u32 = 8;
-pub const NOTHING_FOUND: u32 = 9;
-pub const PASSIVE_FULL: u32 = 10;
-pub const NOT_HELD: u32 = 12;
-pub const LOCAL_FULL: u32 = 13;
-pub const NOT_RETIRED: u32 = 14;
-pub const MISSING_CPU: u32 = 15;
-pub const STILL_HELD: u32 = 16;
-pub const WAITING: u32 = 17;
-pub const TOO_DEEP: u32 = 18;
-pub const NEEDS_DRIVER: u32 = 19;
-pub const OTHER_LIMITS: u32 = 78;
-#[cfg(test)]
-pub const BAD_NAME: u32 = 69;
-#[cfg(test)]
-pub const NAME_EMPTY: u32 = 70;
-#[cfg(test)]
-pub const NAME_TOO_LONG: u32 = 71;
-#[cfg(test)]
-pub const NAME_BAD_BYTE: u32 = 72;
+/// Answers, as registry.h numbers them.
+macro_rules! answers {
+    ($($name:ident = $number:literal),* $(,)?) => {
+        $(pub const $name: u32 = $number;)*
+    };
+}
+
+answers! {
+    DONE = 0, NO_MEMORY = 1, BAD_SETTINGS = 2, NAME_TAKEN = 3, NO_SLOT = 4, HISTORY_FULL = 5, NOT_FOUND = 6, INSIDE = 7, SECTIONS_SPENT = 8,
+    PASSIVE_FULL = 10, LOCAL_FULL = 13, NOT_RETIRED = 14, MISSING_CPU = 15, STILL_HELD = 16, WAITING = 17, TOO_DEEP = 18, NEEDS_DRIVER = 19,
+    OTHER_LIMITS = 78,
+}
 
 pub const INTERFACE: u64 = 1;
 pub const DRIVER: u64 = 2;
@@ -47,9 +30,9 @@ pub const PASSIVE: u64 = 1;
 pub const LOCAL: u64 = 2;
 pub const FREED: u64 = 3;
 
-/// A handle: its one word is never looked into, and the value is moved and never copied.
-macro_rules! handle {
-    ($(#[$doc:meta])* $name:ident) => {
+/// Handles: the one word is never looked into, and the value is moved and never copied.
+macro_rules! handles {
+    ($($(#[$doc:meta])* $name:ident,)*) => {$(
         $(#[$doc])*
         #[repr(C)]
         pub struct $name {
@@ -58,41 +41,30 @@ macro_rules! handle {
 
         impl $name {
             pub const EMPTY: $name = $name { at: ptr::null_mut() };
+
+            #[allow(dead_code)] // Nobody asks a keeper's.
+            pub fn is_empty(&self) -> bool {
+                self.at.is_null()
+            }
         }
 
         // SAFETY: registry(7) says that a handle goes to another thread by a lock, or by the start or the join of a thread; in Rust a
         // value goes by nothing less.
         unsafe impl Send for $name {}
-    };
+    )*};
 }
 
-handle! {
+handles! {
     /// The keeper's.
-    Keeper
-}
-handle! {
+    Keeper,
     /// A CPU's.
-    Cpu
-}
-handle! {
+    Cpu,
     /// A local reference's.
-    Local
+    Local,
 }
 
 // SAFETY: a shared reference to a handle gives nothing but whether it is empty; every call takes it by a pointer to a value that is owned.
 unsafe impl Sync for Local {}
-
-impl Cpu {
-    pub fn is_empty(&self) -> bool {
-        self.at.is_null()
-    }
-}
-
-impl Local {
-    pub fn is_empty(&self) -> bool {
-        self.at.is_null()
-    }
-}
 
 #[repr(C)]
 #[derive(Clone, Copy, Debug, PartialEq, Eq, Hash, PartialOrd, Ord, Default)]
@@ -181,12 +153,6 @@ pub unsafe fn string(at: *const c_char) -> &'static str {
 }
 
 extern "C" {
-    #[cfg(test)]
-    pub fn registry_name_parse(bytes: *const u8, length: usize, name: *mut Name, place: *mut u64) -> u32;
-    #[cfg(test)]
-    pub fn registry_name_of_id(id: u64, name: *mut Name) -> u32;
-    #[cfg(test)]
-    pub fn registry_id_of_name(name: *const Name, id: *mut u64) -> u32;
     pub fn registry_strerror(answer: u32) -> *const c_char;
     pub fn registry_version() -> *const c_char;
     pub fn registry_limits(limits: *mut Limits);
@@ -201,7 +167,7 @@ extern "C" {
     pub fn registry_find(cpu: *mut Cpu, kind: u64, name: *const Name, found: *mut Entry) -> u32;
     pub fn registry_walk(cpu: *mut Cpu, row: *mut Entry, room: usize, count: *mut usize) -> u32;
 
-    pub fn registry_acquire(cpu: *mut Cpu, number: *mut u64) -> u32;
+    pub fn registry_acquire_entry(cpu: *mut Cpu, entry: *const Entry) -> u32;
     pub fn registry_copy(cpu: *mut Cpu, number: u64) -> u32;
     pub fn registry_held(cpu: *mut Cpu, number: u64, held: *mut bool) -> u32;
     pub fn registry_release(cpu: *mut Cpu, number: u64) -> u32;
@@ -210,22 +176,25 @@ extern "C" {
     pub fn registry_get(cpu: *mut Cpu, kind: u64, name: *const Name, found: *mut Entry) -> u32;
     pub fn registry_enter_find(cpu: *mut Cpu, kind: u64, name: *const Name, found: *mut Entry) -> u32;
 
-    pub fn registry_local_acquire(cpu: *mut Cpu, local: *mut Local) -> u32;
+    pub fn registry_local_acquire_entry(cpu: *mut Cpu, entry: *const Entry, local: *mut Local) -> u32;
     pub fn registry_local_release(cpu: *mut Cpu, local: *mut Local) -> u32;
     pub fn registry_local_give_up(keeper: *mut Keeper, local: *mut Local) -> u32;
     pub fn registry_local_forget(local: *mut Local) -> u32;
-    pub fn registry_local_read(local: *mut Local, entry: *mut Entry) -> u32;
 
-    pub fn registry_attach(keeper: *mut Keeper, cpu: *mut Cpu, name: *const Name, value: u64, made: *mut Entry) -> u32;
-    pub fn registry_attach_iface(
+    pub fn registry_attach(keeper: *mut Keeper, cpu: *mut Cpu, name: *const Name, value: u64, new: *mut Entry) -> u32;
+    pub fn registry_attach_iface(keeper: *mut Keeper, cpu: *mut Cpu, on: *mut Local, name: *const Name, value: u64, new: *mut Entry)
+        -> u32;
+    pub fn registry_replace(keeper: *mut Keeper, cpu: *mut Cpu, name: *const Name, value: u64, old: *mut Entry, new: *mut Entry) -> u32;
+    pub fn registry_replace_iface(
         keeper: *mut Keeper,
         cpu: *mut Cpu,
-        driver: *mut Local,
+        on: *mut Local,
         name: *const Name,
         value: u64,
-        made: *mut Entry,
+        old: *mut Entry,
+        new: *mut Entry,
     ) -> u32;
-    pub fn registry_detach(keeper: *mut Keeper, cpu: *mut Cpu, kind: u64, name: *const Name, gone: *mut Entry) -> u32;
+    pub fn registry_detach(keeper: *mut Keeper, cpu: *mut Cpu, kind: u64, name: *const Name, old: *mut Entry) -> u32;
 
     pub fn registry_advance(keeper: *mut Keeper, number: u64, met: *mut Stage) -> u32;
     pub fn registry_destroy(keeper: *mut Keeper, cpu: *mut Cpu, number: u64, met: *mut Stage) -> u32;

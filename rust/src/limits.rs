@@ -25,14 +25,6 @@ pub struct Limits {
 /// The limits that this crate was compiled for, by the archive's header `registry_limits.h`. With a library that has others nothing is opened:
 /// [`Registry::open`](crate::Registry::open) returns `OtherLimits`. If the most CPUs or the most slots are others, or the version is, the program doesn't
 /// even link.
-///
-/// ```
-/// use kupaldiz::{limits, Registry, Settings, LIMITS};
-///
-/// assert_eq!(limits(), LIMITS);
-/// let (_registry, cpus) = Registry::<()>::open(Settings::default()).unwrap();
-/// assert_eq!(cpus.len() as u64, LIMITS.cpus);
-/// ```
 pub const LIMITS: Limits = Limits {
     cpus: ffi::MOST_CPUS as u64,
     slots: ffi::MOST_SLOTS as u64,
@@ -60,10 +52,6 @@ pub fn limits() -> Limits {
 }
 
 /// The version of the library, such as `"0.1.0"`.
-///
-/// ```
-/// assert_eq!(kupaldiz::version(), env!("CARGO_PKG_VERSION"));
-/// ```
 #[must_use]
 pub fn version() -> &'static str {
     // SAFETY: the call needs nothing.
@@ -98,25 +86,16 @@ mod tests {
     #[test]
     fn other_limits_than_the_librarys_are_refused() {
         assert_eq!(LIMITS.compared(), ffi::DONE);
-        let other = |change: fn(&mut Limits)| {
-            let mut limits = LIMITS;
-            change(&mut limits);
-            limits
-        };
         let others = [
-            other(|limits| limits.cpus += 1),
-            other(|limits| limits.slots -= 1),
-            other(|limits| limits.changes += 1),
-            other(|limits| limits.sections -= 1),
-            other(|limits| limits.count += 1),
-            other(|limits| limits.depth -= 1),
+            Limits { cpus: LIMITS.cpus + 1, ..LIMITS },
+            Limits { slots: LIMITS.slots - 1, ..LIMITS },
+            Limits { changes: LIMITS.changes + 1, ..LIMITS },
+            Limits { sections: LIMITS.sections - 1, ..LIMITS },
+            Limits { count: LIMITS.count + 1, ..LIMITS },
+            Limits { depth: LIMITS.depth - 1, ..LIMITS },
         ];
         for other in others {
-            assert_eq!(
-                checked(other.compared()).map_err(Refusal::of),
-                Err(Refusal::OtherLimits),
-                "{other:?}"
-            );
+            assert_eq!(checked(other.compared()).map_err(Refusal::of), Err(Refusal::OtherLimits), "{other:?}");
         }
     }
 }

@@ -1,10 +1,10 @@
-//! The crate's locks, which are those of the standard library, and the tasks that wait for retired entries.
+//! The crate's locks, which are those of the standard library, and the tasks that wait.
 #![allow(unknown_lints, unexpected_cfgs)]
 
 use std::sync::atomic::{fence, AtomicBool, Ordering};
 use std::sync::PoisonError;
 pub use std::sync::{Mutex, MutexGuard};
-use std::task::Waker;
+use std::task::{Poll, Waker};
 use std::{hint, mem};
 
 /// A lock's value. Nothing panics under our locks, and if it did, what they guard would be whole.
@@ -33,9 +33,17 @@ pub struct Tasks {
 }
 
 impl Tasks {
-    /// Notes a task, before it looks once more at what it waits for. Whoever lets something go writes that first, and then reads the flag. All four are
-    /// sequentially consistent, so either the task sees what was let go, or it is woken.
-    pub fn note(&self, waker: &Waker) {
+    /// What a task that waits finds as it looks. If there is nothing, the task is noted, and looks once more. Whoever lets something go writes that first,
+    /// and then reads the flag. All four are sequentially consistent, so either the task sees what was let go, or it is woken.
+    pub fn poll<R>(&self, waker: &Waker, mut look: impl FnMut() -> Option<R>) -> Poll<R> {
+        let found = look().or_else(|| {
+            self.note(waker);
+            look()
+        });
+        found.map_or(Poll::Pending, Poll::Ready)
+    }
+
+    fn note(&self, waker: &Waker) {
         let waker = waker.clone();
         let mut wakers = locked(&self.wakers);
         if !wakers.iter().any(|other| other.will_wake(&waker)) {

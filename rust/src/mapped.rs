@@ -16,21 +16,6 @@ unsafe impl<G: Send, U: ?Sized + Sync> Send for Mapped<G, U> {}
 // SAFETY: a shared one gives a `&U`, and a `&G` to nobody but whoever owns it.
 unsafe impl<G: Sync, U: ?Sized + Sync> Sync for Mapped<G, U> {}
 
-/// A guard whose value stays where it is as long as the guard exists, wherever that is moved.
-///
-/// # Safety
-///
-/// What it derefs to lies in a block of its own, which nobody moves, writes or frees as long as the guard exists.
-pub unsafe trait Stays: Deref {}
-
-impl<G: Stays, U: ?Sized> Mapped<G, U> {
-    #[inline]
-    pub(crate) fn new(guard: G, part: impl FnOnce(&G::Target) -> &U) -> Mapped<G, U> {
-        let part: *const U = part(&guard);
-        Mapped { part, guard }
-    }
-}
-
 impl<G, U: ?Sized> Mapped<G, U> {
     /// What it was made of.
     #[inline]
@@ -44,8 +29,8 @@ impl<G, U: ?Sized> Deref for Mapped<G, U> {
 
     #[inline]
     fn deref(&self) -> &U {
-        // SAFETY: the part lies in what the guard derefs to, or lives longer, as the guard's reference to it was of any lifetime. The guard is
-        // there, and so is its value: it `Stays`.
+        // SAFETY: `map` alone makes it. The part lies in what the guard derefs to, or lives longer, as the guard's reference to it was of any lifetime. That
+        // is an entry's value, in a block of its own. The entry keeps it until the guard is dropped or the reference released, and the guard is there.
         unsafe { &*self.part }
     }
 }
@@ -88,12 +73,10 @@ macro_rules! mapped {
             /// The same of a part of what the entry carries.
             #[inline]
             pub fn map<U: ?Sized>(guard: Self, part: impl FnOnce(&T) -> &U) -> Mapped<Self, U> {
-                Mapped::new(guard, part)
+                let part: *const U = part(&guard);
+                Mapped { part, guard }
             }
         }
-
-        // SAFETY: the entry keeps its value until the guard is dropped or the reference released.
-        unsafe impl<$($life,)? T> Stays for crate::$name<$($life,)? T> {}
     )*};
 }
 

@@ -42,11 +42,11 @@ impl Name {
         Name::from_bytes(text.as_bytes())
     }
 
-    /// The name with these bytes.
+    /// The name with these bytes, as [`parse`](Name::parse) reads them.
     ///
     /// # Errors
     ///
-    /// [`NameFault`], in the order `Empty`, `TooLong`, `BadByte`.
+    /// As there.
     pub const fn from_bytes(text: &[u8]) -> Result<Name, NameFault> {
         if text.is_empty() {
             return Err(NameFault::Empty);
@@ -69,10 +69,7 @@ impl Name {
 
     /// The name with this text, and zeros after it.
     const fn of_text(bytes: [u8; ROOM]) -> Name {
-        let words = ffi::Name {
-            high: word(&bytes, 0),
-            low: word(&bytes, 8),
-        };
+        let words = ffi::Name { high: word(&bytes, 0), low: word(&bytes, 8) };
         Name { words, bytes }
     }
 
@@ -213,25 +210,28 @@ mod tests {
     use super::{Name, NameFault};
     use crate::ffi;
 
+    extern "C" {
+        fn registry_name_parse(bytes: *const u8, length: usize, name: *mut ffi::Name, place: *mut u64) -> u32;
+        fn registry_name_of_id(id: u64, name: *mut ffi::Name) -> u32;
+        fn registry_id_of_name(name: *const ffi::Name, id: *mut u64) -> u32;
+    }
+
     /// What the archive says of these bytes.
     fn parsed_by_archive(bytes: &[u8]) -> Result<ffi::Name, NameFault> {
         let (mut words, mut place) = (ffi::Name::default(), 0);
         // SAFETY: the bytes are those of the slice, and each of the two places is a value of its own.
-        let answer = unsafe { ffi::registry_name_parse(bytes.as_ptr(), bytes.len(), &mut words, &mut place) };
-        match answer {
+        match unsafe { registry_name_parse(bytes.as_ptr(), bytes.len(), &mut words, &mut place) } {
             ffi::DONE => Ok(words),
-            ffi::NAME_EMPTY => Err(NameFault::Empty),
-            ffi::NAME_TOO_LONG => Err(NameFault::TooLong),
-            ffi::NAME_BAD_BYTE => Err(NameFault::BadByte(place as usize)),
+            70 => Err(NameFault::Empty),
+            71 => Err(NameFault::TooLong),
+            72 => Err(NameFault::BadByte(place as usize)),
             other => panic!("{other}"),
         }
     }
 
     #[test]
     fn names_are_those_of_the_archive() {
-        let mut texts: Vec<Vec<u8>> = (0..=255)
-            .flat_map(|byte| [vec![byte], vec![b'a', byte], vec![b'z', b'9', byte, b'a']])
-            .collect();
+        let mut texts: Vec<Vec<u8>> = (0..=255).flat_map(|byte| [vec![byte], vec![b'a', byte], vec![b'z', b'9', byte, b'a']]).collect();
         for length in 0..40 {
             texts.extend([b'a', b'z', b'0', b'9', b'A', b'_'].map(|byte| vec![byte; length]));
             texts.push((0..length).map(|place| b'a' + (place % 26) as u8).collect());
@@ -249,12 +249,12 @@ mod tests {
     fn by_archive(id: u64, name: &Name) -> (ffi::Name, Option<u64>) {
         let (mut words, mut read) = (ffi::Name::default(), 0);
         // SAFETY: the place is a value of its own.
-        let made = unsafe { ffi::registry_name_of_id(id, &mut words) };
+        let made = unsafe { registry_name_of_id(id, &mut words) };
         // SAFETY: each of the two places is a value of its own.
-        let found = unsafe { ffi::registry_id_of_name(&name.words, &mut read) };
+        let found = unsafe { registry_id_of_name(&name.words, &mut read) };
         match (made, found) {
             (ffi::DONE, ffi::DONE) => (words, Some(read)),
-            (ffi::DONE, ffi::BAD_NAME) => (words, None),
+            (ffi::DONE, 69) => (words, None),
             other => panic!("{other:?}"),
         }
     }

@@ -117,7 +117,8 @@ mod tests {
     #[test]
     fn so_many_turns_are_made_and_one_at_least() {
         assert_eq!([0, 1, 2, 30].map(|count| turns(Patience::Turns(count), 100)), [1, 1, 2, 30]);
-        assert_eq!(turns(Patience::Forever, 30), 30);
+        assert_eq!((turns(Patience::Forever, 30), turns(Patience::Until(Instant::now()), 100)), (30, 1));
+        assert_eq!(Patience::at_most(Duration::MAX), Patience::Forever);
     }
 
     /// However many turns were made, there is another one: no wait has a last turn but by what it was told.
@@ -130,11 +131,6 @@ mod tests {
         }
         let (patience, made) = (Patience::Turns(u32::MAX), u32::MAX - 2);
         assert!(Pauses { patience, made }.another());
-    }
-
-    #[test]
-    fn a_deadline_that_has_passed_allows_one_turn() {
-        assert_eq!(turns(Patience::Until(Instant::now()), 100), 1);
     }
 
     #[test]
@@ -158,10 +154,5 @@ mod tests {
         let slept = [16, 32, 64, 128, 256, 512, 1024, 2048, 4096, 8000, 8000, 8000];
         assert_eq!(pauses[24..], slept.map(|micros| Pause::Sleep(Duration::from_micros(micros))));
         assert_eq!(Pause::after(u32::MAX), Pause::Sleep(Duration::from_millis(8)));
-    }
-
-    #[test]
-    fn no_deadline_is_too_far() {
-        assert_eq!(Patience::at_most(Duration::MAX), Patience::Forever);
     }
 }

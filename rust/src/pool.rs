@@ -1,6 +1,7 @@
 //! CPUs that are lent, for programs with more threads than CPUs.
 
 use crate::cpu::Cpu;
+use crate::lock::{locked, Mutex, MutexGuard, Tasks};
 use crate::references::LocalRef;
 use crate::refusal::{LookUpError, Refusal};
 use crate::values::Kind;
@@ -8,12 +9,11 @@ use crate::Name;
 use std::fmt;
 use std::future::Future;
 use std::marker::PhantomData;
-use std::mem;
 use std::ops::Deref;
 use std::panic::Location;
 use std::pin::Pin;
-use std::sync::{Condvar, Mutex, MutexGuard, PoisonError};
-use std::task::{Context, Poll, Waker};
+use std::sync::{Condvar, PoisonError};
+use std::task::{Context, Poll};
 use std::thread::{self, ThreadId};
 use std::time::Instant;
 
@@ -47,14 +47,16 @@ use std::time::Instant;
 pub struct CpuPool<T> {
     state: Mutex<State<T>>,
     returned: Condvar,
+    /// Tasks that wait for a CPU: all are woken as one comes back.
+    tasks: Tasks,
 }
 
 struct State<T> {
     idle: Vec<Cpu<T>>,
     loans: Vec<Loan>,
-    /// Tasks that wait for a CPU: all are woken as one comes back.
-    wakers: Vec<Waker>,
 }
+
+type Locked<'pool, T> = MutexGuard<'pool, State<T>>;
 
 /// A loan that isn't back. It stays on its thread.
 struct Loan {
@@ -91,8 +93,9 @@ impl<T> CpuPool<T> {
             return Err(Refusal::OtherRegistry);
         }
         Ok(CpuPool {
-            state: Mutex::new(State { loans: Vec::with_capacity(cpus.len()), wakers: Vec::new(), idle: cpus }),
+            state: Mutex::new(State { loans: Vec::with_capacity(cpus.len()), idle: cpus }),
             returned: Condvar::new(),
+            tasks: Tasks::default(),
         })
     }
 
@@ -103,18 +106,14 @@ impl<T> CpuPool<T> {
     /// If all are lent, and this thread has one of them: it would keep that while it waits. The text says where it was lent.
     #[track_caller]
     pub fn lend(&self) -> Lent<'_, T> {
-        let place = Location::caller();
-        let mut state = self.state();
-        loop {
-            if let Some(lent) = state.lend(self, place) {
-                return lent;
-            }
+        let lent = self.lend_by(Location::caller(), |state| {
             if let Some(&Loan { cpu, place, .. }) = state.of_this_thread() {
                 drop(state);
                 panic!("no CPU is idle, and this thread has CPU {cpu} of the pool since {place}");
             }
-            state = self.returned.wait(state).unwrap_or_else(PoisonError::into_inner);
-        }
+            Some(self.returned.wait(state).unwrap_or_else(PoisonError::into_inner))
+        });
+        lent.expect("a wait without a deadline")
     }
 
     /// Lends a CPU, if one is there.
@@ -126,13 +125,25 @@ impl<T> CpuPool<T> {
     /// Lends a CPU. If all are lent, it waits until one comes back, or the time has come.
     #[track_caller]
     pub fn lend_until(&self, deadline: Instant) -> Option<Lent<'_, T>> {
-        let place = Location::caller();
+        self.lend_by(Location::caller(), |state| {
+            let left = deadline.checked_duration_since(Instant::now()).filter(|left| !left.is_zero())?;
+            let waited = self.returned.wait_timeout(state, left);
+            Some(waited.unwrap_or_else(PoisonError::into_inner).0)
+        })
+    }
+
+    /// Lends a CPU as soon as one is there. Until then it waits by `wait`, which may give up. Another thread may take the CPU that came back.
+    fn lend_by<'pool>(
+        &'pool self,
+        place: &'static Location<'static>,
+        mut wait: impl FnMut(Locked<'pool, T>) -> Option<Locked<'pool, T>>,
+    ) -> Option<Lent<'pool, T>> {
         let mut state = self.state();
         loop {
-            if let Some(lent) = state.lend(self, place) {
-                return Some(lent);
+            match state.lend(self, place) {
+                None => state = wait(state)?,
+                lent => return lent,
             }
-            state = self.wait_until(state, deadline)?;
         }
     }
 
@@ -151,40 +162,17 @@ impl<T> CpuPool<T> {
     /// Lends a CPU, if one is there. Else the task is woken as one comes back. Another task may take that before: poll again.
     #[track_caller]
     pub fn poll_lend(&self, context: &mut Context<'_>) -> Poll<Lent<'_, T>> {
-        let mut state = self.state();
-        if let Some(lent) = state.lend(self, Location::caller()) {
-            return Poll::Ready(lent);
-        }
-        let waker = context.waker();
-        if !state.wakers.iter().any(|other| other.will_wake(waker)) {
-            state.wakers.push(waker.clone());
-        }
-        Poll::Pending
+        let place = Location::caller();
+        self.tasks.poll(context.waker(), || self.state().lend(self, place))
     }
 
     /// Lends a CPU to a task, which waits without occupying its thread. The loan stays on the thread that polls: release it before the next `.await`.
-    ///
-    /// ```
-    /// use kupaldiz::{CpuPool, Kind, LocalRef, Name, Registry, Settings};
-    ///
-    /// async fn local(pool: &CpuPool<u32>, wm: &Name) -> LocalRef<u32> {
-    ///     let reference = pool.lend_async().await.get_local(Kind::Driver, wm).unwrap();
-    ///     reference
-    /// }
-    /// ```
     pub fn lend_async(&self) -> impl Future<Output = Lent<'_, T>> {
         LendFuture { pool: self }
     }
 
-    /// Waits for a CPU to come back, for once; none where the time has come.
-    fn wait_until<'a>(&self, state: MutexGuard<'a, State<T>>, deadline: Instant) -> Option<MutexGuard<'a, State<T>>> {
-        let left = deadline.checked_duration_since(Instant::now()).filter(|left| !left.is_zero())?;
-        let waited = self.returned.wait_timeout(state, left);
-        Some(waited.unwrap_or_else(PoisonError::into_inner).0)
-    }
-
-    fn state(&self) -> MutexGuard<'_, State<T>> {
-        self.state.lock().unwrap_or_else(PoisonError::into_inner)
+    fn state(&self) -> Locked<'_, T> {
+        locked(&self.state)
     }
 
     /// The CPUs, in any order, except for those whose loan was forgotten.
@@ -255,9 +243,8 @@ impl<T> Drop for Lent<'_, T> {
             let mut state = self.pool.state();
             state.loans.retain(|loan| loan.cpu != cpu.id());
             state.idle.push(cpu);
-            let wakers = mem::take(&mut state.wakers);
             drop(state);
-            wakers.into_iter().for_each(Waker::wake);
+            self.pool.tasks.wake();
             self.pool.returned.notify_one();
         }
     }
@@ -266,5 +253,53 @@ impl<T> Drop for Lent<'_, T> {
 impl<T> fmt::Debug for Lent<'_, T> {
     fn fmt(&self, f: &mut fmt::Formatter<'_>) -> fmt::Result {
         f.debug_tuple("Lent").field(&**self).finish()
+    }
+}
+
+#[cfg(test)]
+mod tests {
+    use super::{CpuPool, Location};
+    use crate::{Registry, Settings};
+    use std::sync::mpsc::channel;
+    use std::thread;
+    use std::time::Duration;
+
+    fn pool() -> CpuPool<()> {
+        CpuPool::new(Registry::open(Settings::new(1, 1)).unwrap().1).unwrap()
+    }
+
+    #[test]
+    fn a_loan_waits_on_where_another_takes_the_cpu() {
+        let pool = pool();
+        let (mut other, mut woken) = (Some(pool.lend()), 0);
+        let lent = pool.lend_by(Location::caller(), |state| {
+            drop(state);
+            woken += 1;
+            other = other.take().filter(|_| woken < 20);
+            Some(pool.state())
+        });
+        assert_eq!((lent.map(|cpu| cpu.id()), woken), (Some(0), 20));
+    }
+
+    /// So a thread that is about to wait as the CPU comes back misses nothing.
+    #[test]
+    fn a_cpu_is_in_its_pool_before_anybody_is_woken() {
+        let (pool, (to, from)) = (&pool(), channel());
+        thread::scope(|scope| {
+            scope.spawn(move || {
+                let _cpu = pool.lend();
+                from.recv()
+            });
+            while pool.try_lend().is_some() {
+                thread::yield_now();
+            }
+            let lent = pool.lend_by(Location::caller(), |state| {
+                let _ = to.send(());
+                thread::sleep(Duration::from_millis(20));
+                let (state, waited) = pool.returned.wait_timeout(state, Duration::from_secs(20)).unwrap();
+                (!waited.timed_out()).then_some(state)
+            });
+            assert!(lent.is_some(), "nobody woke this thread");
+        });
     }
 }

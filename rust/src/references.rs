@@ -155,9 +155,9 @@ fn release<T>(cpu: &Cpu<T>, record: &Record<T>) {
 /// registry open.
 #[must_use = "a reference that is dropped at once holds nothing"]
 pub struct LocalRef<T> {
-    record: Record<T>,
-    /// Empty, and `lease` with it, once it was spent.
-    handle: ffi::Local,
+    pub(crate) record: Record<T>,
+    /// Empty once it was spent.
+    pub(crate) handle: ffi::Local,
     /// Of the CPU that acquired it.
     lease: Option<Arc<Lease<T>>>,
 }
@@ -175,16 +175,6 @@ impl<T> LocalRef<T> {
     #[inline]
     pub(crate) fn is_of(&self, shared: &Arc<Shared<T>>) -> bool {
         self.lease.as_ref().map_or(false, |lease| Arc::ptr_eq(&lease.shared, shared))
-    }
-
-    /// The ticket of the note of its place, or 0.
-    pub(crate) fn ticket(&self) -> u32 {
-        self.record.plain.ticket
-    }
-
-    /// The handle, for a call that may spend it.
-    pub(crate) fn handle(&mut self) -> &mut ffi::Local {
-        &mut self.handle
     }
 
     /// Its entry, as it was attached.
@@ -222,19 +212,6 @@ impl<T> LocalRef<T> {
     }
 
     /// Acquires one more on this CPU, to the same entry, which it looks up.
-    ///
-    /// ```
-    /// use kupaldiz::{Kind, LocalRef, LookUpError, Name, Registry, Settings};
-    ///
-    /// let (registry, cpus) = Registry::open(Settings::new(2, 1)).unwrap();
-    /// let wm = Name::parse("wm").unwrap();
-    /// registry.attach(&cpus[0], &wm, 7).unwrap();
-    /// let one = cpus[0].get_local(Kind::Driver, &wm).unwrap();
-    /// let two = LocalRef::try_clone(&one, &cpus[1]).unwrap();
-    /// registry.retire(&cpus[0], Kind::Driver, &wm).unwrap();
-    /// assert_eq!((*one, *two), (7, 7));
-    /// assert_eq!(LocalRef::try_clone(&one, &cpus[1]).unwrap_err(), LookUpError::NotFound);
-    /// ```
     ///
     /// # Errors
     ///

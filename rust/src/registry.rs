@@ -7,7 +7,7 @@ use crate::places::Holders;
 use crate::refusal::{checked, DestroyError, DetachError, Foreign, Refusal, Refused};
 use crate::retired::Retired;
 use crate::settings::Settings;
-use crate::shared::{Shared, NO_CPUS};
+use crate::shared::{no_cpus, Shared};
 use crate::values::{Balance, Entry, Freed};
 use std::error::Error;
 use std::fmt;
@@ -19,8 +19,6 @@ use std::sync::Arc;
 ///
 /// The registry is open as long as a [handle](crate#what-is-dropped) of it exists, also one that is forgotten, or that an entry of the same registry carries.
 /// Dropping the last one closes it, and drops the values that its entries still carry.
-///
-/// Changes, and each try to free an entry, are made under a lock, the interlock. No call holds it while it waits for a reader, or while a `T` is dropped.
 pub struct Registry<T> {
     pub(crate) shared: Arc<Shared<T>>,
 }
@@ -40,22 +38,8 @@ impl<T> Registry<T> {
     }
 
     /// Opens a registry that notes the line of the program, and the thread, of each reference that is acquired and each section that is entered.
-    /// [`holders`](Registry::holders) says so, and so does the error of a destroy that gives up. Each of these calls then takes a lock. A registry that
-    /// [`open`](Registry::open) opens notes nothing; the errors are the same.
-    ///
-    /// ```
-    /// use kupaldiz::{Kind, Name, Patience, Registry, Settings};
-    ///
-    /// let (registry, cpus) = Registry::open_tracked(Settings::new(2, 4)).unwrap();
-    /// let wm = Name::parse("wm").unwrap();
-    /// registry.attach(&cpus[0], &wm, 7).unwrap();
-    /// let kept = cpus[1].get_local(Kind::Driver, &wm).unwrap();
-    /// let retired = registry.detach(&cpus[0], Kind::Driver, &wm).unwrap();
-    /// let refused = retired.destroy(&cpus[0], Patience::Turns(1)).unwrap_err();
-    /// // .. is still held: local 1; 1 local reference: src/main.rs:8 (thread "main")
-    /// assert!(refused.to_string().contains("1 local reference: "));
-    /// # drop(kept);
-    /// ```
+    /// [`holders`](Registry::holders) says so, and so does the error of a destroy that gives up: `.. is still held: local 1; 1 local reference: src/main.rs:8
+    /// (thread "main")`. Each of these calls then takes a lock. A registry that [`open`](Registry::open) opens notes nothing; the errors are the same.
     pub fn open_tracked(settings: Settings) -> Result<(Registry<T>, Vec<Cpu<T>>), Refusal> {
         Registry::open_by(settings, true)
     }
@@ -143,16 +127,6 @@ impl<T> Registry<T> {
     ///
     /// If this thread has a section open on another CPU, nothing ends it while the thread waits: with [`Patience::Forever`] it waits for ever.
     ///
-    /// ```
-    /// use kupaldiz::{Patience, Refusal, Registry, Settings};
-    ///
-    /// let (registry, cpus) = Registry::<()>::open(Settings::new(2, 4)).unwrap();
-    /// let section = cpus[1].enter().unwrap();
-    /// assert_eq!(registry.perform(&cpus[0], Patience::Turns(3)), Err(Refusal::Waiting(1)));
-    /// section.exit();
-    /// assert_eq!(registry.perform(&cpus[0], Patience::Forever), Ok(()));
-    /// ```
-    ///
     /// # Errors
     ///
     /// `OtherRegistry`, `Inside`, `Waiting` with the lowest-numbered CPU whose section wasn't seen to have ended.
@@ -213,7 +187,7 @@ impl<T> Registry<T> {
             return Err(Refusal::MissingCpu);
         }
         cpus[0].release_dropped();
-        // In a large build it is too long for a stack.
+        // With many slots it is too long for a stack.
         let mut list = vec![ffi::Balance::EMPTY; usize::from(self.settings().slots)];
         let length = self.audit_into(&cpus, &mut list)?;
         let count = self.settings().cpus;
@@ -222,7 +196,7 @@ impl<T> Registry<T> {
 
     /// Writes the balances, and returns how many. The CPUs are all of this registry's, in their order.
     fn audit_into(&self, cpus: &[&Cpu<T>], list: &mut [ffi::Balance]) -> Result<usize, Refusal> {
-        let (mut kept, mut length, mut handles) = (self.shared.kept(), 0, NO_CPUS);
+        let (mut handles, mut length, mut kept) = (no_cpus(cpus.len()), 0, self.shared.kept());
         let swap = |handles: &mut [ffi::Cpu]| {
             // SAFETY: it is done once before the call and once after it, in the same order.
             handles.iter_mut().zip(cpus).for_each(|(handle, cpu)| unsafe { cpu.swap(handle) });
@@ -241,17 +215,6 @@ impl<T> Registry<T> {
 impl<T> Registry<T> {
     /// Detaches all live entries, and destroys each, an interface before its driver. The patience is for each destroy: take
     /// [`Patience::Until`] for one deadline. What is deferred is worked on, too. Entries that are attached meanwhile may be left.
-    ///
-    /// ```
-    /// use kupaldiz::{Name, Patience, Registry, Settings};
-    ///
-    /// let (registry, cpus) = Registry::open(Settings::new(2, 4)).unwrap();
-    /// for (text, value) in [("wm", 7), ("bge", 8)] {
-    ///     registry.attach(&cpus[0], &Name::parse(text).unwrap(), value).unwrap();
-    /// }
-    /// let drained = registry.drain(&cpus[0], Patience::Forever).unwrap();
-    /// assert_eq!((drained.freed.len(), drained.held.len()), (2, 0));
-    /// ```
     ///
     /// # Errors
     ///

@@ -26,16 +26,6 @@ use std::task::{Context, Poll};
 /// a second turn. The tasks of a registry are woken by each call that lets something go: a section's exit, a release or a drop of a reference, a lookup's
 /// end, and a turn that frees an entry. That call takes a short lock and calls the wakers; where no task waits, it does neither. A task whose entry is held
 /// by what was forgotten, or by what the task itself keeps, isn't woken. A future that is dropped [defers](Retired::defer) its entry.
-///
-/// ```
-/// use kupaldiz::{Cpu, Kind, Name, Refusal, Registry};
-///
-/// async fn unplug(registry: Registry<String>, cpu: Cpu<String>, name: Name) -> Result<String, Refusal> {
-///     let retired = registry.detach(&cpu, Kind::Driver, &name)?;
-///     drop(cpu);
-///     Ok(retired.await.value)
-/// }
-/// ```
 #[must_use = "an entry that nobody destroys or defers by name is deferred as this is dropped"]
 pub struct Retired<T> {
     /// None once its value was taken, which a future may outlive.
@@ -106,20 +96,6 @@ impl<T> Retired<T> {
     /// If this CPU itself has a passive reference to the entry, nothing can release it while this thread waits, so the call tries only once. It can't see
     /// what this thread holds otherwise: a local reference; on another CPU a section or a passive reference. [`Patience::Forever`] waits for these for ever.
     ///
-    /// ```
-    /// use kupaldiz::{DestroyError, Holder, Kind, Name, Patience, PassiveRef, Registry, Settings};
-    ///
-    /// let (registry, cpus) = Registry::open(Settings::new(2, 4)).unwrap();
-    /// let wm = Name::parse("wm").unwrap();
-    /// registry.attach(&cpus[0], &wm, 7).unwrap();
-    /// let reference = cpus[0].get(Kind::Driver, &wm).unwrap();
-    /// let retired = registry.detach(&cpus[0], Kind::Driver, &wm).unwrap();
-    /// let refused = retired.destroy(&cpus[0], Patience::Forever).unwrap_err();
-    /// assert_eq!(refused.refusal, DestroyError::StillHeld(Holder::Passive(0)));
-    /// PassiveRef::release(reference);
-    /// assert_eq!(refused.given.destroy(&cpus[0], Patience::Forever).unwrap().value, 7);
-    /// ```
-    ///
     /// # Errors
     ///
     /// `OtherRegistry`, `Inside`, `StillHeld` with this CPU's passive reference, otherwise with what the last try met. The `Retired` is
@@ -179,9 +155,8 @@ impl<T> Retired<T> {
         }
     }
 
-    /// Leaves it to later calls, as dropping it does. The call makes one turn on each entry that was deferred, waits for no reader, and drops the values that
-    /// nothing holds any more. Each later drop does the same, and [`Registry::retire`] and [`Registry::collect`] return them. A `T` is dropped after the
-    /// interlock is free: don't make this call under a lock that the drop of a `T` takes.
+    /// Leaves it to later calls, as dropping it does. The call makes one turn on each entry that was deferred, waits for no reader, and [drops the
+    /// values](crate#what-is-dropped) that nothing holds any more.
     pub fn defer(self) {}
 
     /// Defers it, and returns what is free.
@@ -200,18 +175,11 @@ impl<T> Future for Retired<T> {
     /// If it has returned the value before.
     fn poll(self: Pin<&mut Self>, context: &mut Context<'_>) -> Poll<Freed<T>> {
         let token = self.get_mut();
-        let mut done = token.turn();
-        if done.is_err() {
-            token.shared().tasks.note(context.waker());
-            done = token.turn();
+        let polled = token.shared().tasks.poll(context.waker(), || token.turn().ok());
+        if polled.is_ready() {
+            token.shared = None;
         }
-        match done {
-            Ok(freed) => {
-                token.shared = None;
-                Poll::Ready(freed)
-            }
-            Err(_) => Poll::Pending,
-        }
+        polled
     }
 }
 

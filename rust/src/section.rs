@@ -31,9 +31,15 @@ impl<'cpu, T> Section<'cpu, T> {
     #[inline]
     #[must_use]
     pub fn find(&self, kind: Kind, name: &Name) -> Option<Found<'_, 'cpu, T>> {
-        let record = self.cpu.find(kind.number(), &name.words)?;
-        // SAFETY: this section is open for as long as it is borrowed.
-        Some(unsafe { Found::new(self.cpu, record) })
+        // SAFETY: it is such a call.
+        match unsafe { self.cpu.found_by(ffi::registry_find, kind, name) } {
+            // SAFETY: this section is open for as long as it is borrowed.
+            Ok(record) => Some(unsafe { Found::new(self.cpu, record) }),
+            Err(answer) => {
+                assert_eq!(answer, ffi::NOT_FOUND, "a lookup in a section");
+                None
+            }
+        }
     }
 
     /// All live entries, the newest first, as [`find`](Section::find) finds them.
@@ -58,7 +64,13 @@ impl<'cpu, T> Section<'cpu, T> {
     /// assert_eq!(*fast, 40_000);
     /// ```
     pub fn entries(&self) -> Entries<'_, 'cpu, T> {
-        Entries::walk(self)
+        let (cpu, section) = (self.cpu, PhantomData);
+        let (mut row, mut count) = (vec![ffi::Entry::default(); usize::from(cpu.shared().settings.slots)], 0);
+        // SAFETY: this thread alone has the CPU, whose handle isn't empty, and the row has the room that is told.
+        let answer = unsafe { ffi::registry_walk(cpu.handle(), row.as_mut_ptr(), row.len(), &mut count) };
+        assert_eq!(answer, ffi::DONE, "a walk in a section");
+        row.truncate(count);
+        Entries { row, next: 0, cpu, section }
     }
 
     /// The CPU that it is on.
@@ -129,101 +141,30 @@ impl<'section, 'cpu, T> Found<'section, 'cpu, T> {
     #[track_caller]
     pub fn acquire(found: &Self) -> Result<PassiveRef<'cpu, T>, LookUpError> {
         let (cpu, record) = (found.cpu, found.record);
-        if acquire_last(cpu, record.plain.number).is_err() {
-            acquire_again(cpu, record)?;
-        }
+        // SAFETY: this thread alone has the CPU, whose handle isn't empty.
+        checked(unsafe { ffi::registry_acquire_entry(cpu.handle(), &record.to_c()) }).map_err(LookUpError::of)?;
         // SAFETY: it was acquired above.
         Ok(unsafe { PassiveRef::new(cpu, cpu.noted(Hold::Passive, record, Location::caller())) })
     }
 
     /// Acquires a local reference: `localcount_acquire`. The call takes no lock, unless it releases references that were dropped. If this CPU has looked up
-    /// something else since it found the entry, it looks the entry up once more.
+    /// something else since it found the entry, or it can't acquire the reference, it looks the entry up once more.
     ///
     /// # Errors
     ///
-    /// `NotFound` if this CPU has looked up something else since and the entry was detached, `LocalFull`, `NoMemory`.
+    /// `NotFound` if it has looked the entry up once more and that was detached, `LocalFull`, `NoMemory`.
     // Inlined, the reference is never moved as a whole.
     #[inline(always)]
     #[track_caller]
     pub fn acquire_local(found: &Self) -> Result<LocalRef<T>, LookUpError> {
         let (cpu, record) = (found.cpu, found.record);
         cpu.release_to(record.plain.slot());
-        let local = match acquire_local_last(cpu, record.plain.number) {
-            Err(ffi::NOTHING_FOUND) => acquire_local_again(cpu, record)?,
-            done => done.map_err(LookUpError::of)?,
-        };
+        let mut local = ffi::Local::EMPTY;
+        // SAFETY: this thread alone has the CPU, whose handle isn't empty, and the local handle is.
+        let answer = unsafe { ffi::registry_local_acquire_entry(cpu.handle(), &record.to_c(), &mut local) };
+        checked(answer).map_err(LookUpError::of)?;
         // SAFETY: it was acquired above.
         Ok(unsafe { LocalRef::new(cpu.share(), cpu.noted(Hold::Local, record, Location::caller()), local) })
-    }
-}
-
-/// Acquires a passive reference to the CPU's last found entry, or returns `NOTHING_FOUND` if that isn't the one with this number. What the crate notes of
-/// the last found entry is a hint: the archive says which entry it was.
-#[inline]
-fn acquire_last<T>(cpu: &Cpu<T>, number: u64) -> Result<(), u32> {
-    if cpu.last.get() != number {
-        return Err(ffi::NOTHING_FOUND);
-    }
-    let mut acquired = 0;
-    // SAFETY: this thread alone has the CPU, whose handle isn't empty.
-    checked(unsafe { ffi::registry_acquire(cpu.handle(), &mut acquired) })?;
-    if acquired == number {
-        return Ok(());
-    }
-    // SAFETY: as above. It is the reference that was just acquired. The section's exit wakes the tasks that met it.
-    unsafe { ffi::registry_release(cpu.handle(), acquired) };
-    Err(ffi::NOTHING_FOUND)
-}
-
-/// The same for a local reference.
-#[inline]
-fn acquire_local_last<T>(cpu: &Cpu<T>, number: u64) -> Result<ffi::Local, u32> {
-    if cpu.last.get() != number {
-        return Err(ffi::NOTHING_FOUND);
-    }
-    let (mut local, mut entry) = (ffi::Local::EMPTY, ffi::Entry::default());
-    // SAFETY: as for `acquire_last`, and the local handle is empty.
-    checked(unsafe { ffi::registry_local_acquire(cpu.handle(), &mut local) })?;
-    // SAFETY: this is the only use of the reference's handle.
-    unsafe { ffi::registry_local_read(&mut local, &mut entry) };
-    if entry.number == number {
-        return Ok(local);
-    }
-    // SAFETY: it was just acquired on this CPU.
-    unsafe { cpu.release_local(entry.slot as usize, local) };
-    Err(ffi::NOTHING_FOUND)
-}
-
-// What follows is seldom done. It takes its record by value, so that the record of a `Found` needn't lie in memory.
-
-/// Acquires a passive reference where the CPU has looked up something else since: one more by the number if the CPU has any.
-#[cold]
-fn acquire_again<T>(cpu: &Cpu<T>, record: Record<T>) -> Result<(), LookUpError> {
-    // SAFETY: this thread alone has the CPU, whose handle isn't empty.
-    let acquired = match unsafe { ffi::registry_copy(cpu.handle(), record.plain.number) } {
-        ffi::NOT_HELD => {
-            find_again(cpu, record)?;
-            acquire_last(cpu, record.plain.number)
-        }
-        answer => checked(answer),
-    };
-    acquired.map_err(LookUpError::of)
-}
-
-/// Acquires a local reference there.
-#[cold]
-fn acquire_local_again<T>(cpu: &Cpu<T>, record: Record<T>) -> Result<ffi::Local, LookUpError> {
-    find_again(cpu, record)?;
-    acquire_local_last(cpu, record.plain.number).map_err(LookUpError::of)
-}
-
-/// Makes the entry the last one that the CPU found, by its kind and name, or is refused `NotFound`.
-#[cold]
-fn find_again<T>(cpu: &Cpu<T>, record: Record<T>) -> Result<(), LookUpError> {
-    let (kind, name) = record.plain.key();
-    match cpu.find(kind, name) {
-        Some(again) if again.plain.number == record.plain.number => Ok(()),
-        _ => Err(LookUpError::NotFound),
     }
 }
 
@@ -239,29 +180,16 @@ impl<T> Deref for Found<'_, '_, T> {
 /// The live entries, the newest first: what [`Section::entries`] met.
 #[must_use = "an iterator does nothing until it is asked"]
 pub struct Entries<'section, 'cpu, T> {
-    row: [ffi::Entry; ffi::MOST_SLOTS],
+    row: Vec<ffi::Entry>,
     next: usize,
-    count: usize,
     cpu: &'cpu Cpu<T>,
     section: PhantomData<&'section Section<'cpu, T>>,
 }
 
-impl<'section, 'cpu, T> Entries<'section, 'cpu, T> {
-    /// Walks in the section.
-    pub(crate) fn walk(section: &'section Section<'cpu, T>) -> Self {
-        let cpu = section.cpu();
-        let mut row = [ffi::Entry::default(); ffi::MOST_SLOTS];
-        let mut count = 0;
-        // SAFETY: this thread alone has the CPU, whose handle isn't empty, and the row has the room that is told.
-        let answer = unsafe { ffi::registry_walk(cpu.handle(), row.as_mut_ptr(), row.len(), &mut count) };
-        assert_eq!(answer, ffi::DONE, "a walk in a section");
-        cpu.last.set(0);
-        Entries { row, next: 0, count, cpu, section: PhantomData }
-    }
-
+impl<T> Entries<'_, '_, T> {
     /// What is still to come.
     fn left(&self) -> &[ffi::Entry] {
-        &self.row[self.next..self.count]
+        &self.row[self.next..]
     }
 }
 
@@ -362,17 +290,6 @@ impl<T> Cpu<T> {
 
     /// The live entry with this kind and name, and the section in which it was found: what [`enter`](Cpu::enter) and [`find`](Section::find) give together.
     ///
-    /// ```
-    /// use kupaldiz::{Kind, LookUpError, Name, Registry, Settings};
-    ///
-    /// let (registry, cpus) = Registry::open(Settings::new(1, 1)).unwrap();
-    /// let wm = Name::parse("wm").unwrap();
-    /// registry.attach(&cpus[0], &wm, vec![1500, 9000]).unwrap();
-    /// assert_eq!(cpus[0].read(Kind::Driver, &wm).map(|driver| driver[1]), Ok(9000));
-    /// assert_eq!(cpus[0].read(Kind::Iface, &wm).unwrap_err(), LookUpError::NotFound);
-    /// assert!(!cpus[0].is_inside());
-    /// ```
-    ///
     /// # Errors
     ///
     /// `TooDeep`, `SectionsSpent`, `NotFound`. The CPU is then as deep inside as before.
@@ -381,7 +298,10 @@ impl<T> Cpu<T> {
     pub fn read(&self, kind: Kind, name: &Name) -> Result<ReadGuard<'_, T>, LookUpError> {
         let record = self.enter_by(|| {
             // SAFETY: it is such a call.
-            unsafe { self.found_by(ffi::registry_enter_find, kind.number(), &name.words) }.map_err(|answer| self.refused(answer))
+            unsafe { self.found_by(ffi::registry_enter_find, kind, name) }.map_err(|answer| {
+                self.tasks().wake();
+                LookUpError::of(answer)
+            })
         })?;
         // SAFETY: it was found in the section of the guard, which has both.
         Ok(ReadGuard { found: unsafe { Found::new(self, record) }, section: Section { cpu: self } })
@@ -407,11 +327,8 @@ impl<T> Cpu<T> {
     /// `TooDeep`, `SectionsSpent`, `NotFound`.
     #[inline]
     pub fn look_up(&self, kind: Kind, name: &Name) -> Result<Entry, LookUpError> {
-        let tasks = self.tasks();
         // SAFETY: it is such a call.
-        let found = unsafe { self.found_by(ffi::registry_look_up, kind.number(), &name.words) };
-        let record = found.map_err(|answer| self.refused(answer))?;
-        tasks.wake();
+        let record = unsafe { self.looked_up_by(ffi::registry_look_up, kind, name) }?;
         Ok(record.plain.entry())
     }
 
@@ -419,57 +336,36 @@ impl<T> Cpu<T> {
     #[inline]
     #[track_caller]
     fn get_record(&self, kind: Kind, name: &Name) -> Result<Record<T>, LookUpError> {
-        let tasks = self.tasks();
         // SAFETY: it is such a call.
-        let found = unsafe { self.found_by(ffi::registry_get, kind.number(), &name.words) };
-        let record = found.map_err(|answer| self.refused(answer))?;
-        tasks.wake();
+        let record = unsafe { self.looked_up_by(ffi::registry_get, kind, name) }?;
         Ok(self.noted(Hold::Passive, record, Location::caller()))
     }
 
-    /// Looks a live entry up, inside a section.
-    #[inline]
-    fn find(&self, kind: u64, name: &ffi::Name) -> Option<Record<T>> {
-        // SAFETY: it is such a call.
-        match unsafe { self.found_by(ffi::registry_find, kind, name) } {
-            Ok(record) => Some(record),
-            Err(answer) => {
-                assert_eq!(answer, ffi::NOT_FOUND, "a lookup in a section");
-                None
-            }
-        }
+    /// Makes a call that looks an entry up, and wakes the tasks: it may have held another entry until it returned.
+    ///
+    /// # Safety
+    ///
+    /// As of `found_by`.
+    #[inline(always)]
+    unsafe fn looked_up_by(&self, call: LookUp, kind: Kind, name: &Name) -> Result<Record<T>, LookUpError> {
+        let tasks = self.tasks();
+        // SAFETY: the caller says so.
+        let found = unsafe { self.found_by(call, kind, name) };
+        tasks.wake();
+        found.map_err(LookUpError::of)
     }
 
-    /// Makes a call whose find changes the last found entry of an open section. Refused, the CPU may have found an entry that isn't told, so none counts
-    /// as found; but `TooDeep` comes before the find.
+    /// Makes a call that looks an entry up.
     ///
     /// # Safety
     ///
     /// registry.h says of the call that it looks an entry up on the CPU, and writes it if it is done.
     #[inline(always)]
-    unsafe fn found_by(&self, call: LookUp, kind: u64, name: &ffi::Name) -> Result<Record<T>, u32> {
+    unsafe fn found_by(&self, call: LookUp, kind: Kind, name: &Name) -> Result<Record<T>, u32> {
         // SAFETY: this thread alone has the CPU, whose handle isn't empty.
-        let call = |found: *mut ffi::Entry| unsafe { call(self.handle(), kind, name, found) };
+        let call = |found: *mut ffi::Entry| unsafe { call(self.handle(), kind.number(), &name.words, found) };
         // SAFETY: the caller says so.
-        match unsafe { Record::written(call) } {
-            Ok(record) => {
-                self.last.set(record.plain.number);
-                Ok(record)
-            }
-            Err(answer) => {
-                if answer != ffi::TOO_DEEP {
-                    self.last.set(0);
-                }
-                Err(answer)
-            }
-        }
-    }
-
-    /// The error of such a call. It has let go of what it looked at.
-    #[inline]
-    fn refused(&self, answer: u32) -> LookUpError {
-        self.tasks().wake();
-        LookUpError::of(answer)
+        unsafe { Record::written(call) }
     }
 }
 
@@ -522,37 +418,5 @@ impl<T> Deref for ReadGuard<'_, T> {
     #[inline]
     fn deref(&self) -> &T {
         &self.found
-    }
-}
-
-#[cfg(test)]
-mod tests {
-    use super::Found;
-    use crate::{Kind, Name, Registry, Settings};
-
-    /// The crate's note of the last found entry is a hint: where it is wrong, the entry that is meant is acquired all the same.
-    #[test]
-    fn a_wrong_note_misleads_nobody() {
-        let (registry, cpus) = Registry::open(Settings::new(2, 4)).unwrap();
-        let [wm, vga, pci] = ["wm", "vga", "pci"].map(Name::from_static);
-        registry.attach(&cpus[0], &wm, 7).unwrap();
-        registry.attach(&cpus[0], &vga, 8).unwrap();
-        let section = cpus[0].enter().unwrap();
-        let found = section.find(Kind::Driver, &wm).unwrap();
-        for other in [&vga, &pci] {
-            let mislead = || {
-                let _last = section.find(Kind::Driver, other);
-                cpus[0].last.set(found.record.plain.number);
-            };
-            mislead();
-            let passive = Found::acquire(&found).unwrap();
-            assert!(*passive == 7 && cpus[0].holds(1) && !cpus[0].holds(2));
-            drop(passive);
-            assert!(!cpus[0].holds(1));
-            mislead();
-            let local = Found::acquire_local(&found).unwrap();
-            let held: Vec<i64> = registry.audit(&cpus).unwrap().iter().map(|one| one.held).collect();
-            assert_eq!((*local, held), (7, vec![1, 0]));
-        }
     }
 }

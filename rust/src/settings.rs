@@ -1,6 +1,7 @@
 //! The size of a registry.
 
 use crate::ffi;
+use std::thread::available_parallelism;
 
 /// The size of a registry, and the limits of its counts. Each method sets one limit and returns the settings.
 ///
@@ -52,9 +53,9 @@ impl Settings {
         }
     }
 
-    /// The largest registry, as [`Settings::default`] has it, for the methods that follow: so no two numbers are swapped.
+    /// Eight CPUs and 32 slots, for the methods that follow: so no two numbers are swapped.
     pub const fn builder() -> Settings {
-        Settings::new(ffi::MOST_CPUS as u8, ffi::MOST_SLOTS as u8)
+        Settings::new(8, 32)
     }
 
     limits! {
@@ -79,8 +80,9 @@ impl Settings {
 }
 
 impl Default for Settings {
-    /// The largest registry: all [limits](crate::LIMITS) as far as they go.
+    /// As many CPUs as the machine has for this process, at most 64, and 32 slots.
     fn default() -> Settings {
-        Settings::builder()
+        let cpus = available_parallelism().map_or(1, |count| count.get().min(ffi::MOST_CPUS));
+        Settings::new(cpus as u8, 32)
     }
 }

@@ -8,16 +8,18 @@ use crate::ffi;
 use crate::limits::{check_version, version, LIMITS};
 use crate::lock::{locked, locked_mut, Mutex, MutexGuard, Tasks};
 use crate::places::Notes;
-use crate::refusal::{checked, AttachError, Refusal};
+use crate::refusal::{checked, Refusal};
 use crate::settings::Settings;
-use crate::values::{Entry, Freed, Met};
+use crate::values::{Freed, Met};
 use std::cmp::Reverse;
 use std::mem;
 use std::sync::atomic::{AtomicUsize, Ordering};
 use std::sync::Arc;
 
-/// A place for each CPU, all of them empty.
-pub const NO_CPUS: [ffi::Cpu; ffi::MOST_CPUS] = [ffi::Cpu::EMPTY; ffi::MOST_CPUS];
+/// A place for each of so many CPUs, all of them empty.
+pub fn no_cpus(count: usize) -> Vec<ffi::Cpu> {
+    (0..count).map(|_| ffi::Cpu::EMPTY).collect()
+}
 
 /// What the interlock guards.
 pub struct Kept<T> {
@@ -26,8 +28,6 @@ pub struct Kept<T> {
     rows: Vec<Row<T>>,
     /// The entries that are to be freed as soon as nobody holds them, the oldest first.
     pub deferred: Vec<Plain>,
-    /// How many attaches and detaches there were.
-    changes: u64,
     /// What an attach freed of these, as it needed a slot. No more than there are slots: each entry that is deferred later takes all out.
     freed: Vec<Freed<T>>,
 }
@@ -57,7 +57,7 @@ pub struct Shared<T> {
     /// How many entries are deferred, or were freed and wait for a call that returns them; or a little while ago.
     waiting: AtomicUsize,
     /// The handle of each CPU that nobody has; the others are empty.
-    spare: Mutex<[ffi::Cpu; ffi::MOST_CPUS]>,
+    spare: Mutex<Vec<ffi::Cpu>>,
     pub baskets: Baskets,
     pub tasks: Tasks,
     /// Who holds what, if that is noted.
@@ -81,7 +81,6 @@ impl<T> Kept<T> {
     pub unsafe fn note(&mut self, entry: Plain, carried: Carried<T>) {
         // SAFETY: as the caller says.
         unsafe { carried.note(entry) };
-        self.changes = entry.number;
         self.rows.push(Row { number: entry.number, carried, state: State::Live });
     }
 
@@ -99,27 +98,8 @@ impl<T> Kept<T> {
         entries
     }
 
-    /// Whether a live entry is the one that is meant.
-    pub fn has_live(&self, is_meant: impl Fn(&Entry) -> bool) -> bool {
-        self.all_live().iter().any(|live| is_meant(&live.entry()))
-    }
-
-    /// Whether an entry can be attached after a detach.
-    pub fn check_room(&self, settings: &Settings) -> Result<(), AttachError> {
-        let taken = self.rows.iter().filter(|row| row.state != State::Freed).count();
-        let live = self.rows.iter().filter(|row| row.state == State::Live).count();
-        if taken >= usize::from(settings.slots) {
-            Err(AttachError::NoSlot)
-        } else if settings.changes - self.changes < live as u64 + 2 {
-            Err(AttachError::HistoryFull)
-        } else {
-            Ok(())
-        }
-    }
-
     /// The entry was detached, and has a token.
     pub fn retire(&mut self, number: u64) {
-        self.changes += 1;
         self.row(number).expect("a row of each entry").state = State::Retired;
     }
 
@@ -182,22 +162,15 @@ impl<T> Shared<T> {
         check_version(version())?;
         checked(LIMITS.compared()).map_err(Refusal::of)?;
         let mut keeper = ffi::Keeper::EMPTY;
-        let mut cpus = NO_CPUS;
-        let count = usize::from(settings.cpus).min(ffi::MOST_CPUS);
-        // SAFETY: all handles are empty, and the array has room for so many CPUs. More than `MOST_CPUS` are bad settings, which is tested first.
-        let answer = unsafe { ffi::registry_open(&settings.to_c(), &mut keeper, cpus.as_mut_ptr(), count) };
+        let (mut cpus, slots) = (no_cpus(usize::from(settings.cpus)), usize::from(settings.slots));
+        // SAFETY: all handles are empty, and there are as many as are told.
+        let answer = unsafe { ffi::registry_open(&settings.to_c(), &mut keeper, cpus.as_mut_ptr(), cpus.len()) };
         checked(answer).map_err(Refusal::of)?;
         Ok(Shared {
-            kept: Mutex::new(Kept {
-                keeper,
-                rows: Vec::with_capacity(ffi::MOST_SLOTS),
-                deferred: Vec::with_capacity(ffi::MOST_SLOTS),
-                changes: 0,
-                freed: Vec::new(),
-            }),
+            kept: Mutex::new(Kept { keeper, rows: Vec::with_capacity(slots), deferred: Vec::with_capacity(slots), freed: Vec::new() }),
             waiting: AtomicUsize::new(0),
             spare: Mutex::new(cpus),
-            baskets: Baskets::default(),
+            baskets: Baskets::new(slots),
             tasks: Tasks::default(),
             notes: is_tracked.then(Mutex::default),
             settings,

@@ -44,18 +44,26 @@ macro_rules! kinds {
     }};
 }
 
-/// The name of each type, what the compiler says of it, and what it should say.
+/// The name of a type, what the compiler says of it, and what it should say.
+type Row = (&'static str, [String; 3], [&'static str; 3]);
+
+macro_rules! row {
+    ($name:ident, $type:ty, $send:literal, $sync:literal, $others:literal) => {{
+        let (send, sync) = (kinds!($type, Send), kinds!($type, Sync));
+        #[allow(dead_code)]
+        type T = u64;
+        let others =
+            [("p", has!($type, Unpin)), ("u", has!($type, UnwindSafe)), ("r", has!($type, RefUnwindSafe)), ("c", has!($type, Clone))];
+        let others = others.iter().filter(|one| one.1).map(|one| one.0).collect();
+        (stringify!($name), [send, sync, others], [$send, $sync, $others])
+    }};
+}
+
+/// All types, the plain values in brackets.
 macro_rules! table {
-    ($($name:ident: $type:ty, $send:literal, $sync:literal, $others:literal;)*) => {
-        fn table() -> Vec<(&'static str, [String; 3], [&'static str; 3])> {
-            vec![$({
-                let (send, sync) = (kinds!($type, Send), kinds!($type, Sync));
-                #[allow(dead_code)]
-                type T = u64;
-                let others = [("p", has!($type, Unpin)), ("u", has!($type, UnwindSafe)), ("r", has!($type, RefUnwindSafe)), ("c", has!($type, Clone))];
-                let others = others.iter().filter(|one| one.1).map(|one| one.0).collect();
-                (stringify!($name), [send, sync, others], [$send, $sync, $others])
-            }),*]
+    ($($name:ident: $type:ty, $send:literal, $sync:literal, $others:literal;)* [$($plain:ident)*]) => {
+        fn table() -> Vec<Row> {
+            vec![$(row!($name, $type, $send, $sync, $others),)* $(row!($plain, $plain, "bysn", "bysn", "purc"),)*]
         }
     };
 }
@@ -85,23 +93,7 @@ table! {
     StillOpen: StillOpen<T>,                             "b",    "b",    "pur";
     Table: Table<'static, T>,                            "",     "",     "pc";
     Refused: Refused<DestroyError, Retired<T>>,          "b",    "b",    "pur";
-    AttachError: AttachError,                            "bysn", "bysn", "purc";
-    DestroyError: DestroyError,                          "bysn", "bysn", "purc";
-    DetachError: DetachError,                            "bysn", "bysn", "purc";
-    LookUpError: LookUpError,                            "bysn", "bysn", "purc";
-    Hold: Hold,                                          "bysn", "bysn", "purc";
-    Holders: Holders,                                    "bysn", "bysn", "purc";
-    Place: Place,                                        "bysn", "bysn", "purc";
-    Balance: Balance,                                    "bysn", "bysn", "purc";
-    Entry: Entry,                                        "bysn", "bysn", "purc";
-    Holder: Holder,                                      "bysn", "bysn", "purc";
-    Kind: Kind,                                          "bysn", "bysn", "purc";
-    Limits: Limits,                                      "bysn", "bysn", "purc";
-    Name: Name,                                          "bysn", "bysn", "purc";
-    NameFault: NameFault,                                "bysn", "bysn", "purc";
-    Patience: Patience,                                  "bysn", "bysn", "purc";
-    Refusal: Refusal,                                    "bysn", "bysn", "purc";
-    Settings: Settings,                                  "bysn", "bysn", "purc";
+    [AttachError DestroyError DetachError LookUpError Refusal NameFault Hold Holder Holders Place Balance Entry Kind Limits Name Patience Settings]
 }
 
 #[test]

@@ -3,10 +3,9 @@
 
 mod common;
 
-use common::{detach, local, name, passive, patience, why, with_driver, Drops, Tracked, LONG};
-use kupaldiz::{Cpu, DestroyError, Holder, Kind, LocalRef, Patience, Refusal, Refused, Registry, Retired, Settings};
+use common::{detach, local, name, passive, patience, with_driver, Drops, Tracked, LONG};
+use kupaldiz::{Cpu, Holder, Kind, LocalRef, Patience, Registry, Retired, Settings};
 use std::cell::{Cell, RefCell};
-use std::error::Error;
 use std::mem;
 use std::panic::{catch_unwind, AssertUnwindSafe};
 use std::rc::Rc;
@@ -124,27 +123,6 @@ fn a_panic_gives_all_back() {
     assert_eq!(drops.dropped(), 1);
 }
 
-/// An error that is boxed and kept has the token in it. Its entry's slot is vacant all the same once an attach needs it, and its value waits for it.
-#[test]
-fn a_token_in_a_boxed_error_keeps_no_slot() {
-    let (registry, cpus) = Registry::open(Settings::new(2, 1)).unwrap();
-    let vga = name("vga");
-    registry.attach(&cpus[0], &name("wm"), 7).unwrap();
-    let section = cpus[1].enter().unwrap();
-    let destroyed = || -> Result<(), Box<dyn Error>> {
-        let retired = registry.detach(&cpus[0], Kind::Driver, &name("wm"))?;
-        retired.destroy(&cpus[0], Patience::Turns(1))?;
-        Ok(())
-    };
-    let kept = destroyed().unwrap_err();
-    assert_eq!(registry.attach(&cpus[0], &vga, 8).map_err(why), Err(Refusal::NoSlot));
-    section.exit();
-    assert_eq!(registry.attach(&cpus[0], &vga, 8).unwrap().slot, 0);
-    assert_eq!((registry.collect().len(), registry.retired()), (0, 0));
-    let kept = kept.downcast::<Refused<DestroyError, Retired<i32>>>().unwrap();
-    assert_eq!(kept.given.destroy(&cpus[0], Patience::Turns(1)).unwrap().value, 7);
-}
-
 /// Panics as it is dropped, once.
 struct Fragile {
     _tracked: Tracked,
@@ -231,15 +209,14 @@ fn a_drop_may_call_the_registry() {
 fn any_value_is_carried() {
     #[repr(align(256))]
     struct Wide(u8);
-    let (registry, cpus) = with_driver(Wide(9));
-    assert_eq!(passive(&cpus[0], "wm").0, 9);
-    assert_eq!(detach(&registry, &cpus[0], "wm").freed().value.0, 9);
-    let (registry, cpus) = with_driver([7u8; 4096]);
-    assert_eq!(passive(&cpus[0], "wm")[4095], 7);
-    assert_eq!(detach(&registry, &cpus[0], "wm").freed().value, [7; 4096]);
-    let (registry, cpus) = with_driver(());
-    assert_eq!(*passive(&cpus[0], "wm"), ());
-    assert_eq!(detach(&registry, &cpus[0], "wm").freed().value, ());
+    fn carry<T>(value: T) -> T {
+        let (registry, cpus) = with_driver(value);
+        detach(&registry, &cpus[0], "wm").freed().value
+    }
+    let (_registry, cpus) = with_driver((Wide(9), [7u8; 4096]));
+    let held = passive(&cpus[0], "wm");
+    assert_eq!((held.0 .0, held.1[4095]), (9, 7));
+    assert_eq!((carry(Wide(9)).0, carry([7u8; 4096]), carry(())), (9, [7; 4096], ()));
     let (counted, text) = (Rc::new(Cell::new(0)), String::from("borrowed"));
     let (registry, cpus) = with_driver((Rc::clone(&counted), text.as_str()));
     passive(&cpus[0], "wm").0.set(3);

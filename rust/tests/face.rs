@@ -31,71 +31,35 @@ fn names_are_told_apart_and_ordered_as_their_texts() {
     assert!(names.iter().zip(texts).all(|(name, text)| *name == text && *name == *text));
     assert!(WM != "wm0" && WM != *"vm" && Name::from_bytes(b"wm") == Ok(WM));
     assert_eq!(("wm".parse(), "".parse::<Name>()), (Ok(WM), Err(NameFault::Empty)));
-    let (registry, cpus) = Registry::open(Settings::new(1, 8)).unwrap();
-    for (value, name) in names.iter().enumerate() {
-        registry.attach(&cpus[0], name, value).unwrap();
-    }
-    let section = cpus[0].enter().unwrap();
-    for (value, name) in names.iter().enumerate() {
-        let found = section.find(Kind::Driver, name).unwrap();
-        assert_eq!((*found, Found::entry(&found).name), (value, *name));
-    }
-}
-
-#[test]
-fn an_id_is_a_name_and_back() {
-    for (id, text) in [(0, "a000000000000"), (31, "a00000000000v"), (32, "a000000000010"), (u64::MAX, "pvvvvvvvvvvvv")] {
-        assert_eq!((Name::from_id(id).as_str(), name(text).id()), (text, Some(id)));
-    }
-    assert!(["a", "a00", "wm", "a00000000000w", "q000000000000"].iter().all(|text| name(text).id().is_none()));
 }
 
 #[test]
 fn bad_settings_are_refused() {
     let whole = Settings::new(LIMITS.cpus as u8, LIMITS.slots as u8);
-    for settings in [
-        whole.cpus(0),
-        whole.cpus(LIMITS.cpus as u8 + 1),
-        whole.cpus(200),
-        whole.slots(0),
-        whole.slots((LIMITS.slots as u8).wrapping_add(1)),
-        whole.changes(0),
-        whole.changes(LIMITS.changes + 1),
-        whole.sections(0),
-        whole.sections(LIMITS.sections + 1),
-        whole.passives(0),
-        whole.passives(LIMITS.count + 1),
-        whole.locals(0),
-        whole.locals(LIMITS.count + 1),
-    ] {
+    let none = [whole.cpus(0), whole.slots(0), whole.changes(0), whole.sections(0), whole.passives(0), whole.locals(0)];
+    let many = [whole.cpus(200), whole.cpus(LIMITS.cpus as u8 + 1), whole.slots((LIMITS.slots as u8).wrapping_add(1))];
+    let (changes, sections) = (whole.changes(LIMITS.changes + 1), whole.sections(LIMITS.sections + 1));
+    let counts = [changes, sections, whole.passives(LIMITS.count + 1), whole.locals(LIMITS.count + 1)];
+    for settings in none.into_iter().chain(many).chain(counts) {
         assert_eq!(Registry::<()>::open(settings).map(drop).map_err(why), Err(Refusal::BadSettings), "{settings:?}");
     }
     let (registry, cpus) = Registry::<()>::open(whole).unwrap();
-    assert_eq!((registry.settings(), cpus.len() as u64, whole), (whole, LIMITS.cpus, Settings::default()));
+    assert_eq!((registry.settings(), cpus.len() as u64), (whole, LIMITS.cpus));
+    let (least, found) = (Settings::default(), thread::available_parallelism().unwrap().get());
+    assert_eq!((least, Settings::builder()), (Settings::new(found.min(64) as u8, 32), Settings::new(8, 32)));
     assert_eq!((kupaldiz::version(), kupaldiz::limits()), (env!("CARGO_PKG_VERSION"), LIMITS));
+}
+
+/// The refusals with their numbers in the header.
+macro_rules! numbered {
+    ($($refusal:ident $(($held:expr))? $number:literal),*) => {[$((Refusal::$refusal $(($held))?, $number)),*]};
 }
 
 #[test]
 fn refusals_have_the_numbers_of_the_header_and_say_why() {
-    let numbered = [
-        (Refusal::NoMemory, 1),
-        (Refusal::BadSettings, 2),
-        (Refusal::NameTaken, 3),
-        (Refusal::NoSlot, 4),
-        (Refusal::HistoryFull, 5),
-        (Refusal::NotFound, 6),
-        (Refusal::Inside, 7),
-        (Refusal::SectionsSpent, 8),
-        (Refusal::PassiveFull, 10),
-        (Refusal::LocalFull, 13),
-        (Refusal::MissingCpu, 15),
-        (Refusal::StillHeld(Holder::Grace(1)), 16),
-        (Refusal::Waiting(3), 17),
-        (Refusal::TooDeep, 18),
-        (Refusal::NeedsDriver, 19),
-        (Refusal::OtherRegistry, 0),
-        (Refusal::OtherVersion, 0),
-        (Refusal::OtherLimits, 78),
+    let numbered = numbered![
+        NoMemory 1, BadSettings 2, NameTaken 3, NoSlot 4, HistoryFull 5, NotFound 6, Inside 7, SectionsSpent 8, PassiveFull 10, LocalFull 13,
+        MissingCpu 15, StillHeld(Holder::Grace(1)) 16, Waiting(3) 17, TooDeep 18, NeedsDriver 19, OtherRegistry 0, OtherVersion 0, OtherLimits 78
     ];
     assert!(numbered.iter().all(|(refusal, number)| refusal.number() == *number));
     assert_eq!(numbered.iter().map(|one| one.0.to_string()).collect::<HashSet<_>>().len(), numbered.len());
@@ -147,17 +111,6 @@ fn a_call_outside_counts_as_a_section_except_of_an_entry_that_its_cpu_remembers(
     let spent = [cpu.enter().map(drop), cpu.read(Kind::Driver, &WM).map(drop), cpu.get_local(Kind::Driver, &WM).map(drop)];
     let of_others = [cpu.look_up(Kind::Iface, &WM).map(drop), cpu.get(Kind::Iface, &WM).map(drop)];
     assert!(spent.iter().chain(&of_others).all(|told| told.map_err(why) == Err(Refusal::SectionsSpent)));
-}
-
-/// Also where the last change was a detach.
-#[test]
-fn a_replace_without_room_leaves_the_old_entry() {
-    let (registry, cpus) = Registry::open(Settings::new(1, 3).changes(5)).unwrap();
-    registry.attach(&cpus[0], &WM, 7).unwrap();
-    registry.attach(&cpus[0], &name("vga"), 8).unwrap();
-    registry.retire(&cpus[0], Kind::Driver, &WM).unwrap();
-    let refused = registry.replace(&cpus[0], &name("vga"), 9).unwrap_err();
-    assert_eq!((why(refused.refusal), refused.given, *passive(&cpus[0], "vga")), (Refusal::HistoryFull, 9, 8));
 }
 
 #[test]

@@ -91,32 +91,28 @@ fn is_woken_as<H>(what: &str, registry: &Registry<u32>, cpu: &Cpu<u32>, held: H,
 
 #[test]
 fn each_call_that_lets_an_entry_go_wakes_the_task() {
-    let (registry, cpus) = with_wm();
-    is_woken_as("a section", &registry, &cpus[2], cpus[0].enter().unwrap(), drop);
-    let (registry, cpus) = with_wm();
-    let guard = cpus[0].read(Kind::Driver, &WM).unwrap();
-    is_woken_as("a guard", &registry, &cpus[2], guard, drop);
-    let (registry, cpus) = with_wm();
-    is_woken_as("a passive reference", &registry, &cpus[2], passive(&cpus[0], "wm"), drop);
-    let (registry, cpus) = with_wm();
-    let other = passive(&cpus[0], "wm");
-    let copy = PassiveRef::try_clone(&other).unwrap();
-    drop(other);
-    is_woken_as("a copy", &registry, &cpus[2], copy, PassiveRef::release);
-    let (registry, cpus) = with_wm();
-    is_woken_as("a dropped local reference", &registry, &cpus[2], local(&cpus[0], "wm"), drop);
-    let (registry, cpus) = with_wm();
-    is_woken_as("a released one", &registry, &cpus[2], local(&cpus[0], "wm"), |reference| {
-        LocalRef::release(reference, &cpus[1]).unwrap();
-    });
-    let (registry, mut cpus) = with_wm();
-    let mut cpu = cpus.remove(0);
-    mem::forget(cpu.enter().unwrap());
-    is_woken_as("a CPU that leaves", &registry, &cpus[1], &mut cpu, Cpu::leave);
-    let (registry, mut cpus) = with_wm();
-    let cpu = cpus.remove(0);
-    mem::forget(cpu.enter().unwrap());
-    is_woken_as("a CPU that is dropped", &registry, &cpus[1], cpu, drop);
+    macro_rules! woken_as {
+        ($what:literal, $cpus:ident, $held:expr, $let_go:expr) => {
+            let (registry, mut $cpus) = with_wm();
+            let changer = $cpus.pop().unwrap();
+            is_woken_as($what, &registry, &changer, $held, $let_go);
+        };
+    }
+    fn copied(held: PassiveRef<'_, u32>) -> PassiveRef<'_, u32> {
+        PassiveRef::try_clone(&held).unwrap()
+    }
+    let inside = |cpu: Cpu<u32>| {
+        mem::forget(cpu.enter().unwrap());
+        cpu
+    };
+    woken_as!("a section", cpus, cpus[0].enter().unwrap(), drop);
+    woken_as!("a guard", cpus, cpus[0].read(Kind::Driver, &WM).unwrap(), drop);
+    woken_as!("a passive reference", cpus, passive(&cpus[0], "wm"), drop);
+    woken_as!("a copy", cpus, copied(passive(&cpus[0], "wm")), PassiveRef::release);
+    woken_as!("a dropped local reference", cpus, local(&cpus[0], "wm"), drop);
+    woken_as!("a released one", cpus, local(&cpus[0], "wm"), |reference| LocalRef::release(reference, &cpus[1]).unwrap());
+    woken_as!("a CPU that leaves", cpus, &mut inside(cpus.remove(0)), Cpu::leave);
+    woken_as!("a CPU that is dropped", cpus, inside(cpus.remove(0)), drop);
 }
 
 /// A call that holds an entry for a moment, and what it keeps.

@@ -229,7 +229,10 @@ impl<'cpu> Bench<'cpu> {
         }
         match self.look(cpu, entry.kind, &entry.name) {
             Ok(again) if again == entry => Ok(()),
-            _ => Err(Refusal::NotFound),
+            _ => {
+                self.last[cpu] = None;
+                Err(Refusal::NotFound)
+            }
         }
     }
 
@@ -243,16 +246,16 @@ impl<'cpu> Bench<'cpu> {
         Ok((cpu, entry.number))
     }
 
-    /// or a local one, after those to it that were dropped are released.
+    /// or a local one, after those to it that were dropped are released. At its limit the CPU looks the entry up once more.
     fn locally(&mut self, cpu: usize, entry: Entry) -> Told<Entry> {
         self.release_dropped(cpu, Some(entry.number));
+        let is_full = self.known(entry.number).net[cpu] == self.settings.locals as i64;
+        self.last[cpu] = self.last[cpu].filter(|_| !is_full);
         self.seek(cpu, entry)?;
-        let most = self.settings.locals as i64;
-        let net = &mut self.known(entry.number).net[cpu];
-        if *net == most {
+        if is_full {
             return Err(Refusal::LocalFull);
         }
-        *net += 1;
+        self.known(entry.number).net[cpu] += 1;
         Ok(entry)
     }
 }

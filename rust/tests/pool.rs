@@ -4,12 +4,11 @@ mod common;
 
 use common::{local, name, passive, with_driver, LONG};
 use kupaldiz::{CpuPool, LocalRef, Registry};
-use std::fmt::{self, Write};
 use std::future::Future;
 use std::mem;
 use std::panic::{catch_unwind, AssertUnwindSafe};
 use std::sync::atomic::{AtomicBool, AtomicU32, Ordering};
-use std::sync::mpsc::{channel, Receiver};
+use std::sync::mpsc::channel;
 use std::sync::Arc;
 use std::task::{Context, Poll, Wake, Waker};
 use std::thread;
@@ -87,83 +86,27 @@ fn a_forgotten_loan_is_lost() {
     assert_eq!(Arc::try_unwrap(pool).unwrap().into_cpus().len(), 0);
 }
 
-/// What a thread gets that waits for a loan by this, or nothing if it waits too long.
-fn waiting(pool: &Arc<CpuPool<u32>>, lend: impl FnOnce(&CpuPool<u32>) -> Option<u8> + Send + 'static) -> Receiver<Option<u8>> {
-    let (pool, (to, from)) = (Arc::clone(pool), channel());
-    thread::spawn(move || to.send(lend(&pool)));
-    thread::sleep(Duration::from_millis(2));
-    from
-}
-
 /// One way to wait for a loan: which CPU it is.
 type Way = fn(&CpuPool<u32>) -> Option<u8>;
-
-const WAYS: [Way; 2] = [|pool| Some(pool.lend().id()), |pool| pool.lend_until(Instant::now() + 2 * LONG).map(|cpu| cpu.id())];
 
 /// All who wait, by each way to wait; and also where the thread that has it panics.
 #[test]
 fn a_waiting_thread_gets_the_cpu_that_comes_back() {
+    let ways: [Way; 2] = [|pool| Some(pool.lend().id()), |pool| pool.lend_until(Instant::now() + 2 * LONG).map(|cpu| cpu.id())];
     let (_registry, pool) = with_pool();
     let held = pool.lend();
-    let all = [WAYS[0], WAYS[1], WAYS[0]].map(|way| waiting(&pool, way));
+    let all = [ways[0], ways[1], ways[0]].map(|way| {
+        let (pool, (to, from)) = (Arc::clone(&pool), channel());
+        thread::spawn(move || to.send(way(&pool)));
+        from
+    });
+    thread::sleep(Duration::from_millis(5));
     let ended = catch_unwind(AssertUnwindSafe(move || {
         let _held = held;
         panic!("the borrower's own");
     }));
     assert!(ended.is_err());
     assert_eq!(all.map(|one| one.recv_timeout(LONG)), [Ok(Some(0)); 3]);
-}
-
-/// What a pool is written to: it is slow as it gets what the pool looks at under its lock.
-struct Slow;
-
-impl Write for Slow {
-    fn write_str(&mut self, text: &str) -> fmt::Result {
-        if text.contains("idle") {
-            thread::sleep(Duration::from_millis(2));
-        }
-        Ok(())
-    }
-}
-
-/// Also where the one that waits, and the one that gives the CPU back, wait for the pool's lock in any order.
-#[test]
-fn a_cpu_is_in_its_pool_before_anybody_is_woken() {
-    let (_registry, pool) = with_pool();
-    for _ in 0..10 {
-        let held = pool.lend();
-        let (waiting, shown) = (waiting(&pool, WAYS[0]), Arc::clone(&pool));
-        thread::sleep(Duration::from_millis(20));
-        // It takes the lock again as soon as it has let it go: whoever was first in the queue is the last then.
-        let showing = thread::spawn(move || (0..2).try_for_each(|_| write!(Slow, "{shown:?}")).unwrap());
-        thread::sleep(Duration::from_millis(1));
-        drop(held);
-        showing.join().unwrap();
-        assert_eq!(waiting.recv_timeout(LONG), Ok(Some(0)));
-    }
-}
-
-/// Until it has happened often that another thread took the CPU before the one that waits, by each way to wait.
-#[test]
-fn a_loan_waits_on_where_another_takes_the_cpu() {
-    let (_registry, pool) = with_pool();
-    for way in WAYS {
-        let mut stolen = 0;
-        for _ in 0..1000 {
-            let held = pool.lend();
-            let waiting = waiting(&pool, way);
-            drop(held);
-            let taken = pool.try_lend();
-            thread::sleep(Duration::from_millis(2));
-            stolen += u32::from(taken.is_some());
-            drop(taken);
-            assert_eq!(waiting.recv_timeout(LONG), Ok(Some(0)));
-            if stolen == 20 {
-                break;
-            }
-        }
-        assert_eq!(stolen, 20, "nobody took the CPU before");
-    }
 }
 
 #[test]

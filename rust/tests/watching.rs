@@ -17,12 +17,13 @@ fn calls(text: &str, before: &str) -> BTreeSet<String> {
 #[test]
 fn each_call_with_a_handle_is_watched() {
     let mut made = calls(include_str!("../src/ffi.rs"), "pub fn ");
-    let names = ["registry_name_parse", "registry_name_of_id", "registry_id_of_name"];
-    for without in names.into_iter().chain(["registry_strerror", "registry_version", "registry_limits", "registry_open"]) {
+    for without in ["registry_strerror", "registry_version", "registry_limits", "registry_open"] {
         assert!(made.remove(without), "{without}");
     }
     made.retain(|call| call.starts_with("registry_"));
-    assert_eq!(calls(include_str!("common/watched.rs"), "__wrap_"), made);
+    let mut watched = calls(include_str!("common/watched.rs"), "");
+    watched.retain(|call| call.starts_with("registry_"));
+    assert_eq!(watched, made);
     assert!(made.len() > 20);
 }
 

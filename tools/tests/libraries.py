@@ -5,7 +5,7 @@ from .trees import Case, Fault, real
 # A library is a text here: what nm says of it.
 NM = '#!/bin/sh\nfor library; do :; done\ncat "$library"\n'
 HEADERS = "include/registry.h", "c/include/waiting.h"
-BUILT_FOR = "registry_for_8_cpus_32_slots"
+BUILT_FOR = "registry_for_64_cpus_255_slots"
 SYMBOLS = {
     **real("packaging/symbols.sh", "packaging/calls-of.sh"),
     "include/registry.h": "uint32_t registry_enter(struct registry_cpu *cpu);\nregistry_answer REGISTRY_BUILT_FOR(const struct registry_limits *limits);\n",
@@ -79,7 +79,7 @@ def pages():
     tree = real(PAGER, "netbsd/include/kupaldiz/*.h", OVERVIEW, SMALLEST)
     faults = (
         Fault("a call without a comment", "psref.h: psref_more has no entry",
-              ((PAGED, "#ifdef __cplusplus\n}", "/* Nothing that describes it. */\nvoid psref_more(void);\n#ifdef __cplusplus\n}"),)),
+              ((PAGED, "__END_DECLS\n", "/* Nothing that describes it. */\nvoid psref_more(void);\n__END_DECLS\n"),)),
         Fault("a prototype in two lines", "psref.h: psref_copy has no entry", ((PAGED, "void psref_copy(struct psref *to,", "void\npsref_copy(struct psref *to,"),)),
         Fault("a header without a page", "lists.h: no page is made of it", (("netbsd/include/kupaldiz/lists.h", None, "void lists_more(void);\n"),)),
         Fault("another call in the program's file", shows, ((SMALLEST, "\tpserialize_perform(psz);\n", ""),)),

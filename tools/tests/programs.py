@@ -141,7 +141,7 @@ def points():
     without = '"ends the thread or the run": "failed'
     faults = (
         Fault("a call without a point", "another has no point, and no reason is told", ((SHOWN, "\t\tkupaldiz_at;\n", "\t\tkupaldiz_at;\n\t\tkupaldiz_another;\n"),)),
-        Fault("a point that is gone", "cv_wait has no point", ((CALLS, "LAYER(void, cv_wait, ", "OTHER(void, cv_wait, "),)),
+        Fault("a point that is gone", "cv_wait has no point", ((CALLS, "AROUND(void, cv_wait, ", "OTHER(void, cv_wait, "),)),
         Fault("a reason for what has a point", "cv_wait has a point, or is no call", ((TOLD_BY, without, f"{without} cv_wait"),)),
         Fault("a reason for what is no call", "gone has a point, or is no call", ((TOLD_BY, without, f"{without} gone"),)),
     )

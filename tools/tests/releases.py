@@ -24,7 +24,7 @@ SOURCES = {
     "crates/registry_c/src/lib.rt": "face\n",
     "crates/registry_c/include/registry.h":
         "#define REGISTRY_VERSION_MAJOR\t0\n#define REGISTRY_VERSION_MINOR\t1\nuint32_t registry_enter(struct registry_cpu *cpu);\n",
-    "crates/registry_c/include/registry_limits.h": "#define REGISTRY_MOST_CPUS\t8\n",
+    "crates/registry_c/include/registry_limits.h": "#define REGISTRY_MOST_CPUS\t64\n",
     **{f"c/src/{part}.c": f"/* {part} */\n" for part in PARTS},
 }
 TREE = {
@@ -80,7 +80,7 @@ def record(tree, built):
     summed = subprocess.run(["python3", "-c", "import sys; sys.path.insert(0, 'tools'); sys.dont_write_bytecode = True\nimport importlib, limits\n"
                              "print(importlib.import_module('proof-record').sum_of_sources(limits.file({})))"],
                             cwd=tree, capture_output=True, text=True, check=True).stdout.strip()
-    return (f"processor: x86_64\nlimits: --cpus 8\nkit: kit\nverdict: logic=proved functions=1\nsources: {summed}\ncommit: none\ncompiled: 0\n"
+    return (f"processor: x86_64\nlimits: --cpus 64\nkit: kit\nverdict: logic=proved functions=1\nsources: {summed}\ncommit: none\ncompiled: 0\n"
             f"object: {hashlib.sha256(built).hexdigest()}\n")
 
 
@@ -119,8 +119,8 @@ def making():
         Fault("no archive", "there is no out/libregistry.a: tools/build-archive.sh proves and builds it", command=shell("rm out/libregistry.a")),
         Fault("no record", "there is no out/libregistry.proved: tools/build-archive.sh", command=shell("rm out/libregistry.proved")),
         Fault("a record without a verdict", "has no line 'verdict: ..'", command=shell("sed -i '/^verdict/d' out/libregistry.proved")),
-        Fault("a record with other limits", "has other limits than the sources as they stand", command=shell("sed -i 's/--cpus 8/--cpus 16/' out/libregistry.proved")),
-        Fault("a record with limits that are none", "--cpus may be 8 to 128", command=shell("sed -i 's/--cpus 8/--cpus 800/' out/libregistry.proved")),
+        Fault("a record with other limits", "has other limits than the sources as they stand", command=shell("sed -i 's/--cpus 64/--cpus 16/' out/libregistry.proved")),
+        Fault("a record with limits that are none", "--cpus may be 8 to 128", command=shell("sed -i 's/--cpus 64/--cpus 800/' out/libregistry.proved")),
         Fault("another archive", "isn't the archive that", command=shell("echo other >registry.o; ar r out/libregistry.a registry.o; rm registry.o")),
         Fault("no archive of objects", "has no object registry.o", command=shell("echo none >out/libregistry.a")),
         Fault("other sources", "was made from other sources", command=shell("echo more >>crates/low/src/lib.rt; git -c user.name=a -c user.email=a@b commit -qam more")),
@@ -183,7 +183,7 @@ grep -q 'MOST_CPUS: usize = 16;' said && grep -q 'MOST_SLOTS: usize = 64;' said 
 grep -q 'MOST_CPUS[^0-9]*16$' $out/registry_limits.h || { echo "the header has other limits"; exit 1; }
 grep -qx 'limits: --cpus 16 --slots 64' $out/libregistry.proved || { echo "the record has other limits"; exit 1; }
 [ ! -e out/libregistry.a ] || { echo "the default's archive was built"; exit 1; }
-grep -q 'MOST_CPUS: usize = 8;' crates/registry_values/src/limits.rt || { echo "the tree has other limits now"; exit 1; }
+grep -q 'MOST_CPUS: usize = 64;' crates/registry_values/src/limits.rt || { echo "the tree has other limits now"; exit 1; }
 "$@"
 PATH=$PWD/bin:$PATH tools/proof-record.py check $out/libregistry.a
 """,
@@ -201,8 +201,6 @@ BAD_LIMITS = {
     "--changes 5": "it takes no --changes",
     "--slots": "--slots has no number",
     "--cpus 9 --cpus 10": "--cpus is given twice",
-    "--wide --cpus 9": "--wide is no limit: it is --wide alone, or --cpus",
-    "--cpus 9 --wide": "--wide is no limit: it is --wide alone, or --cpus",
     "--count 4": "it takes no --count",
 }
 

@@ -3,9 +3,9 @@ from .trees import Case, Fault, real
 
 # Each place that says a limit again: a part of the line, with its number.
 PLACES = (
-    ("bench/common.h", "MOST_THREADS = 8", "MOST_CPUS"),
-    ("bench/common.h", "MOST_ENTRIES = 32", "MOST_SLOTS"),
-    ("bench/peers/src/list.rs", "MOST_ENTRIES: usize = 32;", "MOST_SLOTS"),
+    ("bench/common.h", "MOST_THREADS = 64", "MOST_CPUS"),
+    ("bench/common.h", "MOST_ENTRIES = 255", "MOST_SLOTS"),
+    ("bench/peers/src/list.rs", "MOST_ENTRIES: usize = 255;", "MOST_SLOTS"),
 )
 LIMITS = "crates/registry_values/src/limits.rt"
 # The header that says the version, which the name of a symbol has.
@@ -13,20 +13,20 @@ VERSION = "crates/registry_c/include/registry.h"
 # The header of all limits, and what it says of each.
 HEADER = "crates/registry_c/include/registry_limits.h"
 COPIES = ("rust/registry_limits.h", "netbsd/include/kupaldiz/registry_limits.h")
-SAID = ("MOST_CPUS\t8", "MOST_SLOTS\t32", "MOST_CHANGES\t(UINT64_C(1) << 40)", "MOST_SECTIONS\t(UINT64_C(1) << 62)", "MOST_COUNT\t(UINT64_C(1) << 40)",
-        "MOST_DEPTH\t255", "BUILT_FOR\tregistry_for_8_cpus_32_slots_v0_1", 'BUILD\t""')
+SAID = ("MOST_CPUS\t64", "MOST_SLOTS\t255", "MOST_CHANGES\t(UINT64_C(1) << 40)", "MOST_SECTIONS\t(UINT64_C(1) << 62)", "MOST_COUNT\t(UINT64_C(1) << 40)",
+        "MOST_DEPTH\t255", "BUILT_FOR\tregistry_for_64_cpus_255_slots_v0_1", 'BUILD\t""')
 
 
 def check_limits():
-    faults = [Fault(f"another number: {path}, {name}", f"{path}: {name} is", ((path, old, old.replace("8", "9").replace("32", "31")),))
+    faults = [Fault(f"another number: {path}, {name}", f"{path}: {name} is", ((path, old, old.replace("64", "63").replace("255", "254")),))
               for path, old, name in PLACES]
     faults += [Fault(f"no number: {path}, {name}", f"{path}: {name} is None", ((path, old, "gone"),)) for path, old, name in PLACES]
     faults += [Fault(f"another header: {old}", f"{HEADER} isn't what", ((HEADER, f"REGISTRY_{old}", "REGISTRY_OTHER 7"),)) for old in SAID]
-    faults += [Fault(f"another copy: {path}", f"{path} isn't what", ((path, "MOST_CPUS\t8", "MOST_CPUS\t9"),)) for path in COPIES]
-    faults.append(Fault("a comparison that isn't counted", "16 passed, 1 failed", ((COPIES[0], "MOST_CPUS\t8", "MOST_CPUS\t9"),)))
+    faults += [Fault(f"another copy: {path}", f"{path} isn't what", ((path, "MOST_CPUS\t64", "MOST_CPUS\t63"),)) for path in COPIES]
+    faults.append(Fault("a comparison that isn't counted", "16 passed, 1 failed", ((COPIES[0], "MOST_CPUS\t64", "MOST_CPUS\t63"),)))
     faults.append(Fault("a limit that Rattle doesn't say", "MOST_DEPTH is None", ((LIMITS, "const MOST_DEPTH", "const DEPTH"),)))
     faults += [Fault(f"another {name} in Rattle", f"{name} is", ((LIMITS, f"const {name}: {kind} = {number};", f"const {name}: {kind} = 7;"),))
-               for name, kind, number in (("MOST_CPUS", "usize", "8"), ("MOST_SLOTS", "usize", "32"), ("MOST_CHANGES", "u64", "1 << 40"),
+               for name, kind, number in (("MOST_CPUS", "usize", "64"), ("MOST_SLOTS", "usize", "255"), ("MOST_CHANGES", "u64", "1 << 40"),
                                           ("MOST_SECTIONS", "u64", "1 << 62"), ("MOST_COUNT", "u64", "1 << 40"), ("MOST_DEPTH", "u8", "255"),
                                           ("USUAL_CPUS", "usize", "8"), ("USUAL_SLOTS", "usize", "32"), ("USUAL_CHANGES", "u64", "1_000_000"),
                                           ("USUAL_SECTIONS", "u64", "1 << 40"), ("USUAL_COUNT", "u64", "1 << 40"))]
@@ -39,12 +39,12 @@ def check_limits():
 # The header of the default limits and that of others, which two names tell apart; each is C and C++.
 MAKES = f"""#!/bin/sh
 set -e
-sed -e 's/MOST_CPUS: usize = 8/MOST_CPUS: usize = 64/' -e 's/MOST_SLOTS: usize = 32/MOST_SLOTS: usize = 128/' -e 's/MOST_CHANGES: u64 = .*;/MOST_CHANGES: u64 = 1_000_000;/' {LIMITS} >wide.rt
+sed -e 's/MOST_CPUS: usize = 64/MOST_CPUS: usize = 16/' -e 's/MOST_SLOTS: usize = 255/MOST_SLOTS: usize = 64/' -e 's/MOST_CHANGES: u64 = .*;/MOST_CHANGES: u64 = 1_000_000;/' {LIMITS} >other.rt
 tools/limits-header.py >default.h
-tools/limits-header.py wide.rt >wide.h
-grep -q 'registry_for_8_cpus_32_slots_v0_1$' default.h && grep -q 'REGISTRY_BUILD	""$' default.h
-grep -q 'registry_for_64_cpus_128_slots_v0_1$' wide.h && grep -q 'REGISTRY_BUILD	"-64x128"$' wide.h
-for header in default.h wide.h; do
+tools/limits-header.py other.rt >other.h
+grep -q 'registry_for_64_cpus_255_slots_v0_1$' default.h && grep -q 'REGISTRY_BUILD	""$' default.h
+grep -q 'registry_for_16_cpus_64_slots_v0_1$' other.h && grep -q 'REGISTRY_BUILD	"-16x64"$' other.h
+for header in default.h other.h; do
     echo 'extern char all[REGISTRY_MOST_SECTIONS == UINT64_C(1) << 62 && REGISTRY_MOST_CHANGES > 999999 && REGISTRY_MOST_DEPTH == 255 ? 1 : -1];' >text
     for language in c c++; do
         cc -Wall -Wextra -Wpedantic -Werror -include ./$header -fsyntax-only -x$language text
@@ -90,7 +90,7 @@ def check_imports():
 
 EDITS = "crates/cpu_words/edits/gate.edits"
 KEEPING = "crates/protocol/proofs/keeps/Keeping.antt"
-TABLED = ("crates/protocol/src/event.rt", "crates/protocol/specs/Events.antt", KEEPING, "crates/passive_core/src/machine/run.rt", "docs/EVENTS.md",
+TABLED = ("crates/protocol/src/event.rt", "crates/protocol/specs/Events.antt", KEEPING, "crates/passive_core/src/machine/run.rt", "docs/MODEL.md",
           "crates/passive_list/src/*.rt", "crates/passive_list/edits/*.edits", "crates/cpu_words/src/steps/*.rt", "crates/cpu_words/src/operations/*.rt",
           "crates/cpu_words/proofs/steps/**/*.antt", "crates/cpu_words/proofs/operations/**/*.antt", "crates/cpu_words/edits/*.edits")
 
@@ -105,7 +105,7 @@ def event_table():
         Fault("a step without an edit", "no edit", (("crates/passive_list/edits/gate.edits", "old:     keeper.rows[slot as usize].state = SlotState::Vacant;", "old: gone"),)),
         Fault("an event without a definition", "no definition", ((definition, "guard (may_enter s c) (some_outcome (after_enter s c) Done)", "None"),)),
         Fault("an event that the machine doesn't make", "no method", (("crates/passive_core/src/machine/run.rt", "self.step_enter(c)", "enter(c)"),)),
-        Fault("another word in the table", page, (("docs/EVENTS.md", "The CPU begins a section", "The CPU ends a section"),)),
+        Fault("another word in the table", page, (("docs/MODEL.md", "The CPU begins a section", "The CPU ends a section"),)),
     )
     tools = ["event-table.py", "contracts.py", "parts.py", "edits.py"]
     return Case("event-table", tools, real(*TABLED), ["tools/event-table.py", "check"], faults)

@@ -1,8 +1,8 @@
-//! The entries that are looked up: the drivers "d00" to "d31", in a linked list, the newest first.
+//! The entries that are looked up: the drivers "d00", "d01" and so on, in a linked list, the newest first.
 
 use std::sync::Arc;
 
-pub const MOST_ENTRIES: usize = 32;
+pub const MOST_ENTRIES: usize = 255;
 const DRIVER: u64 = 2;
 
 /// What an entry is sought by. A name of up to 16 bytes is two big-endian words, filled up with zero bytes.
@@ -16,9 +16,8 @@ pub struct Key {
 impl Key {
     /// The key of an entry, by its place from 0.
     pub fn of(place: usize) -> Key {
-        let digits = [b'd', b'0' + (place / 10) as u8, b'0' + (place % 10) as u8];
-        let mut name = [0; 8];
-        name[..3].copy_from_slice(&digits);
+        let (text, mut name) = (format!("d{place:02}"), [0; 8]);
+        name[..text.len()].copy_from_slice(text.as_bytes());
         Key {
             kind: DRIVER,
             high: u64::from_be_bytes(name),

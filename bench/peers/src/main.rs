@@ -12,7 +12,7 @@ use list::{Key, MOST_ENTRIES};
 use runs::{nanoseconds_each, nanoseconds_waited};
 use std::process::ExitCode;
 
-const MOST_THREADS: usize = 8;
+const MOST_THREADS: usize = 64;
 const MOST_COUNT: usize = 1_000_000_000;
 
 const USAGE: &str = "usage: peers crossbeam-epoch|arc-swap THREADS ENTRIES OPERATIONS

@@ -4,9 +4,9 @@ use Rattle.std.proofs.lemmas.Option.{none-some, same_Some}
 use Rattle.c_calls.specs.Types.{Refusal}
 use Rattle.cpu_words.specs.Common.{Named}
 use Rattle.passive_list.specs.Common.{HasGivenUp, OnPlainCpu, OnPlainKeeper}
-use Rattle.c_bodies.specs.Bodies.{IsReferenceOf, OnLocalBody}
+use Rattle.c_handles.specs.Bodies.{IsReferenceOf, OnLocalBody}
 use Rattle.c_calls.specs.Calls.{Exits, IsOfCpu, Through}
-use Rattle.c_values.specs.declared.values.TheConstants.{DONE, NOT_COLLECTED}
+use Rattle.c_handles.specs.declared.values.plain.TheConstants.{DONE, NOT_COLLECTED}
 use Rattle.c_calls.specs.LocalCalls.{AnswersAcquireInMemory, IsUncollected, LocalAcquireAnswers, LocalGivesUp, ThroughLocal, some_of}
 use Rattle.c_call_tests.specs.Handles.{IsCpuOf, IsLocalOf}
 

@@ -10,10 +10,10 @@ use Rattle.cpu_words.specs.Common.{Named}
 use Rattle.passive_list.specs.Common.{OnCpu, OnPlainCpu, OnKeeper, OnPlainKeeper, HasHeardOn}
 use Rattle.name_registry.specs.Common.{HasAttachedFor, HasDetachedFor, is_inside}
 use Rattle.name_registry.proofs.Worked.{prefix_on}
-use Rattle.c_values.specs.declared.values.TheConstants.{DONE}
-use Rattle.c_values.specs.declared.wait.TheConstants.{BEGUN}
-use Rattle.c_values.specs.declared.wait.CWait.{CWait}
-use Rattle.c_values.specs.Flags.{is_begun}
+use Rattle.c_handles.specs.declared.values.plain.TheConstants.{DONE}
+use Rattle.c_handles.specs.declared.values.wait.TheConstants.{BEGUN}
+use Rattle.c_handles.specs.declared.values.wait.CWait.{CWait}
+use Rattle.c_handles.specs.values.Flags.{is_begun}
 use Rattle.c_calls.specs.KeeperCalls.{Begins, PerformAnswers, PerformCalls, PerformsAt, TurnAnswers, Turns, TurnsAt, WritesTold}
 use Rattle.c_calls.specs.Waits.{IsTurnOfWait, IsWaitedFor, KnowsAllOf}
 use Rattle.c_call_tests.specs.Waits.{IsUnderWay}

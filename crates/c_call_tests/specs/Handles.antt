@@ -2,7 +2,7 @@
 use Rattle.std.specs.Prelude.{◌≡◌, Option, Some}
 use Rattle.cpu_words.specs.Common.{Named}
 use Rattle.passive_list.specs.Common.{OnPlainCpu}
-use Rattle.c_bodies.specs.Bodies.{IsReferenceOf, OnLocalBody}
+use Rattle.c_handles.specs.Bodies.{IsReferenceOf, OnLocalBody}
 
 -- the CPU behind the handle, if any, is of the registry with these words
 abbrev pub IsCpuOf : Named → Option OnPlainCpu → Type 0

@@ -2,9 +2,9 @@
 use Rattle.std.specs.Prelude.{◌≡◌, ℕ, true, Option, Some}
 use Rattle.cpu_words.specs.Common.{Named}
 use Rattle.passive_list.specs.Common.{OnPlainCpu, OnPlainKeeper}
-use Rattle.c_values.specs.declared.values.TheConstants.{DONE}
-use Rattle.c_values.specs.declared.wait.CWait.{CWait}
-use Rattle.c_values.specs.Flags.{is_begun}
+use Rattle.c_handles.specs.declared.values.plain.TheConstants.{DONE}
+use Rattle.c_handles.specs.declared.values.wait.CWait.{CWait}
+use Rattle.c_handles.specs.values.Flags.{is_begun}
 use Rattle.c_calls.specs.KeeperCalls.{PerformCalls}
 use Rattle.c_calls.specs.Waits.{TurnsOn}
 

@@ -3,10 +3,10 @@
 
 ghost use Rattle.std.specs.Prelude.{◌≡◌};
 
-use c_bodies::handle::{CpuHandle, KeeperHandle, LocalHandle};
-use c_bodies::{CpuBody, KeeperBody};
 use c_calls::{through_cpu, through_local};
-use held::{CHandle, Handle, Held};
+use c_handles::handle::{CpuHandle, KeeperHandle, LocalHandle};
+use c_handles::heap::{CHandle, Handle, Held};
+use c_handles::{CpuBody, KeeperBody};
 use std::alloc::Global;
 
 /// The CPU acquires a local reference to the entry that it found last, and leaves its section. The keeper can't give the reference up, since no

@@ -12,12 +12,12 @@ ghost use Rattle.c_calls.specs.Opening.{boxed, opened_cpu, opened_down};
 ghost use Rattle.c_calls.specs.Waits.{IsWaitedFor, KnowsAllOf};
 ghost use Rattle.c_call_tests.specs.Waits.{IsUnderWay};
 
-use c_bodies::{CpuBody, KeeperBody};
 use c_calls::keeper_calls::{attach, detach};
 use c_calls::opening::open;
 use c_calls::waiting::{begin_body, turn_body};
 use c_calls::waits_law;
-use c_values::wait::CWait;
+use c_handles::values::wait::CWait;
+use c_handles::{CpuBody, KeeperBody};
 use registry_values::{Entry, MOST_CPUS, MOST_SLOTS, Record, Refusal, Settings};
 use std::alloc::Global;
 

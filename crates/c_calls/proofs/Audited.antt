@@ -16,7 +16,7 @@ use Rattle.name_registry.specs.Common.{AreAllCpus, AreAlike, HasListened, IsKeep
 use Rattle.name_registry.proofs.Audits.{cpu_at, each_all, each_more, each_none, each_same, tally_is}
 use Rattle.name_registry.proofs.Gathered.{tallies_learned}
 use Rattle.name_registry.proofs.Tallies.{alike_held, alike_tally}
-use Rattle.c_values.specs.declared.values.CBalance.{CBalance}
+use Rattle.c_handles.specs.declared.values.plain.CBalance.{CBalance}
 use Rattle.c_calls.specs.Audits.{AreAllHere, AreTold, AuditWrites, HaveHeard, IsCut, WritesNext, cpu_in, cpus_in, entries_in, occupied, tally_in}
 use Rattle.c_calls.specs.Opening.{body_at}
 

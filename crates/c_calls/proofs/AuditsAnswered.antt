@@ -4,11 +4,11 @@ use Rattle.std.proofs.lemmas.Bool.{false≢true}
 use Rattle.c_calls.specs.Types.{MissingCpu, Settings}
 use Rattle.registry_values.specs.Common.{number_of_refusal}
 use Rattle.passive_list.specs.Common.{OnPlainCpu, OnKeeper, OnPlainKeeper}
-use Rattle.held.specs.Rows.{is_nothing}
-use Rattle.c_values.specs.declared.values.CBalance.{CBalance}
-use Rattle.c_values.specs.declared.values.TheConstants.{DONE, NO_ROOM}
+use Rattle.c_handles.specs.heap.Rows.{is_nothing}
+use Rattle.c_handles.specs.declared.values.plain.CBalance.{CBalance}
+use Rattle.c_handles.specs.declared.values.plain.TheConstants.{DONE, NO_ROOM}
 use Rattle.c_calls.specs.Audits.{AreAllHere, AuditWrites, Audits, AuditsBodies, AuditsList, occupied}
-use Rattle.c_values.specs.Places.{put}
+use Rattle.c_handles.specs.values.Places.{put}
 
 module _ (z : Settings) (k : OnKeeper) (cs : List (Option OnPlainCpu)) (old new : List CBalance) (count count' : Option ℕ) where
   pub missing_cpu : (AreAllHere z.cpus cs → ⊥) → new ≡ old → count' ≡ count → Audits z k cs (number_of_refusal MissingCpu) old new count count'

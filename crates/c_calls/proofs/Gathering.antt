@@ -10,7 +10,7 @@ use Rattle.c_calls.specs.Types.{Change, LogItem}
 use Rattle.cpu_words.specs.Common.{Named}
 use Rattle.passive_list.specs.Common.{OnCpu, OnPlainCpu}
 use Rattle.name_registry.proofs.Gathered.{Gathered, gathered_learned, gathered_more, learned_none}
-use Rattle.c_bodies.specs.declared.handle.CpuHandle.{CpuHandle}
+use Rattle.c_handles.specs.declared.handle.CpuHandle.{CpuHandle}
 use Rattle.c_calls.specs.Audits.{AreAllHere, HaveHeard, PassesOn, cpu_in, cpus_in}
 use Rattle.c_calls.specs.Opening.{bodies_of, body_at}
 use Rattle.c_calls.proofs.Handles.{body_is, count_bodies, none_past, others_stay}

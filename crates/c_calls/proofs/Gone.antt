@@ -8,11 +8,11 @@ use Rattle.cpu_words.specs.Common.{IsFreedFrom}
 use Rattle.passive_list.specs.Common.{OnCpu, OnPlainCpu, OnKeeper, OnPlainKeeper}
 use Rattle.name_registry.specs.Common.{HasAdvancedFor, IsStageOf, IsTurn, HasAdvanced}
 use Rattle.name_registry.proofs.Destroyed.{advanced_freed, met_gone}
-use Rattle.c_values.specs.declared.values.TheConstants.{DONE}
-use Rattle.c_values.specs.declared.values.CStage.{CStage}
+use Rattle.c_handles.specs.declared.values.plain.TheConstants.{DONE}
+use Rattle.c_handles.specs.declared.values.plain.CStage.{CStage}
 use Rattle.c_calls.specs.KeeperCalls.{AdvancesFor, DestroyAnswers, IsGoneIfFreed, WritesDestroyed}
-use Rattle.c_values.specs.Places.{put}
-use Rattle.c_values.specs.Values.{stage_out}
+use Rattle.c_handles.specs.values.Places.{put}
+use Rattle.c_handles.specs.values.Values.{stage_out}
 
 pub advanced_gone : (a : OnKeeper) (n : ℕ) (r : Result Stage Refusal) (b : OnKeeper) → HasAdvanced a n r b → IsGoneIfFreed n r b.log
 advanced_gone a n (Ok (Grace c)) b is = tt

@@ -9,7 +9,7 @@ use Rattle.atomic_table.proofs.Lists.{at_last}
 use Rattle.std_alloc.specs.declared.boxed.Box.{Box}
 use Rattle.std_heap.specs.declared.Global.{Global}
 use Rattle.passive_list.specs.Common.{OnPlainCpu}
-use Rattle.c_bodies.specs.declared.handle.CpuHandle.{CpuHandle}
+use Rattle.c_handles.specs.declared.handle.CpuHandle.{CpuHandle}
 use Rattle.c_calls.specs.Opening.{AreGiven, bodies_of, body_at, boxed}
 
 -- a handle was written whose body is as before

@@ -8,7 +8,7 @@ use Rattle.cpu_words.specs.Common.{IsShown}
 use Rattle.cpu_words.proofs.by_keeper.KeeperSees.{seen_by_keeper}
 use Rattle.passive_list.specs.Common.{OnKeeper, states_of, IsOurKeeper}
 use Rattle.passive_list.proofs.Rows.{retired_in}
-use Rattle.c_values.specs.Flags.{none_or_number, number_or_none}
+use Rattle.c_handles.specs.values.Flags.{none_or_number, number_or_none}
 
 retired_some : (x : Slot) (n : ℕ) → retired_number x ≡ Some n → (e : Entry) × (x ≡ Retired e) × (e.number ≡ n)
 retired_some Vacant n is = absurd (let q : ◌≡◌ {A = Option ℕ} None (Some n) = is in cc)

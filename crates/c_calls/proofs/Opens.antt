@@ -4,10 +4,10 @@ use Rattle.std.proofs.lemmas.Bool.{false≢true}
 use Rattle.c_calls.specs.Types.{BadSettings, MissingCpu}
 use Rattle.registry_values.specs.Common.{are_fit, number_of_refusal}
 use Rattle.passive_list.specs.Common.{OnPlainCpu, OnPlainKeeper}
-use Rattle.c_values.specs.declared.values.TheConstants.{FULL_HANDLE}
-use Rattle.c_values.specs.declared.values.CSettings.{CSettings}
+use Rattle.c_handles.specs.declared.values.plain.TheConstants.{FULL_HANDLE}
+use Rattle.c_handles.specs.declared.values.plain.CSettings.{CSettings}
 use Rattle.c_calls.specs.Opening.{AreEmpty, HasOpened, IsFull, IsSomeFull, Opens, StaysClosed}
-use Rattle.c_values.specs.Values.{settings_in}
+use Rattle.c_handles.specs.values.Values.{settings_in}
 use Rattle.c_calls.proofs.Acquired.{no_body}
 
 none_full : (k : Option OnPlainKeeper) (cs : List (Option OnPlainCpu)) → k ≡ None → AreEmpty cs → IsFull k cs → ⊥

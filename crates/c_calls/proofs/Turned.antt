@@ -1,15 +1,17 @@
 -- What the calls through the bodies answer, from what the calls beneath them say of the keeper and the CPU.
-use Rattle.std.proofs.Common.{◌≡◌, ⊎_elim, ℕ, zero, suc, ◌<◌, ◌≤◌, Bool, true, false, List, [], ◌∷◌, length, get_or, map, replicate, Option, Some, None, is_some, Result, IfOk, refl, sym, ap, subst, ◌∙◌, arith}
+use Rattle.std.proofs.Common.{◌≡◌, ⊎_elim, ℕ, zero, suc, ◌-◌, ◌<◌, ◌≤◌, Bool, true, false, List, [], ◌∷◌, ◌++◌, length, get_or, map, replicate, Option, Some, None, is_some, Result, IfOk, refl, sym, ap, subst, ◌∙◌, arith}
 use Rattle.std.proofs.lemmas.Bool.{cases_lt}
-use Rattle.std.proofs.lemmas.List.{get_or_past, length-map}
-use Rattle.c_calls.specs.Types.{Refusal, Settings, Slot, Stage, MOST_CPUS, MOST_SLOTS, LogItem, KeeperView, KeptSlot}
+use Rattle.std.proofs.lemmas.List.{get_or_past, length-append, length-map, length-replicate}
+use Rattle.c_calls.specs.Types.{Refusal, Settings, Slot, Vacant, Stage, MOST_CPUS, MOST_SLOTS, LogItem, KeeperView, KeptSlot}
 use Rattle.registry_values.specs.Common.{retired_number, slot_at}
+use Rattle.protocol.proofs.slots.Cells.{get_or_all}
+use Rattle.passive_list.proofs.Logs.{few_slots}
 use Rattle.passive_list.specs.Common.{OnCpu, OnPlainCpu, OnKeeper, states_of, IsOurKeeper, OnPlainKeeper, HasOwnLog}
 use Rattle.name_registry.specs.Common.{HasAdvanced, HasAdvancedFor, IsStageOf, KeepsWords, Finishes, HasBegun, HasGlanced, HasPassedAll, Hold, IsTurn, SnapshotsBelow}
-use Rattle.c_values.specs.declared.wait.CWait.{CWait}
-use Rattle.c_values.specs.declared.wait.TheConstants.{BEGUN}
-use Rattle.c_values.specs.Flags.{flag_of, is_set, none_or_number, number_or_none}
-use Rattle.c_values.proofs.Lists.{map_by_place}
+use Rattle.c_handles.specs.declared.values.wait.CWait.{CWait}
+use Rattle.c_handles.specs.declared.values.wait.TheConstants.{BEGUN}
+use Rattle.c_handles.specs.values.Flags.{flag_of, is_set, none_or_number, number_or_none}
+use Rattle.c_handles.proofs.Lists.{map_by_place}
 use Rattle.c_calls.specs.KeeperCalls.{Advances, AdvancesFor, Begins, PassesHeld, Turns}
 use Rattle.c_calls.proofs.Gone.{advanced_gone, advanced_for_gone}
 use Rattle.c_calls.proofs.Numbered.{numbered}
@@ -44,6 +46,22 @@ numbers_at [] t = refl
 numbers_at (s ∷ slots) zero = refl
 numbers_at (s ∷ slots) (suc t) = numbers_at slots t
 
+-- the slots, and vacant ones up to the places of a wait
+abbrev padded : List Slot → List Slot
+padded slots = slots ++ replicate (MOST_SLOTS - length slots) Vacant
+
+pad_at : (slots : List Slot) (n t : ℕ) → slot_at (slots ++ replicate n Vacant) t ≡ slot_at slots t
+pad_at [] n t = get_or_all n Vacant t
+pad_at (s ∷ slots) n zero = refl
+pad_at (s ∷ slots) n (suc t) = pad_at slots n t
+
+padded_size : (slots : List Slot) → length slots ≤ MOST_SLOTS → length (padded slots) ≡ MOST_SLOTS
+padded_size slots few =
+    let n = MOST_SLOTS - length slots in
+    let whole = length-append slots (replicate n Vacant) in
+    let rest = length-replicate n Vacant in
+    omega (arith, whole, rest, few)
+
 -- what a row has for each slot is what they are to C
 written_by : (slots : List Slot) (retired : List ℕ) → length slots ≡ MOST_SLOTS → length retired ≡ MOST_SLOTS
     → ((t : ℕ) → t < MOST_SLOTS → get_or retired t 0 ≡ number_or_none (retired_number (slot_at slots t))) → retired ≡ map number_or_none (map retired_number slots)
@@ -58,13 +76,17 @@ pub begins_by : {log : List LogItem} (a : Settings) (view : KeeperView) (rows : 
     → ((t : ℕ) → t < MOST_SLOTS → get_or retired t 0 ≡ number_or_none (retired_number (slot_at k.keeper.slots t)))
     → Begins k c l d (record { snapshots = snapshots; retired = retired; seen = replicate MOST_CPUS 0; begun = BEGUN })
 begins_by a view rows n k l c d snapshots retired long our at same own hold written =
-    let numbers = map retired_number k.keeper.slots in
-    let size : length numbers ≡ MOST_SLOTS = length-map k.keeper.slots retired_number ∙ own.size in
-    let begun : HasBegun k.words.settings k.keeper c.cpu snapshots numbers l.keeper d.cpu = record { own = own; hold = hold; numbers = λ t lt. numbers_at k.keeper.slots t } in
+    let slots = padded k.keeper.slots in
+    let numbers = map retired_number slots in
+    let at_slot = pad_at k.keeper.slots (MOST_SLOTS - length k.keeper.slots) in
+    let whole = padded_size k.keeper.slots (few_slots k.words.settings k.keeper own) in
+    let size : length numbers ≡ MOST_SLOTS = length-map slots retired_number ∙ whole in
+    let begun : HasBegun k.words.settings k.keeper c.cpu snapshots numbers l.keeper d.cpu =
+    record { own = own; hold = hold; numbers = λ t lt. numbers_at slots t ∙ ap retired_number (at_slot t) } in
     record {
       numbers = numbers;
       begun = begun;
-      retired = written_by k.keeper.slots retired own.size long written;
+      retired = written_by slots retired whole long (λ t lt. written t lt ∙ ap (λ (s : Slot). number_or_none (retired_number s)) (sym (at_slot t)));
       named = named_by a view rows n k.words.settings k.keeper l.keeper c.cpu d.cpu snapshots numbers size our at begun;
       seen = refl;
       marked = refl;

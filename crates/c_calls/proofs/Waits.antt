@@ -7,9 +7,9 @@ use Rattle.cpu_words.specs.Common.{Named}
 use Rattle.passive_list.specs.Common.{OnCpu, OnPlainCpu, OnKeeper, OnPlainKeeper}
 use Rattle.name_registry.specs.Common.{is_inside, Finishes, HasSeenAllOut, none_seen}
 use Rattle.name_registry.proofs.Waited.{SoFar, all_seen, passed_out, so_far_begun, so_far_by, so_far_on, so_far_turn}
-use Rattle.c_values.specs.declared.values.TheConstants.{DONE}
-use Rattle.c_values.specs.declared.wait.CWait.{CWait}
-use Rattle.c_values.specs.Flags.{flag_of, is_begun, is_set, none_or_number, number_or_none}
+use Rattle.c_handles.specs.declared.values.plain.TheConstants.{DONE}
+use Rattle.c_handles.specs.declared.values.wait.CWait.{CWait}
+use Rattle.c_handles.specs.values.Flags.{flag_of, is_begun, is_set, none_or_number, number_or_none}
 use Rattle.c_calls.specs.KeeperCalls.{Begins, PassesHeld, PerformAnswers, PerformsAt, TurnAnswers, Turns, TurnsAt, WritesTold}
 use Rattle.c_calls.specs.Waits.{IsTurnOfWait, TurnsOn, WaitsEnd, WaitsStayBegun}
 use Rattle.c_calls.proofs.Numbered.{goes_through}

@@ -6,17 +6,17 @@ use Rattle.protocol.specs.Common.{IsIn}
 use Rattle.cpu_words.specs.Common.{new_cpu, no_settings}
 use Rattle.passive_list.specs.Common.{OnCpu, OnPlainCpu, OnKeeper, OnPlainKeeper, HasHeardOn, WasShown, HeardAndTold, no_memory}
 use Rattle.name_registry.specs.Common.{HasListened, HaveHeardAndTold, HaveLearned, IsKeeperOf, IsTallied, places_below, tallies_below, tallies_met, tally_met}
-use Rattle.c_values.specs.declared.values.TheConstants.{DONE, NO_ROOM, NULL}
-use Rattle.c_values.specs.declared.values.CBalance.{CBalance}
+use Rattle.c_handles.specs.declared.values.plain.TheConstants.{DONE, NO_ROOM, NULL}
+use Rattle.c_handles.specs.declared.values.plain.CBalance.{CBalance}
 use Rattle.atomic_table.specs.Seated.{TableId}
 use mathlib.Core.List.{IsPrefix}
-use Rattle.c_bodies.specs.declared.handle.CpuHandle.{CpuHandle}
+use Rattle.c_handles.specs.declared.handle.CpuHandle.{CpuHandle}
 use Rattle.c_calls.specs.Opening.{bodies_of, body_at}
-use Rattle.c_values.specs.Places.{DoesBy, put}
+use Rattle.c_handles.specs.values.Places.{DoesBy, put}
 
 -- the CPU behind a handle; nothing is said of what isn't behind an empty one
 abbrev pub cpu_in : Option OnPlainCpu → OnCpu
-cpu_in None = record { view = new_cpu no_settings 0; depth = 0; made = 0; memory = no_memory; known_log = []; log = [] }
+cpu_in None = record { view = new_cpu no_settings 0; depth = 0; made = 0; memory = no_memory 0; known_log = []; log = [] }
 cpu_in (Some b) = b.cpu
 
 abbrev pub cpus_in : List (Option OnPlainCpu) → List OnCpu

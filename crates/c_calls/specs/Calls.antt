@@ -6,12 +6,12 @@ use Rattle.registry_values.specs.Common.{Answers, number_of_refusal}
 use Rattle.cpu_words.specs.Common.{key_with, references_to}
 use Rattle.passive_list.specs.Common.{OnPlainCpu, HasFoundInside, AnswersEnter, HasExitedOn, OnPlainKeeper}
 use Rattle.passive_ref.specs.Psrefs.{HasOneLess, IsAcquired, IsCopied, IsReadAs, OnPsref, why_not_acquired, why_not_copied, why_unusable}
-use Rattle.c_values.specs.declared.values.TheConstants.{DONE, OUTSIDE, EMPTY_HANDLE, BAD_KIND, NULL}
-use Rattle.c_values.specs.declared.values.CEntry.{CEntry}
-use Rattle.c_values.specs.declared.values.CName.{CName}
-use Rattle.c_bodies.specs.Bodies.{IsReferenceOf, OnLocalBody}
-use Rattle.c_values.specs.Places.{put}
-use Rattle.c_values.specs.Values.{entry_out, kind_in, name_in, number_of}
+use Rattle.c_handles.specs.declared.values.plain.TheConstants.{DONE, OUTSIDE, EMPTY_HANDLE, BAD_KIND, NULL}
+use Rattle.c_handles.specs.declared.values.plain.CEntry.{CEntry}
+use Rattle.c_handles.specs.declared.values.plain.CName.{CName}
+use Rattle.c_handles.specs.Bodies.{IsReferenceOf, OnLocalBody}
+use Rattle.c_handles.specs.values.Places.{put}
+use Rattle.c_handles.specs.values.Values.{entry_out, kind_in, name_in, number_of}
 
 -- Handles, by their bodies
 

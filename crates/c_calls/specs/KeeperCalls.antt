@@ -6,17 +6,17 @@ use Rattle.cpu_words.specs.Common.{IsFreedFrom}
 use Rattle.passive_list.specs.Common.{OnCpu, OnPlainCpu, OnKeeper, OnPlainKeeper}
 use Rattle.name_registry.specs.Common.{HasAdvanced, HasAttachedFor, HasAttachedIfaceFor, attach_answer, attach_iface_answer, HasAdvancedFor, HasDetachedFor, IsDetachAnswer, IsStageOf, KeepsWords}
 use Rattle.name_registry.specs.Common.{is_inside, IsTurn, Finishes, HasBegun, HasGlanced, HasPassedAll}
-use Rattle.c_values.specs.declared.values.TheConstants.{DONE, EMPTY_HANDLE, BAD_KIND, BAD_NAME, NOT_BEGUN, NULL}
-use Rattle.c_values.specs.declared.values.CEntry.{CEntry}
-use Rattle.c_values.specs.declared.values.CName.{CName}
-use Rattle.c_values.specs.declared.values.CStage.{CStage}
-use Rattle.c_values.specs.declared.wait.TheConstants.{BEGUN}
-use Rattle.c_values.specs.declared.wait.CWait.{CWait}
-use Rattle.c_bodies.specs.Bodies.{OnLocalBody}
+use Rattle.c_handles.specs.declared.values.plain.TheConstants.{DONE, EMPTY_HANDLE, BAD_KIND, BAD_NAME, NOT_BEGUN, NULL}
+use Rattle.c_handles.specs.declared.values.plain.CEntry.{CEntry}
+use Rattle.c_handles.specs.declared.values.plain.CName.{CName}
+use Rattle.c_handles.specs.declared.values.plain.CStage.{CStage}
+use Rattle.c_handles.specs.declared.values.wait.TheConstants.{BEGUN}
+use Rattle.c_handles.specs.declared.values.wait.CWait.{CWait}
+use Rattle.c_handles.specs.Bodies.{OnLocalBody}
 use Rattle.c_calls.specs.Calls.{Puts, ThroughBoth}
-use Rattle.c_values.specs.Places.{put}
-use Rattle.c_values.specs.Flags.{flag_of, is_begun, is_set, none_or_number, number_or_none}
-use Rattle.c_values.specs.Values.{entry_out, kind_in, number_of, stage_out}
+use Rattle.c_handles.specs.values.Places.{put}
+use Rattle.c_handles.specs.values.Flags.{flag_of, is_begun, is_set, none_or_number, number_or_none}
+use Rattle.c_handles.specs.values.Values.{entry_out, kind_in, number_of, stage_out}
 
 abbrev pub words_name : CName → Option Name
 words_name name = name_of_words name.high name.low

@@ -4,14 +4,14 @@ use Rattle.c_calls.specs.Types.{Entry, Iface, Name, Refusal, NoMemory, Reference
 use Rattle.registry_values.specs.Common.{number_of_refusal}
 use Rattle.passive_list.specs.Common.{OnPlainCpu, HasGivenUp, OnPlainKeeper}
 use Rattle.local_count.specs.References.{HasAcquired, HasComeBack, HasReleased, why_not_acquired_local}
-use Rattle.c_values.specs.declared.values.TheConstants.{DONE, EMPTY_HANDLE, FULL_HANDLE, BAD_NAME, COLLECTED, NOT_COLLECTED, NULL}
-use Rattle.c_values.specs.declared.values.CEntry.{CEntry}
-use Rattle.c_values.specs.declared.values.CName.{CName}
-use Rattle.c_bodies.specs.Bodies.{IsReferenceOf, OnLocalBody}
+use Rattle.c_handles.specs.declared.values.plain.TheConstants.{DONE, EMPTY_HANDLE, FULL_HANDLE, BAD_NAME, COLLECTED, NOT_COLLECTED, NULL}
+use Rattle.c_handles.specs.declared.values.plain.CEntry.{CEntry}
+use Rattle.c_handles.specs.declared.values.plain.CName.{CName}
+use Rattle.c_handles.specs.Bodies.{IsReferenceOf, OnLocalBody}
 use Rattle.c_calls.specs.Collected.{are_collected_for}
 use Rattle.c_calls.specs.KeeperCalls.{AttachesIface, record_of, words_name}
-use Rattle.c_values.specs.Places.{put}
-use Rattle.c_values.specs.Values.{entry_out, number_of}
+use Rattle.c_handles.specs.values.Places.{put}
+use Rattle.c_handles.specs.values.Values.{entry_out, number_of}
 
 -- what is there where the answer is no refusal
 abbrev pub some_of : {X : Type 0} → Result X Refusal → Option X

@@ -4,23 +4,23 @@ use mathlib.Core.Option.{some}
 use lib.ListN.{get_elem?}
 use Rattle.std_alloc.specs.declared.boxed.Box.{Box}
 use Rattle.std_heap.specs.declared.Global.{Global}
-use Rattle.c_calls.specs.Types.{BadSettings, MissingCpu, NoMemory, Settings, Vacant, MOST_SLOTS, LogItem}
+use Rattle.c_calls.specs.Types.{BadSettings, MissingCpu, NoMemory, Settings, Vacant, LogItem}
 use Rattle.registry_values.specs.Common.{are_fit, number_of_refusal}
 use Rattle.cpu_words.specs.Common.{keeper_with, Named, new_cpu}
 use Rattle.passive_list.specs.Common.{OnPlainCpu, OnPlainKeeper, no_memory}
-use Rattle.c_bodies.specs.declared.handle.CpuHandle.{CpuHandle}
-use Rattle.c_values.specs.declared.values.TheConstants.{DONE, FULL_HANDLE, NULL}
-use Rattle.c_values.specs.declared.values.CSettings.{CSettings}
-use Rattle.c_values.specs.Places.{DoesBy}
-use Rattle.c_values.specs.Values.{settings_in}
+use Rattle.c_handles.specs.declared.handle.CpuHandle.{CpuHandle}
+use Rattle.c_handles.specs.declared.values.plain.TheConstants.{DONE, FULL_HANDLE, NULL}
+use Rattle.c_handles.specs.declared.values.plain.CSettings.{CSettings}
+use Rattle.c_handles.specs.values.Places.{DoesBy}
+use Rattle.c_handles.specs.values.Values.{settings_in}
 
 -- the CPU c of a new registry: outside, with nothing found and nothing held
 abbrev pub opened_cpu : Named → ℕ → OnPlainCpu
-opened_cpu w c = record { words = w; cpu = record { view = new_cpu w.settings c; depth = 0; made = 0; memory = no_memory; known_log = []; log = [] } }
+opened_cpu w c = record { words = w; cpu = record { view = new_cpu w.settings c; depth = 0; made = 0; memory = no_memory w.settings.slots; known_log = []; log = [] } }
 
 -- its keeper: all slots are vacant, and there was no change; the log is of the seats that it gave the CPUs
 abbrev pub opened_keeper : Named → List LogItem → OnPlainKeeper
-opened_keeper w log = record { words = w; keeper = record { view = keeper_with w.settings w.settings.cpus; slots = replicate MOST_SLOTS Vacant; log = log } }
+opened_keeper w log = record { words = w; keeper = record { view = keeper_with w.settings w.settings.cpus; slots = replicate w.settings.slots Vacant; log = log } }
 
 -- the last k of n CPUs, the greatest first
 abbrev pub opened_down : Named → ℕ → ℕ → List OnPlainCpu

@@ -5,10 +5,10 @@ use Rattle.passive_ref.specs.Psrefs.{OnPsref}
 use Rattle.c_calls.specs.Types.{Key, Kind, Seen}
 use Rattle.cpu_words.specs.Common.{key_with}
 use Rattle.passive_list.specs.Common.{FindsWhatStays, HasFoundAnew, HasFoundByMemory, HasRecalledByMemory, OnPlainCpu, may_begin, entry_seen}
-use Rattle.c_values.specs.declared.values.TheConstants.{DONE}
-use Rattle.c_values.specs.declared.values.CEntry.{CEntry}
-use Rattle.c_values.specs.declared.values.CName.{CName}
-use Rattle.c_values.specs.Values.{kind_in, name_in}
+use Rattle.c_handles.specs.declared.values.plain.TheConstants.{DONE}
+use Rattle.c_handles.specs.declared.values.plain.CEntry.{CEntry}
+use Rattle.c_handles.specs.declared.values.plain.CName.{CName}
+use Rattle.c_handles.specs.values.Values.{kind_in, name_in}
 use Rattle.c_calls.specs.Calls.{Acquires, Enters, Exits, FindsNamed, WritesFound}
 
 -- P between an enter and an exit. An enter that is refused is the answer, and nothing else is done: `Same` says so of what the call writes. Else P

@@ -4,9 +4,9 @@ use mathlib.Core.List.{IsPrefix}
 use Rattle.cpu_words.specs.Common.{Named}
 use Rattle.passive_list.specs.Common.{OnPlainCpu, OnPlainKeeper}
 use Rattle.name_registry.specs.Common.{HasSeenAllOut}
-use Rattle.c_values.specs.declared.values.TheConstants.{DONE}
-use Rattle.c_values.specs.declared.wait.CWait.{CWait}
-use Rattle.c_values.specs.Flags.{is_begun}
+use Rattle.c_handles.specs.declared.values.plain.TheConstants.{DONE}
+use Rattle.c_handles.specs.declared.values.wait.CWait.{CWait}
+use Rattle.c_handles.specs.values.Flags.{is_begun}
 use Rattle.c_calls.specs.KeeperCalls.{PerformCalls, TurnCalls}
 
 -- The CPU y makes a call. It knows of the keeper's log all that x knew as the call before ended: it is that CPU, after any calls, or one

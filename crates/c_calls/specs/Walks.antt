@@ -1,21 +1,17 @@
 -- What a walk through the handle answers and writes.
-use Rattle.std.specs.Prelude.{◌≡◌, ◌≢◌, ℕ, ◌<◌, ◌≤◌, List, length, map, take, drop, Option, None}
+use Rattle.std.specs.Prelude.{◌≡◌, ◌≢◌, ℕ, ◌<◌, ◌≤◌, List, length, Option, None}
 use Rattle.c_calls.specs.Types.{Entry}
-use Rattle.passive_list.specs.Common.{OnPlainCpu, HasWalked}
-use Rattle.c_values.specs.declared.values.TheConstants.{DONE, NULL, OUTSIDE, NO_ROOM}
-use Rattle.c_values.specs.declared.values.CEntry.{CEntry}
-use Rattle.c_values.specs.Places.{DoesBy, put}
-use Rattle.c_values.specs.Values.{entry_out}
+use Rattle.passive_list.specs.Common.{OnPlainCpu, HasWalked, IsWritten}
+use Rattle.c_handles.specs.declared.values.plain.TheConstants.{DONE, NULL, OUTSIDE, NO_ROOM}
+use Rattle.c_handles.specs.declared.values.plain.CEntry.{CEntry}
+use Rattle.c_handles.specs.values.Places.{DoesBy, put}
+use Rattle.c_handles.specs.values.Values.{entry_out}
 
--- the first places have these entries, and the rest of the row stays
-pub record HasFirst (row : List Entry) (old new : List CEntry) : Type 0 where
-  pub first : take (length row) new ≡ map entry_out row
-  pub rest : drop (length row) new ≡ drop (length row) old
-
--- what is written of the entries that the walk met: nothing where there is too little room
+-- the row has the first of the entries that the walk met, as many as it has room for, and the rest of it stays
 pub record WritesRow (row : List Entry) (n : ℕ) (old new : List CEntry) : Type 0 where
-  pub short : length old < length row → (n ≡ NO_ROOM) × (new ≡ old)
-  pub enough : length row ≤ length old → (n ≡ DONE) × HasFirst row old new
+  pub short : length old < length row → n ≡ NO_ROOM
+  pub enough : length row ≤ length old → n ≡ DONE
+  pub writes : IsWritten entry_out row old new
 
 pub record Walks (a b : OnPlainCpu) (n : ℕ) (old new : List CEntry) (count count' : Option ℕ) : Type 0 where
   pub outside : a.cpu.view.begin ≡ None → (n ≡ OUTSIDE) × (b ≡ a) × (new ≡ old) × (count' ≡ count)

@@ -1,16 +1,16 @@
 //! The calls on one CPU's body. Each returns its number, and writes what it finds.
 
 ghost use Rattle.std.specs.Prelude.{◌≡◌, ◌≢◌, ℕ, Option, Some, None, IfErr};
-ghost use Rattle.c_values.specs.declared.values.TheConstants.{DONE};
-ghost use Rattle.c_values.specs.declared.values.CEntry.{CEntry};
+ghost use Rattle.c_handles.specs.declared.values.plain.TheConstants.{DONE};
+ghost use Rattle.c_handles.specs.declared.values.plain.CEntry.{CEntry};
 ghost use Rattle.cpu_words.specs.Common.{key_with};
 ghost use Rattle.passive_list.specs.Common.{entry_seen};
-ghost use Rattle.c_values.specs.Values.{kind_in, name_in};
+ghost use Rattle.c_handles.specs.values.Values.{kind_in, name_in};
 ghost use Rattle.c_calls.specs.Calls.{Acquires, Copies, Enters, Exits, Finds, FindsNamed, Reads, Releases, TellsFound, WritesFound};
 
-use c_bodies::CpuBody;
-use c_values::place::{EntryPlace, NumberPlace};
-use c_values::values::{
+use c_handles::CpuBody;
+use c_handles::values::place::{EntryPlace, NumberPlace};
+use c_handles::values::plain::{
     BAD_KIND, CEntry, CName, DONE, NULL, OUTSIDE, answered, entry_out, kind_in, name_in, refused,
 };
 use passive_list::{Seen, entry_of};

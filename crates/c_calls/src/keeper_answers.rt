@@ -3,17 +3,17 @@
 ghost use Rattle.std.specs.Prelude.{◌≡◌};
 ghost use Rattle.registry_values.specs.Common.{destroy_result};
 ghost use Rattle.name_registry.specs.Common.{is_inside};
-ghost use Rattle.c_values.specs.Values.{number_of};
+ghost use Rattle.c_handles.specs.values.Values.{number_of};
 ghost use Rattle.c_calls.specs.KeeperCalls.{AdvanceAnswers, AttachAnswers, AttachesNamed, DestroyAnswers, DetachAnswers, DetachesNamed, PerformAnswers, PerformsAt, TurnAnswers, TurnsAt};
 
 use crate::keeper_calls;
 use crate::waiting::{begin_body, turn_body};
-use c_bodies::{CpuBody, KeeperBody};
-use c_values::place::{EntryPlace, NumberPlace, StagePlace, WaitPlace};
-use c_values::values::{
+use c_handles::values::place::{EntryPlace, NumberPlace, StagePlace, WaitPlace};
+use c_handles::values::plain::{
     BAD_KIND, BAD_NAME, CName, DONE, NOT_BEGUN, NULL, entry_out, kind_in, refused, stage_out,
 };
-use c_values::wait::{CWait, is_begun};
+use c_handles::values::wait::{CWait, is_begun};
+use c_handles::{CpuBody, KeeperBody};
 use registry_values::{Kind, Name, Record, Refusal, Stage, destroyed};
 
 /// Attaches a driver by the name, if one is given.

@@ -4,10 +4,10 @@ ghost use Rattle.std.specs.Prelude.{◌≡◌, IfOk, IfErr, IsTrue, Ok, Err};
 ghost use Rattle.c_calls.specs.Types.{Iface};
 ghost use Rattle.registry_values.specs.Common.{is_lawful};
 ghost use Rattle.name_registry.specs.Common.{HasAttachedFor, HasAttachedIfaceFor, attach_answer, attach_iface_answer, HasDetachedFor, IsDetachAnswer, KeepsWords};
-ghost use Rattle.c_bodies.specs.Bodies.{IsReferenceOf};
+ghost use Rattle.c_handles.specs.Bodies.{IsReferenceOf};
 ghost use Rattle.c_calls.specs.KeeperCalls.{Advances, AdvancesFor};
 
-use c_bodies::{CpuBody, KeeperBody, LocalBody};
+use c_handles::{CpuBody, KeeperBody, LocalBody};
 use name_registry::{advance_in, attach_iface_in, attach_in, detach_in};
 use registry_values::{Entry, Kind, Name, Record, Refusal, Stage};
 

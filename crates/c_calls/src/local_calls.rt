@@ -1,12 +1,12 @@
 //! The calls of local references on one CPU's body.
 
 ghost use Rattle.std.specs.Prelude.{◌≡◌, ◌<◌};
-ghost use Rattle.c_bodies.specs.Bodies.{IsReferenceOf};
+ghost use Rattle.c_handles.specs.Bodies.{IsReferenceOf};
 ghost use Rattle.c_calls.specs.LocalCalls.{AnswersAcquireInMemory, LocalReleases};
-ghost use Rattle.c_values.specs.Values.{entry_out};
+ghost use Rattle.c_handles.specs.values.Values.{entry_out};
 
-use c_bodies::{CpuBody, LocalBody};
-use c_values::values::{CEntry, CName, COLLECTED, DONE};
+use c_handles::values::plain::{CEntry, CName, COLLECTED, DONE};
+use c_handles::{CpuBody, LocalBody};
 use cpu_words::Words;
 use cpu_words::steps::load_local;
 use local_count::{PlainRef, acquire_local_on, try_release_on, why_not_acquired_local};

@@ -2,15 +2,15 @@
 
 ghost use Rattle.std.specs.Prelude.{◌≡◌, ◌<◌, None};
 ghost use Rattle.cpu_words.specs.Common.{IsFoundCollected};
-ghost use Rattle.c_bodies.specs.Bodies.{IsReferenceOf};
+ghost use Rattle.c_handles.specs.Bodies.{IsReferenceOf};
 ghost use Rattle.passive_list.specs.Common.{HasGivenUp};
 ghost use Rattle.c_calls.specs.Collected.{are_collected_for};
 ghost use Rattle.c_calls.specs.LocalCalls.{AttachIfaceAnswers, AttachesIfaceNamed, LocalGivesUp};
 
 use crate::keeper_calls;
-use c_bodies::{CpuBody, KeeperBody, LocalBody};
-use c_values::place::EntryPlace;
-use c_values::values::{BAD_NAME, CName, DONE, NOT_COLLECTED, NULL, entry_out, refused};
+use c_handles::values::place::EntryPlace;
+use c_handles::values::plain::{BAD_NAME, CName, DONE, NOT_COLLECTED, NULL, entry_out, refused};
+use c_handles::{CpuBody, KeeperBody, LocalBody};
 use local_count::release_under;
 use passive_list::Keeper;
 use registry_values::{Kind, MOST_SLOTS, Name, Record, is_retired_as};

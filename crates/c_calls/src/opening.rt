@@ -4,19 +4,19 @@ ghost use Rattle.std.specs.Prelude.{◌≡◌, length, true, false, IfOk, IfErr,
 ghost use Rattle.registry_values.specs.Common.{are_fit};
 ghost use Rattle.cpu_words.specs.Common.{AreSeats, keeper_with};
 ghost use Rattle.passive_list.specs.Common.{OnPlainCpu, OnPlainKeeper};
-ghost use Rattle.held.specs.Rows.{IsLong};
+ghost use Rattle.c_handles.specs.heap.Rows.{IsLong};
 ghost use Rattle.c_calls.specs.Opening.{AreEmpty, AreGiven, HasOpened, IsFull, IsSomeFull, Opens, OpensBy, OpensInto, StaysClosed, bodies_of, boxed, opened_down, opened_keeper};
-ghost use Rattle.c_values.specs.Values.{settings_in};
+ghost use Rattle.c_handles.specs.values.Values.{settings_in};
 
-use c_bodies::answer::OpenedAnswer;
-use c_bodies::handle::{CpuHandle, KeeperHandle};
-use c_bodies::rows::CpusPlace;
-use c_bodies::{CpuBody, KeeperBody};
-use c_values::given::GivenSettings;
-use c_values::values::{CSettings, DONE, FULL_HANDLE, NULL, refused, settings_in};
+use c_handles::answer::OpenedAnswer;
+use c_handles::handle::{CpuHandle, KeeperHandle};
+use c_handles::heap::CHandle;
+use c_handles::rows::CpusPlace;
+use c_handles::values::given::GivenSettings;
+use c_handles::values::plain::{CSettings, DONE, FULL_HANDLE, NULL, refused, settings_in};
+use c_handles::{CpuBody, KeeperBody};
 use cpu_words::{CpuSeat, KeeperSeat, Words};
-use held::CHandle;
-use passive_list::{Keeper, PlainCpu};
+use passive_list::{CpuRows, Keeper, KeeperRows, PlainCpu};
 use registry_values::{Refusal, Settings};
 use std::alloc::{AllocError, Global};
 use std::sync::Arc;
@@ -206,12 +206,13 @@ fn open_on(
     ensures cpus { IfOk result (λ made. boxed made.1.items ≡ opened_down words.value words.value.settings.cpus words.value.settings.cpus) }
 {
     let cpus = cpus_of(alloc, &words, seats)?;
-    let keeper = Keeper::of_seat(keeper, words.settings());
+    let rows = KeeperRows::new(alloc, words.settings())?;
+    let keeper = Keeper::of_seat(keeper, words.settings(), rows);
     let keeper = Box::new(alloc, KeeperBody { words, keeper })?;
     Ok((keeper, cpus))
 }
 
-/// The CPUs, each in a box of its own. A share of the words is taken before the CPU is made: LLVM then writes the CPU's rows straight to its box.
+/// The CPUs, each in a box of its own, with rows of its own.
 fn cpus_of(
     alloc: Global,
     words: &Arc<Words, Global>,
@@ -224,8 +225,9 @@ fn cpus_of(
     let mut cpus = Vec::new(alloc);
     while let Some(seat) = seats.pop() {
         let id = seats.len() as u8;
+        let rows = CpuRows::new(alloc, words.settings().slots)?;
         let share = Arc::try_clone(words)?;
-        let cpu = PlainCpu::of_seat(seat, id);
+        let cpu = PlainCpu::of_seat(seat, id, rows);
         let body = CpuBody::of(share, cpu);
         cpus.push(Box::new(alloc, body)?)?;
     }

@@ -2,16 +2,16 @@
 
 ghost use Rattle.std.specs.Prelude.{◌≡◌, None};
 ghost use Rattle.name_registry.specs.Common.{is_inside};
-ghost use Rattle.c_values.specs.Places.{put};
+ghost use Rattle.c_handles.specs.values.Places.{put};
 ghost use Rattle.c_calls.specs.Calls.{Acquires, Copies, CpuCloses, Enters, Exits, FindsNamed, HoldsSay, Reads, Releases, Through};
 
 use crate::cpu_calls;
-use c_bodies::handle::CpuHandle;
-use c_values::answer::{EntryAnswer, FlagAnswer, NamedAnswer, NumberAnswer};
-use c_values::given::GivenName;
-use c_values::place::{EntryPlace, FlagPlace, NumberPlace};
-use c_values::values::{DONE, EMPTY_HANDLE, refused};
-use held::CHandle;
+use c_handles::handle::CpuHandle;
+use c_handles::heap::CHandle;
+use c_handles::values::answer::{EntryAnswer, FlagAnswer, NamedAnswer, NumberAnswer};
+use c_handles::values::given::GivenName;
+use c_handles::values::place::{EntryPlace, FlagPlace, NumberPlace};
+use c_handles::values::plain::{DONE, EMPTY_HANDLE, refused};
 use registry_values::Refusal;
 use std::alloc::Global;
 

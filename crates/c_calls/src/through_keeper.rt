@@ -4,16 +4,16 @@ ghost use Rattle.std.specs.Prelude.{◌≡◌};
 ghost use Rattle.name_registry.specs.Common.{is_inside, room_answer};
 ghost use Rattle.c_calls.specs.Calls.{AreOfOne, Through, ThroughBoth};
 ghost use Rattle.c_calls.specs.KeeperCalls.{AdvanceAnswers, AttachesNamed, DestroyAnswers, DetachesNamed, KeeperCloses, PerformCalls, TurnCalls};
-ghost use Rattle.c_values.specs.Places.{put};
-ghost use Rattle.c_values.specs.Values.{number_of, settings_out};
+ghost use Rattle.c_handles.specs.values.Places.{put};
+ghost use Rattle.c_handles.specs.values.Values.{number_of, settings_out};
 
 use crate::keeper_answers;
-use c_bodies::handle::{CpuHandle, KeeperHandle};
-use c_values::answer::{NamedAnswer, SettingsAnswer, StageAnswer, TurnAnswer, WaitAnswer};
-use c_values::given::GivenName;
-use c_values::place::{EntryPlace, NumberPlace, SettingsPlace, StagePlace, WaitPlace};
-use c_values::values::{DONE, EMPTY_HANDLE, answered, settings_out};
-use held::CHandle;
+use c_handles::handle::{CpuHandle, KeeperHandle};
+use c_handles::heap::CHandle;
+use c_handles::values::answer::{NamedAnswer, SettingsAnswer, StageAnswer, TurnAnswer, WaitAnswer};
+use c_handles::values::given::GivenName;
+use c_handles::values::place::{EntryPlace, NumberPlace, SettingsPlace, StagePlace, WaitPlace};
+use c_handles::values::plain::{DONE, EMPTY_HANDLE, answered, settings_out};
 use name_registry::room_in;
 use std::alloc::Global;
 

@@ -3,18 +3,18 @@
 ghost use Rattle.std.specs.Prelude.{◌≡◌, None};
 ghost use Rattle.c_calls.specs.Calls.{AreOfOne, IsOfCpu, IsOfKeeper, Through};
 ghost use Rattle.c_calls.specs.LocalCalls.{AttachesIfaceNamed, LocalAcquireAnswers, LocalForgets, LocalGivesUp, LocalReleases, ThroughAll, ThroughLocal};
-ghost use Rattle.c_values.specs.Places.{put};
-ghost use Rattle.c_values.specs.Values.{entry_out};
+ghost use Rattle.c_handles.specs.values.Places.{put};
+ghost use Rattle.c_handles.specs.values.Values.{entry_out};
 
 use crate::local_calls::{acquire_local, release_local};
 use crate::local_keeper;
-use c_bodies::handle::{CpuHandle, KeeperHandle, LocalHandle};
-use c_bodies::{CpuBody, LocalBody};
-use c_values::answer::{EntryAnswer, NamedAnswer};
-use c_values::given::GivenName;
-use c_values::place::EntryPlace;
-use c_values::values::{DONE, EMPTY_HANDLE, FULL_HANDLE, refused};
-use held::CHandle;
+use c_handles::handle::{CpuHandle, KeeperHandle, LocalHandle};
+use c_handles::heap::CHandle;
+use c_handles::values::answer::{EntryAnswer, NamedAnswer};
+use c_handles::values::given::GivenName;
+use c_handles::values::place::EntryPlace;
+use c_handles::values::plain::{DONE, EMPTY_HANDLE, FULL_HANDLE, refused};
+use c_handles::{CpuBody, LocalBody};
 use std::alloc::Global;
 use std_alloc::room::Vacant;
 

@@ -4,17 +4,17 @@ ghost use Rattle.std.specs.Prelude.{◌≡◌, ℕ, IsTrue, Some};
 ghost use Rattle.passive_list.specs.Common.{may_begin};
 ghost use Rattle.c_calls.specs.Calls.{Through};
 ghost use Rattle.c_calls.specs.UsualCalls.{EntersAndFinds, Gets, GetsAnew, GetsByMemory, GetsInSection, LooksUp, LooksUpAnew, LooksUpByMemory, LooksUpInSection};
-ghost use Rattle.c_values.specs.Values.{kind_in};
+ghost use Rattle.c_handles.specs.values.Values.{kind_in};
 
 use crate::cpu_calls::put_seen;
 use crate::usual_calls;
-use c_bodies::CpuBody;
-use c_bodies::handle::CpuHandle;
-use c_values::answer::NamedAnswer;
-use c_values::given::GivenName;
-use c_values::place::EntryPlace;
-use c_values::values::{CName, EMPTY_HANDLE};
-use held::CHandle;
+use c_handles::CpuBody;
+use c_handles::handle::CpuHandle;
+use c_handles::heap::CHandle;
+use c_handles::values::answer::NamedAnswer;
+use c_handles::values::given::GivenName;
+use c_handles::values::place::EntryPlace;
+use c_handles::values::plain::{CName, EMPTY_HANDLE};
 use registry_values::Kind;
 
 /// `registry_look_up` of the header.

@@ -5,16 +5,16 @@
 
 ghost use Rattle.std.specs.Prelude.{◌≡◌, ◌≢◌, ℕ, IsTrue, Option, Some, None};
 ghost use Rattle.passive_list.specs.Common.{may_begin};
-ghost use Rattle.c_values.specs.declared.values.CEntry.{CEntry};
-ghost use Rattle.c_values.specs.declared.values.TheConstants.{DONE};
+ghost use Rattle.c_handles.specs.declared.values.plain.CEntry.{CEntry};
+ghost use Rattle.c_handles.specs.declared.values.plain.TheConstants.{DONE};
 ghost use Rattle.c_calls.specs.Calls.{Enters, TellsFound};
 ghost use Rattle.c_calls.specs.UsualCalls.{EntersAndFinds, FindsAndAcquires, GetsAnew, GetsFound, GetsInSection, LooksUpAnew, LooksUpInSection, RecallsByMemory, Seeks, TriesOnce};
-ghost use Rattle.c_values.specs.Values.{kind_in};
+ghost use Rattle.c_handles.specs.values.Values.{kind_in};
 
 use crate::cpu_calls::{enter, exit, find_named, look, put_seen, tell};
-use c_bodies::CpuBody;
-use c_values::place::EntryPlace;
-use c_values::values::{CName, DONE, kind_in, name_in, refused};
+use c_handles::CpuBody;
+use c_handles::values::place::EntryPlace;
+use c_handles::values::plain::{CName, DONE, kind_in, name_in, refused};
 use passive_list::Seen;
 use registry_values::{Entry, Kind, Refusal, kind_word};
 

@@ -1,19 +1,18 @@
-//! A wait for open sections by turns. A row of all slots stands where C keeps the wait, or once on the stack: more of them would make a large
-//! build's waits its deepest calls.
+//! A wait for open sections by turns. Its rows are where C keeps the wait.
 
 ghost use Rattle.std.specs.Prelude.{◌≡◌, ◌<◌, ◌++◌, ℕ, Bool, List, None, get_or, map};
 ghost use mathlib.Core.List.{IsPrefix};
 ghost use Rattle.registry_values.specs.Common.{retired_number, slot_at};
 ghost use Rattle.cpu_words.specs.Common.{AreWordsOf};
 ghost use Rattle.passive_list.specs.Common.{HasHeardOn, HasOwnLog, cpu_after_tell, has_heard};
-ghost use Rattle.name_registry.specs.Common.{HasGlanced, HasPassedAll, Hold, KeepsWords, SnapshotsBelow, keeper_after_hear, keeper_after_tell, looking};
-ghost use Rattle.c_values.specs.Flags.{flag_of, is_set, none_or_number, number_or_none};
+ghost use Rattle.name_registry.specs.Common.{HasGlanced, HasPassedAll, Hold, KeepsWords, PassesBelow, SnapshotsBelow, keeper_after_hear, keeper_after_tell, looking};
+ghost use Rattle.c_handles.specs.values.Flags.{flag_of, is_set, none_or_number, number_or_none};
 ghost use Rattle.c_calls.specs.KeeperCalls.{Begins, Turns};
 
-use c_bodies::{CpuBody, KeeperBody};
-use c_values::wait::{BEGUN, CWait, none_or_number, number_or_none, seen_in, seen_out};
+use c_handles::values::wait::{BEGUN, CWait, none_or_number, number_or_none, seen_in, seen_out};
+use c_handles::{CpuBody, KeeperBody};
 use cpu_words::Words;
-use name_registry::{glance_at_all, pass_all};
+use name_registry::{glance_at_all, pass_entry};
 use passive_list::{Keeper, PlainCpu, hear_keeper, hear_on, snapshot, tell_keeper, tell_on};
 use registry_values::{MOST_CPUS, MOST_SLOTS, retired_number};
 
@@ -37,7 +36,8 @@ pub fn begin_body(body: &mut KeeperBody, cpu: &mut CpuBody, wait: &mut CWait)
 fn write_retired(keeper: &Keeper, retired: &mut [u64; MOST_SLOTS])
     ensures { (t : ℕ) → t < MOST_SLOTS → get_or retired.new t 0 ≡ number_or_none (retired_number (slot_at keeper.now.keeper.slots t)) }
 {
-    for t in 0..MOST_SLOTS as u8 {
+    *retired = [0; MOST_SLOTS];
+    for t in 0..keeper.settings().slots {
         retired[t as usize] = number_or_none(retired_number(keeper.slot(t)));
     }
 }
@@ -118,8 +118,7 @@ pub fn turn_body(body: &mut KeeperBody, cpu: &mut CpuBody, wait: &mut CWait) -> 
     told
 }
 
-/// The glances of a turn. Of the wait it writes who was seen. It stands apart, as `pass_retired` does, so that only one of the two is on the stack.
-#[inline(never)]
+/// The glances of a turn. Of the wait it writes who was seen.
 fn glance(words: &Words, keeper: &mut Keeper, cpu: &mut PlainCpu, wait: &mut CWait) -> Option<u8>
     requires words { AreWordsOf words.now keeper.old.words.table keeper.old.words.settings }
     requires cpu { AreWordsOf words.now cpu.old.words.table cpu.old.words.settings }
@@ -133,24 +132,28 @@ fn glance(words: &Words, keeper: &mut Keeper, cpu: &mut PlainCpu, wait: &mut CWa
     told
 }
 
-/// The entries pass that were retired as the wait began.
-#[inline(never)]
+/// The entries pass that were retired as the wait began: `pass_all` of `name_registry`, by the numbers where C keeps them.
 fn pass_retired(words: &Words, keeper: &mut Keeper, cpu: &mut PlainCpu, retired: &[u64; MOST_SLOTS])
     requires words { AreWordsOf words.now keeper.old.words.table keeper.old.words.settings }
     requires cpu { AreWordsOf words.now cpu.old.words.table cpu.old.words.settings }
     ensures passed { HasPassedAll keeper.old.words.settings keeper.old.keeper cpu.old.cpu (map none_or_number retired.now) keeper.new.keeper cpu.new.cpu }
     ensures words { KeepsWords keeper.old cpu.old keeper.new cpu.new }
 {
-    let mut numbers = [None; MOST_SLOTS];
-    read_numbers(retired, &mut numbers);
-    pass_all(words, keeper, cpu, &numbers);
+    hear_cpu(words, keeper, cpu);
+    pass_entries(words, keeper, retired);
+    hear_cpu(words, keeper, cpu);
+    show_cpu(words, keeper, cpu);
 }
 
-/// The numbers of entries, from C, into their row.
-fn read_numbers(retired: &[u64; MOST_SLOTS], numbers: &mut [Option<u64>; MOST_SLOTS])
-    ensures { numbers.new ≡ map none_or_number retired.now }
+/// The passes, up to the last slot of the table.
+fn pass_entries(words: &Words, keeper: &mut Keeper, retired: &[u64; MOST_SLOTS])
+    requires words { AreWordsOf words.now keeper.old.words.table keeper.old.words.settings }
+    ensures passes { PassesBelow words.now.settings (map none_or_number retired.now) MOST_SLOTS keeper.old.keeper keeper.new.keeper }
+    ensures words { keeper.new.words ≡ keeper.old.words }
 {
-    for t in 0..MOST_SLOTS {
-        numbers[t] = none_or_number(retired[t]);
+    for t in 0..keeper.settings().slots {
+        if let Some(number) = none_or_number(retired[t as usize]) {
+            pass_entry(words, keeper, t, number);
+        }
     }
 }

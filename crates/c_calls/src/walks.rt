@@ -1,24 +1,25 @@
-//! The walk over all entries, through a CPU's handle. It takes no memory: what it meets lies in the CPU's own row, until it is known whether C's has room.
+//! The walk over all entries, through a CPU's handle, into C's row.
 
-ghost use Rattle.std.specs.Prelude.{◌≡◌, ◌≢◌, ◌≤◌, List, None, length};
+ghost use Rattle.std.specs.Prelude.{◌≡◌, ◌≢◌, List, None, length};
 ghost use Rattle.c_calls.specs.Types.{Entry};
 ghost use Rattle.cpu_words.specs.Common.{AreWordsOf};
 ghost use Rattle.passive_list.specs.Common.{HasWalked};
-ghost use Rattle.c_values.specs.Places.{put};
+ghost use Rattle.c_handles.specs.values.Places.{put};
 ghost use Rattle.c_calls.specs.Calls.{Through};
-ghost use Rattle.held.specs.Rows.{IsLong};
-ghost use Rattle.c_calls.specs.Walks.{HasFirst, Walks, WalksBy, WritesRow};
+ghost use Rattle.c_handles.specs.heap.Rows.{IsLong};
+ghost use Rattle.c_calls.specs.Walks.{Walks, WalksBy, WritesRow};
+ghost use Rattle.c_handles.specs.values.Values.{entry_out};
 
-use c_bodies::CpuBody;
-use c_bodies::handle::CpuHandle;
-use c_values::answer::WalkAnswer;
-use c_values::place::NumberPlace;
-use c_values::rows::EntriesPlace;
-use c_values::values::{CEntry, DONE, EMPTY_HANDLE, NO_ROOM, NULL, OUTSIDE, entry_out};
+use c_handles::CpuBody;
+use c_handles::handle::CpuHandle;
+use c_handles::heap::CHandle;
+use c_handles::values::answer::WalkAnswer;
+use c_handles::values::place::NumberPlace;
+use c_handles::values::plain::{CEntry, DONE, EMPTY_HANDLE, NO_ROOM, NULL, OUTSIDE, entry_out};
+use c_handles::values::rows::EntriesPlace;
 use cpu_words::Words;
-use held::CHandle;
-use passive_list::{PlainCpu, walk_on};
-use registry_values::{Entry, MOST_SLOTS};
+use passive_list::{PlainCpu, WritesEntry, walk_on};
+use registry_values::Entry;
 
 /// `registry_walk` of the header.
 pub fn walk_entries(
@@ -62,14 +63,13 @@ fn walk(cpu: &mut CpuBody, row: &mut [CEntry], count: &mut NumberPlace) -> u32
     if !cpu.inside() {
         return OUTSIDE;
     }
-    walk_inside(&cpu.words, &mut cpu.cpu, &mut cpu.walked, row, count)
+    walk_inside(&cpu.words, &mut cpu.cpu, row, count)
 }
 
-/// The same inside a section, by way of the CPU's own row.
+/// The same inside a section.
 fn walk_inside(
     words: &Words,
     cpu: &mut PlainCpu,
-    walked: &mut [Entry; MOST_SLOTS],
     row: &mut [CEntry],
     count: &mut NumberPlace,
 ) -> u32
@@ -79,21 +79,21 @@ fn walk_inside(
     ensures words { cpu.new.words ≡ cpu.old.words }
     ensures met { (met : List Entry) × HasWalked cpu.old.cpu cpu.new.cpu met × (count.new.value ≡ put count.old.value (length met)) × WritesRow met result row.old row.new }
 {
-    let met = walk_on(words, cpu, walked);
+    let met = walk_on::<ToC>(words, cpu, row);
     count.put(met as u64);
-    if row.len() < met {
-        return NO_ROOM;
-    }
-    write_all(&walked[..met], row);
-    DONE
+    if row.len() < met { NO_ROOM } else { DONE }
 }
 
-/// Writes the entries to the first places. Condition: there is room.
-fn write_all(walked: &[Entry], row: &mut [CEntry])
-    requires room { length walked.now ≤ length row.old }
-    ensures { HasFirst walked.now row.old row.new }
-{
-    for (place, entry) in walked.iter().enumerate() {
-        row[place] = entry_out(*entry);
+/// Writes each entry as C has it.
+struct ToC;
+
+impl WritesEntry for ToC {
+    type Place = CEntry;
+
+    ghost written = { entry_out };
+
+    #[inline(always)]
+    fn write(place: &mut CEntry, entry: Entry) {
+        *place = entry_out(entry);
     }
 }

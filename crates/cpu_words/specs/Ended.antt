@@ -48,7 +48,7 @@ pub record EndsRun (z : Settings) (k : KeeperView) (log : List LogItem) (last : 
   pub words : Agrees z last (after (opening z) events)
   -- it has the core invariant, a run of the model reaches its picture, and all laws of the protocol hold of it
   pub holds : Holds (after (opening z) events)
-  pub modelled : IsModelRun (HasConfirm events) empty_model (picture (after (opening z) events))
+  pub modelled : IsModelRun (HasConfirm (opening z) events) empty_model (picture (after (opening z) events))
   pub laws : ObeysLaws (after (opening z) events)
   -- the keeper's log is its whole part of the list, and the state has what its view has
   pub keeper : log ≡ part 0 acts

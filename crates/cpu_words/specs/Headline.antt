@@ -36,7 +36,7 @@ pub record RunsLawfully (z : Settings) (s : Table ℕ View) : Type 0 where
   -- it has the core invariant, and a CPU without a seat has made no step
   pub good : Good (after (opening z) events)
   -- a run of the model reaches its picture; where no event is a Confirm, it takes no reference without a section
-  pub modelled : IsModelRun (HasConfirm events) empty_model (picture (after (opening z) events))
+  pub modelled : IsModelRun (HasConfirm (opening z) events) empty_model (picture (after (opening z) events))
   -- all laws of the protocol hold: the headline, safe reuse, drivers that outlive interfaces, lawful and fresh answers, whole passes, balance at
   -- rest, the grace law and what is kept
   pub laws : ObeysLaws (after (opening z) events)

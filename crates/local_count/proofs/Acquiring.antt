@@ -2,7 +2,6 @@
 use Rattle.std.proofs.Common.{◌≡◌, ℕ, ◌+◌, ◌<◌, ◌≤◌, nat_lt, Bool, true, false, List, set, Option, Some, None, refl, sym, ap, ◌∙◌, subst, arith}
 use Rattle.std.specs.Prelude.{if◌then◌else◌}
 use Rattle.std.proofs.lemmas.Bool.{ltb-true}
-use Rattle.passive_list.specs.declared.memory.Memory.{Memory}
 use Rattle.atomic_table.specs.Seated.{TableId}
 use Rattle.passive_list.specs.Types.{Entry, Attach, Settings, Refusal, LocalFull, NothingFound, CpuView, ReferenceView}
 use Rattle.registry_values.specs.Common.{why_uncounted, bias}
@@ -16,7 +15,7 @@ use Rattle.cpu_words.proofs.by_cpu.Counting.{one_more_same, one_more_other, plac
 use Rattle.cpu_words.proofs.shown.CpusShown.{found_is_in}
 use Rattle.passive_list.specs.declared.place.Found.{Found}
 use Rattle.passive_list.specs.declared.place.NumberedCount.{NumberedCount}
-use Rattle.passive_list.specs.Common.{place_at, IsKept, IsOurCpu}
+use Rattle.passive_list.specs.Common.{Memory, place_at, IsKept, IsOurCpu}
 use Rattle.passive_list.proofs.Agreeing.{IsFoundAs, found_as, found_none}
 use Rattle.local_count.specs.References.{IsOurReference, net_by, why_not_acquired_local}
 use Rattle.local_count.proofs.Agreeing.{place_count, counted_agrees}
@@ -134,5 +133,5 @@ acquired_agrees z a t u x c w d k ps ns ms y l v n our is_shown kept same counte
     let count : n + 1 + number_at x.released k.number ≡ bias + number_at (one_more x.acquired k.number) k.number = omega (arith, net, one) in
     let limit : x.settings.count_limit ≤ greatest_limit = subst (λ (b : Settings). b.count_limit ≤ greatest_limit) (sym our.settings) (ranges a our.fit).counts in
     subst (λ (q : CpuView). IsOurCpu z a u q c w d k ps (set ns k.slot (record { number = k.number; count = n + 1 })) ms) (sym view)
-    (counted_agrees z a t u x c w d k ps ns ms (one_more x.acquired k.number) x.released k.slot k.number (n + 1) our (subst IsShownCpu view is_shown) same kept.few alone count
+    (counted_agrees z a t u x c w d k ps ns ms (one_more x.acquired k.number) x.released k.slot k.number (n + 1) our (subst IsShownCpu view is_shown) same kept.within alone count
     (omega (arith, room, limit)) (λ m off. (one_more_other x.acquired k.number m off, refl)))

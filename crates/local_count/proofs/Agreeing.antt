@@ -3,9 +3,8 @@ use Rattle.std.proofs.Common.{◌≡◌, ◌≢◌, ℕ, ◌+◌, ◌<◌, ◌�
 use mathlib.Core.Logic.{dite}
 use native.Mathlib.Decide.{ℕ_discrete}
 use Rattle.std.proofs.lemmas.Bool.{eq-eqb, ne_eqb}
-use Rattle.passive_list.specs.declared.memory.Memory.{Memory}
 use Rattle.atomic_table.specs.Seated.{TableId}
-use Rattle.passive_list.specs.Types.{Settings, MOST_SLOTS, CpuView}
+use Rattle.passive_list.specs.Types.{Settings, CpuView}
 use Rattle.protocol.specs.Common.{greatest_limit}
 use Rattle.registry_values.specs.Common.{bias}
 use Rattle.cpu_words.specs.Common.{number_at, with_number, IsShownCpu, IsPlaceCount, IsMetAlone}
@@ -13,7 +12,7 @@ use Rattle.cpu_words.proofs.by_cpu.Counting.{with_number_same, with_number_other
 use Rattle.passive_list.specs.declared.place.Found.{Found}
 use Rattle.passive_list.specs.declared.place.NumberedCount.{NumberedCount}
 use Rattle.local_count.specs.References.{net_by}
-use Rattle.passive_list.specs.Common.{no_place, place_at, NetAgree, IsOurCpu}
+use Rattle.passive_list.specs.Common.{Memory, no_place, place_at, NetAgree, IsOurCpu}
 
 -- the place of a slot says a number's net count, where it is for that number
 pub place_here : (x : CpuView) (l : List NumberedCount) (t n : ℕ) → NetAgree x l → 0 < n → (place_at l t).number ≡ n → IsPlaceCount x t n (place_at l t).count
@@ -43,16 +42,16 @@ net_most x l t n w agree is = subst (λ k. k ≤ bias + greatest_limit) (sym is)
 
 -- The place of a slot is set to a number that was met in no other slot, and its net count
 
-pub net_set : (x y : CpuView) (l : List NumberedCount) (t n v : ℕ) → NetAgree x l → t < MOST_SLOTS → IsMetAlone x t n → y.met ≡ with_number x.met t n
+pub net_set : (x y : CpuView) (l : List NumberedCount) (t n v : ℕ) → NetAgree x l → t < x.settings.slots → y.settings ≡ x.settings → IsMetAlone x t n → y.met ≡ with_number x.met t n
     → v + number_at y.released n ≡ bias + number_at y.acquired n → v ≤ bias + greatest_limit
     → ((m : ℕ) → m ≢ n → (number_at y.acquired m ≡ number_at x.acquired m) × (number_at y.released m ≡ number_at x.released m)) → NetAgree y (set l t (record { number = n; count = v }))
-net_set x y l t n v agree lt alone met count most same = record { size = length-set l t place ∙ agree.size; met = λ u. found u; counts = λ u some. counted u some; most = λ u. below u }
+net_set x y l t n v agree lt settings alone met count most same = record { size = length-set l t place ∙ agree.size ∙ ap (λ (s : Settings). s.slots) (sym settings); met = λ u. found u; counts = λ u some. counted u some; most = λ u. below u }
   where
     place : NumberedCount
     place = record { number = n; count = v }
 
     within : t < length l
-    within = let size : length l ≡ MOST_SLOTS = agree.size in omega arith
+    within = let size : length l ≡ x.settings.slots = agree.size in omega (arith, size, lt)
 
     here : place_at (set l t place) t ≡ place
     here = get_or-set_same l t place no_place within
@@ -90,7 +89,7 @@ net_set x y l t n v agree lt alone met count most same = record { size = length-
 -- The data agree with the view after a count, up or down
 
 pub counted_agrees : (z : TableId) (a : Settings) (t u : TableId) (x : CpuView) (c w d : ℕ) (o : Found) (ps ns : List NumberedCount) (ms : Memory) (acquired released : List ℕ) (s n v : ℕ)
-    → IsOurCpu z a t x c w d o ps ns ms → IsShownCpu (record x { acquired = acquired; released = released; met = with_number x.met s n }) → u ≡ t → s < MOST_SLOTS → IsMetAlone x s n
+    → IsOurCpu z a t x c w d o ps ns ms → IsShownCpu (record x { acquired = acquired; released = released; met = with_number x.met s n }) → u ≡ t → s < x.settings.slots → IsMetAlone x s n
     → v + number_at released n ≡ bias + number_at acquired n → v ≤ bias + greatest_limit
     → ((m : ℕ) → m ≢ n → (number_at acquired m ≡ number_at x.acquired m) × (number_at released m ≡ number_at x.released m))
     → IsOurCpu z a u (record x { acquired = acquired; released = released; met = with_number x.met s n }) c w d o ps (set ns s (record { number = n; count = v })) ms
@@ -110,7 +109,7 @@ counted_agrees z a t u x c w d o ps ns ms acquired released s n v our is_shown s
     placed = λ k some. let old = our.passive.placed k some in record { entry = old.entry; attached = old.attached; slot = old.slot; number = old.number };
     each = our.passive.each;
   };
-  net = net_set x _ ns s n v our.net lt alone refl count most others;
+  net = net_set x _ ns s n v our.net lt refl alone refl count most others;
   memory = our.memory;
   is_shown = is_shown;
 }

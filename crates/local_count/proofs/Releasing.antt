@@ -1,6 +1,5 @@
 -- A CPU releases a local reference: why it may, and what it leaves.
 use Rattle.std.proofs.Common.{◌≡◌, ℕ, ◌+◌, ◌-◌, ◌<◌, List, set, Some, refl, sym, ap, ◌∙◌, subst, arith}
-use Rattle.passive_list.specs.declared.memory.Memory.{Memory}
 use Rattle.atomic_table.specs.Seated.{TableId}
 use Rattle.passive_list.specs.Types.{Entry, Kind, Settings, CpuView, ReferenceView}
 use Rattle.registry_values.specs.Common.{bias}
@@ -9,7 +8,7 @@ use Rattle.cpu_words.specs.Common.{number_at, with_number, one_more, IsShownCpu,
 use Rattle.cpu_words.proofs.by_cpu.Counting.{one_more_same, one_more_other}
 use Rattle.passive_list.specs.declared.place.Found.{Found}
 use Rattle.passive_list.specs.declared.place.NumberedCount.{NumberedCount}
-use Rattle.passive_list.specs.Common.{place_at, IsOurCpu}
+use Rattle.passive_list.specs.Common.{Memory, place_at, IsOurCpu}
 use Rattle.local_count.specs.References.{IsOurReference, net_by}
 use Rattle.local_count.proofs.Agreeing.{net_most, counted_agrees}
 
@@ -20,10 +19,10 @@ released_of x y w e s n empty joined counted = counted.4 ∙ ap (λ (k : CpuView
     ∙ (λ k. record x { hand = sym empty k; released = one_more x.released n; met = with_number x.met s n })
 
 pub released_agrees : (z : TableId) (a : Settings) (t u : TableId) (x : CpuView) (c w d : ℕ) (o : Found) (ps ns : List NumberedCount) (ms : Memory) (v : ReferenceView) (n s count : ℕ) (kind : Kind) (y k : CpuView)
-    → IsOurCpu z a t x c w d o ps ns ms → IsShownCpu k → IsOurReference v n s kind → u ≡ t → y ≡ with_hand x (GivingEntry v.entry) → HasCountedDown y s n k → 0 < count → count ≡ net_by (place_at ns s) n
+    → IsOurCpu z a t x c w d o ps ns ms → IsShownCpu k → IsOurReference v n s kind → s < x.settings.slots → u ≡ t → y ≡ with_hand x (GivingEntry v.entry) → HasCountedDown y s n k → 0 < count → count ≡ net_by (place_at ns s) n
     → IsNetCount y n count → IsMetAlone y s n
     → IsOurCpu z a u k c w d o ps (set ns s (record { number = n; count = count - 1 })) ms
-released_agrees z a t u x c w d o ps ns ms v n s count kind y k our is_shown its same joined counted floor is net alone =
+released_agrees z a t u x c w d o ps ns ms v n s count kind y k our is_shown its lt same joined counted floor is net alone =
     let was : count + number_at x.released n ≡ bias + number_at x.acquired n = subst (λ (q : CpuView). IsNetCount q n count) joined net in
     let here : IsMetAlone x s n = subst (λ (q : CpuView). IsMetAlone q s n) joined alone in
     let one = one_more_same x.released n in
@@ -31,7 +30,7 @@ released_agrees z a t u x c w d o ps ns ms v n s count kind y k our is_shown its
     let most = net_most x ns s n count our.net is in
     let view = released_of x y k v.entry s n our.idle.hand joined counted in
     subst (λ (q : CpuView). IsOurCpu z a u q c w d o ps (set ns s (record { number = n; count = count - 1 })) ms) (sym view)
-    (counted_agrees z a t u x c w d o ps ns ms x.acquired (one_more x.released n) s n (count - 1) our (subst IsShownCpu view is_shown) same its.few here after (omega (arith, most))
+    (counted_agrees z a t u x c w d o ps ns ms x.acquired (one_more x.released n) s n (count - 1) our (subst IsShownCpu view is_shown) same lt here after (omega (arith, most))
     (λ m off. (refl, one_more_other x.released n m off)))
 
 -- What a collected word leaves: the CPU as it was, and the reference again

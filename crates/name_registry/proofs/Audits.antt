@@ -1,6 +1,5 @@
 -- What the code of an audit makes, in any state of the views.
-use Rattle.passive_list.specs.declared.memory.Memory.{Memory}
-use Rattle.std.proofs.Common.{◌≡◌, ◌≢◌, inl, inr, ⊎_elim, ℕ, zero, suc, ◌+◌, ◌*◌, ◌<◌, ◌≤◌, ℤ, pos, ◌+ℤ◌, List, [], ◌∷◌, ◌++◌, length, get_or, map, take, cond, false, refl, sym, ap, ◌∙◌, subst, arith}
+use Rattle.std.proofs.Common.{◌≡◌, ◌≢◌, inl, inr, ⊎_elim, ℕ, zero, suc, ◌+◌, ◌*◌, ◌<◌, ◌≤◌, Bool, true, ◌&&◌, ℤ, pos, ◌+ℤ◌, List, [], ◌∷◌, ◌++◌, length, get_or, map, take, cond, false, refl, sym, ap, ◌∙◌, subst, arith}
 use Rattle.std.proofs.Common.{add-one}
 use Rattle.std.specs.List.{All}
 use Rattle.std.proofs.lemmas.Bool.{eq-eqb, ne_eqb}
@@ -12,15 +11,16 @@ use mathlib.Core.Logic.{dite}
 use mathlib.Core.Option.{some, some-injective, some-ne-none}
 use native.Mathlib.Decide.{ℕ_discrete}
 use lib.ListN.{get_elem?}
-use Rattle.name_registry.specs.Types.{Balance, Entry, Attach, Settings, Slot, Vacant, Live, Retired, MOST_CPUS, MOST_SLOTS, CpuView, LogItem, KeeperView, KeptSlot, NumberedCount}
-use Rattle.registry_values.specs.Common.{Tally, less_bias, sum_of, tally_shown, bias, slot_at}
-use Rattle.protocol.specs.Common.{IsIn, greatest_limit, total_at}
+use Rattle.atomic_table.specs.Seated.{TableId}
+use Rattle.name_registry.specs.Types.{Balance, Entry, Attach, Mark, Settings, Slot, Vacant, Live, Retired, MOST_CPUS, MOST_SLOTS, CpuView, LogItem, KeeperView, KeptSlot, NumberedCount}
+use Rattle.registry_values.specs.Common.{Tally, is_retired, less_bias, sum_of, tally_shown, bias, slot_at}
+use Rattle.protocol.specs.Common.{IsIn, greatest_limit, mark_at, total_at}
 use Rattle.registry_values.proofs.Fit.{ranges}
 use Rattle.protocol.proofs.history.History.{at_within}
 use Rattle.protocol.proofs.slots.Occupied.{attached_in}
 use Rattle.cpu_words.specs.Common.{number_at}
 use Rattle.cpu_words.proofs.by_keeper.KeeperSees.{seen_by_keeper}
-use Rattle.passive_list.specs.Common.{NetAgree, OnCpu, place_at, IsOurKeeper, OnKeeper, row_at, states_of, total_or_bias}
+use Rattle.passive_list.specs.Common.{Memory, NetAgree, OnCpu, place_at, IsOurKeeper, OnKeeper, OnPlainKeeper, on_keeper, row_at, states_of, total_or_bias}
 use Rattle.passive_list.proofs.Rows.{live_in, retired_in}
 use Rattle.local_count.specs.References.{net_by}
 use Rattle.local_count.proofs.Agreeing.{place_count}
@@ -80,6 +80,22 @@ has a k rows n x t m our is there =
       low = omega (arith, near.0);
       high = near.1;
     }
+
+-- no word past the last CPU is collected
+pub none_past : {table : TableId} {log : List LogItem} (a : Settings) (k : KeeperView) (rows : List KeptSlot) (n t c : ℕ) (x : OnPlainKeeper) → IsOurKeeper a k rows n → on_keeper table a k rows log ≡ x
+    → x.words.settings.cpus ≤ c → is_collected x.keeper t c ≡ false
+none_past {table} {log} a k rows n t c x our is past =
+    let g = our.is_shown.g in
+    let seen = seen_by_keeper g k our.is_shown.good our.is_shown.shown in
+    let same = ap (λ (z : Settings). z.cpus) (sym our.view.settings ∙ seen.settings) in
+    let ours : a.cpus ≤ c = subst (λ (y : OnPlainKeeper). y.words.settings.cpus ≤ c) (sym is) past in
+    let none : (mark_at k.marks t c).collected ≡ false =
+    ap (λ (ms : List (List Mark)). (mark_at ms t c).collected) seen.marks ∙ our.is_shown.shown.beyond c t (omega (arith, same, ours)) in
+    subst (λ (y : OnPlainKeeper). is_collected y.keeper t c ≡ false) is (ap (λ b. is_retired (slot_at (states_of rows) t) && b) none ∙ off (is_retired (slot_at (states_of rows) t)))
+  where
+    off : (b : Bool) → b && false ≡ false
+    off true = refl
+    off false = refl
 
 -- Of one CPU
 

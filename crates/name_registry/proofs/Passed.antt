@@ -5,7 +5,7 @@ use Rattle.std.proofs.lemmas.Bool.{cases_eq, cases_lt}
 use Rattle.std.proofs.lemmas.List.{append-nil}
 use Rattle.std.proofs.lemmas.Option.{same_Some}
 use mathlib.Core.List.{IsPrefix}
-use Rattle.name_registry.specs.Types.{Change, Entry, Mark, Settings, Slot, Vacant, Live, Retired, MOST_SLOTS, LogItem, KeeperView}
+use Rattle.name_registry.specs.Types.{Change, Entry, Mark, Settings, Slot, Vacant, Live, Retired, MOST_SLOTS, LogItem, KeeperView, KeptSlot}
 use Rattle.registry_values.specs.Common.{Grows, no_mark, is_retired_as, retired_number, slot_at}
 use Rattle.protocol.specs.Common.{mark_at}
 use Rattle.protocol.proofs.slots.MarkRows.{grows_none, grows_more}
@@ -13,7 +13,9 @@ use Rattle.protocol.proofs.slots.Occupied.{in_within}
 use Rattle.cpu_words.specs.Common.{has_looked, standing, HasPassedOn, HasWaited, IsDetachedFrom, IsSnapped, KeepsSlot}
 use Rattle.cpu_words.proofs.logs.Growing.{StandsIn, no_open, snapped_on, stands_more, stands_past}
 use Rattle.cpu_words.proofs.logs.Standings.{kept_entry, kept_standing, not_attached, one_detached}
-use Rattle.passive_list.specs.Common.{OnCpu, OnKeeper, HasOwnLog, HasHeardOn, cpu_after_tell, has_heard}
+use Rattle.passive_list.specs.Common.{OnCpu, OnKeeper, HasOwnLog, HasHeardOn, HasRows, OnPlainKeeper, cpu_after_tell, has_heard, states_of}
+use Rattle.passive_list.proofs.Logs.{few_slots}
+use Rattle.passive_list.proofs.Rows.{keeper_is, retired_in}
 use Rattle.name_registry.specs.Common.{MeetsGrace, PassedBelow, keeper_after_hear, keeper_after_tell, HasPassedAll, HasPassedFor, PassesBelow, PassesIf, PassesNumber}
 use Rattle.name_registry.proofs.Noted.{heard_told_again, met_again}
 
@@ -88,6 +90,35 @@ passed_at z numbers (suc n) a b is t k e lt number at same = ⊎_elim
     record { before = is.0; after = b; first = first; passes = still_there z is.0 t k b e (ap (λ (xs : List Slot). slot_at xs t) first.slots ∙ at) same its; last = onward_none b b refl })
     (cases_lt t n)
 
+-- past the table's slots nothing is retired, so nothing is looked at there
+pub none_retired : (x : OnPlainKeeper) (rows : List KeptSlot) (t : ℕ) → HasRows x rows → x.words.settings.slots ≤ t → retired_number (slot_at x.keeper.slots t) ≡ None
+none_retired x rows t has past = subst (λ (k : OnKeeper). retired_number (slot_at k.slots t) ≡ None) (keeper_is has.are) (by_state (slot_at (states_of rows) t) refl)
+  where
+    by_state : (x : Slot) → slot_at (states_of rows) t ≡ x → retired_number x ≡ None
+    by_state Vacant is = refl
+    by_state (Live e) is = refl
+    by_state (Retired e) is = absurd (omega (arith, past, (retired_in x.words.settings x.keeper.view rows t e has.agree.rows is).0))
+
+not_retired : (n : ℕ) (x : Slot) → retired_number x ≡ None → is_retired_as n x ≡ false
+not_retired n Vacant none = refl
+not_retired n (Live e) none = refl
+not_retired n (Retired e) none = let q : ◌≡◌ {A = Option ℕ} (Some e.number) None = none in cc
+
+pub passes_past : (z : Settings) (numbers : List (Option ℕ)) (s : ℕ) (a b : OnKeeper) → PassesBelow z numbers s a b → ((t : ℕ) → s ≤ t → retired_number (slot_at a.slots t) ≡ None)
+    → (n : ℕ) → s ≤ n → PassesBelow z numbers n a b
+passes_past z numbers s a b had none zero le = let same : s ≡ 0 = omega (arith, le) in subst (λ (m : ℕ). PassesBelow z numbers m a b) same had
+passes_past z numbers s a b had none (suc n) le = ⊎_elim
+    (λ (high : n < s). let same : s ≡ suc n = omega (arith, le, high) in subst (λ (m : ℕ). PassesBelow z numbers m a b) same had)
+    (λ (low : s ≤ n). (b, passes_past z numbers s a b had none n low, by_number n low (get_or numbers n None)))
+    (cases_lt n s)
+  where
+    by_number : (t : ℕ) → s ≤ t → (o : Option ℕ) → PassesNumber z b t o b
+    by_number t low None = refl
+    by_number t low (Some k) =
+        let same : slot_at b.slots t ≡ slot_at a.slots t = ap (λ (xs : List Slot). slot_at xs t) (onward_below z numbers s a b had).slots in
+        let off : is_retired_as k (slot_at b.slots t) ≡ false = ap (is_retired_as k) same ∙ not_retired k (slot_at a.slots t) (none t low) in
+        subst (λ (is : Bool). PassesIf is z b t b) (sym off) refl
+
 -- After the wait
 
 -- The keeper h has heard the caller, who knew then what it had done `before` and since; it had waited since for all CPUs. After its passes it is `end`.
@@ -132,7 +163,7 @@ by_slot z numbers h end before since gap more t n c Vacant at on low number snap
 by_slot z numbers h end before since gap more t n c (Live e) at on low number snapped gone all keeps = absurd (not_attached t n e.number end.log gone (on.own.slots.live t e at))
 by_slot z numbers h end before since gap more t n c (Retired e) at on low number snapped gone all keeps =
     let same : e.number ≡ n = one_detached t e.number n end.log (on.own.slots.retired t e at) gone in
-    let lt : t < MOST_SLOTS = omega (arith, in_within end.slots t e (inr at), on.own.size) in
+    let lt : t < MOST_SLOTS = omega (arith, in_within end.slots t e (inr at), few_slots z end on.own) in
     let there : slot_at h.slots t ≡ Retired e = ap (λ (xs : List Slot). slot_at xs t) (sym (onward_below z numbers MOST_SLOTS h end on.passes).slots) ∙ at in
     let p = passed_at z numbers MOST_SLOTS h end on.passes t n e lt number there same in
     ⊎_elim
@@ -159,7 +190,7 @@ ready_by z a numbers t n Vacant at own are gone = inl (λ c low. own.slots.vacan
 ready_by z a numbers t n (Live e) at own are gone = absurd (not_attached t n e.number a.log gone (own.slots.live t e at))
 ready_by z a numbers t n (Retired e) at own are gone =
     let same : e.number ≡ n = one_detached t e.number n a.log (own.slots.retired t e at) gone in
-    let lt : t < MOST_SLOTS = omega (arith, in_within a.slots t e (inr at), own.size) in
+    let lt : t < MOST_SLOTS = omega (arith, in_within a.slots t e (inr at), few_slots z a own) in
     inr (are t lt ∙ (ap retired_number at ∙ ap (λ (k : ℕ). Some k) same), λ j low. own.snapped t j e at low)
 
 pub ready : (z : Settings) (a : OnKeeper) (numbers : List (Option ℕ)) → HasOwnLog z a → ((u : ℕ) → u < MOST_SLOTS → get_or numbers u None ≡ retired_number (slot_at a.slots u)) → (t n : ℕ)

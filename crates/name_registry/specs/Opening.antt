@@ -28,4 +28,4 @@ IsBlankOf b table settings name parts = (b.table ≡ table) × (b.settings ≡ s
 -- the first n CPUs, CPU 0 first, all outside, and nothing was found, is held or was made
 pub record AreNewCpus (z : Settings) (n : ℕ) (xs : List OnCpu) : Type 0 where
   pub count : length xs ≡ n
-  pub each : (c : ℕ) → c < n → get_elem? xs c ≡ some (record { view = new_cpu z c; depth = 0; made = 0; memory = no_memory; known_log = []; log = [] })
+  pub each : (c : ℕ) → c < n → get_elem? xs c ≡ some (record { view = new_cpu z c; depth = 0; made = 0; memory = no_memory z.slots; known_log = []; log = [] })

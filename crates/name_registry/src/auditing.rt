@@ -4,13 +4,15 @@ ghost use Rattle.std.specs.Prelude.{◌≡◌, ◌↔◌, ◌⊎◌, ◌++◌, �
 ghost use Rattle.registry_values.specs.Common.{sum_of, tally_shown};
 ghost use mathlib.Core.List.{IsPrefix};
 ghost use Rattle.cpu_words.specs.Common.{AreWordsOf};
-ghost use Rattle.passive_list.specs.Common.{HasHeardOn, WasShown, has_heard, has_told};
+ghost use Rattle.passive_list.specs.Common.{HasHeardOn, WasShown, has_heard, has_told, place_at};
 ghost use Rattle.name_registry.specs.Auditing.{AreAllCpus, AreAlike, HasListened, HasToldAll, HaveHeardAndTold, HaveLearned, IsAuditBy, IsAuditIn, IsAuditOf, IsOccupied, Occupies, is_collected, local_met, locals_met, place_of, places_below, tallies_met, tally_met};
 ghost use Rattle.name_registry.specs.Meeting.{keeper_after_tell};
 
 use cpu_words::{Domain, NoteSeat, Words};
 use local_count::net_count;
-use passive_list::{Cpu, Keeper, PlainCpu, hear_keeper, hear_on, tell_keeper, tell_on};
+use passive_list::{
+    Cpu, Keeper, NumberedCount, PlainCpu, hear_keeper, hear_on, tell_keeper, tell_on,
+};
 use registry_values::{Balance, MOST_CPUS, MOST_SLOTS, Refusal, Slot, less_bias, sum};
 use std::alloc::{AllocError, Global};
 
@@ -191,15 +193,31 @@ pub fn local_on(keeper: &Keeper, cpu: &PlainCpu, t: u8, number: u64) -> i64
     if is_collected(keeper, t, cpu.id) {
         0
     } else {
-        less_bias(net_count(cpu.net[t as usize], number))
+        less_bias(net_count(net_place(cpu.net.as_slice(), t), number))
+    }
+}
+
+/// The place of a slot. Past the last slot it is of no entry.
+fn net_place(places: &[NumberedCount], t: u8) -> NumberedCount
+    ensures { result ≡ place_at places.now t }
+{
+    if usize::from(t) < places.len() {
+        places[t as usize]
+    } else {
+        NumberedCount::NONE
     }
 }
 
 /// Whether the keeper has collected the CPU's count word for the entry in the slot `t`.
 fn is_collected(keeper: &Keeper, t: u8, cpu: u8) -> bool
-    requires { (t < MOST_SLOTS) × (cpu < MOST_CPUS) }
     ensures { result ≡ is_collected keeper.now.keeper t cpu }
 {
-    let row = &keeper.rows()[t as usize];
-    matches!(row.state, Slot::Retired(_)) && row.marks[cpu as usize].collected
+    let cpus = keeper.settings().cpus;
+    if cpu >= cpus {
+        return false;
+    }
+    match keeper.slot(t) {
+        Slot::Retired(_) => keeper.mark(t, cpu).collected,
+        Slot::Vacant | Slot::Live(_) => false,
+    }
 }

@@ -1,6 +1,6 @@
 //! The words and seats of a registry that isn't named yet.
 
-ghost use Rattle.std.specs.Prelude.{◌≡◌, ◌↔◌, ◌≤◌, [], IfOk, IfErr, IsErrOf, IsTrue, false, vec_len, vec_capacity};
+ghost use Rattle.std.specs.Prelude.{◌≡◌, ◌↔◌, ◌≤◌, [], IfOk, IfErr, IsErrOf, IsTrue, false, replicate, vec_len, vec_capacity};
 ghost use Rattle.registry_values.specs.Common.{are_fit, are_usual, IsRefusalOfNew};
 ghost use Rattle.name_registry.specs.Types.{NoMemory};
 ghost use Rattle.cpu_words.specs.Common.{AreSeats};
@@ -9,9 +9,9 @@ ghost use Rattle.name_registry.specs.Opening.{IsBlankOf, AreNewCpus};
 use crate::interlock::Interlock;
 use crate::registry::Registry;
 use cpu_words::{CpuSeat, Domain, KeeperSeat, Words};
-use passive_list::{Cpu, Keeper};
+use passive_list::{Cpu, CpuRows, Keeper, KeeperRows};
 use registry_values::{MOST_CPUS, Refusal, Settings};
-use std::alloc::Global;
+use std::alloc::{AllocError, Global};
 use std::marker::Model;
 use std::sync::ledger::Share;
 use std::sync::{Mutex, ledger};
@@ -68,6 +68,12 @@ impl Blank {
         let Ok(mut cpus) = Vec::with_capacity(alloc, self.cpus.len()) else {
             return Err((Refusal::NoMemory, self));
         };
+        let Ok(keeper_rows) = KeeperRows::new(alloc, self.words.settings()) else {
+            return Err((Refusal::NoMemory, self));
+        };
+        let Ok(rows) = rows_of(alloc, self.words.settings()) else {
+            return Err((Refusal::NoMemory, self));
+        };
         let Blank {
             words,
             keeper,
@@ -75,17 +81,35 @@ impl Blank {
             changes,
         } = self;
         let (book, shares) = changes.open::<D>();
-        let keeper = Keeper::of_seat(keeper, words.settings());
-        seat_cpus(seats, &mut cpus, shares);
+        let keeper = Keeper::of_seat(keeper, words.settings(), keeper_rows);
+        seat_cpus(seats, rows, &mut cpus, shares);
         let interlock = Mutex::new(Interlock { keeper, book });
         Ok((Registry { words, interlock }, cpus))
     }
 }
 
-/// Gives each seat its CPU, CPU 0 first, with a part of the ledger. The list has room for them.
-fn seat_cpus<D: Domain>(seats: Vec<CpuSeat>, cpus: &mut Vec<Cpu<D>>, mut shares: Share<D>)
+/// The rows of all CPUs of a registry with these settings.
+fn rows_of(alloc: Global, settings: Settings) -> Result<Vec<CpuRows>, AllocError>
+    requires { IsTrue (are_fit settings) }
+    ensures { IfOk result (λ rows. rows.items ≡ replicate settings.cpus settings.slots) }
+{
+    let mut rows = Vec::new(alloc);
+    for _ in 0..settings.cpus {
+        rows.push(CpuRows::new(alloc, settings.slots)?)?;
+    }
+    Ok(rows)
+}
+
+/// Gives each seat its CPU, CPU 0 first, with rows and a part of the ledger. The list has room for them.
+fn seat_cpus<D: Domain>(
+    seats: Vec<CpuSeat>,
+    mut rows: Vec<CpuRows>,
+    cpus: &mut Vec<Cpu<D>>,
+    mut shares: Share<D>,
+)
     requires fit { IsTrue (are_fit D.settings) }
     requires seats { AreSeats D.table D.settings D.settings.cpus seats.items }
+    requires rows { rows.items ≡ replicate D.settings.cpus D.settings.slots }
     requires room { (cpus.old.items ≡ []) × (vec_len cpus.old ≡ 0) × (D.settings.cpus ≤ vec_capacity cpus.old) }
     requires parts { (shares.parts ≡ MOST_CPUS) × (shares.amount ≡ 0) }
     ensures { AreNewCpus D.settings D.settings.cpus cpus.new.items }
@@ -93,6 +117,9 @@ fn seat_cpus<D: Domain>(seats: Vec<CpuSeat>, cpus: &mut Vec<Cpu<D>>, mut shares:
     for seat in seats {
         let id = cpus.len() as u8;
         let share = shares.split_off(1, 0);
-        cpus.push_reserved(Cpu::of_seat(seat, id, share));
+        let Some(own) = rows.pop() else {
+            unreachable!()
+        };
+        cpus.push_reserved(Cpu::of_seat(seat, id, own, share));
     }
 }

@@ -46,11 +46,12 @@ fn snapshot_all(words: &Words, keeper: &mut Keeper) -> [u64; MOST_CPUS]
     snapshots
 }
 
+/// The number of each retired entry, slot by slot.
 fn retired_numbers(keeper: &Keeper) -> [Option<u64>; MOST_SLOTS]
     ensures { (t : ℕ) → t < MOST_SLOTS → slice_index_or result t None ≡ retired_number (slot_at keeper.now.keeper.slots t) }
 {
     let mut numbers = [None; MOST_SLOTS];
-    for slot in 0..MOST_SLOTS as u8 {
+    for slot in 0..keeper.settings().slots {
         numbers[slot as usize] = retired_number(keeper.slot(slot));
     }
     numbers
@@ -128,12 +129,13 @@ pub fn pass_all(
     show_cpu(words, keeper, cpu);
 }
 
+/// The passes, up to the last slot of the table.
 fn pass_entries(words: &Words, keeper: &mut Keeper, numbers: &[Option<u64>; MOST_SLOTS])
     requires words { AreWordsOf words.now keeper.old.words.table keeper.old.words.settings }
     ensures passes { PassesBelow words.now.settings numbers.now MOST_SLOTS keeper.old.keeper keeper.new.keeper }
     ensures words { keeper.new.words ≡ keeper.old.words }
 {
-    for slot in 0..MOST_SLOTS as u8 {
+    for slot in 0..keeper.settings().slots {
         if let Some(number) = numbers[slot as usize] {
             pass_entry(words, keeper, slot, number);
         }
@@ -141,7 +143,8 @@ fn pass_entries(words: &Words, keeper: &mut Keeper, numbers: &[Option<u64>; MOST
 }
 
 /// Looks at each CPU for the entry with this number, where it is still retired in its slot, up to the first CPU that doesn't pass.
-fn pass_entry(words: &Words, keeper: &mut Keeper, slot: u8, number: u64)
+/// Condition: the slot is below `MOST_SLOTS`.
+pub fn pass_entry(words: &Words, keeper: &mut Keeper, slot: u8, number: u64)
     requires words { AreWordsOf words.now keeper.old.words.table keeper.old.words.settings }
     requires place { slot < MOST_SLOTS }
     ensures passes { PassesEntry words.now.settings keeper.old.keeper slot number keeper.new.keeper }

@@ -33,7 +33,7 @@ pub use blank::Blank;
 pub use destroying::advance_for;
 pub use detaching::detach_in;
 pub use first_fit::room_in;
-pub use glancing::{begin, glance_at_all, pass_all};
+pub use glancing::{begin, glance_at_all, pass_all, pass_entry};
 pub use law::{exact_audit, free_interlock, weights_law};
 pub use registry::Registry;
 pub use releasing::release_for;

@@ -1,10 +1,10 @@
 -- A CPU's plain data agree with its view on: as it is made, and over its sections.
 use Rattle.std.proofs.Common.{◌≡◌, ◌≢◌, ◌⊎◌, inl, ℕ, ◌+◌, ◌*◌, ◌<◌, ◌≤◌, List, [], length, replicate, IsTrue, Option, Some, None, refl, sym, ap, ◌∙◌, subst, arith}
-use Rattle.std.proofs.lemmas.List.{append-nil}
+use Rattle.std.specs.Prelude.{slice_index_or}
+use Rattle.std.proofs.lemmas.List.{append-nil, get_or_default, length-replicate}
 use Rattle.std.proofs.lemmas.Option.{none-some}
 use Rattle.std.specs.List.{Contains}
 use mathlib.Core.List.{IsPrefix}
-use Rattle.passive_list.specs.declared.memory.Memory.{Memory}
 use Rattle.atomic_table.specs.Seated.{TableId}
 use Rattle.passive_list.specs.Types.{Entry, Change, Attach, Settings, CpuView, Key, MOST_SLOTS, Search}
 use Rattle.registry_values.specs.Common.{are_fit, bias}
@@ -18,21 +18,21 @@ use Rattle.cpu_words.proofs.shown.CpusShown.{found_is_in, new_cpu_is_shown}
 use Rattle.cpu_words.proofs.shown.Passes.{attached_prefix}
 use Rattle.cpu_words.proofs.shown.Seeing.{seen_of}
 use Rattle.cpu_words.proofs.by_cpu.Passives.{known_of}
-use Rattle.passive_list.proofs.Memories.{stays}
-use Rattle.passive_list.specs.Common.{Found, NumberedCount, HasLookedUp, no_place, no_found, place_at, PassiveAgree, NetAgree, DepthAgrees, SectionAgrees, IsKept, HoldsFound, IsOurCpu, Remembers}
+use Rattle.passive_list.proofs.Memories.{none_remembered, stays}
+use Rattle.passive_list.specs.Common.{Memory, Found, NumberedCount, HasLookedUp, no_place, no_found, no_memory, place_at, PassiveAgree, NetAgree, DepthAgrees, SectionAgrees, IsKept, HoldsFound, IsOurCpu, Remembers}
 
 -- each place of a new CPU is of no entry
-blank_number : (t : ℕ) → (place_at (replicate MOST_SLOTS no_place) t).number ≡ 0
-blank_number t = ap (λ (p : NumberedCount). p.number) (get_or_all MOST_SLOTS no_place t)
+blank_number : (z t : ℕ) → (place_at (replicate z no_place) t).number ≡ 0
+blank_number z t = ap (λ (p : NumberedCount). p.number) (get_or_all z no_place t)
 
-blank_count : (t : ℕ) → (place_at (replicate MOST_SLOTS no_place) t).count ≡ 0
-blank_count t = ap (λ (p : NumberedCount). p.count) (get_or_all MOST_SLOTS no_place t)
+blank_count : (z t : ℕ) → (place_at (replicate z no_place) t).count ≡ 0
+blank_count z t = ap (λ (p : NumberedCount). p.count) (get_or_all z no_place t)
 
-new_passive : (a : Settings) (c : ℕ) → PassiveAgree (new_cpu a c) (replicate MOST_SLOTS no_place)
-new_passive a c = record { size = refl; counts = λ t. blank_count t; placed = λ t some. absurd (some (blank_number t)); each = λ e there. absurd (omega (arith, there.1)) }
+new_passive : (a : Settings) (c : ℕ) → PassiveAgree (new_cpu a c) (replicate a.slots no_place)
+new_passive a c = record { size = length-replicate a.slots no_place; counts = λ t. blank_count a.slots t; placed = λ t some. absurd (some (blank_number a.slots t)); each = λ e there. absurd (omega (arith, there.1)) }
 
-new_net : (a : Settings) (c : ℕ) → NetAgree (new_cpu a c) (replicate MOST_SLOTS no_place)
-new_net a c = record { size = refl; met = λ t. blank_number t; counts = λ t some. absurd (some (blank_number t)); most = λ t. omega (arith, blank_count t) }
+new_net : (a : Settings) (c : ℕ) → NetAgree (new_cpu a c) (replicate a.slots no_place)
+new_net a c = record { size = length-replicate a.slots no_place; met = λ t. blank_number a.slots t; counts = λ t some. absurd (some (blank_number a.slots t)); most = λ t. omega (arith, blank_count a.slots t) }
 
 outside : DepthAgrees None 0
 outside = record { outside = (λ _. refl, λ _. refl); most = omega arith }
@@ -42,8 +42,8 @@ inside b = record { outside = (λ (q : Some b ≡ None). cc, λ (q : 1 ≡ 0). a
 
 -- a new CPU
 pub new_agrees : (z : TableId) (a : Settings) (t : TableId) (c : ℕ) → t ≡ z → IsTrue (are_fit a) → c < a.cpus
-    → (ms : Memory) → Remembers a.slots [] ms → IsOurCpu z a t (new_cpu a c) c 0 0 no_found (replicate MOST_SLOTS no_place) (replicate MOST_SLOTS no_place) ms
-new_agrees z a t c table fit lt ms none = record {
+    → IsOurCpu z a t (new_cpu a c) c 0 0 no_found (replicate a.slots no_place) (replicate a.slots no_place) (no_memory a.slots)
+new_agrees z a t c table fit lt = record {
   table = table;
   settings = refl;
   fit = fit;
@@ -55,25 +55,29 @@ new_agrees z a t c table fit lt ms none = record {
   found = refl;
   passive = new_passive a c;
   net = new_net a c;
-  memory = none;
+  memory = none_remembered a.slots [] (let some = (ranges a fit).some_slot in omega (arith, some)) (ranges a fit).slots;
   is_shown = new_cpu_is_shown a fit c lt;
 }
 
+-- what was read at a slot is its place
+pub place_is : (ps : List NumberedCount) (t : ℕ) (p : NumberedCount) → p ≡ slice_index_or ps t p → t < length ps → p ≡ place_at ps t
+place_is ps t p is few = is ∙ get_or_default ps t p no_place few
+
 -- its references stay in a longer pass
-pub passive_longer : (x y : CpuView) (l : List NumberedCount) → y.references ≡ x.references → IsPrefix x.pass y.pass → PassiveAgree x l → PassiveAgree y l
-passive_longer x y l same longer agree = record {
-  size = agree.size;
+pub passive_longer : (x y : CpuView) (l : List NumberedCount) → y.settings ≡ x.settings → y.references ≡ x.references → IsPrefix x.pass y.pass → PassiveAgree x l → PassiveAgree y l
+passive_longer x y l settings same longer agree = record {
+  size = agree.size ∙ ap (λ (s : Settings). s.slots) (sym settings);
   counts = λ t. agree.counts t ∙ ap (λ es. references_to (place_at l t).number es) (sym same);
   placed = λ t some. let old = agree.placed t some in record { entry = old.entry; attached = attached_prefix x.pass y.pass old.entry longer old.attached; slot = old.slot; number = old.number };
   each = λ e there.
       let old = agree.each e (subst (λ es. Contains es e) same there) in
-      (old.0, attached_prefix x.pass y.pass e longer old.1, old.2, old.3);
+      (subst (λ (s : Settings). e.slot < s.slots) (sym settings) old.0, attached_prefix x.pass y.pass e longer old.1, old.2, old.3);
 }
 
 -- its net counts are not of the pass
-pub net_same : (x y : CpuView) (l : List NumberedCount) → y.met ≡ x.met → y.acquired ≡ x.acquired → y.released ≡ x.released → NetAgree x l → NetAgree y l
-net_same x y l met acquired released agree = record {
-  size = agree.size;
+pub net_same : (x y : CpuView) (l : List NumberedCount) → y.settings ≡ x.settings → y.met ≡ x.met → y.acquired ≡ x.acquired → y.released ≡ x.released → NetAgree x l → NetAgree y l
+net_same x y l settings met acquired released agree = record {
+  size = agree.size ∙ ap (λ (s : Settings). s.slots) (sym settings);
   met = λ t. agree.met t ∙ ap (λ m. number_at m t) (sym met);
   counts = λ t some. ap (λ m. (place_at l t).count + number_at m (place_at l t).number) released ∙ agree.counts t some ∙ ap (λ m. bias + number_at m (place_at l t).number) (sym acquired);
   most = agree.most;
@@ -98,8 +102,8 @@ entered_agrees z a t u x y c w d e ps ns ms our is_shown same shallow room had =
       idle = record { search = our.idle.search; hand = our.idle.hand };
       depth = inside (length p);
       found = our.found;
-      passive = passive_longer x z0 ps refl longer our.passive;
-      net = net_same x z0 ns refl refl refl our.net;
+      passive = passive_longer x z0 ps refl refl longer our.passive;
+      net = net_same x z0 ns refl refl refl refl our.net;
       memory = stays x.settings.slots x.pass p ms longer our.memory;
       is_shown = subst IsShownCpu had.1 is_shown;
     } in
@@ -129,8 +133,8 @@ exited_agrees z a t u x y c w d e ps ns ms our is_shown same last had =
       idle = record { search = our.idle.search; hand = our.idle.hand };
       depth = outside;
       found = refl;
-      passive = passive_longer x z0 ps refl (([], append-nil x.pass)) our.passive;
-      net = net_same x z0 ns refl refl refl our.net;
+      passive = passive_longer x z0 ps refl refl (([], append-nil x.pass)) our.passive;
+      net = net_same x z0 ns refl refl refl refl our.net;
       memory = our.memory;
       is_shown = subst IsShownCpu had is_shown;
     } in
@@ -152,8 +156,8 @@ seen_agrees z a t u x y c w d e k f ps ns ms h our is_shown same longer is kept 
       idle = record { search = our.idle.search; hand = our.idle.hand };
       depth = our.depth;
       found = kept;
-      passive = passive_longer x z0 ps refl longer our.passive;
-      net = net_same x z0 ns refl refl refl our.net;
+      passive = passive_longer x z0 ps refl refl longer our.passive;
+      net = net_same x z0 ns refl refl refl refl our.net;
       memory = stays x.settings.slots x.pass p ms longer our.memory;
       is_shown = subst IsShownCpu is is_shown;
     } in

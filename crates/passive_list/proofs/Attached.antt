@@ -154,7 +154,7 @@ published_is k l m e v at told may =
     one x y q = cc
 
 abbrev pub row_live : KeptSlot → Entry → KeptSlot
-row_live r e = record { state = Live e; marks = r.marks; total = r.total; keeps = r.keeps }
+row_live r e = record { state = Live e; total = r.total; keeps = r.keeps }
 
 published_at_rest : (a : Settings) (k : KeeperView) (rows : List KeptSlot) (e : Entry) (v : ℕ) → MayAttach a k rows e → IsAtRest a (keeper_after_live (keeper_after_publish k e v) e.slot e.number)
 published_at_rest a k rows e v asked =
@@ -199,7 +199,6 @@ published_keeper a k l rows n e v was asked change is_shown =
     let t = e.slot in
     let lt = asked.slot in
     let p = keeper_after_live (keeper_after_publish k e v) e.slot e.number in
-    let most = (ranges a at.fit).slots in
     let size = at.sized.slots in
     let had = asked.agree.each t lt in
     record {
@@ -207,15 +206,14 @@ published_keeper a k l rows n e v was asked change is_shown =
       is_shown = is_shown;
       changes = let long = length-after_change k.history (Attach e) in let now = ap (λ (x : KeeperView). length x.history) change in omega (arith, was, long, now);
       rows = subst (λ (x : KeeperView). RowsAgree a x (set rows t (row_live (row_at rows t) e))) (sym change)
-          (rows_set a k p rows t (row_live (row_at rows t) e) lt (omega (arith, lt, most)) asked.agree
+          (rows_set a k p rows t (row_live (row_at rows t) e) lt asked.agree
           record {
             state = slot_here k.slots t (Live e) (omega (arith, lt, size));
-            marks = had.marks;
             total = had.total;
             keeps = had.keeps;
             unused = λ vacant. absurd (let q : Live e ≡ Vacant = vacant in cc);
           }
-          (λ u off was. row_stays k p u (row_at rows u) (slot_other k.slots t (Live e) u off) refl refl refl was));
+          (λ u off was. row_stays k p u (row_at rows u) (slot_other k.slots t (Live e) u off) refl refl was));
     }
 
 -- what is asked of a caller, of the keeper's own view

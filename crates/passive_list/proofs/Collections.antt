@@ -1,17 +1,17 @@
 -- Collections: what the rows say where a count word is collected, and where all are.
-use Rattle.std.proofs.Common.{◌≡◌, ℕ, ◌+◌, ◌-◌, ◌^◌, ◌<◌, ◌≤◌, List, [], ◌++◌, length, get_or, set, Some, true, refl, sym, ap, ◌∙◌, subst, arith, length-set, get_or-set_same, get_or-set_other}
+use Rattle.std.proofs.Common.{◌≡◌, ℕ, ◌+◌, ◌-◌, ◌*◌, ◌^◌, ◌<◌, ◌≤◌, List, ◌++◌, length, get_or, set, Some, true, refl, sym, ap, ◌∙◌, subst, arith, length-set}
 use Rattle.std.proofs.Math.Seq.{map-set_same}
 use Rattle.atomic_table.specs.Seated.{TableId}
-use Rattle.passive_list.specs.Types.{Entry, Collect, TotalAdd, Done, Word, Settings, Rest, Mark, Vacant, Retired, MOST_CPUS, MOST_SLOTS, KeeperView, LogItem, Keeper}
-use Rattle.registry_values.specs.Common.{mark_after_collect, are_collected, no_mark, bias, slot_at}
-use Rattle.protocol.specs.Common.{total_at}
+use Rattle.passive_list.specs.Types.{Entry, Collect, TotalAdd, Done, Word, Settings, Rest, Mark, Vacant, Retired, MOST_CPUS, KeeperView, LogItem, Keeper}
+use Rattle.registry_values.specs.Common.{mark_after_collect, are_collected, bias, slot_at}
+use Rattle.protocol.specs.Common.{mark_at, total_at}
 use Rattle.protocol.proofs.slots.Cells.{total_here, total_other}
-use Rattle.registry_values.proofs.Fit.{ranges}
 use Rattle.protocol.proofs.keeps.ListKeeps.{rows_put}
 use Rattle.cpu_words.specs.Common.{row_of, HasCollected, MayTotalAdd, HasAdded, IsShown, did, Makes}
 use Rattle.cpu_words.proofs.shown.KeepersShown.{step_is_shown}
-use Rattle.passive_list.specs.Common.{KeptSlot, OnKeeper, OnPlainKeeper, on_keeper, no_row, row_at, state_of, states_of, total_or_bias, IsAtRest, RowsAgree, IsOurKeeper, keeper_after_collect, HasCollectedInto}
+use Rattle.passive_list.specs.Common.{KeptSlot, OnKeeper, OnPlainKeeper, on_keeper, no_row, row_at, state_of, states_of, total_or_bias, IsAtRest, MarksAgree, RowsAgree, IsOurKeeper, keeper_after_collect, HasCollectedInto}
 use Rattle.passive_list.specs.Common.{AreHeld}
+use Rattle.passive_list.proofs.KeptMarks.{mark_read, marks_set}
 use Rattle.passive_list.proofs.Rows.{state_at, not_vacant_within, retired_in, row_stays, rows_set}
 use Rattle.passive_list.proofs.Balanced.{none_at_rest, total_collected, bias_within, adding_fits}
 
@@ -20,8 +20,8 @@ use Rattle.passive_list.proofs.Balanced.{none_at_rest, total_collected, bias_wit
 abbrev pub with_total : KeeperView → ℕ → List Mark → ℕ → List ℕ → KeeperView
 with_total k t marks total given_up = record k { marks = set k.marks t marks; totals = set k.totals t total; due = Rest; given_up = given_up }
 
-abbrev pub row_with_total : KeptSlot → List Mark → ℕ → KeptSlot
-row_with_total r marks total = record { state = r.state; marks = marks; total = Some total; keeps = r.keeps }
+abbrev pub row_with_total : KeptSlot → ℕ → KeptSlot
+row_with_total r total = record { state = r.state; total = Some total; keeps = r.keeps }
 
 with_total_at_rest : (a : Settings) (k : KeeperView) (t : ℕ) (marks : List Mark) (total : ℕ) (given_up : List ℕ) → IsAtRest a k → length marks ≡ MOST_CPUS
     → IsAtRest a (with_total k t marks total given_up)
@@ -46,81 +46,77 @@ with_total_at_rest a k t marks total given_up at size = record {
 
 pub with_total_rows : (a : Settings) (k : KeeperView) (rows : List KeptSlot) (t : ℕ) (marks : List Mark) (total : ℕ) (given_up : List ℕ) → IsAtRest a k → RowsAgree a k rows
     → (slot_at (states_of rows) t ≡ Vacant → ⊥)
-    → RowsAgree a (with_total k t marks total given_up) (set rows t (row_with_total (row_at rows t) marks total))
+    → RowsAgree a (with_total k t marks total given_up) (set rows t (row_with_total (row_at rows t) total))
 with_total_rows a k rows t marks total given_up at agree some =
     let l = with_total k t marks total given_up in
     let lt = not_vacant_within a k rows t agree some in
-    let most = (ranges a at.fit).slots in
     let had = agree.each t lt in
     let off : (row_at rows t).state ≡ Vacant → ⊥ = λ vacant. some (state_at rows t ∙ vacant) in
-    rows_set a k l rows t (row_with_total (row_at rows t) marks total) lt (omega (arith, lt, most)) agree
+    rows_set a k l rows t (row_with_total (row_at rows t) total) lt agree
     record {
       state = had.state;
-      marks = sym (get_or-set_same k.marks t marks [] (let size = at.sized.marks in omega (arith, lt, size)));
       total = sym (total_here k.totals t total (let size = at.sized.totals in omega (arith, lt, size)));
       keeps = had.keeps;
       unused = λ vacant. absurd (off vacant);
     }
-    (λ u other was. row_stays k l u (row_at rows u) refl (get_or-set_other k.marks t u marks [] other) (total_other k.totals t total u other) refl was)
+    (λ u other was. row_stays k l u (row_at rows u) refl (total_other k.totals t total u other) refl was)
 
 -- the keeper's data agree with such a view, where the slot isn't vacant
 pub with_total_keeper : (a : Settings) (k l : KeeperView) (rows : List KeptSlot) (n t : ℕ) (marks : List Mark) (total : ℕ) (given_up : List ℕ)
     → IsOurKeeper a k rows n → (slot_at (states_of rows) t ≡ Vacant → ⊥) → length marks ≡ MOST_CPUS → l ≡ with_total k t marks total given_up → IsShown l
-    → IsOurKeeper a l (set rows t (row_with_total (row_at rows t) marks total)) n
+    → IsOurKeeper a l (set rows t (row_with_total (row_at rows t) total)) n
 with_total_keeper a k l rows n t marks total given_up our some size change is_shown = record {
   view = subst (IsAtRest a) (sym change) (with_total_at_rest a k t marks total given_up our.view size);
   is_shown = is_shown;
   changes = our.changes ∙ sym (ap (λ (x : KeeperView). length x.history) change);
-  rows = subst (λ (x : KeeperView). RowsAgree a x (set rows t (row_with_total (row_at rows t) marks total))) (sym change) (with_total_rows a k rows t marks total given_up our.view our.rows some);
+  rows = subst (λ (x : KeeperView). RowsAgree a x (set rows t (row_with_total (row_at rows t) total))) (sym change) (with_total_rows a k rows t marks total given_up our.view our.rows some);
 }
 
 -- A collection
 
 -- the word w was collected for the retired entry of t, and is to be added to v, the total in the slot's row
-pub record CollectionTells (k : KeeperView) (t v w : ℕ) : Type 0 where
-  pub place : t < MOST_SLOTS
+pub record CollectionTells (a : Settings) (k : KeeperView) (t v w : ℕ) : Type 0 where
+  pub place : t < a.slots
   pub floor : bias ≤ v + w
   pub fits : v + w < 2 ^ 64
   pub may : (old : ℕ) × MayTotalAdd k t old (v + w - bias)
 
 pub collection_tells : {log : List LogItem} (a : Settings) (k l : KeeperView) (rows : List KeptSlot) (n : ℕ) (x : OnKeeper) (t c v w : ℕ) (e : Entry) → IsOurKeeper a k rows n
     → record { view = k; slots = states_of rows; log = log } ≡ x → v ≡ total_or_bias (row_at rows t)
-    → slot_at x.slots t ≡ Retired e → HasCollected k t c w l → Makes (Collect t c) (Word w) (Keeper k) (Keeper l) → CollectionTells l t v w
+    → slot_at x.slots t ≡ Retired e → HasCollected k t c w l → Makes (Collect t c) (Word w) (Keeper k) (Keeper l) → CollectionTells a l t v w
 collection_tells a k l rows n x t c v w e our is read retired change made =
     let lt = (retired_in a k rows t e our.rows (ap (λ (y : OnKeeper). slot_at y.slots t) is ∙ retired)).0 in
-    let most = (ranges a our.view.fit).slots in
     let due = ap (λ (v : KeeperView). v.due) change in
     let total : v ≡ total_at l.totals t = read ∙ (our.rows.each t lt).total ∙ sym (ap (λ (y : KeeperView). total_at y.totals t) change) in
     let range = adding_fits l t w (step_is_shown made) due in
     record {
-      place = omega (arith, lt, most);
+      place = lt;
       floor = omega (arith, range.0, total);
       fits = omega (arith, range.1, total);
       may = (w, record { due = due; sum = ap (λ (u : ℕ). u + w - bias) total });
     }
 
--- the view after it, with the new total v
-added_is : (k l b : KeeperView) (rows : List KeptSlot) (t c v w : ℕ) (m : Mark) → (row_at rows t).marks ≡ row_of k t → HasCollected k t c w l
-    → m ≡ mark_after_collect (get_or (row_at rows t).marks c no_mark) → HasAdded l t v b → b ≡ with_total k t (set (row_at rows t).marks c m) v k.given_up
-added_is k l b rows t c v w m row change mark added =
-    added ∙ ap (λ (x : KeeperView). record x { totals = set x.totals t v; due = Rest }) change
-    ∙ sym (ap (λ (x : Mark). with_total k t (set (row_at rows t).marks c x) v k.given_up) mark
-    ∙ ap (λ (ms : List Mark). with_total k t (set ms c (mark_after_collect (get_or ms c no_mark))) v k.given_up) row)
+-- the view after it, with the new total v and the mark m
+added_is : (k l b : KeeperView) (t c v w : ℕ) (m : Mark) → HasCollected k t c w l → m ≡ mark_after_collect (mark_at k.marks t c) → HasAdded l t v b
+    → b ≡ with_total k t (set (row_of k t) c m) v k.given_up
+added_is k l b t c v w m change mark added =
+    added ∙ ap (λ (x : KeeperView). record x { totals = set x.totals t v; due = Rest }) change ∙ sym (ap (λ (x : Mark). with_total k t (set (row_of k t) c x) v k.given_up) mark)
 
-pub collected_keeper : {log : List LogItem} (a : Settings) (k l b : KeeperView) (rows : List KeptSlot) (n : ℕ) (x : OnKeeper) (t c v w : ℕ) (e : Entry) (m : Mark) → IsOurKeeper a k rows n
-    → record { view = k; slots = states_of rows; log = log } ≡ x
-    → slot_at x.slots t ≡ Retired e → HasCollected k t c w l → m ≡ mark_after_collect (get_or (row_at rows t).marks c no_mark) → HasAdded l t v b
+pub collected_keeper : {log : List LogItem} (a : Settings) (k l b : KeeperView) (rows : List KeptSlot) (ms : List Mark) (n : ℕ) (x : OnKeeper) (t c p v w : ℕ) (e : Entry) (q m : Mark)
+    → IsOurKeeper a k rows n → MarksAgree a k ms → record { view = k; slots = states_of rows; log = log } ≡ x
+    → slot_at x.slots t ≡ Retired e → c < a.cpus → p ≡ t * a.cpus + c → q ≡ get_or ms p q → HasCollected k t c w l → m ≡ mark_after_collect q → HasAdded l t v b
     → Makes (TotalAdd t) Done (Keeper l) (Keeper b)
-    → IsOurKeeper a b (set rows t (row_with_total (row_at rows t) (set (row_at rows t).marks c m) v)) n
-collected_keeper a k l b rows n x t c v w e m our is retired change mark added made =
+    → IsOurKeeper a b (set rows t (row_with_total (row_at rows t) v)) n × MarksAgree a b (set ms p m)
+collected_keeper a k l b rows ms n x t c p v w e q m our marks is retired cpu place read change made_of added made =
     let here = ap (λ (y : OnKeeper). slot_at y.slots t) is ∙ retired in
     let lt = (retired_in a k rows t e our.rows here).0 in
-    let row = (our.rows.each t lt).marks in
     let size = our.view.sized.marks in
-    let long : length (set (row_at rows t).marks c m) ≡ MOST_CPUS =
-    length-set (row_at rows t).marks c m ∙ (ap (λ (ms : List Mark). length ms) row ∙ our.view.sized.mark_rows t (omega (arith, lt, size))) in
-    with_total_keeper a k b rows n t (set (row_at rows t).marks c m) v k.given_up our (λ vacant. let q : Retired e ≡ Vacant = sym here ∙ vacant in cc) long
-    (added_is k l b rows t c v w m row change mark added) (step_is_shown made)
+    let mark : m ≡ mark_after_collect (mark_at k.marks t c) = made_of ∙ ap mark_after_collect (mark_read a k ms t c p q marks lt cpu place read) in
+    let long : length (set (row_of k t) c m) ≡ MOST_CPUS = length-set (row_of k t) c m ∙ our.view.sized.mark_rows t (omega (arith, lt, size)) in
+    let now = added_is k l b t c v w m change mark added in (
+      with_total_keeper a k b rows n t (set (row_of k t) c m) v k.given_up our (λ vacant. let q : Retired e ≡ Vacant = sym here ∙ vacant in cc) long now (step_is_shown made),
+      marks_set a k b ms t c p m our.view marks lt cpu place (ap (λ (y : KeeperView). y.marks) now),
+    )
 
 pub collected_into : {log between later : List LogItem} (a : Settings) (k l b : KeeperView) (rows : List KeptSlot) (n : ℕ) (x : OnKeeper) (t c v w : ℕ) (e : Entry) (r : KeptSlot)
     → IsOurKeeper a k rows n → record { view = k; slots = states_of rows; log = log } ≡ x → v ≡ total_or_bias (row_at rows t)

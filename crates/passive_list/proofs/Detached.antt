@@ -1,14 +1,14 @@
 -- An entry is retired: the keeper may unlink it, and what it has agrees with what its seat knows then.
-use Rattle.std.proofs.Common.{◌≡◌, ℕ, zero, suc, ◌+◌, ◌<◌, List, [], ◌∷◌, length, set, replicate, Option, Some, None, refl, sym, ap, ◌∙◌, subst, arith, get_or-set_same, get_or-set_other, length-set}
+use Rattle.std.proofs.Common.{◌≡◌, ℕ, zero, suc, ◌+◌, ◌*◌, ◌<◌, List, [], ◌∷◌, length, set, replicate, Option, Some, None, refl, sym, ap, ◌∙◌, subst, arith, get_or-set_same, get_or-set_other, length-set}
 use Rattle.passive_list.specs.Types.{Detach, Entry, Settings, Mark, Slot, Vacant, Live, Retired, MOST_CPUS, KeeperView}
 use Rattle.registry_values.specs.Common.{live_count, slot_at, no_mark}
 use Rattle.protocol.specs.Common.{live_at}
 use Rattle.protocol.proofs.slots.Cells.{slot_here, slot_other}
-use Rattle.registry_values.proofs.Fit.{ranges}
 use Rattle.protocol.proofs.history.History.{length-after_change}
 use Rattle.protocol.proofs.keeps.ListKeeps.{live_count_put, rows_put}
 use Rattle.cpu_words.specs.Common.{LeadsBelow, IsBefore, MayUnpublish, HasUnpublished, keeper_after_live, keeper_after_unpublish, links_with, IsShown}
-use Rattle.passive_list.specs.Common.{KeptSlot, row_at, states_of, IsAtRest, RowsAgree, IsOurKeeper, with_snapshots}
+use Rattle.passive_list.specs.Common.{KeptSlot, row_at, states_of, AreWritten, IsAtRest, MarksAgree, RowsAgree, IsOurKeeper, with_snapshots}
+use Rattle.passive_list.proofs.KeptMarks.{marks_written}
 use Rattle.passive_list.proofs.Rows.{state_at, live_in, row_stays, rows_set}
 use Rattle.passive_list.proofs.Attached.{LiveIn, rows_live, live_rows, leads_on}
 
@@ -81,8 +81,7 @@ stored_keeper a k l rows n t v our change is_shown = record {
   changes = our.changes ∙ sym (ap (λ (x : KeeperView). length x.history) change);
   rows = subst (λ (x : KeeperView). RowsAgree a x rows) (sym change) (record {
     size = our.rows.size;
-    each = λ u lt. let was = our.rows.each u lt in record { state = was.state; marks = was.marks; total = was.total; keeps = was.keeps; unused = was.unused };
-    beyond = our.rows.beyond;
+    each = λ u lt. let was = our.rows.each u lt in record { state = was.state; total = was.total; keeps = was.keeps; unused = was.unused };
   });
 }
 
@@ -118,36 +117,41 @@ detached_at_rest a k t e p v marks at lt live size =
           omega (arith, less, long, room);
     }
 
-abbrev pub row_retired : KeptSlot → Entry → List Mark → KeptSlot
-row_retired r e marks = record { state = Retired e; marks = marks; total = r.total; keeps = r.keeps }
+abbrev pub row_retired : KeptSlot → Entry → KeptSlot
+row_retired r e = record { state = Retired e; total = r.total; keeps = r.keeps }
 
 pub detached_keeper : (a : Settings) (k l : KeeperView) (rows : List KeptSlot) (n t : ℕ) (e : Entry) (p : Option ℕ) (v : ℕ) (marks : List Mark) → IsOurKeeper a k rows n
     → (row_at rows t).state ≡ Live e → length marks ≡ MOST_CPUS
-    → l ≡ snapped k t e p v marks → IsShown l → IsOurKeeper a l (set rows t (row_retired (row_at rows t) e marks)) (n + 1)
+    → l ≡ snapped k t e p v marks → IsShown l → IsOurKeeper a l (set rows t (row_retired (row_at rows t) e)) (n + 1)
 detached_keeper a k l rows n t e p v marks our is marks_size change is_shown =
     let at = our.view in
     let live = live_in a k rows t e our.rows (state_at rows t ∙ is) in
     let lt = live.0 in
     let d = snapped k t e p v marks in
-    let fresh = replicate MOST_CPUS no_mark in
-    let most = (ranges a at.fit).slots in
     let size = at.sized.slots in
-    let wide = at.sized.marks in
-    let long = length-set k.marks t fresh in
     let had = our.rows.each t lt in
     record {
       view = subst (IsAtRest a) (sym change) (detached_at_rest a k t e p v marks at lt live.1 marks_size);
       is_shown = is_shown;
       changes = let was = our.changes in let more = length-after_change k.history (Detach e.number) in let now = ap (λ (x : KeeperView). length x.history) change in omega (arith, was, more, now);
-      rows = subst (λ (x : KeeperView). RowsAgree a x (set rows t (row_retired (row_at rows t) e marks))) (sym change)
-          (rows_set a k d rows t (row_retired (row_at rows t) e marks) lt (omega (arith, lt, most)) our.rows
+      rows = subst (λ (x : KeeperView). RowsAgree a x (set rows t (row_retired (row_at rows t) e))) (sym change)
+          (rows_set a k d rows t (row_retired (row_at rows t) e) lt our.rows
           record {
             state = slot_here k.slots t (Retired e) (omega (arith, lt, size));
-            marks = sym (get_or-set_same (set k.marks t fresh) t marks [] (omega (arith, lt, wide, long)));
             total = had.total;
             keeps = had.keeps;
             unused = λ vacant. absurd (let q : Retired e ≡ Vacant = vacant in cc);
           }
-          (λ u off was. row_stays k d u (row_at rows u) (slot_other k.slots t (Retired e) u off)
-          (get_or-set_other (set k.marks t fresh) t u marks [] off ∙ get_or-set_other k.marks t u fresh [] off) refl refl was));
+          (λ u off was. row_stays k d u (row_at rows u) (slot_other k.slots t (Retired e) u off) refl refl was));
     }
+
+-- and its marks with those that were taken
+pub detached_marks : (a : Settings) (k l : KeeperView) (ms ns : List Mark) (t : ℕ) (e : Entry) (p : Option ℕ) (v : ℕ) (row : List Mark) → IsAtRest a k → MarksAgree a k ms → t < a.slots
+    → AreWritten (t * a.cpus) a.cpus row ms ns → l ≡ snapped k t e p v row → MarksAgree a l ns
+detached_marks a k l ms ns t e p v row at had lt written change =
+    let fresh = replicate MOST_CPUS no_mark in
+    let wide = at.sized.marks in
+    let long = length-set k.marks t fresh in
+    subst (λ (x : KeeperView). MarksAgree a x ns) (sym change) (marks_written a k (snapped k t e p v row) ms ns t row had written
+    (get_or-set_same (set k.marks t fresh) t row [] (omega (arith, lt, wide, long)))
+    (λ u off. get_or-set_other (set k.marks t fresh) t u row [] off ∙ get_or-set_other k.marks t u fresh [] off))

@@ -1,12 +1,11 @@
 -- How a section begins: whether a CPU has begun as many as it may, by those that it has ended, and what its outermost enter leaves.
 use Rattle.std.proofs.Common.{◌≡◌, ◌≢◌, length, ℕ, ◌+◌, ◌*◌, ◌<◌, ◌≤◌, List, ◌++◌, nat_lt, IsTrue, Option, Some, None, refl, sym, ap, ◌∙◌, subst, arith}
 use Rattle.std.proofs.lemmas.Bool.{ltb-true}
-use Rattle.passive_list.specs.declared.memory.Memory.{Memory}
 use Rattle.atomic_table.specs.Seated.{TableId}
 use Rattle.passive_list.specs.Types.{Settings, Enter, Done, CpuView, Cpu}
 use Rattle.registry_values.proofs.Answers.{same_test}
 use Rattle.cpu_words.specs.Common.{did, HasEntered, SeatMakes, Seated, depth_of}
-use Rattle.passive_list.specs.Common.{Found, NumberedCount, OnCpu, IsOurCpu, HasEnteredOn, may_begin}
+use Rattle.passive_list.specs.Common.{Memory, Found, NumberedCount, OnCpu, IsOurCpu, HasEnteredOn, may_begin}
 use Rattle.cpu_words.proofs.shown.CpusShown.{entered_whole}
 
 few : (b : Option ℕ) → depth_of b ≤ 1

@@ -8,7 +8,6 @@ use Rattle.protocol.specs.Common.{IsIn, DriversKept, total_at, kept_at}
 use Rattle.registry_values.specs.Common.{has_number, live_count, slot_of, slot_at, bias}
 use Rattle.protocol.proofs.slots.Cells.{slot_here, slot_other, total_other}
 use Rattle.protocol.proofs.keeps.Drivers.{kept_number}
-use Rattle.registry_values.proofs.Fit.{ranges}
 use Rattle.protocol.proofs.keeps.ListKeeps.{live_count_put, rows_put}
 use Rattle.protocol.proofs.slots.Occupied.{has_it, not_vacant, number_in, one_number, position_found, slot_found, slot_has}
 use Rattle.cpu_words.specs.Common.{IsFreedFrom, MayKeptSub, HasKeptSub, IsShown, did, Makes, one_more}
@@ -39,7 +38,7 @@ one_slot k t u e f is_shown is also same =
     (one_number g.history g.slots t u e f is_shown.good.holds.slots (subst (λ (x : List Slot). IsIn e (slot_at x t)) slots is) (subst (λ (x : List Slot). IsIn f (slot_at x u)) slots also) same).0
 
 -- the row of what is held shows its number
-held_place : (a : Settings) (k : KeeperView) (rows : List KeptSlot) (u : ℕ) (f : Entry) → IsShown k → RowsAgree a k rows → HeldRow k rows u → IsIn f (slot_at k.slots u)
+held_place : (a : Settings) (k : KeeperView) (rows : List KeptSlot) (u : ℕ) (f : Entry) → IsShown k → RowsAgree a k rows → HeldRow a k rows u → IsIn f (slot_at k.slots u)
     → place_of f.number rows ≡ Some u
 held_place a k rows u f is_shown agree row is =
     let lt = row.slot in
@@ -135,7 +134,7 @@ freed k t d u = record k {
 }
 
 -- what the step tells
-freed_is : (k l : KeeperView) (t d u : ℕ) → kept_at k.keeps t ≡ Some d → HasKeptSub k t u l → l ≡ freed k t d u
+pub freed_is : (k l : KeeperView) (t d u : ℕ) → kept_at k.keeps t ≡ Some d → HasKeptSub k t u l → l ≡ freed k t d u
 freed_is k l t d u kept told = told.2 ∙ ap (λ (n : ℕ). freed k t n u) (let q : ◌≡◌ {A = Option ℕ} (Some told.0) (Some d) = sym told.1.0 ∙ kept in cc)
 
 freed_at_rest : (a : Settings) (k : KeeperView) (t d u : ℕ) (e : Entry) → IsAtRest a k → t < a.slots → slot_at k.slots t ≡ Retired e → IsAtRest a (freed k t d u)
@@ -163,7 +162,7 @@ freed_at_rest a k t d u e at lt retired = record {
 }
 
 abbrev pub row_freed : KeptSlot → KeptSlot
-row_freed r = record { state = Vacant; marks = r.marks; total = r.total; keeps = None }
+row_freed r = record { state = Vacant; total = r.total; keeps = None }
 
 -- the total of the driver is one less, and then the slot is vacant
 freed_rows : (a : Settings) (k : KeeperView) (rows : List KeptSlot) (t d u v : ℕ) → IsAtRest a k → RowsAgree a k rows → IsHeldIn k u → u ≢ t → t < a.slots → total_at k.totals t ≡ bias → v ≡ total_or_bias (row_at rows u)
@@ -171,20 +170,18 @@ freed_rows : (a : Settings) (k : KeeperView) (rows : List KeptSlot) (t d u v : �
 freed_rows a k rows t d u v at agree held off lt total read =
     let m = less k u k.given_up in
     let rows' = set rows u (row_less (row_at rows u) v) in
-    let most = (ranges a at.fit).slots in
     let slot_size = at.sized.slots in
     let keep_size = at.sized.keeps in
     let had = agree.each t lt in
     let stays : total_at m.totals t ≡ total_at k.totals t = total_other k.totals u _ t (λ same. off (sym same)) in
-    rows_set a m (freed k t d u) rows' t (row_freed (row_at rows t)) lt (omega (arith, lt, most)) (less_rows a k rows u v k.given_up at agree (held_row a k rows u at agree held) read)
+    rows_set a m (freed k t d u) rows' t (row_freed (row_at rows t)) lt (less_rows a k rows u v k.given_up at agree (held_row a k rows u at agree held) read)
     record {
       state = slot_here k.slots t Vacant (omega (arith, lt, slot_size));
-      marks = had.marks;
       total = had.total ∙ sym stays;
       keeps = sym (get_or-set_same k.keeps t None None (omega (arith, lt, keep_size)));
       unused = λ vacant. had.total ∙ total;
     }
-    (λ w other was. row_stays m (freed k t d u) w (row_at rows' w) (slot_other k.slots t Vacant w other) refl refl (get_or-set_other k.keeps t w None None other) was)
+    (λ w other was. row_stays m (freed k t d u) w (row_at rows' w) (slot_other k.slots t Vacant w other) refl (get_or-set_other k.keeps t w None None other) was)
 
 pub freed_keeper : {log : List LogItem} (a : Settings) (k l : KeeperView) (rows : List KeptSlot) (n t u v : ℕ) (x : OnKeeper) → IsOurKeeper a k rows n
     → record { view = k; slots = states_of rows; log = log } ≡ x → IsDrainedOn x t → KeepsHeld k t u
@@ -202,17 +199,17 @@ freed_keeper a k l rows n t u v x our is drained keeps told is_shown read =
     }
 
 -- what it leaves of the keeper
-pub has_freed : {log later : List LogItem} (a : Settings) (k l : KeeperView) (rows : List KeptSlot) (t u v : ℕ) (r : KeptSlot) (x : OnKeeper) → record { view = k; slots = states_of rows; log = log } ≡ x
+pub has_freed : {log later : List LogItem} (a : Settings) (k l : KeeperView) (rows : List KeptSlot) (t u v : ℕ) (r q : KeptSlot) (x : OnKeeper) → state_of q ≡ state_of (row_at rows u) → record { view = k; slots = states_of rows; log = log } ≡ x
     → RowsAgree a k rows → Makes (KeptSub t) Done (Keeper k) (Keeper l) → HasKeptSub k t u l → later ≡ log ++ did (KeptSub t) Done
     → ((e : Entry) → slot_at k.slots t ≡ Retired e → IsFreedFrom t e.number later)
-    → HasFreed x t (record { view = l; slots = states_of (set (set rows u (row_less (row_at rows u) v)) t (row_freed r)); log = later })
-has_freed {later} a k l rows t u v r x is agree made told goes_on freed =
-    let after = set (set rows u (row_less (row_at rows u) v)) t (row_freed r) in
+    → HasFreed x t (record { view = l; slots = states_of (set (set rows u (row_less q v)) t (row_freed r)); log = later })
+has_freed {later} a k l rows t u v r q x state is agree made told goes_on freed =
+    let after = set (set rows u (row_less q v)) t (row_freed r) in
     subst (λ (y : OnKeeper). HasFreed y t (record { view = l; slots = states_of after; log = later })) is record {
       u = u;
       made = made;
       view = told;
-      slots = map-set state_of (set rows u (row_less (row_at rows u) v)) t (row_freed r) ∙ ap (λ (xs : List Slot). set xs t Vacant) (map-set_same state_of rows u (row_less (row_at rows u) v) no_row refl);
+      slots = map-set state_of (set rows u (row_less q v)) t (row_freed r) ∙ ap (λ (xs : List Slot). set xs t Vacant) (map-set_same state_of rows u (row_less q v) no_row state);
       log = goes_on;
       freed = λ e at. freed e (retired_in a k rows t e agree at).1;
     }

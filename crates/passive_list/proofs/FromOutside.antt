@@ -1,10 +1,9 @@
 -- A lookup from outside: the steps that its section allows, how the data agree with the view as it is over, and what it is to a contract.
 use Rattle.std.proofs.Common.{◌≡◌, IsTrue, ℕ, ◌+◌, ◌<◌, List, ◌++◌, length, Option, Some, None, refl, sym, ap, ◌∙◌, subst, arith}
-use Rattle.passive_list.specs.declared.memory.Memory.{Memory}
 use Rattle.atomic_table.specs.Seated.{TableId}
 use Rattle.passive_list.specs.Types.{Entry, Settings, Key, Enter, Exit, Done, Search, CpuView, Cpu}
 use Rattle.cpu_words.specs.Common.{IsShownCpu, did, Makes, SeatMakes, Seated, MaySeek, IsIdle, HasEntered, MayExit, HasExited}
-use Rattle.passive_list.specs.Common.{Found, NumberedCount, OnCpu, DepthAgrees, IsKept, IsOurCpu, no_found, HasFoundFromOutside, SearchesOnce, may_begin, HasLookedUp}
+use Rattle.passive_list.specs.Common.{Memory, Found, NumberedCount, OnCpu, DepthAgrees, IsKept, IsOurCpu, no_found, HasFoundFromOutside, SearchesOnce, may_begin, HasLookedUp}
 use Rattle.cpu_words.proofs.shown.KeepersShown.{step_is_shown}
 use Rattle.passive_list.proofs.Agreeing.{entered_agrees, looked_up_agrees, exited_agrees, own_agrees, none_outside}
 use Rattle.passive_list.proofs.Entering.{unspent, cpu_at, entered_on}

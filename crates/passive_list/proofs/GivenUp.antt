@@ -1,5 +1,5 @@
 -- A reference is given up under the interlock: its entry's row has one to subtract, and what the keeper has agrees with what its seat knows then.
-use Rattle.std.proofs.Common.{◌≡◌, inl, inr, ⊎_elim, ℕ, ◌-◌, List, ◌++◌, set, Some, true, refl, sym, ap, ◌∙◌, subst}
+use Rattle.std.proofs.Common.{◌≡◌, inl, inr, ⊎_elim, ℕ, ◌-◌, List, [], ◌++◌, get_or, set, Some, true, sym, ap, ◌∙◌, subst}
 use Rattle.std.proofs.Math.Seq.{map-set_same}
 use Rattle.passive_list.specs.Types.{Entry, JoinKeeper, TotalSub, Done, Settings, Due, Rest, Retired, KeeperView, LogItem, ReferenceView, Keeper, Reference}
 use Rattle.registry_values.specs.Common.{slot_at}
@@ -42,13 +42,13 @@ held_before k j l v joined made =
 
 -- so its slot's row has it
 pub given_row : (a : Settings) (k j l : KeeperView) (rows : List KeptSlot) (n t : ℕ) (v : ReferenceView) → IsOurKeeper a k rows n → v.entry.slot ≡ t → j ≡ keeper_after_join k v
-    → Makes (TotalSub t) Done (Keeper j) (Keeper l) → HeldRow k rows t
+    → Makes (TotalSub t) Done (Keeper j) (Keeper l) → HeldRow a k rows t
 given_row a k j l rows n t v our slot joined made =
     let held = held_before k j l v joined (subst (λ (u : ℕ). Makes (TotalSub u) Done (Keeper j) (Keeper l)) (sym slot) made) in
     held_row a k rows t our.view our.rows (subst (IsHeldIn k) slot held)
 
 -- what the two steps tell
-given_is : (k j l : KeeperView) (t : ℕ) (v : ReferenceView) → k.due ≡ Rest → j ≡ keeper_after_join k v → HasSubtracted j t l → l ≡ less k t (one_more k.given_up v.entry.number)
+pub given_is : (k j l : KeeperView) (t : ℕ) (v : ReferenceView) → k.due ≡ Rest → j ≡ keeper_after_join k v → HasSubtracted j t l → l ≡ less k t (one_more k.given_up v.entry.number)
 given_is k j l t v rest joined told = told.2 ∙ ap (λ (x : KeeperView). record x { totals = set x.totals t (total_at x.totals t - 1); due = Rest }) joined
     ∙ ap (λ (d : Due). record (less k t (one_more k.given_up v.entry.number)) { due = d }) (sym rest)
 
@@ -58,17 +58,17 @@ pub given_keeper : (a : Settings) (k j l : KeeperView) (rows : List KeptSlot) (n
 given_keeper a k j l rows n t u v our slot joined made told read =
     let row = given_row a k j l rows n t v our slot joined made in
     let given_up = one_more k.given_up v.entry.number in
-    with_total_keeper a k l rows n t (row_at rows t).marks (u - 1) given_up our row.some row.size
-    (given_is k j l t v our.view.rest joined told ∙ less_is k rows t u given_up our.view.rest row read) (step_is_shown made)
+    with_total_keeper a k l rows n t (get_or k.marks t []) (u - 1) given_up our row.some row.size
+    (given_is k j l t v our.view.rest joined told ∙ less_is a k rows t u given_up our.view.rest row read) (step_is_shown made)
 
 -- what is left of the keeper
-pub has_given_up : {log between later : List LogItem} (k j l : KeeperView) (rows : List KeptSlot) (t n : ℕ) (v w : ReferenceView) (x : OnKeeper)
+pub has_given_up : {log between later : List LogItem} (k j l : KeeperView) (rows : List KeptSlot) (t n : ℕ) (v w : ReferenceView) (x : OnKeeper) (r : KeptSlot) → state_of r ≡ state_of (row_at rows t)
     → record { view = k; slots = states_of rows; log = log } ≡ x → v ≡ w → k.due ≡ Rest → v.entry.slot ≡ t → j ≡ keeper_after_join k v
     → JoinsBy JoinKeeper (Keeper k) (Reference v) (Keeper j) → Makes (TotalSub t) Done (Keeper j) (Keeper l) → HasSubtracted j t l
     → between ≡ log ++ did (JoinKeeper v.entry.number) Done → later ≡ between ++ did (TotalSub t) Done
-    → HasGivenUp x w (record { view = l; slots = states_of (set rows t (row_less (row_at rows t) n)); log = later })
-has_given_up {log} {later} k j l rows t n v w x is is_too rest slot joined joins made told first then =
-    let after = states_of (set rows t (row_less (row_at rows t) n)) in
+    → HasGivenUp x w (record { view = l; slots = states_of (set rows t (row_less r n)); log = later })
+has_given_up {log} {later} k j l rows t n v w x r state is is_too rest slot joined joins made told first then =
+    let after = states_of (set rows t (row_less r n)) in
     let s = v.entry.slot in
     let made_there : Makes (TotalSub s) Done (Keeper j) (Keeper l) = subst (λ (u : ℕ). Makes (TotalSub u) Done (Keeper j) (Keeper l)) (sym slot) made in
     let told_there : HasSubtracted j s l = subst (λ (u : ℕ). HasSubtracted j u l) (sym slot) told in
@@ -79,6 +79,6 @@ has_given_up {log} {later} k j l rows t n v w x is is_too rest slot joined joins
       joined = subst (λ (y : KeeperView). JoinsBy JoinKeeper (Keeper k) (Reference v) (Keeper y)) joined joins;
       subtracted = subst (λ (y : KeeperView). Makes (TotalSub s) Done (Keeper y) (Keeper l)) joined made_there;
       view = given_is k j l s v rest joined told_there;
-      slots = map-set_same state_of rows t (row_less (row_at rows t) n) no_row refl;
+      slots = map-set_same state_of rows t (row_less r n) no_row state;
       log = both;
     })

@@ -1,7 +1,7 @@
 -- A walk: its search goes by each slot on the list, and a link leads past none that has been live since. So the row has each entry that is live throughout.
 use Rattle.std.proofs.Common.{◌≡◌, ◌≢◌, ◌⊎◌, inl, inr, ⊎_elim, ℕ, zero, suc, ◌+◌, ◌-◌, ◌≤◌, ◌<◌, Bool, true, false, ◌&&◌, ◌==◌, List, [], ◌∷◌, ◌++◌, map, length, get_or, set, take, drop, Option, Some, None, refl}
 use Rattle.std.proofs.Common.{sym, ap, ◌∙◌, subst, arith, length-append, true≢false, eqb, eqb-true, drop-set-lt, drop-drop}
-use Rattle.std.proofs.lemmas.List.{length-map, length-take-le, get_or-map, take_more_set}
+use Rattle.std.proofs.lemmas.List.{length-map, map-append, map-id, get_or-map, take_all, take-append-le, take_more_set, set_past}
 use Rattle.std.proofs.lemmas.List.Elements.{Contains-get_or, Contains-push, Contains-push_cases, Contains-append_left}
 use Rattle.std.proofs.lemmas.List.Quantifiers.{all_pairs_push}
 use Rattle.std.proofs.lemmas.List.Folds.{Any-from_list_any}
@@ -19,7 +19,7 @@ use Rattle.protocol.proofs.history.History.{one_entry}
 use Rattle.cpu_words.specs.Common.{MayLoadLink, PassTells, SkipsNone, Descends, LinkHolds, every_word, HasLoadedLink, HasLoadedWord, HasFollowed, IsValueThere, cpu_after_seek, cpu_after_link}
 use Rattle.cpu_words.specs.Common.{search_for}
 use Rattle.passive_list.specs.Common.{OnCpu, search_at, IsUnderWay, cpu_with_search_at, after_visit, nobody, AreStoodOn, MayGoBy, HasGoneByFrom, HasGoneByOne, view_at_link, IsLiveSince}
-use Rattle.passive_list.specs.Common.{GoesOnAt, IsGoingOver, HasGoneOver, HasGoneOverBy, HasWalked}
+use Rattle.passive_list.specs.Common.{GoesOnAt, IsGoingOver, HasGoneOver, HasGoneOverBy, HasWalked, IsWritten}
 use Rattle.passive_list.proofs.Walking.{prefix_trans, on_word, judged_at, may_follow}
 use Rattle.passive_list.proofs.Standing.{prefix_length, stands_later, live_before, stood_was_live}
 
@@ -208,7 +208,7 @@ with_next x y es t e at stands = record {
 }
 
 -- so there is room for it
-room_for_next : (x y z : CpuView) (es : List Entry) (t : ℕ) (e : Entry) → IsGoingOver x es (suc t) y → HasGoneByOne y t e z → length es < MOST_SLOTS
+pub room_for_next : (x y z : CpuView) (es : List Entry) (t : ℕ) (e : Entry) → IsGoingOver x es (suc t) y → HasGoneByOne y t e z → length es < MOST_SLOTS
 room_for_next x y z es t e at had =
     let v = gone_by_there x y z es t e at had in
     omega (arith, (few_stood_on x.begin y.pass (length x.pass) x.settings.slots (es ++ e ∷ []) at.tells (with_next x y es t e at v.stands)).1, length-append es (e ∷ []))
@@ -222,7 +222,7 @@ view_after x y z w t (suc u) is_y is_z is_w =
     is_w ∙ ap (λ (v : CpuView). record v { pass = w.pass; search = Some (search_at nobody (length x.pass) (AtNumber u)) })
     (is_z ∙ ap (λ (v : CpuView). cpu_with_search_at v nobody (length x.pass) (AtNext t)) is_y)
 
-goes_by_next : (x y z w : CpuView) (es : List Entry) (t m : ℕ) (e : Entry) → IsGoingOver x es (suc t) y → HasGoneByOne y t e z → HasLoadedLink z m w
+pub goes_by_next : (x y z w : CpuView) (es : List Entry) (t m : ℕ) (e : Entry) → IsGoingOver x es (suc t) y → HasGoneByOne y t e z → HasLoadedLink z m w
     → IsGoingOver x (es ++ e ∷ []) m w
 goes_by_next x y z w es t m e at had loaded_link =
     record {
@@ -307,15 +307,10 @@ goes_by_next x y z w es t m e at had loaded_link =
       ),
     )
 
--- So far, by the row
-
-on_next : (x y : CpuView) (es : List Entry) (m : ℕ) → m ≢ 0 → IsGoingOver x es m y → IsGoingOver x es (suc (m - 1)) y
-on_next x y es zero some at = absurd (some refl)
-on_next x y es (suc t) some at = let same : suc t ≡ suc (suc t - 1) = omega arith in subst (λ m. IsGoingOver x es m y) same at
-
 -- a link that isn't 0 leads to a slot
-pub on_slot : (x y : CpuView) (row : List Entry) (count m : ℕ) → m ≢ 0 → IsGoingOver x (take count row) m y → IsGoingOver x (take count row) (suc (m - 1)) y
-on_slot x y row count m some at = on_next x y (take count row) m some at
+pub on_slot : (x y : CpuView) (es : List Entry) (m : ℕ) → m ≢ 0 → IsGoingOver x es m y → IsGoingOver x es (suc (m - 1)) y
+on_slot x y es zero some at = absurd (some refl)
+on_slot x y es (suc t) some at = let same : suc t ≡ suc (suc t - 1) = omega arith in subst (λ m. IsGoingOver x es m y) same at
 
 pub slot_within : (x y : CpuView) (es : List Entry) (t : ℕ) → IsGoingOver x es (suc t) y → (t < MOST_SLOTS) × (t < x.settings.slots)
 slot_within x y es t at = (at.goes_on.0.1, at.goes_on.0.0)
@@ -326,20 +321,52 @@ may_go_by x y es t at = record { from = length x.pass; under_way = going_on x y 
 pub may_go_on : (x y z : CpuView) (es : List Entry) (t : ℕ) (e : Entry) → IsGoingOver x es (suc t) y → HasGoneByOne y t e z → MayLoadLink z t
 may_go_on x y z es t e at had = may_follow z nobody (length x.pass) t (ap (λ (v : CpuView). v.search) (gone_by_there x y z es t e at had).is)
 
-pub has_room : (x y z : CpuView) (row : List Entry) (count t : ℕ) (e : Entry) → count ≤ length row → IsGoingOver x (take count row) (suc t) y → HasGoneByOne y t e z → count < MOST_SLOTS
-has_room x y z row count t e within at had = omega (arith, room_for_next x y z (take count row) t e at had, length-take-le count row within)
+-- What is written of them
 
-pub one_more : (x y z w : CpuView) (row : List Entry) (count t m : ℕ) (e : Entry) → count < length row → IsGoingOver x (take count row) (suc t) y → HasGoneByOne y t e z → HasLoadedLink z m w
-    → IsGoingOver x (take (count + 1) (set row count e)) m w
-one_more x y z w row count t m e lt at had loaded_link =
-    subst (λ es. IsGoingOver x es m w) (sym (take_more_set row count e lt)) (goes_by_next x y z w (take count row) t m e at had loaded_link)
+pub none_written : {P : Type 0} (written : Entry → P) (row : List P) → IsWritten written [] row row
+none_written written row = record { first = sym (take_all (length row) [] (omega arith)); rest = refl }
 
--- the rest of the row stays
-pub rest_stays : (first old : List Entry) (place : ℕ) (e : Entry) → drop place old ≡ drop place first → drop (place + 1) (set old place e) ≡ drop (place + 1) first
-rest_stays first old place e same = drop-set-lt (place + 1) old place e (omega arith) ∙ next_drop old ∙ ap (drop 1) same ∙ sym (next_drop first)
+pub one_more_written : {P : Type 0} (written : Entry → P) (es : List Entry) (e : Entry) (first old : List P) → length old ≡ length first → IsWritten written es first old
+    → IsWritten written (es ++ e ∷ []) first (set old (length es) (written e))
+one_more_written {P} written es e first old size had = ⊎_elim within past (cases_lt k n)
   where
-    next_drop : (row : List Entry) → drop (place + 1) row ≡ drop 1 (drop place row)
-    next_drop row = sym (drop-drop 1 place row)
+    k : ℕ
+    k = length es
+
+    n : ℕ
+    n = length first
+
+    more : length (es ++ e ∷ []) ≡ k + 1
+    more = length-append es (e ∷ [])
+
+    grown : map written (es ++ e ∷ []) ≡ map written es ++ written e ∷ []
+    grown = map-append written es (e ∷ [])
+
+    sized : length (map written es) ≡ k
+    sized = length-map es written
+
+    next_drop : (row : List P) → drop (k + 1) row ≡ drop 1 (drop k row)
+    next_drop row = sym (drop-drop 1 k row)
+
+    within : k < n → IsWritten written (es ++ e ∷ []) first (set old k (written e))
+    within lt = record {
+      first = ap (λ (m : ℕ). take m (set old k (written e))) more ∙ take_more_set old k (written e) (omega (arith, lt, size))
+          ∙ ap (λ (row : List P). row ++ written e ∷ []) (had.first ∙ take_all n (map written es) (omega (arith, sized, lt)))
+          ∙ sym (take_all n (map written (es ++ e ∷ [])) (omega (arith, length-map (es ++ e ∷ []) written, more, lt)) ∙ grown);
+      rest = ap (λ (m : ℕ). drop m (set old k (written e))) more ∙ drop-set-lt (k + 1) old k (written e) (omega arith)
+          ∙ next_drop old ∙ ap (drop 1) had.rest ∙ sym (next_drop first) ∙ sym (ap (λ (m : ℕ). drop m first) more);
+    }
+
+    past : n ≤ k → IsWritten written (es ++ e ∷ []) first (set old k (written e))
+    past le = subst (IsWritten written (es ++ e ∷ []) first) (sym (set_past old k (written e) (omega (arith, le, size)))) (record {
+      first = take_all (length (es ++ e ∷ [])) old (omega (arith, more, le, size)) ∙ sym (take_all k old (omega (arith, le, size))) ∙ had.first
+          ∙ sym (take-append-le n (map written es) (written e ∷ []) (omega (arith, sized, le))) ∙ ap (take n) (sym grown);
+      rest = ap (λ (m : ℕ). drop m old) more ∙ next_drop old ∙ ap (drop 1) had.rest ∙ sym (next_drop first) ∙ sym (ap (λ (m : ℕ). drop m first) more);
+    })
+
+-- as they are, into a row that has room
+pub all_written : (es old new : List Entry) → length es ≤ length old → IsWritten (λ (e : Entry). e) es old new → take (length es) new ≡ es
+all_written es old new room had = had.first ∙ ap (take (length old)) (map-id es) ∙ take_all (length old) es room
 
 -- the search has gone by no more entries than there are slots
 pub few_gone_over : (x y : CpuView) (es : List Entry) (m : ℕ) → IsGoingOver x es m y → length es ≤ x.settings.slots
@@ -385,4 +412,16 @@ walked a b row idle had depth made memory known_log log = record {
       record { attached = was.live.attached; unended = λ p ends. omega (arith, had.since s begun, was.from_on, was.live.unended p ends) };
   newest_first = had.newest_first;
   log = log;
+}
+
+-- what its calls have made is none of the walk's
+pub walked_by : (x y : OnCpu) (made : ℕ) (row : List Entry) → HasWalked x y row → HasWalked (record x { made = made }) (record y { made = made }) row
+walked_by x y made row had = record {
+  pass = had.pass;
+  is = ap (λ (v : OnCpu). record v { made = made }) had.is;
+  all = had.all;
+  each = had.each;
+  held = had.held;
+  newest_first = had.newest_first;
+  log = had.log;
 }

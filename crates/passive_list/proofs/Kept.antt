@@ -5,7 +5,6 @@ use Rattle.atomic_table.specs.Seated.{TableId}
 use Rattle.passive_list.specs.Types.{Change, Iface, Record, Settings, Slot, Vacant, KeeperView, LogItem, ReferenceView}
 use Rattle.registry_values.specs.Common.{key_of_record, is_taken, live_count, slot_at, is_lawful}
 use Rattle.protocol.specs.Common.{kept_at}
-use Rattle.registry_values.proofs.Fit.{ranges}
 use Rattle.cpu_words.specs.Common.{keeper_after_keep}
 use Rattle.passive_list.specs.Common.{KeptSlot, OnPlainKeeper, on_keeper, no_row, row_at, state_of, states_of, IsAtRest, RowsAgree, IsOurKeeper, MayAttach}
 use Rattle.passive_list.proofs.Rows.{row_stays, rows_set, settings_are}
@@ -31,7 +30,7 @@ keeping_at_rest a k t v at = record {
 }
 
 abbrev pub row_keeping : KeptSlot → ℕ → KeptSlot
-row_keeping r n = record { state = r.state; marks = r.marks; total = r.total; keeps = Some n }
+row_keeping r n = record { state = r.state; total = r.total; keeps = Some n }
 
 abbrev pub rows_keeping : List KeptSlot → ℕ → ℕ → List KeptSlot
 rows_keeping rows t n = set rows t (row_keeping (row_at rows t) n)
@@ -41,18 +40,16 @@ keeping_rows : (a : Settings) (k : KeeperView) (rows : List KeptSlot) (t n : ℕ
 keeping_rows a k rows t n v at agree lt number =
     let l = keeper_after_keep k t v in
     let some = Some v.entry.number in
-    let most = (ranges a at.fit).slots in
     let wide = at.sized.keeps in
     let had = agree.each t lt in
-    rows_set a k l rows t (row_keeping (row_at rows t) n) lt (omega (arith, lt, most)) agree
+    rows_set a k l rows t (row_keeping (row_at rows t) n) lt agree
     record {
       state = had.state;
-      marks = had.marks;
       total = had.total;
       keeps = sym (get_or-set_same k.keeps t some None (omega (arith, lt, wide)) ∙ ap Some number);
       unused = had.unused;
     }
-    (λ u off was. row_stays k l u (row_at rows u) refl refl refl (get_or-set_other k.keeps t u some None off) was)
+    (λ u off was. row_stays k l u (row_at rows u) refl refl (get_or-set_other k.keeps t u some None off) was)
 
 -- the slots stay
 pub states_keeping : (rows : List KeptSlot) (t n : ℕ) → states_of (rows_keeping rows t n) ≡ states_of rows

@@ -3,7 +3,7 @@ use Rattle.std.proofs.Common.{◌≡◌, inl, ⊎_elim, ℕ, zero, suc, ◌<◌,
 use Rattle.std.proofs.lemmas.Bool.{cases_eq, cases_lt}
 use Rattle.std.proofs.lemmas.List.{length-map}
 use Rattle.std.proofs.Math.Numerals.{add-one}
-use Rattle.passive_list.specs.Types.{Entry, Slot, Vacant, Live, Retired, MOST_SLOTS}
+use Rattle.passive_list.specs.Types.{Entry, Slot, Vacant, Live, Retired}
 use Rattle.registry_values.specs.Common.{slot_at}
 use Rattle.protocol.proofs.slots.Occupied.{in_within}
 use Rattle.cpu_words.specs.Common.{LeadsBelow, IsBefore, IsLinkPlace, To_end, To_slot}
@@ -123,18 +123,17 @@ newest_is : (rows : List KeptSlot) (n d : ℕ) → Newest (states_of rows) n d (
 newest_is rows n zero = λ u h lt live below. omega (arith, lt)
 newest_is rows n (suc d) = newest_more (states_of rows) n d (row_at rows d).state (newest_to rows n d) (state_at rows d) (newest_is rows n d)
 
--- a live slot is among the first d, where those past them are vacant
+-- a live slot is among them
 
-live_within : (rows : List KeptSlot) (d : ℕ) → ((t : ℕ) → d ≤ t → (row_at rows t).state ≡ Vacant) → (u : ℕ) (h : Entry) → slot_at (states_of rows) u ≡ Live h → u < d
-live_within rows d beyond u h live =
-    ⊎_elim (λ (lt : u < d). lt) (λ (ge : d ≤ u). let wrong : Vacant ≡ Live h = sym (beyond u ge) ∙ sym (state_at rows u) ∙ live in cc) (cases_lt u d)
+live_within : (rows : List KeptSlot) (d : ℕ) → length rows ≡ d → (u : ℕ) (h : Entry) → slot_at (states_of rows) u ≡ Live h → u < d
+live_within rows d size u h live = let within = in_within (states_of rows) u h (inl live) in let long = length-map rows state_of in omega (arith, within, long, size)
 
 leads_from : (slots : List Slot) (n d : ℕ) (best : Option At) → ((u : ℕ) (h : Entry) → slot_at slots u ≡ Live h → u < d) → Newest slots n d best → LeadsBelow slots n (link_to best)
 leads_from slots n d None all had = To_end (λ u h live below. had u h (all u h live) live below)
 leads_from slots n d (Some at) all had = rw add-one (To_slot at.slot had.f had.live had.below (λ u h live below. had.most u h (all u h live) live below))
 
-pub newest_leads : (rows : List KeptSlot) (n d : ℕ) → ((t : ℕ) → d ≤ t → (row_at rows t).state ≡ Vacant) → LeadsBelow (states_of rows) n (link_to (newest_to rows n d))
-newest_leads rows n d beyond = leads_from (states_of rows) n d (newest_to rows n d) (live_within rows d beyond) (newest_is rows n d)
+pub newest_leads : (rows : List KeptSlot) (n d : ℕ) → length rows ≡ d → LeadsBelow (states_of rows) n (link_to (newest_to rows n d))
+newest_leads rows n d size = leads_from (states_of rows) n d (newest_to rows n d) (live_within rows d size) (newest_is rows n d)
 
 -- The oldest above
 
@@ -214,9 +213,9 @@ place_from : (slots : List Slot) (n d : ℕ) (best : Option At) → Oldest slots
 place_from slots n d None had = tt
 place_from slots n d (Some at) had = had.within
 
-pub oldest_before : (rows : List KeptSlot) (n d : ℕ) → ((t : ℕ) → d ≤ t → (row_at rows t).state ≡ Vacant)
+pub oldest_before : (rows : List KeptSlot) (n d : ℕ) → length rows ≡ d
     → IsBefore (states_of rows) n (place_of (oldest_to rows n d)) × IsLinkPlace d (place_of (oldest_to rows n d))
-oldest_before rows n d beyond = (
-  before_from (states_of rows) n d (oldest_to rows n d) (live_within rows d beyond) (oldest_is rows n d),
+oldest_before rows n d size = (
+  before_from (states_of rows) n d (oldest_to rows n d) (live_within rows d size) (oldest_is rows n d),
   place_from (states_of rows) n d (oldest_to rows n d) (oldest_is rows n d),
 )

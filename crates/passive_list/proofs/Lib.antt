@@ -5,6 +5,7 @@ pub mod Recalls
 pub mod Walking
 pub mod Searches
 pub mod Rows
+pub mod KeptMarks
 pub mod Marks
 pub mod Entering
 pub mod FromOutside

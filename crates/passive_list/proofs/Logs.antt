@@ -1,14 +1,15 @@
 -- How a log goes on, and what the keeper's log says of the keeper: of its rows too.
-use Rattle.std.proofs.Common.{◌≡◌, ℕ, ◌<◌, All, List, [], ◌∷◌, ◌++◌, Some, true, sym, ap, ◌∙◌, subst, append-nil, append_assoc, arith}
+use Rattle.std.proofs.Common.{◌≡◌, ℕ, ◌<◌, ◌≤◌, All, List, length, [], ◌∷◌, ◌++◌, Some, true, sym, ap, ◌∙◌, subst, append-nil, append_assoc, arith}
 use Rattle.std.proofs.lemmas.List.{length-map}
 use Rattle.std.proofs.lemmas.List.Elements.{All-append, All-cons}
-use Rattle.passive_list.specs.Types.{Entry, Mark, Settings, Slot, Retired, LogItem, KeeperView}
+use Rattle.passive_list.specs.Types.{Entry, Mark, Settings, Slot, Retired, MOST_SLOTS, LogItem, KeeperView}
 use Rattle.registry_values.specs.Common.{is_retired, slot_at}
 use Rattle.protocol.specs.Common.{at_rest, mark_at}
 use Rattle.protocol.proofs.slots.MarkRows.{snapshot_stands}
+use Rattle.registry_values.proofs.Fit.{ranges}
 use Rattle.cpu_words.specs.Common.{occupant_of, IsOwnLog, keeper_with_note}
 use Rattle.cpu_words.proofs.by_keeper.KeeperSees.{seen_by_keeper}
-use Rattle.passive_list.specs.Common.{KeptSlot, state_of, states_of, IsOurKeeper, GoesOnBy, HasOwnLog}
+use Rattle.passive_list.specs.Common.{KeptSlot, OnKeeper, state_of, states_of, IsOurKeeper, GoesOnBy, HasOwnLog}
 use Rattle.passive_list.proofs.Rows.{live_in, retired_in, slots_agree}
 
 no_item : (P : LogItem → Type 0) → All P []
@@ -41,6 +42,15 @@ snapped_at a k rows n t c e our is low =
     let lt : c < g.settings.cpus = subst (λ (s : Settings). c < s.cpus) (sym our.view.settings ∙ seen.settings) low in
     let x = snapshot_stands g t c our.is_shown.good.holds rest gone lt in
     (x.0, ap (λ (ms : List (List Mark)). (mark_at ms t c).snapshot) seen.marks ∙ x.1)
+
+-- a keeper has no more slots than there may be
+pub few_slots : (z : Settings) (k : OnKeeper) → HasOwnLog z k → length k.slots ≤ MOST_SLOTS
+few_slots z k own =
+    let shown = own.counts.1 in
+    let seen = seen_by_keeper shown.g (keeper_with_note k.view own.counts.0) shown.good shown.shown in
+    let most = (ranges shown.g.settings shown.good.holds.fit).slots in
+    let same = ap (λ (s : Settings). s.slots) (sym own.settings ∙ seen.settings) in
+    omega (arith, own.size, most, same)
 
 pub own_log : (a : Settings) (k : KeeperView) (rows : List KeptSlot) (n : ℕ) (log note : List LogItem) → IsOurKeeper a k rows n → IsOwnLog log note k
     → HasOwnLog a (record { view = k; slots = states_of rows; log = log })

@@ -1,18 +1,19 @@
 -- Looks and the end of a drain: one mark or the state of one row changes.
-use Rattle.std.proofs.Common.{◌≡◌, ℕ, ◌+◌, ◌<◌, true, ◌&&◌, ◌==◌, List, ◌++◌, length, set, replicate, get_or, None, refl, sym, ap, ◌∙◌, subst, arith, length-set, eqb-true, append_assoc}
+use Rattle.std.proofs.Common.{◌≡◌, ℕ, ◌+◌, ◌*◌, ◌<◌, true, ◌&&◌, ◌==◌, List, [], ◌++◌, length, take, set, replicate, get_or, None, refl, sym, ap, ◌∙◌, subst, arith, length-set, eqb-true, append_assoc}
+use Rattle.std.specs.List.{list_all}
 use Rattle.std.proofs.lemmas.Bool.{and_parts}
 use Rattle.std.proofs.lemmas.List.{map-set}
-use Rattle.std.proofs.Math.Seq.{map-set_same}
 use Rattle.passive_list.specs.Types.{Entry, Event, Hear, Vacate, Reply, Done, Settings, Mark, Vacant, Retired, MOST_CPUS, KeeperView, LogItem, Keeper}
-use Rattle.registry_values.specs.Common.{is_retired, live_count, slot_at, have_passed, are_clear, are_collected, no_mark, bias}
+use Rattle.registry_values.specs.Common.{is_passed, is_clear, is_collected, is_retired, live_count, slot_at, have_passed, are_clear, are_collected, no_mark, bias}
 use Rattle.protocol.specs.Common.{with_cell, mark_at}
-use Rattle.protocol.proofs.slots.Cells.{row_here, row_other, cell_here, slot_here, slot_other}
+use Rattle.protocol.proofs.slots.Cells.{cell_here, slot_here, slot_other}
 use Rattle.registry_values.proofs.Fit.{ranges}
 use Rattle.protocol.proofs.keeps.ListKeeps.{live_count_put, rows_cell, rows_put}
 use Rattle.protocol.proofs.slots.Occupied.{is_retired_tells}
 use Rattle.cpu_words.specs.Common.{MayLook, keeper_after_look, IsFreedFrom, IsShown, did, Makes, keeper_after_vacate}
 use Rattle.cpu_words.proofs.shown.KeepersShown.{step_is_shown}
-use Rattle.passive_list.specs.Common.{KeptSlot, OnKeeper, no_row, row_at, state_of, states_of, total_or_bias, IsAtRest, RowsAgree, IsOurKeeper, HasVacated, IsDrainedOn, is_drained_row}
+use Rattle.passive_list.specs.Common.{KeptSlot, OnKeeper, row_at, state_of, states_of, total_or_bias, IsAtRest, MarksAgree, RowsAgree, IsOurKeeper, HasVacated, IsDrainedOn, is_drained_row}
+use Rattle.passive_list.proofs.KeptMarks.{mark_read, marks_set}
 use Rattle.passive_list.proofs.Rows.{state_at, retired_in, row_stays, rows_set}
 
 -- Looks
@@ -26,9 +27,6 @@ may_look a k rows t c e rest agree is lt = record {
 
 abbrev pub marked : KeeperView → Event → Reply → ℕ → ℕ → Mark → KeeperView
 marked k ev r t c m = record (keeper_after_look k ev r) { marks = with_cell k.marks t c m }
-
-abbrev pub row_marked : KeptSlot → ℕ → Mark → KeptSlot
-row_marked r c m = record { state = r.state; marks = set r.marks c m; total = r.total; keeps = r.keeps }
 
 marked_at_rest : (a : Settings) (k : KeeperView) (ev : Event) (r : Reply) (t c : ℕ) (m : Mark) → IsAtRest a k → IsAtRest a (marked k ev r t c m)
 marked_at_rest a k ev r t c m at = record {
@@ -50,66 +48,48 @@ marked_at_rest a k ev r t c m at = record {
   room = at.room;
 }
 
-marked_rows : (a : Settings) (k : KeeperView) (rows : List KeptSlot) (ev : Event) (r : Reply) (t c : ℕ) (m : Mark) (e : Entry) → IsAtRest a k → RowsAgree a k rows
-    → slot_at (states_of rows) t ≡ Retired e
-    → RowsAgree a (marked k ev r t c m) (set rows t (row_marked (row_at rows t) c m))
-marked_rows a k rows ev r t c m e at agree is =
-    let retired = retired_in a k rows t e agree is in
-    let lt = retired.0 in
-    let most = (ranges a at.fit).slots in
-    let had = agree.each t lt in
-    let size = at.sized.marks in
-    rows_set a k (marked k ev r t c m) rows t (row_marked (row_at rows t) c m) lt (omega (arith, lt, most)) agree
-    record {
-      state = had.state;
-      marks = ap (λ (ms : List Mark). set ms c m) had.marks ∙ sym (row_here k.marks t c m (omega (arith, lt, size)));
-      total = had.total;
-      keeps = had.keeps;
-      unused = had.unused;
-    }
-    (λ u off was. row_stays k (marked k ev r t c m) u (row_at rows u) refl (row_other k.marks t c m u off) refl refl was)
+marked_rows : (a : Settings) (k : KeeperView) (rows : List KeptSlot) (ev : Event) (r : Reply) (t c : ℕ) (m : Mark) → RowsAgree a k rows → RowsAgree a (marked k ev r t c m) rows
+marked_rows a k rows ev r t c m agree = record {
+  size = agree.size;
+  each = λ u lt. row_stays k (marked k ev r t c m) u (row_at rows u) refl refl refl (agree.each u lt);
+}
 
--- the mark in a retired slot's row is the mark in the view
-row_mark : (a : Settings) (k : KeeperView) (rows : List KeptSlot) (t c : ℕ) (e : Entry) → RowsAgree a k rows → slot_at (states_of rows) t ≡ Retired e
-    → get_or (row_at rows t).marks c no_mark ≡ mark_at k.marks t c
-row_mark a k rows t c e agree is = ap (λ (ms : List Mark). get_or ms c no_mark) (agree.each t (retired_in a k rows t e agree is).0).marks
-
--- after a look that made f of the mark, in the row as in the view, the rows agree
-pub looked_keeper : (a : Settings) (k l : KeeperView) (rows : List KeptSlot) (n : ℕ) (ev : Event) (r : Reply) (t c : ℕ) (f : Mark → Mark) (m : Mark) (e : Entry)
-    → IsOurKeeper a k rows n → slot_at (states_of rows) t ≡ Retired e → m ≡ f (get_or (row_at rows t).marks c no_mark) → l ≡ marked k ev r t c (f (mark_at k.marks t c))
-    → Makes ev r (Keeper k) (Keeper l)
-    → IsOurKeeper a l (set rows t (row_marked (row_at rows t) c m)) n
-looked_keeper a k l rows n ev r t c f m e our is made change event =
-    let mark : m ≡ f (mark_at k.marks t c) = made ∙ ap f (row_mark a k rows t c e our.rows is) in
-    let now : l ≡ marked k ev r t c m = change ∙ ap (marked k ev r t c) (sym mark) in
-    record {
-      is_shown = step_is_shown event;
-      view = subst (IsAtRest a) (sym now) (marked_at_rest a k ev r t c m our.view);
-      changes = our.changes ∙ sym (ap (λ (x : KeeperView). length x.history) now);
-      rows = subst (λ (x : KeeperView). RowsAgree a x (set rows t (row_marked (row_at rows t) c m))) (sym now) (marked_rows a k rows ev r t c m e our.view our.rows is);
-    }
+-- after a look that made f of the mark, in the keeper's marks as in the view, these agree
+pub looked_keeper : (a : Settings) (k l : KeeperView) (rows : List KeptSlot) (ms : List Mark) (n : ℕ) (ev : Event) (r : Reply) (t c p : ℕ) (f : Mark → Mark) (q m : Mark) (e : Entry)
+    → IsOurKeeper a k rows n → MarksAgree a k ms → slot_at (states_of rows) t ≡ Retired e → c < a.cpus → p ≡ t * a.cpus + c → q ≡ get_or ms p q → m ≡ f q
+    → l ≡ marked k ev r t c (f (mark_at k.marks t c)) → Makes ev r (Keeper k) (Keeper l)
+    → IsOurKeeper a l rows n × MarksAgree a l (set ms p m)
+looked_keeper a k l rows ms n ev r t c p f q m e our marks is cpu place read made change event =
+    let lt = (retired_in a k rows t e our.rows is).0 in
+    let now : l ≡ marked k ev r t c m = change ∙ ap (marked k ev r t c) (sym (made ∙ ap f (mark_read a k ms t c p q marks lt cpu place read))) in (
+      record {
+        is_shown = step_is_shown event;
+        view = subst (IsAtRest a) (sym now) (marked_at_rest a k ev r t c m our.view);
+        changes = our.changes ∙ sym (ap (λ (x : KeeperView). length x.history) now);
+        rows = subst (λ (x : KeeperView). RowsAgree a x rows) (sym now) (marked_rows a k rows ev r t c m our.rows);
+      },
+      marks_set a k l ms t c p m our.view marks lt cpu place (ap (λ (x : KeeperView). x.marks) now),
+    )
 
 -- the mark that it made is the view's
-pub looked_mark : (a : Settings) (k l : KeeperView) (rows : List KeptSlot) (ev : Event) (r : Reply) (t c : ℕ) (f : Mark → Mark) (m : Mark) (e : Entry)
-    → IsAtRest a k → RowsAgree a k rows → slot_at (states_of rows) t ≡ Retired e → c < a.cpus → m ≡ f (get_or (row_at rows t).marks c no_mark) → l ≡ marked k ev r t c (f (mark_at k.marks t c))
+pub looked_mark : (a : Settings) (k l : KeeperView) (rows : List KeptSlot) (ms : List Mark) (n : ℕ) (ev : Event) (r : Reply) (t c p : ℕ) (f : Mark → Mark) (q m : Mark) (e : Entry)
+    → IsOurKeeper a k rows n → MarksAgree a k ms → slot_at (states_of rows) t ≡ Retired e → c < a.cpus → p ≡ t * a.cpus + c → q ≡ get_or ms p q → m ≡ f q
+    → l ≡ marked k ev r t c (f (mark_at k.marks t c))
     → m ≡ mark_at l.marks t c
-looked_mark a k l rows ev r t c f m e at agree is cpu made change =
-    let lt = (retired_in a k rows t e agree is).0 in
+looked_mark a k l rows ms n ev r t c p f q m e our marks is cpu place read made change =
+    let at = our.view in
+    let lt = (retired_in a k rows t e our.rows is).0 in
     let size = at.sized.marks in
     let few = (ranges a at.fit).cpus in
     let within : t < length k.marks = omega (arith, lt, size) in
     let long = at.sized.mark_rows t within in
-    made ∙ ap f (row_mark a k rows t c e agree is) ∙ sym (ap (λ (x : KeeperView). mark_at x.marks t c) change
+    made ∙ ap f (mark_read a k ms t c p q marks lt cpu place read) ∙ sym (ap (λ (x : KeeperView). mark_at x.marks t c) change
     ∙ cell_here no_mark k.marks t c (f (mark_at k.marks t c)) within (omega (arith, long, few, cpu)))
-
--- the slots stay
-pub looked_states : (rows : List KeptSlot) (t c : ℕ) (m : Mark) → states_of (set rows t (row_marked (row_at rows t) c m)) ≡ states_of rows
-looked_states rows t c m = map-set_same state_of rows t (row_marked (row_at rows t) c m) no_row refl
 
 -- The end of a drain
 
 abbrev pub row_vacated : KeptSlot → KeptSlot
-row_vacated r = record { state = Vacant; marks = r.marks; total = r.total; keeps = r.keeps }
+row_vacated r = record { state = Vacant; total = r.total; keeps = r.keeps }
 
 vacated_at_rest : (a : Settings) (k : KeeperView) (t : ℕ) (e : Entry) → IsAtRest a k → t < a.slots → slot_at k.slots t ≡ Retired e → IsAtRest a (keeper_after_vacate k t)
 vacated_at_rest a k t e at lt retired = record {
@@ -141,7 +121,6 @@ pub vacated_keeper : {log : List LogItem} (a : Settings) (k l : KeeperView) (row
 vacated_keeper a k l rows n t our is change is_shown =
     let here = retired_in a k rows t is.retired.0 our.rows is.retired.1 in
     let lt = here.0 in
-    let most = (ranges a our.view.fit).slots in
     let size = our.view.sized.slots in
     let had = our.rows.each t lt in
     let m = keeper_after_vacate k t in
@@ -150,15 +129,14 @@ vacated_keeper a k l rows n t our is change is_shown =
       view = subst (IsAtRest a) (sym change) (vacated_at_rest a k t is.retired.0 our.view lt here.1);
       is_shown = is_shown;
       changes = our.changes ∙ sym (ap (λ (y : KeeperView). length y.history) change);
-      rows = subst (λ (y : KeeperView). RowsAgree a y after) (sym change) (rows_set a k m rows t (row_vacated (row_at rows t)) lt (omega (arith, lt, most)) our.rows
+      rows = subst (λ (y : KeeperView). RowsAgree a y after) (sym change) (rows_set a k m rows t (row_vacated (row_at rows t)) lt our.rows
           record {
             state = slot_here k.slots t Vacant (omega (arith, lt, size));
-            marks = had.marks;
             total = had.total;
             keeps = had.keeps;
             unused = λ vacant. had.total ∙ is.drained.total;
           }
-          (λ u off was. row_stays k m u (row_at rows u) (slot_other k.slots t Vacant u off) refl refl refl was));
+          (λ u off was. row_stays k m u (row_at rows u) (slot_other k.slots t Vacant u off) refl refl was));
     }
 
 -- what it leaves of the keeper
@@ -176,37 +154,43 @@ has_vacated {later} a k l rows t r x is agree made heard change goes_on freed =
       freed = λ e at. freed e (retired_in a k rows t e agree at).1;
     }
 
--- what the row says of a drain is what the view says
-pub drained_tells : {log : List LogItem} (a : Settings) (k : KeeperView) (rows : List KeptSlot) (t cpus : ℕ) → IsAtRest a k → RowsAgree a k rows → t < a.slots → cpus ≡ a.cpus
-    → is_drained_row cpus (row_at rows t) ≡ true → IsDrainedOn (record { view = k; slots = states_of rows; log = log }) t
-drained_tells a k rows t cpus at agree lt same is =
+-- as many marks as there are CPUs, by the view's settings
+marks_taken : (a : Settings) (k : KeeperView) (ms : List Mark) (t cpus : ℕ) → IsAtRest a k → cpus ≡ a.cpus → take a.cpus ms ≡ take a.cpus (get_or k.marks t [])
+    → take cpus ms ≡ take k.settings.cpus (get_or k.marks t [])
+marks_taken a k ms t cpus at same marks =
+    ap (λ (n : ℕ). take n ms) same ∙ (marks ∙ ap (λ (z : Settings). take z.cpus (get_or k.marks t [])) (sym at.settings))
+
+-- what the row and the marks say of a drain is what the view says
+pub drained_tells : {log : List LogItem} (a : Settings) (k : KeeperView) (rows : List KeptSlot) (ms : List Mark) (t cpus : ℕ) → IsAtRest a k → RowsAgree a k rows → t < a.slots → cpus ≡ a.cpus
+    → take a.cpus ms ≡ take a.cpus (get_or k.marks t []) → is_drained_row cpus (row_at rows t) ms ≡ true → IsDrainedOn (record { view = k; slots = states_of rows; log = log }) t
+drained_tells a k rows ms t cpus at agree lt same marks is =
     let r = row_at rows t in
     let had = agree.each t lt in
-    let p = and_parts (is_retired r.state) (have_passed cpus r.marks && (are_clear cpus r.marks && (are_collected cpus r.marks && total_or_bias r == bias))) is in
-    let q = and_parts (have_passed cpus r.marks) (are_clear cpus r.marks && (are_collected cpus r.marks && total_or_bias r == bias)) p.1 in
-    let s = and_parts (are_clear cpus r.marks) (are_collected cpus r.marks && total_or_bias r == bias) q.1 in
-    let v = and_parts (are_collected cpus r.marks) (total_or_bias r == bias) s.1 in
+    let p = and_parts (is_retired r.state) (have_passed cpus ms && (are_clear cpus ms && (are_collected cpus ms && total_or_bias r == bias))) is in
+    let q = and_parts (have_passed cpus ms) (are_clear cpus ms && (are_collected cpus ms && total_or_bias r == bias)) p.1 in
+    let s = and_parts (are_clear cpus ms) (are_collected cpus ms && total_or_bias r == bias) q.1 in
+    let v = and_parts (are_collected cpus ms) (total_or_bias r == bias) s.1 in
     let retired = is_retired_tells r.state p.0 in
     let here = state_at rows t ∙ retired.1 in
-    let cpus_are : cpus ≡ k.settings.cpus = same ∙ sym (ap (λ (z : Settings). z.cpus) at.settings) in
+    let taken : take cpus ms ≡ take k.settings.cpus (get_or k.marks t []) = marks_taken a k ms t cpus at same marks in
     record {
       retired = (retired.0, here);
       drained = record {
         rest = at.rest;
         retired = (retired.0, (retired_in a k rows t retired.0 agree here).1);
-        passed = rw (← cpus_are, ← had.marks) q.0;
-        clear = rw (← cpus_are, ← had.marks) s.0;
-        collected = rw (← cpus_are, ← had.marks) v.0;
+        passed = sym (ap (list_all is_passed) taken) ∙ q.0;
+        clear = sym (ap (list_all is_clear) taken) ∙ s.0;
+        collected = sym (ap (list_all is_collected) taken) ∙ v.0;
         total = sym had.total ∙ eqb-true (total_or_bias r) bias v.1;
       };
     }
 
-pub drained_from : {log : List LogItem} (a : Settings) (k : KeeperView) (rows : List KeptSlot) (t cpus : ℕ) → IsAtRest a k → RowsAgree a k rows → t < a.slots → cpus ≡ a.cpus
-    → IsDrainedOn (record { view = k; slots = states_of rows; log = log }) t → is_drained_row cpus (row_at rows t) ≡ true
-drained_from a k rows t cpus at agree lt same is =
+pub drained_from : {log : List LogItem} (a : Settings) (k : KeeperView) (rows : List KeptSlot) (ms : List Mark) (t cpus : ℕ) → IsAtRest a k → RowsAgree a k rows → t < a.slots → cpus ≡ a.cpus
+    → take a.cpus ms ≡ take a.cpus (get_or k.marks t []) → IsDrainedOn (record { view = k; slots = states_of rows; log = log }) t → is_drained_row cpus (row_at rows t) ms ≡ true
+drained_from a k rows ms t cpus at agree lt same marks is =
     let had = agree.each t lt in
     let d = is.drained in
-    let cpus_are : cpus ≡ k.settings.cpus = same ∙ sym (ap (λ (z : Settings). z.cpus) at.settings) in
+    let taken : take cpus ms ≡ take k.settings.cpus (get_or k.marks t []) = marks_taken a k ms t cpus at same marks in
     let state : (row_at rows t).state ≡ Retired is.retired.0 = sym (state_at rows t) ∙ is.retired.1 in
     let total : total_or_bias (row_at rows t) ≡ bias = had.total ∙ d.total in
-    rw (state, cpus_are, had.marks, d.passed, d.clear, d.collected, total) refl
+    rw (state, taken, d.passed, d.clear, d.collected, total) refl

@@ -1,8 +1,11 @@
 -- What a row that is remembered tells, what stays remembered, and what is remembered from then on.
-use Rattle.passive_list.specs.Common.{HasCleared, HasForgotten, HasNumbered, IsOfRow, IsRow, IsTrueMiss, KeepsOthers, Recalls, RecallsAt, Remembers, Seen, WasAbsent, entry_of, hint_of, hinted, memo_at, memo_of, miss_at, no_memo, no_memory, no_miss, with_miss, with_seen}
-use Rattle.std.proofs.Common.{◌≡◌, ◌≢◌, ◌⊎◌, ⊎_elim, inl, inr, ℕ, ◌+◌, ◌%◌, ◌<◌, ◌≤◌, ◌==◌, if◌then◌else◌, Bool, true, false, List, length, set, get_or-set_same, get_or-set_other, Some, None, refl, sym, ap, ◌∙◌, subst, arith, length-append}
+use Rattle.passive_list.specs.Common.{Memory, HasCleared, HasForgotten, HasNumbered, IsOfRow, IsRow, IsTrueMiss, KeepsOthers, Recalls, RecallsAt, Remembers, Seen, WasAbsent, IsCount, entry_of, hint_of, hinted, memo_at, memo_of, miss_at, no_hint, no_memo, no_memory, no_miss, with_miss, with_seen}
+use Rattle.std.specs.Prelude.{slice_index_or}
+use Rattle.std.proofs.Common.{◌≡◌, ◌≢◌, ◌⊎◌, ⊎_elim, inl, inr, ℕ, ◌+◌, ◌*◌, ◌/◌, ◌%◌, ◌^◌, ◌<◌, ◌≤◌, ◌==◌, if◌then◌else◌, Bool, true, false, List, length, replicate, set, get_or-set_same, get_or-set_other, Some, None, refl, sym, ap, ◌∙◌, subst, arith, length-append}
 use Rattle.std.proofs.lemmas.Bool.{cases_eq, eqb-true}
-use Rattle.std.proofs.lemmas.List.{length-set}
+use Rattle.std.proofs.lemmas.List.{length-replicate, length-set}
+use Rattle.std.proofs.lemmas.Nat.{mul-lt}
+use Rattle.std.proofs.Math.Nat.{mul-lt-mul_of_pos_right}
 use mathlib.Core.List.{IsPrefix}
 use Rattle.passive_list.specs.Types.{Change, Detach, Entry, Key, Name, MOST_SLOTS}
 use Rattle.protocol.specs.Common.{EndsAt, IsAttached, IsLiveAt, entry_with}
@@ -10,10 +13,10 @@ use Rattle.protocol.specs.History.{change_at}
 use Rattle.protocol.proofs.history.History.{at_prefix, at_within}
 use Rattle.protocol.proofs.slots.Cells.{get_or_all}
 use Rattle.cpu_words.proofs.shown.Passes.{attached_prefix}
+use Rattle.passive_list.specs.declared.memory.Hint.{Hint}
 use Rattle.passive_list.specs.declared.memory.Memo.{Memo}
-use Rattle.passive_list.specs.declared.memory.Memory.{Memory}
 use Rattle.passive_list.specs.declared.memory.Miss.{Miss}
-use Rattle.passive_list.specs.declared.memory.TheConstants.{HINTS}
+use Rattle.passive_list.specs.declared.memory.TheConstants.{HALF, HINTS, MIX, SPARE_MISSES}
 
 -- A pass and a longer one
 
@@ -52,8 +55,7 @@ absent_longer h g key n longer was = record {
 pub stays : (z : ℕ) (h g : List Change) (m : Memory) → IsPrefix h g → Remembers z h m → Remembers z g m
 stays z h g m longer had = record {
   size = had.size;
-  last = had.last;
-  older = had.older;
+  hints = had.hints;
   missed = had.missed;
   each = λ t some. let e = had.each t some in (e.0, attached_prefix h g (entry_of t (memo_at m.rows t)) longer e.1);
   absent = λ i some. absent_longer h g _ _ longer (had.absent i some);
@@ -70,39 +72,49 @@ pub recalled_row : (m : Memory) (key : Key) (s : Seen) → Recalls m key (Some s
 recalled_row m key s (inl had) = had.2.1
 recalled_row m key s (inr had) = had.1.1
 
+-- Places of hints
+
+count_of : (n m : ℕ) → n ≡ m → IsCount m → IsCount n
+count_of n m is few = subst IsCount (sym is) few
+
+-- the product doesn't wrap
+pub half_fits : (x c : ℕ) → x < 2 ^ 64 → IsCount c → x / HALF * c < 2 ^ 64
+half_fits x c lt few = mul-lt (x / HALF) c (2 ^ 32) (2 ^ 32) (omega (arith, lt)) few.1
+
+pub hint_within : (x c : ℕ) → x < 2 ^ 64 → IsCount c → x / HALF * c / HALF < c
+hint_within x c lt few =
+    let high : x / HALF < HALF = omega (arith, lt) in
+    let more : x / HALF * c < HALF * c = mul-lt-mul_of_pos_right high few.0 in
+    omega (arith, more)
+
+hint_few : (c : ℕ) (n : Name) → IsCount c → hint_of c n < c
+hint_few c n few = hint_within ((n.high + n.low) % 2 ^ 64 * MIX % 2 ^ 64) c (omega arith) few
+
 -- nothing is remembered at first
-pub none_remembered : (z : ℕ) (h : List Change) → Remembers z h no_memory
-none_remembered z h = record {
-  size = refl;
-  last = refl;
-  older = refl;
-  missed = refl;
-  each = λ t some. absurd (some (ap (λ (m : Memo). m.number) (get_or_all MOST_SLOTS no_memo t)));
-  absent = λ i some. absurd (some (ap (λ (m : Miss). m.number) (get_or_all HINTS no_miss i)));
+pub none_remembered : (z : ℕ) (h : List Change) → 0 < z → z ≤ MOST_SLOTS → Remembers z h (no_memory z)
+none_remembered z h some most = record {
+  size = length-replicate z no_memo;
+  hints = count_of _ _ (length-replicate (HINTS * z) no_hint) (omega (arith, some), omega (arith, most));
+  missed = count_of _ _ (length-replicate (z + SPARE_MISSES) no_miss) (omega (arith, some), omega (arith, most));
+  each = λ t some. absurd (some (ap (λ (m : Memo). m.number) (get_or_all z no_memo t)));
+  absent = λ i some. absurd (some (ap (λ (m : Miss). m.number) (get_or_all (z + SPARE_MISSES) no_miss i)));
 }
 
 -- One row more
 
-few_of : (x : ℕ) → x % HINTS < HINTS
-few_of x = omega arith
+row_here : (m : Memory) (key : Key) (s : Seen) → s.slot < length m.rows → memo_at (set m.rows s.slot (memo_of key s)) s.slot ≡ memo_of key s
+row_here m key s few = get_or-set_same m.rows s.slot (memo_of key s) no_memo few
 
-hint_few : (n : Name) → hint_of n < HINTS
-hint_few n = few_of _
+-- the hints keep their number
+same_length : (b : Bool) (xs ys : List Hint) → length ys ≡ length xs → length (if b then xs else ys) ≡ length xs
+same_length true xs ys same = refl
+same_length false xs ys same = same
 
-row_here : (m : Memory) (key : Key) (s : Seen) → length m.rows ≡ MOST_SLOTS → s.slot < MOST_SLOTS → memo_at (set m.rows s.slot (memo_of key s)) s.slot ≡ memo_of key s
-row_here m key s size few = get_or-set_same m.rows s.slot (memo_of key s) no_memo (omega (arith, size, few))
-
--- the hints keep their sizes
-sizes_by : (b : Bool) (xs ys : List ℕ) → length ys ≡ length xs → length (if b then xs else ys) ≡ length xs
-sizes_by true xs ys same = refl
-sizes_by false xs ys same = same
-
-pub remembers_more : (z : ℕ) (h : List Change) (m : Memory) (key : Key) (s : Seen) → Remembers z h m → s.slot < z → s.slot < MOST_SLOTS → IsAttached h (entry_with key s.slot s.number s.value)
+pub remembers_more : (z : ℕ) (h : List Change) (m : Memory) (key : Key) (s : Seen) → Remembers z h m → s.slot < z → IsAttached h (entry_with key s.slot s.number s.value)
     → Remembers z h (with_seen m key s)
-remembers_more z h m key s had low few attached = record {
+remembers_more z h m key s had low attached = record {
   size = length-set m.rows s.slot (memo_of key s) ∙ had.size;
-  last = sizes_by (hinted m.last key.name == s.slot) m.last (set m.last (hint_of key.name) s.slot) (length-set m.last (hint_of key.name) s.slot) ∙ had.last;
-  older = sizes_by (hinted m.last key.name == s.slot) m.older (set m.older (hint_of key.name) (hinted m.last key.name)) (length-set m.older (hint_of key.name) (hinted m.last key.name)) ∙ had.older;
+  hints = count_of _ _ (same_length ((hinted m.hints key.name).last == s.slot) m.hints _ (length-set m.hints _ _)) had.hints;
   missed = had.missed;
   each = each;
   absent = had.absent;
@@ -111,77 +123,103 @@ remembers_more z h m key s had low few attached = record {
     rows : List Memo
     rows = set m.rows s.slot (memo_of key s)
 
+    few : s.slot < length m.rows
+    few = let size = had.size in omega (arith, low, size)
+
     each : (t : ℕ) → (memo_at rows t).number ≢ 0 → (t < z) × IsAttached h (entry_of t (memo_at rows t))
     each t some = ⊎_elim
         (λ (same : t ≡ s.slot).
-        let now : memo_at rows t ≡ memo_of key s = ap (memo_at rows) same ∙ row_here m key s had.size few in
+        let now : memo_at rows t ≡ memo_of key s = ap (memo_at rows) same ∙ row_here m key s few in
         subst (λ (m : Memo). (t < z) × IsAttached h (entry_of t m)) (sym now) (subst (λ (u : ℕ). (u < z) × IsAttached h (entry_of u (memo_of key s))) (sym same) (low, attached)))
         (λ (off : t ≢ s.slot).
         let was : memo_at rows t ≡ memo_at m.rows t = get_or-set_other m.rows s.slot t (memo_of key s) no_memo off in
         subst (λ (m : Memo). (t < z) × IsAttached h (entry_of t m)) (sym was) (had.each t (λ none. some (ap (λ (m : Memo). m.number) was ∙ none))))
         (cases_eq t s.slot)
 
+-- the hint of a name, where the hint of the name n is set to x
+hint_here : (hints : List Hint) (n : Name) (x : Hint) → IsCount (length hints) → hinted (set hints (hint_of (length hints) n) x) n ≡ x
+hint_here hints n x few =
+    let i = hint_of (length hints) n in
+    ap (λ (c : ℕ). slice_index_or (set hints i x) (hint_of c n) no_hint) (length-set hints i x) ∙ get_or-set_same hints i x no_hint (hint_few (length hints) n few)
+
+hint_other : (hints : List Hint) (n other : Name) (x : Hint) → hint_of (length hints) other ≢ hint_of (length hints) n → hinted (set hints (hint_of (length hints) n) x) other ≡ hinted hints other
+hint_other hints n other x off =
+    let i = hint_of (length hints) n in
+    ap (λ (c : ℕ). slice_index_or (set hints i x) (hint_of c other) no_hint) (length-set hints i x) ∙ get_or-set_other hints i (hint_of (length hints) other) x no_hint off
+
+row_few : (rows : List Memo) (m : Memo) (t u : ℕ) → u < length rows → u < length (set rows t m)
+row_few rows m t u few = let size = length-set rows t m in omega (arith, few, size)
+
 -- the newer hint leads to its slot
-leads_by : (b : Bool) (m : Memory) (key : Key) (s : Seen) → length m.last ≡ HINTS → hinted m.last key.name == s.slot ≡ b
-    → hinted (if b then m.last else set m.last (hint_of key.name) s.slot) key.name ≡ s.slot
-leads_by true m key s size is = eqb-true (hinted m.last key.name) s.slot is
-leads_by false m key s size is = get_or-set_same m.last (hint_of key.name) s.slot MOST_SLOTS (let few = hint_few key.name in omega (arith, size, few))
+leads_by : (b : Bool) (m : Memory) (key : Key) (s : Seen) (x : Hint) → IsCount (length m.hints) → x.last ≡ s.slot → (hinted m.hints key.name).last == s.slot ≡ b
+    → (hinted (if b then m.hints else set m.hints (hint_of (length m.hints) key.name) x) key.name).last ≡ s.slot
+leads_by true m key s x few at is = eqb-true (hinted m.hints key.name).last s.slot is
+leads_by false m key s x few at is = ap (λ (h : Hint). h.last) (hint_here m.hints key.name x few) ∙ at
 
 -- it is what the key is remembered as
-pub recalls_seen : (z : ℕ) (h : List Change) (m : Memory) (key : Key) (s : Seen) → Remembers z h m → s.slot < MOST_SLOTS → s.number ≢ 0 → Recalls (with_seen m key s) key (Some s)
-recalls_seen z h m key s had few some =
-    inl (s, refl, (sym (leads_by (hinted m.last key.name == s.slot) m key s had.last refl), record { few = few; some = some; is = row_here m key s had.size few }))
+pub recalls_seen : (z : ℕ) (h : List Change) (m : Memory) (key : Key) (s : Seen) → Remembers z h m → s.slot < z → s.number ≢ 0 → Recalls (with_seen m key s) key (Some s)
+recalls_seen z h m key s had low some =
+    let size = had.size in
+    let few : s.slot < length m.rows = omega (arith, low, size) in
+    inl (s, refl, (sym (leads_by ((hinted m.hints key.name).last == s.slot) m key s _ had.hints refl refl), record { few = row_few m.rows (memo_of key s) s.slot s.slot few; some = some; is = row_here m key s few }))
 
 -- a hint of another name
-other_by : (b : Bool) (hints : List ℕ) (n other : Name) (t : ℕ) → hint_of other ≢ hint_of n → hinted (if b then hints else set hints (hint_of n) t) other ≡ hinted hints other
-other_by true hints n other t off = refl
-other_by false hints n other t off = get_or-set_other hints (hint_of n) (hint_of other) t MOST_SLOTS off
+other_by : (b : Bool) (hints : List Hint) (n other : Name) (x : Hint) → hint_of (length hints) other ≢ hint_of (length hints) n
+    → hinted (if b then hints else set hints (hint_of (length hints) n) x) other ≡ hinted hints other
+other_by true hints n other x off = refl
+other_by false hints n other x off = hint_other hints n other x off
 
 -- What is remembered of other keys
 
 -- a row of another slot says the same
 row_stays : (rows : List Memo) (m : Memo) (t : ℕ) (other : Key) (o : Seen) → o.slot ≢ t → IsOfRow rows other o → IsOfRow (set rows t m) other o
-row_stays rows m t other o off row = record { few = row.few; some = row.some; is = get_or-set_other rows t o.slot m no_memo off ∙ row.is }
+row_stays rows m t other o off row = record { few = row_few rows m t o.slot row.few; some = row.some; is = get_or-set_other rows t o.slot m no_memo off ∙ row.is }
 
 -- where a slot didn't have the key, it doesn't, as a row of another name is set
-none_stays : (rows : List Memo) (key other : Key) (s : Seen) (t : ℕ) → length rows ≡ MOST_SLOTS → hint_of other.name ≢ hint_of key.name → RecallsAt rows other t None
+none_stays : (rows : List Memo) (key other : Key) (s : Seen) (t count : ℕ) → hint_of count other.name ≢ hint_of count key.name → RecallsAt rows other t None
     → RecallsAt (set rows s.slot (memo_of key s)) other t None
-none_stays rows key other s t size apart none low row = ⊎_elim
+none_stays rows key other s t count apart none low row = ⊎_elim
     (λ (same : t ≡ s.slot).
     let here : memo_at (set rows s.slot (memo_of key s)) t ≡ memo_of key s = ap (memo_at (set rows s.slot (memo_of key s))) same
     ∙ get_or-set_same rows s.slot (memo_of key s) no_memo (omega (arith, size, low, same)) in
-    apart (ap hint_of (sym row.name ∙ ap (λ (m : Memo). m.name) here)))
+    apart (ap (hint_of count) (sym row.name ∙ ap (λ (m : Memo). m.name) here)))
     (λ (off : t ≢ s.slot).
-    none low (subst (IsRow other) (get_or-set_other rows s.slot t (memo_of key s) no_memo off) row))
+    none (omega (arith, size, low)) (subst (IsRow other) (get_or-set_other rows s.slot t (memo_of key s) no_memo off) row))
     (cases_eq t s.slot)
+  where
+    size : length (set rows s.slot (memo_of key s)) ≡ length rows
+    size = length-set rows s.slot (memo_of key s)
 
-pub keeps_others : (z : ℕ) (h : List Change) (m : Memory) (key : Key) (s : Seen) → Remembers z h m → KeepsOthers key (Some s.slot) m (with_seen m key s)
-keeps_others z h m key s had other o apart off recalls = by recalls
+pub keeps_others : (m : Memory) (key : Key) (s : Seen) → KeepsOthers key (Some s.slot) m (with_seen m key s)
+keeps_others m key s other o apart off recalls = by recalls
   where
     rows : List Memo
     rows = set m.rows s.slot (memo_of key s)
 
-    newer : hinted (with_seen m key s).last other.name ≡ hinted m.last other.name
-    newer = other_by (hinted m.last key.name == s.slot) m.last key.name other.name s.slot apart
+    hints : hinted (with_seen m key s).hints other.name ≡ hinted m.hints other.name
+    hints = other_by ((hinted m.hints key.name).last == s.slot) m.hints key.name other.name _ apart
 
-    older : hinted (with_seen m key s).older other.name ≡ hinted m.older other.name
-    older = other_by (hinted m.last key.name == s.slot) m.older key.name other.name (hinted m.last key.name) apart
+    newer : (hinted (with_seen m key s).hints other.name).last ≡ (hinted m.hints other.name).last
+    newer = ap (λ (h : Hint). h.last) hints
+
+    older : (hinted (with_seen m key s).hints other.name).older ≡ (hinted m.hints other.name).older
+    older = ap (λ (h : Hint). h.older) hints
 
     found : (t u : ℕ) → u ≡ t → RecallsAt m.rows other t (Some o) → RecallsAt rows other u (Some o)
     found t u same at = (at.0 ∙ sym same, row_stays m.rows (memo_of key s) s.slot other o off at.1)
 
     by : Recalls m other (Some o) → Recalls (with_seen m key s) other (Some o)
     by (inl at) = inl (o, refl, found _ _ newer at.2)
-    by (inr at) = inr (subst (λ (t : ℕ). RecallsAt rows other t None) (sym newer) (none_stays m.rows key other s _ had.size apart at.0), found _ _ older at.1)
+    by (inr at) = inr (subst (λ (t : ℕ). RecallsAt rows other t None) (sym newer) (none_stays m.rows key other s _ (length m.hints) apart at.0), found _ _ older at.1)
 
 -- Rows that are cleared
 
 -- the row of the slot t had the key, and is of no entry now
-pub cleared : (m n : Memory) (key : Key) (t : ℕ) → length m.rows ≡ MOST_SLOTS → t < MOST_SLOTS → IsRow key (memo_at m.rows t) → n ≡ record m { rows = set m.rows t no_memo } → HasCleared key t m n
-cleared m n key t size few row is = subst (HasCleared key t m) (sym is) (record { is = refl; size = length-set m.rows t no_memo; none = λ low has. has.some (ap (λ (m : Memo). m.number) here); each = each })
+pub cleared : (m n : Memory) (key : Key) (t : ℕ) → t < length m.rows → IsRow key (memo_at m.rows t) → n ≡ record m { rows = set m.rows t no_memo } → HasCleared key t m n
+cleared m n key t few row is = subst (HasCleared key t m) (sym is) (record { is = refl; size = length-set m.rows t no_memo; none = λ low has. has.some (ap (λ (m : Memo). m.number) here); each = each })
   where
     here : memo_at (set m.rows t no_memo) t ≡ no_memo
-    here = get_or-set_same m.rows t no_memo no_memo (omega (arith, size, few))
+    here = get_or-set_same m.rows t no_memo no_memo few
 
     each : (u : ℕ) → (memo_at (set m.rows t no_memo) u ≡ memo_at m.rows u) ⊎ (IsRow key (memo_at m.rows u) × (memo_at (set m.rows t no_memo) u ≡ no_memo))
     each u = ⊎_elim
@@ -189,38 +227,33 @@ cleared m n key t size few row is = subst (HasCleared key t m) (sym is) (record 
         (λ (off : u ≢ t). inl (get_or-set_other m.rows t u no_memo no_memo off))
         (cases_eq u t)
 
-pub unchanged : (m n : Memory) (key : Key) (t : ℕ) → (t < MOST_SLOTS → IsRow key (memo_at m.rows t) → ⊥) → n ≡ m → HasCleared key t m n
+pub unchanged : (m n : Memory) (key : Key) (t : ℕ) → (t < length m.rows → IsRow key (memo_at m.rows t) → ⊥) → n ≡ m → HasCleared key t m n
 unchanged m n key t none is = subst (HasCleared key t m) (sym is) (record { is = refl; size = refl; none = none; each = λ u. inl refl })
 
 -- a slot without the key stays so
 still_none : (m n : Memory) (key : Key) (t u : ℕ) → HasCleared key t m n → RecallsAt m.rows key u None → RecallsAt n.rows key u None
 still_none m n key t u had none low row = ⊎_elim
-    (λ (same : memo_at n.rows u ≡ memo_at m.rows u). none low (subst (IsRow key) same row))
+    (λ (same : memo_at n.rows u ≡ memo_at m.rows u). none (let size = had.size in omega (arith, low, size)) (subst (IsRow key) same row))
     (λ (gone : IsRow key (memo_at m.rows u) × (memo_at n.rows u ≡ no_memo)). row.some (ap (λ (m : Memo). m.number) gone.1))
     (had.each u)
 
-last_stays : (m n : Memory) (key : Key) (t : ℕ) → HasCleared key t m n → n.last ≡ m.last
-last_stays m n key t had = ap (λ (m : Memory). m.last) had.is
-
-older_stays : (m n : Memory) (key : Key) (t : ℕ) → HasCleared key t m n → n.older ≡ m.older
-older_stays m n key t had = ap (λ (m : Memory). m.older) had.is
+hints_stay : (m n : Memory) (key : Key) (t : ℕ) → HasCleared key t m n → n.hints ≡ m.hints
+hints_stay m n key t had = ap (λ (m : Memory). m.hints) had.is
 
 pub none_recalled : (m n : Memory) (key : Key) → HasForgotten key m n → Recalls n key None
 none_recalled m n key had =
     let c = had.0 in
-    let last : n.last ≡ m.last = last_stays c n key _ had.2 ∙ last_stays m c key _ had.1 in
-    let older : n.older ≡ m.older = older_stays c n key _ had.2 ∙ older_stays m c key _ had.1 in
+    let hints : n.hints ≡ m.hints = hints_stay c n key _ had.2 ∙ hints_stay m c key _ had.1 in
     inr (
-      subst (λ (l : List ℕ). RecallsAt n.rows key (hinted l key.name) None) (sym last) (still_none c n key _ _ had.2 had.1.none),
-      subst (λ (l : List ℕ). RecallsAt n.rows key (hinted l key.name) None) (sym older) had.2.none,
+      subst (λ (l : List Hint). RecallsAt n.rows key (hinted l key.name).last None) (sym hints) (still_none c n key _ _ had.2 had.1.none),
+      subst (λ (l : List Hint). RecallsAt n.rows key (hinted l key.name).older None) (sym hints) had.2.none,
     )
 
 one_cleared : (z : ℕ) (h : List Change) (m n : Memory) (key : Key) (t : ℕ) → HasCleared key t m n → Remembers z h m → Remembers z h n
 one_cleared z h m n key t had was = record {
   size = had.size ∙ was.size;
-  last = ap length (last_stays m n key t had) ∙ was.last;
-  older = ap length (older_stays m n key t had) ∙ was.older;
-  missed = ap (λ (x : Memory). length x.missed) had.is ∙ was.missed;
+  hints = count_of _ _ (ap length (hints_stay m n key t had)) was.hints;
+  missed = count_of _ _ (ap (λ (x : Memory). length x.missed) had.is) was.missed;
   each = λ u some. ⊎_elim
       (λ (same : memo_at n.rows u ≡ memo_at m.rows u). subst (λ (r : Memo). (u < z) × IsAttached h (entry_of u r)) (sym same) (was.each u (λ none. some (ap (λ (m : Memo). m.number) same ∙ none))))
       (λ (gone : IsRow key (memo_at m.rows u) × (memo_at n.rows u ≡ no_memo)). absurd (some (ap (λ (m : Memo). m.number) gone.1)))
@@ -235,34 +268,33 @@ forgotten z h m n key had was = one_cleared z h had.0 n key _ had.2 (one_cleared
 other_kept : (m n : Memory) (key : Key) (t : ℕ) → HasCleared key t m n → KeepsOthers key None m n
 other_kept m n key t had other o apart any recalls = by recalls
   where
-    last : n.last ≡ m.last
-    last = last_stays m n key t had
-
-    older : n.older ≡ m.older
-    older = older_stays m n key t had
+    hints : n.hints ≡ m.hints
+    hints = hints_stay m n key t had
 
     row : IsOfRow m.rows other o → IsOfRow n.rows other o
     row was = ⊎_elim
-        (λ (same : memo_at n.rows o.slot ≡ memo_at m.rows o.slot). record { few = was.few; some = was.some; is = same ∙ was.is })
+        (λ (same : memo_at n.rows o.slot ≡ memo_at m.rows o.slot). record { few = (let size = had.size in let few = was.few in omega (arith, few, size)); some = was.some; is = same ∙ was.is })
         (λ (gone : IsRow key (memo_at m.rows o.slot) × (memo_at n.rows o.slot ≡ no_memo)).
-        absurd (apart (ap hint_of (ap (λ (m : Memo). m.name) (sym was.is) ∙ gone.0.name))))
+        absurd (apart (ap (hint_of (length m.hints)) (ap (λ (m : Memo). m.name) (sym was.is) ∙ gone.0.name))))
         (had.each o.slot)
 
     none : (u : ℕ) → RecallsAt m.rows other u None → RecallsAt n.rows other u None
     none u was low there = ⊎_elim
-        (λ (same : memo_at n.rows u ≡ memo_at m.rows u). was low (subst (IsRow other) same there))
+        (λ (same : memo_at n.rows u ≡ memo_at m.rows u). was (let size = had.size in omega (arith, low, size)) (subst (IsRow other) same there))
         (λ (gone : IsRow key (memo_at m.rows u) × (memo_at n.rows u ≡ no_memo)). there.some (ap (λ (m : Memo). m.number) gone.1))
         (had.each u)
 
     by : Recalls m other (Some o) → Recalls n other (Some o)
-    by (inl at) = inl (o, refl, subst (λ (l : List ℕ). RecallsAt n.rows other (hinted l other.name) (Some o)) (sym last) (at.2.0, row at.2.1))
+    by (inl at) = inl (o, refl, subst (λ (l : List Hint). RecallsAt n.rows other (hinted l other.name).last (Some o)) (sym hints) (at.2.0, row at.2.1))
     by (inr at) = inr (
-      subst (λ (l : List ℕ). RecallsAt n.rows other (hinted l other.name) None) (sym last) (none _ at.0),
-      subst (λ (l : List ℕ). RecallsAt n.rows other (hinted l other.name) (Some o)) (sym older) (at.1.0, row at.1.1),
+      subst (λ (l : List Hint). RecallsAt n.rows other (hinted l other.name).last None) (sym hints) (none _ at.0),
+      subst (λ (l : List Hint). RecallsAt n.rows other (hinted l other.name).older (Some o)) (sym hints) (at.1.0, row at.1.1),
     )
 
 pub others_kept : (m n : Memory) (key : Key) → HasForgotten key m n → KeepsOthers key None m n
-others_kept m n key had other o apart any recalls = other_kept had.0 n key _ had.2 other o apart any (other_kept m had.0 key _ had.1 other o apart any recalls)
+others_kept m n key had other o apart any recalls =
+    let still = subst (λ (l : List Hint). hint_of (length l) other.name ≢ hint_of (length l) key.name) (sym (hints_stay m had.0 key _ had.1)) apart in
+    other_kept had.0 n key _ had.2 other o still any (other_kept m had.0 key _ had.1 other o apart any recalls)
 
 -- One miss more
 
@@ -271,19 +303,22 @@ misses_stay m n key had = ap (λ (x : Memory). x.missed) had.2.is ∙ ap (λ (x 
 
 pub misses_more : (z : ℕ) (h : List Change) (m : Memory) (key : Key) (n : ℕ) → Remembers z h m → WasAbsent h key n → Remembers z h (with_miss m key n)
 misses_more z h m key n had was =
-    record { size = had.size; last = had.last; older = had.older; missed = length-set m.missed (hint_of key.name) miss ∙ had.missed; each = had.each; absent = absent }
+    record { size = had.size; hints = had.hints; missed = count_of _ _ (length-set m.missed hint miss) had.missed; each = had.each; absent = absent }
   where
     miss : Miss
     miss = record { number = n; kind = key.kind; name = key.name }
 
-    missed : List Miss
-    missed = set m.missed (hint_of key.name) miss
+    hint : ℕ
+    hint = hint_of (length m.missed) key.name
 
-    few : hint_of key.name < length m.missed
-    few = let size = had.missed in let least = hint_few key.name in omega (arith, size, least)
+    missed : List Miss
+    missed = set m.missed hint miss
+
+    few : hint < length m.missed
+    few = hint_few (length m.missed) key.name had.missed
 
     absent : (i : ℕ) → IsTrueMiss h (miss_at missed i)
     absent i = ⊎_elim
-        (λ (same : i ≡ hint_of key.name). subst (IsTrueMiss h) (sym (ap (miss_at missed) same ∙ get_or-set_same m.missed (hint_of key.name) miss no_miss few)) (λ some. was))
-        (λ (off : i ≢ hint_of key.name). subst (IsTrueMiss h) (sym (get_or-set_other m.missed (hint_of key.name) i miss no_miss off)) (had.absent i))
-        (cases_eq i (hint_of key.name))
+        (λ (same : i ≡ hint). subst (IsTrueMiss h) (sym (ap (miss_at missed) same ∙ get_or-set_same m.missed hint miss no_miss few)) (λ some. was))
+        (λ (off : i ≢ hint). subst (IsTrueMiss h) (sym (get_or-set_other m.missed hint i miss no_miss off)) (had.absent i))
+        (cases_eq i hint)

@@ -1,16 +1,14 @@
 -- The rows of the keeper: what they say of a view, as one row or the view changes.
-use Rattle.std.proofs.Common.{◌≡◌, ◌≢◌, ⊎_elim, ◌||◌, ℕ, zero, suc, ◌<◌, ◌≤◌, List, [], ◌∷◌, length, get_or, set, replicate, None, IsTrue, refl, sym, ap, ◌∙◌, subst, arith, length-set}
+use Rattle.std.proofs.Common.{◌≡◌, ◌≢◌, ⊎_elim, ◌||◌, ℕ, zero, suc, ◌<◌, ◌≤◌, List, [], ◌∷◌, get_or, set, replicate, None, IsTrue, refl, sym, ap, ◌∙◌, subst, arith, length-set}
 use Rattle.std.specs.List.{list_any}
 use Rattle.std.proofs.lemmas.Bool.{cases_lt}
-use Rattle.std.proofs.lemmas.List.{length-replicate, get_or-replicate, get_or_past}
+use Rattle.std.proofs.lemmas.List.{length-replicate, get_or-replicate, get_or_past, get_or_read}
 use Rattle.atomic_table.specs.Seated.{TableId}
-use Rattle.passive_list.specs.Types.{Entry, Settings, Key, Slot, Vacant, Live, Retired, MOST_CPUS, MOST_SLOTS, KeeperView, LogItem}
+use Rattle.passive_list.specs.Types.{Entry, Settings, Key, Slot, Vacant, Live, Retired, MOST_CPUS, KeeperView, LogItem}
 use Rattle.registry_values.specs.Common.{are_fit, bias, no_mark, is_live_as, is_taken, slot_at}
 use Rattle.protocol.specs.Common.{no_words, total_at, kept_at}
-use Rattle.protocol.proofs.slots.Cells.{get_or_all}
 use Rattle.protocol.proofs.keeps.MarkKeeps.{none_live, rows_all}
 use Rattle.protocol.proofs.slots.Occupied.{place_cases}
-use Rattle.registry_values.proofs.Fit.{ranges}
 use Rattle.cpu_words.specs.Common.{keeper_with}
 use Rattle.passive_list.specs.Common.{KeptSlot, OnPlainKeeper, HasRows, on_keeper, no_row, row_at, state_of, states_of, RowAgrees, IsAtRest, IsOurKeeper, RowsAgree}
 
@@ -36,16 +34,13 @@ new_at_rest a fit = record {
   room = let none = none_live a.slots in omega (arith, none);
 }
 
-abbrev pub first_row : KeptSlot
-first_row = record { state = Vacant; marks = replicate MOST_CPUS no_mark; total = None; keeps = None }
-
 -- the state of a slot, by its row
 pub state_at : (rows : List KeptSlot) (t : ℕ) → slot_at (states_of rows) t ≡ (row_at rows t).state
 state_at [] t = refl
 state_at (r ∷ rows) zero = refl
 state_at (r ∷ rows) (suc t) = state_at rows t
 
-first_states : (n : ℕ) → states_of (replicate n first_row) ≡ replicate n Vacant
+pub first_states : (n : ℕ) → states_of (replicate n no_row) ≡ replicate n Vacant
 first_states zero = refl
 first_states (suc n) = ap (λ (xs : List Slot). Vacant ∷ xs) (first_states n)
 
@@ -55,32 +50,35 @@ taken_in_rows key [] = refl
 taken_in_rows key (r ∷ rows) = ap (λ b. is_live_as key r.state || b) (taken_in_rows key rows)
 
 -- such a row agrees with the view at the start
-first_agrees : (a : Settings) (t : ℕ) → t < a.slots → RowAgrees (keeper_with a a.cpus) t first_row
+first_agrees : (a : Settings) (t : ℕ) → t < a.slots → RowAgrees (keeper_with a a.cpus) t no_row
 first_agrees a t lt = record {
   state = get_or-replicate a.slots t Vacant Vacant lt;
-  marks = sym (get_or-replicate a.slots t (replicate MOST_CPUS no_mark) [] lt);
   total = sym (get_or-replicate a.slots t bias 0 lt);
   keeps = sym (get_or-replicate a.slots t None None lt);
   unused = λ vacant. refl;
 }
 
-pub new_rows : (a : Settings) → IsTrue (are_fit a) → RowsAgree a (keeper_with a a.cpus) (replicate MOST_SLOTS first_row)
-new_rows a fit =
-    let most = (ranges a fit).slots in
-    let size : length (replicate MOST_SLOTS first_row) ≡ MOST_SLOTS = length-replicate MOST_SLOTS first_row in
-    record {
-      size = size;
-      each = λ t lt. subst (RowAgrees (keeper_with a a.cpus) t) (sym (get_or-replicate MOST_SLOTS t first_row no_row (omega (arith, lt, most)))) (first_agrees a t lt);
-      beyond = λ t past. sym (state_at (replicate MOST_SLOTS first_row) t) ∙ (ap (λ xs. slot_at xs t) (first_states MOST_SLOTS) ∙ get_or_all MOST_SLOTS Vacant t);
-    }
+pub new_rows : (a : Settings) → RowsAgree a (keeper_with a a.cpus) (replicate a.slots no_row)
+new_rows a = record {
+  size = length-replicate a.slots no_row;
+  each = λ t lt. subst (RowAgrees (keeper_with a a.cpus) t) (sym (get_or-replicate a.slots t no_row no_row lt)) (first_agrees a t lt);
+}
 
 -- A row
+
+-- past the rows nothing is
+beyond : (a : Settings) (k : KeeperView) (rows : List KeptSlot) (t : ℕ) → RowsAgree a k rows → a.slots ≤ t → (row_at rows t).state ≡ Vacant
+beyond a k rows t agree past = ap state_of (get_or_past rows t no_row (let size = agree.size in omega (arith, size, past)))
+
+-- what is read of a slot of the table is its row
+pub row_read : (a : Settings) (k : KeeperView) (rows : List KeptSlot) (t : ℕ) (r : KeptSlot) → RowsAgree a k rows → t < a.slots → r ≡ get_or rows t r → r ≡ row_at rows t
+row_read a k rows t r agree lt is = get_or_read rows t r (let size = agree.size in omega (arith, size, lt)) is no_row
 
 -- a slot that isn't vacant is one of the table's
 pub not_vacant_within : (a : Settings) (k : KeeperView) (rows : List KeptSlot) (t : ℕ) → RowsAgree a k rows → (slot_at (states_of rows) t ≡ Vacant → ⊥) → t < a.slots
 not_vacant_within a k rows t agree some = ⊎_elim
     (λ (lt : t < a.slots). lt)
-    (λ (past : a.slots ≤ t). absurd (some (state_at rows t ∙ agree.beyond t past)))
+    (λ (past : a.slots ≤ t). absurd (some (state_at rows t ∙ beyond a k rows t agree past)))
     (cases_lt t a.slots)
 
 -- and what its row says is what the view says
@@ -96,7 +94,7 @@ slots_agree a k rows t view agree = ⊎_elim
     (λ (lt : t < a.slots). (agree.each t lt).state ∙ sym (state_at rows t))
     (λ (past : a.slots ≤ t).
     let none : slot_at k.slots t ≡ Vacant = get_or_past k.slots t Vacant (omega (arith, view.sized.slots, past)) in
-    none ∙ sym (state_at rows t ∙ agree.beyond t past))
+    none ∙ sym (state_at rows t ∙ beyond a k rows t agree past))
     (cases_lt t a.slots)
 
 pub retired_in : (a : Settings) (k : KeeperView) (rows : List KeptSlot) (t : ℕ) (e : Entry) → RowsAgree a k rows → slot_at (states_of rows) t ≡ Retired e
@@ -107,29 +105,24 @@ pub live_in : (a : Settings) (k : KeeperView) (rows : List KeptSlot) (t : ℕ) (
 live_in a k rows t e agree is = taken_in a k rows t (Live e) agree is (λ v. cc)
 
 -- what a row says goes with what the view says of its slot
-pub row_stays : (k l : KeeperView) (t : ℕ) (r : KeptSlot) → slot_at l.slots t ≡ slot_at k.slots t → get_or l.marks t [] ≡ get_or k.marks t []
+pub row_stays : (k l : KeeperView) (t : ℕ) (r : KeptSlot) → slot_at l.slots t ≡ slot_at k.slots t
     → total_at l.totals t ≡ total_at k.totals t → kept_at l.keeps t ≡ kept_at k.keeps t → RowAgrees k t r → RowAgrees l t r
-row_stays k l t r slot marks total keeps had = record {
+row_stays k l t r slot total keeps had = record {
   state = slot ∙ had.state;
-  marks = had.marks ∙ sym marks;
   total = had.total ∙ sym total;
   keeps = had.keeps ∙ sym keeps;
   unused = had.unused;
 }
 
 -- one row changes with its slot, and the others stay
-pub rows_set : (a : Settings) (k l : KeeperView) (rows : List KeptSlot) (t : ℕ) (r : KeptSlot) → t < a.slots → t < MOST_SLOTS → RowsAgree a k rows → RowAgrees l t r
+pub rows_set : (a : Settings) (k l : KeeperView) (rows : List KeptSlot) (t : ℕ) (r : KeptSlot) → t < a.slots → RowsAgree a k rows → RowAgrees l t r
     → ((u : ℕ) → u ≢ t → RowAgrees k u (row_at rows u) → RowAgrees l u (row_at rows u))
     → RowsAgree a l (set rows t r)
-rows_set a k l rows t r lt place agree here others = record {
+rows_set a k l rows t r lt agree here others = record {
   size = length-set rows t r ∙ agree.size;
   each = λ u within. ⊎_elim
       (λ (is : (u ≡ t) × (row_at (set rows t r) u ≡ r)). subst (RowAgrees l u) (sym is.1) (subst (λ v. RowAgrees l v r) (sym is.0) here))
       (λ (off : (u ≡ t → ⊥) × (row_at (set rows t r) u ≡ row_at rows u)). subst (RowAgrees l u) (sym off.1) (others u off.0 (agree.each u within)))
-      (place_cases no_row rows t r u (let size = agree.size in omega arith));
-  beyond = λ u past. ⊎_elim
-      (λ (is : (u ≡ t) × (row_at (set rows t r) u ≡ r)). absurd (let e = is.0 in omega (arith, e, past, lt)))
-      (λ (off : (u ≡ t → ⊥) × (row_at (set rows t r) u ≡ row_at rows u)). ap state_of off.1 ∙ agree.beyond u past)
       (place_cases no_row rows t r u (let size = agree.size in omega arith));
 }
 

@@ -1,15 +1,14 @@
 -- A CPU: how its plain data agree with what its seat knows.
-use Rattle.std.specs.Prelude.{◌≡◌, ◌≢◌, ◌↔◌, ℕ, ◌+◌, ◌*◌, ◌<◌, ◌≤◌, List, length, slice_index_or, Option, Some, None, IsTrue}
+use Rattle.std.specs.Prelude.{◌≡◌, ◌≢◌, ◌↔◌, ℕ, ◌+◌, ◌*◌, ◌<◌, ◌≤◌, List, length, replicate, slice_index_or, Option, Some, None, IsTrue}
 use Rattle.std.specs.List.{Contains}
 use Rattle.atomic_table.specs.Seated.{TableId}
-use Rattle.passive_list.specs.Types.{Entry, Change, Driver, Settings, MOST_CPUS, MOST_DEPTH, MOST_SLOTS, CpuView, LogItem}
+use Rattle.passive_list.specs.Types.{Entry, Change, Driver, Settings, MOST_DEPTH, CpuView, LogItem}
 use Rattle.registry_values.specs.Common.{are_fit, bias, slot_at}
 use Rattle.protocol.specs.Common.{IsAttached, IsIn, greatest_limit}
 use Rattle.cpu_words.specs.Common.{Named, number_at, references_to, depth_of, SectionMayHold, IsShownCpu, IsIdle}
-use Rattle.passive_list.specs.declared.memory.Memory.{Memory}
 use Rattle.passive_list.specs.declared.place.Found.{Found}
 use Rattle.passive_list.specs.declared.place.NumberedCount.{NumberedCount}
-use Rattle.passive_list.specs.Memories.{Remembers}
+use Rattle.passive_list.specs.Memories.{Memory, Remembers, no_memory}
 
 -- a CPU, to a contract: what its seat knows, the depth of its section, the sum of its calls' changes in the ledger, what it has heard of
 -- the keeper's log, all that its seat did, and the entries that it remembers
@@ -39,19 +38,25 @@ pub record IsPlaceOf (h : List Change) (t n : ℕ) : Type 0 where
   pub slot : entry.slot ≡ t
   pub number : entry.number ≡ n
 
--- the places of a CPU's passive references: each reference is counted at its entry's slot
+-- the places of a CPU's passive references, by slot: each reference is counted at its entry's slot
 pub record PassiveAgree (x : CpuView) (places : List NumberedCount) : Type 0 where
-  pub size : length places ≡ MOST_SLOTS
+  pub size : length places ≡ x.settings.slots
   pub counts : (t : ℕ) → (place_at places t).count ≡ references_to (place_at places t).number x.references
   pub placed : (t : ℕ) → (place_at places t).number ≢ 0 → IsPlaceOf x.pass t (place_at places t).number
-  pub each : (e : Entry) → Contains x.references e → (e.slot < MOST_SLOTS) × IsAttached x.pass e × ((place_at places e.slot).number ≡ e.number) × (0 < e.number)
+  pub each : (e : Entry) → Contains x.references e → (e.slot < x.settings.slots) × IsAttached x.pass e × ((place_at places e.slot).number ≡ e.number) × (0 < e.number)
 
 -- the places of its net counts: each is for the number that the CPU met last in that slot
 pub record NetAgree (x : CpuView) (places : List NumberedCount) : Type 0 where
-  pub size : length places ≡ MOST_SLOTS
+  pub size : length places ≡ x.settings.slots
   pub met : (t : ℕ) → (place_at places t).number ≡ number_at x.met t
   pub counts : (t : ℕ) → (place_at places t).number ≢ 0 → (place_at places t).count + number_at x.released (place_at places t).number ≡ bias + number_at x.acquired (place_at places t).number
   pub most : (t : ℕ) → (place_at places t).count ≤ bias + greatest_limit
+
+-- the rows of a new CPU: nothing is held or remembered
+pub record AreNewRows (slots : ℕ) (references nets : List NumberedCount) (kept : Memory) : Type 0 where
+  pub references_are : references ≡ replicate slots no_place
+  pub nets_are : nets ≡ replicate slots no_place
+  pub kept_is : kept ≡ no_memory slots
 
 -- a section is open while its depth isn't 0
 pub record DepthAgrees (begin : Option ℕ) (depth : ℕ) : Type 0 where

@@ -1,10 +1,11 @@
 -- The keeper: how its plain data agree with what its seat knows.
-use Rattle.std.specs.Prelude.{◌≡◌, ℕ, ◌+◌, ◌<◌, ◌≤◌, List, [], length, map, slice_index_or, None, IsTrue, unwrap_or}
+use Rattle.std.specs.Prelude.{◌≡◌, ℕ, ◌+◌, ◌*◌, ◌<◌, ◌≤◌, List, length, map, replicate, slice_index_or, None, IsTrue, unwrap_or}
 use Rattle.atomic_table.specs.Seated.{TableId}
-use Rattle.passive_list.specs.Types.{Settings, Slot, Vacant, Rest, MOST_SLOTS, KeeperView, LogItem}
-use Rattle.protocol.specs.Common.{AreRows, total_at, kept_at}
-use Rattle.registry_values.specs.Common.{are_fit, live_count, slot_at, bias}
+use Rattle.passive_list.specs.Types.{Mark, Settings, Slot, Vacant, Rest, KeeperView, LogItem}
+use Rattle.protocol.specs.Common.{AreRows, mark_at, total_at, kept_at}
+use Rattle.registry_values.specs.Common.{are_fit, live_count, no_mark, slot_at, bias}
 use Rattle.cpu_words.specs.Common.{Named, IsShown}
+use Rattle.passive_list.specs.declared.keeper.KeeperRows.{KeeperRows}
 use Rattle.passive_list.specs.declared.keeper.KeptSlot.{KeptSlot}
 
 -- the keeper, to a contract: what its seat knows, the slots as it has them, and what it did
@@ -20,7 +21,7 @@ pub record OnPlainKeeper : Type 0 where
 
 -- what is past the rows
 abbrev pub no_row : KeptSlot
-no_row = record { state = Vacant; marks = []; total = None; keeps = None }
+no_row = record { state = Vacant; total = None; keeps = None }
 
 abbrev pub row_at : List KeptSlot → ℕ → KeptSlot
 row_at rows t = slice_index_or rows t no_row
@@ -37,7 +38,6 @@ total_or_bias r = unwrap_or r.total bias
 
 pub record RowAgrees (k : KeeperView) (t : ℕ) (r : KeptSlot) : Type 0 where
   pub state : slot_at k.slots t ≡ r.state
-  pub marks : r.marks ≡ slice_index_or k.marks t []
   pub total : total_or_bias r ≡ total_at k.totals t
   pub keeps : r.keeps ≡ kept_at k.keeps t
   -- nothing is counted in a vacant slot's total
@@ -66,9 +66,18 @@ pub record IsAtRest (a : Settings) (k : KeeperView) : Type 0 where
 
 -- of the rows: each says what the view says of its slot
 pub record RowsAgree (a : Settings) (k : KeeperView) (rows : List KeptSlot) : Type 0 where
-  pub size : length rows ≡ MOST_SLOTS
+  pub size : length rows ≡ a.slots
   pub each : (t : ℕ) → t < a.slots → RowAgrees k t (row_at rows t)
-  pub beyond : (t : ℕ) → a.slots ≤ t → (row_at rows t).state ≡ Vacant
+
+-- of the marks: a slot's are side by side, and each is the view's
+pub record MarksAgree (a : Settings) (k : KeeperView) (marks : List Mark) : Type 0 where
+  pub size : length marks ≡ a.slots * a.cpus
+  pub each : (t c : ℕ) → t < a.slots → c < a.cpus → slice_index_or marks (t * a.cpus + c) no_mark ≡ mark_at k.marks t c
+
+-- the rows of a keeper at the start: all slots are vacant, and nothing is noted
+pub record AreRowsOfNew (a : Settings) (rows : KeeperRows) : Type 0 where
+  pub slots : rows.slots.items ≡ replicate a.slots no_row
+  pub marks : rows.marks.items ≡ replicate (a.slots * a.cpus) no_mark
 
 pub record IsOurKeeper (a : Settings) (k : KeeperView) (rs : List KeptSlot) (n : ℕ) : Type 0 where
   pub view : IsAtRest a k

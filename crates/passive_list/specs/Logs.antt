@@ -1,7 +1,7 @@
 -- How a seat's log goes on, and what the keeper's log says of the keeper, as it is told whenever the keeper hears.
 use Rattle.std.specs.Prelude.{◌≡◌, ℕ, ◌<◌, List, ◌++◌, length}
 use Rattle.std.specs.List.{All}
-use Rattle.passive_list.specs.Types.{Change, Entry, Settings, Retired, MOST_SLOTS, Rest, LogItem, Keeper}
+use Rattle.passive_list.specs.Types.{Change, Entry, Settings, Retired, Rest, LogItem, Keeper}
 use Rattle.registry_values.specs.Common.{slot_at}
 use Rattle.cpu_words.specs.Common.{changes_in, occupant, occupant_of, IsSnapped, AreMarksOf, AreSlotsOf, IsShownAfter, WordsGrow, keeper_with_note}
 use Rattle.passive_list.specs.Keepers.{OnKeeper}
@@ -17,7 +17,7 @@ pub record GoesOnBy (P : LogItem → Type 0) (old new : List LogItem) : Type 0 w
 pub record HasOwnLog (z : Settings) (a : OnKeeper) : Type 0 where
   pub settings : a.view.settings ≡ z
   pub rest : a.view.due ≡ Rest
-  pub size : length a.slots ≡ MOST_SLOTS
+  pub size : length a.slots ≡ z.slots
   pub changes : length a.view.history ≡ changes_in a.log
   pub marks : AreMarksOf a.log a.view.marks
   pub slots : AreSlotsOf z.cpus a.log a.slots

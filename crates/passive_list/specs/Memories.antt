@@ -3,10 +3,20 @@ use Rattle.std.specs.Prelude.{◌≡◌, ◌≢◌, ◌⊎◌, ℕ, ◌+◌, ◌
 use Rattle.passive_list.specs.Types.{Change, Entry, Iface, Key, Name, MOST_SLOTS}
 use Rattle.protocol.specs.Common.{IsAttached, IsLookup, entry_with}
 use Rattle.passive_list.specs.declared.lookup.Seen.{Seen}
+use Rattle.passive_list.specs.declared.memory.Hint.{Hint}
 use Rattle.passive_list.specs.declared.memory.Memo.{Memo}
-use Rattle.passive_list.specs.declared.memory.Memory.{Memory}
 use Rattle.passive_list.specs.declared.memory.Miss.{Miss}
-use Rattle.passive_list.specs.declared.memory.TheConstants.{HINTS, MIX, SHARE}
+use Rattle.passive_list.specs.declared.memory.TheConstants.{HALF, HINTS, MIX, SPARE_MISSES}
+
+-- a memory, to a contract
+pub record Memory : Type 0 where
+  pub rows : List Memo
+  pub hints : List Hint
+  pub missed : List Miss
+
+-- there may be so many hints, or misses
+abbrev pub IsCount : ℕ → Type 0
+IsCount n = (0 < n) × (n < 2 ^ 32)
 
 abbrev pub no_memo : Memo
 no_memo = record { number = 0; value = 0; kind = Iface; name = record { high = 0; low = 0 } }
@@ -14,9 +24,12 @@ no_memo = record { number = 0; value = 0; kind = Iface; name = record { high = 0
 abbrev pub no_miss : Miss
 no_miss = record { number = 0; kind = Iface; name = record { high = 0; low = 0 } }
 
--- of no entry
-abbrev pub no_memory : Memory
-no_memory = record { rows = replicate MOST_SLOTS no_memo; last = replicate HINTS 0; older = replicate HINTS 0; missed = replicate HINTS no_miss }
+abbrev pub no_hint : Hint
+no_hint = record { last = 0; older = 0 }
+
+-- of no entry, for so many slots
+abbrev pub no_memory : ℕ → Memory
+no_memory slots = record { rows = replicate slots no_memo; hints = replicate (HINTS * slots) no_hint; missed = replicate (slots + SPARE_MISSES) no_miss }
 
 abbrev pub memo_at : List Memo → ℕ → Memo
 memo_at rows t = slice_index_or rows t no_memo
@@ -49,12 +62,11 @@ pub record WasAbsent (h : List Change) (key : Key) (n : ℕ) : Type 0 where
 abbrev pub IsTrueMiss : List Change → Miss → Type 0
 IsTrueMiss h m = m.number ≢ 0 → WasAbsent h (record { kind = m.kind; name = m.name }) m.number
 
--- all rows, hints and misses are there; each row is of no entry, or of an entry that was attached in that slot by the end of h; each miss is true of h
+-- All rows are there, hints and misses too. Each row is of no entry, or of an entry that was attached in that slot by the end of h; each miss is true of h
 pub record Remembers (slots : ℕ) (h : List Change) (m : Memory) : Type 0 where
-  pub size : length m.rows ≡ MOST_SLOTS
-  pub last : length m.last ≡ HINTS
-  pub older : length m.older ≡ HINTS
-  pub missed : length m.missed ≡ HINTS
+  pub size : length m.rows ≡ slots
+  pub hints : IsCount (length m.hints)
+  pub missed : IsCount (length m.missed)
   pub each : (t : ℕ) → (memo_at m.rows t).number ≢ 0 → (t < slots) × IsAttached h (entry_of t (memo_at m.rows t))
   pub absent : (i : ℕ) → IsTrueMiss h (miss_at m.missed i)
 
@@ -66,39 +78,39 @@ pub record IsRow (key : Key) (m : Memo) : Type 0 where
 
 -- s is what the row of its slot says, which has the key
 pub record IsOfRow (rows : List Memo) (key : Key) (s : Seen) : Type 0 where
-  pub few : s.slot < MOST_SLOTS
+  pub few : s.slot < length rows
   pub some : s.number ≢ 0
   pub is : memo_at rows s.slot ≡ memo_of key s
 
 -- What is remembered of a key
 
-abbrev pub hint_of : Name → ℕ
-hint_of n = ((n.high + n.low) % 2 ^ 64 * MIX % 2 ^ 64) / SHARE % HINTS
+-- the hint of a name, of so many
+abbrev pub hint_of : ℕ → Name → ℕ
+hint_of count n = ((n.high + n.low) % 2 ^ 64 * MIX % 2 ^ 64) / HALF * count / HALF
 
--- the slot that the hint of the name leads to
-abbrev pub hinted : List ℕ → Name → ℕ
-hinted hints n = slice_index_or hints (hint_of n) MOST_SLOTS
+-- the slots that the hint of the name leads to
+abbrev pub hinted : List Hint → Name → Hint
+hinted hints n = slice_index_or hints (hint_of (length hints) n) no_hint
 
 -- what the row of the slot t says of the key
 abbrev pub RecallsAt : List Memo → Key → ℕ → Option Seen → Type 0
-RecallsAt rows key t None = t < MOST_SLOTS → IsRow key (memo_at rows t) → ⊥
+RecallsAt rows key t None = t < length rows → IsRow key (memo_at rows t) → ⊥
 RecallsAt rows key t (Some s) = (s.slot ≡ t) × IsOfRow rows key s
 
 -- what the CPU remembers of the key: by the newer one of its name's hints, else by the older one
 abbrev pub Recalls : Memory → Key → Option Seen → Type 0
-Recalls m key found = ((s : Seen) × (found ≡ Some s) × RecallsAt m.rows key (hinted m.last key.name) found) ⊎ (RecallsAt m.rows key (hinted m.last key.name) None × RecallsAt m.rows key (hinted m.older key.name) found)
+Recalls m key found = ((s : Seen) × (found ≡ Some s) × RecallsAt m.rows key (hinted m.hints key.name).last found) ⊎ (RecallsAt m.rows key (hinted m.hints key.name).last None × RecallsAt m.rows key (hinted m.hints key.name).older found)
 
 -- s is remembered, as the newer one
 abbrev pub with_seen : Memory → Key → Seen → Memory
 with_seen m key s = record m {
   rows = set m.rows s.slot (memo_of key s);
-  last = if hinted m.last key.name == s.slot then m.last else set m.last (hint_of key.name) s.slot;
-  older = if hinted m.last key.name == s.slot then m.older else set m.older (hint_of key.name) (hinted m.last key.name);
+  hints = if (hinted m.hints key.name).last == s.slot then m.hints else set m.hints (hint_of (length m.hints) key.name) (record { last = s.slot; older = (hinted m.hints key.name).last });
 }
 
 -- What is remembered of other keys stays: of those that don't share the hint, and not the slot t, if there is one.
 abbrev pub KeepsOthers : Key → Option ℕ → Memory → Memory → Type 0
-KeepsOthers key t m n = (other : Key) (s : Seen) → hint_of other.name ≢ hint_of key.name → IfSome t (λ u. s.slot ≢ u) → Recalls m other (Some s) → Recalls n other (Some s)
+KeepsOthers key t m n = (other : Key) (s : Seen) → hint_of (length m.hints) other.name ≢ hint_of (length m.hints) key.name → IfSome t (λ u. s.slot ≢ u) → Recalls m other (Some s) → Recalls n other (Some s)
 
 -- The row of the slot t doesn't have the key, if it is there. Each row is as before, but for some that had the key and are of no entry now.
 pub record HasCleared (key : Key) (t : ℕ) (m n : Memory) : Type 0 where
@@ -109,7 +121,7 @@ pub record HasCleared (key : Key) (t : ℕ) (m n : Memory) : Type 0 where
 
 -- both hints of the key's name lead to no row with the key
 abbrev pub HasForgotten : Key → Memory → Memory → Type 0
-HasForgotten key m n = (c : Memory) × HasCleared key (hinted m.last key.name) m c × HasCleared key (hinted m.older key.name) c n
+HasForgotten key m n = (c : Memory) × HasCleared key (hinted m.hints key.name).last m c × HasCleared key (hinted m.hints key.name).older c n
 
 -- What is remembered of a key that wasn't found
 
@@ -122,7 +134,7 @@ pub record IsMiss (key : Key) (n : ℕ) (m : Miss) : Type 0 where
 
 -- the CPU remembers that miss
 abbrev pub Misses : Memory → Key → ℕ → Type 0
-Misses m key n = IsMiss key n (miss_at m.missed (hint_of key.name))
+Misses m key n = IsMiss key n (miss_at m.missed (hint_of (length m.missed) key.name))
 
 abbrev pub with_miss : Memory → Key → ℕ → Memory
-with_miss m key n = record m { missed = set m.missed (hint_of key.name) (record { number = n; kind = key.kind; name = key.name }) }
+with_miss m key n = record m { missed = set m.missed (hint_of (length m.missed) key.name) (record { number = n; kind = key.kind; name = key.name }) }

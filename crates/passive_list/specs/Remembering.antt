@@ -6,10 +6,9 @@ use Rattle.registry_values.specs.Common.{key_of}
 use Rattle.protocol.specs.Common.{EndsAt, IsAttached, IsLookup, entry_with}
 use Rattle.cpu_words.specs.Common.{HasWholePass, did}
 use Rattle.passive_list.specs.declared.lookup.Seen.{Seen}
-use Rattle.passive_list.specs.declared.memory.Memory.{Memory}
 use Rattle.passive_list.specs.Cpus.{OnCpu, OnPlainCpu}
 use Rattle.passive_list.specs.Lookups.{HasFound, HasFoundFromOutside}
-use Rattle.passive_list.specs.Memories.{KeepsOthers, Misses, Recalls, with_miss}
+use Rattle.passive_list.specs.Memories.{Memory, KeepsOthers, Misses, Recalls, with_miss}
 use Rattle.passive_list.specs.Recalling.{HasRecalledHeadOn, HasRecalledOn, HasRefoundAs}
 use Rattle.passive_list.specs.Walking.{entry_seen}
 

@@ -1,5 +1,5 @@
 -- An entry is retired: what changes of the keeper.
-use Rattle.std.specs.Prelude.{◌≡◌, ℕ, zero, suc, ◌<◌, List, [], ◌++◌, length, replicate, slice_index_or, slice_set, Option, Some}
+use Rattle.std.specs.Prelude.{◌≡◌, ◌⊎◌, ℕ, zero, suc, ◌+◌, ◌<◌, ◌≤◌, List, [], ◌++◌, length, replicate, slice_index_or, slice_set, Option, Some}
 use Rattle.passive_list.specs.Types.{Entry, Hide, Unpublish, Snapshot, Done, Word, LogItem, Mark, Retired, Rest, MOST_CPUS, KeeperView, Keeper}
 use Rattle.protocol.specs.Common.{snapshot_mark}
 use Rattle.registry_values.specs.Common.{no_mark}
@@ -15,6 +15,12 @@ pub record AreFresh (k : KeeperView) (t : ℕ) : Type 0 where
 pub record AreSnapshots (n : ℕ) (marks : List Mark) : Type 0 where
   pub size : length marks ≡ MOST_CPUS
   pub each : (c : ℕ) → c < n → (w : ℕ) × (slice_index_or marks c no_mark ≡ snapshot_mark w)
+
+-- of a list of marks, the n from a place on are the first n of the row, and all others are as they were
+pub record AreWritten (from n : ℕ) (row old new : List Mark) : Type 0 where
+  pub size : length new ≡ length old
+  pub here : (c : ℕ) → c < n → slice_index_or new (from + c) no_mark ≡ slice_index_or row c no_mark
+  pub others : (p : ℕ) → (p < from) ⊎ (from + n ≤ p) → slice_index_or new p no_mark ≡ slice_index_or old p no_mark
 
 -- the slot t has these marks, and the keeper is at rest
 abbrev pub with_snapshots : KeeperView → ℕ → List Mark → KeeperView

@@ -1,6 +1,6 @@
 -- A retired slot that is drained, as the keeper has it.
-use Rattle.std.specs.Prelude.{◌≡◌, ℕ, Bool, None, ◌++◌, ◌&&◌, ◌==◌, slice_set}
-use Rattle.passive_list.specs.Types.{Entry, Vacant, Retired, Hear, Vacate, Done, Keeper}
+use Rattle.std.specs.Prelude.{◌≡◌, ℕ, Bool, List, None, ◌++◌, ◌&&◌, ◌==◌, slice_set}
+use Rattle.passive_list.specs.Types.{Entry, Mark, Vacant, Retired, Hear, Vacate, Done, Keeper}
 use Rattle.registry_values.specs.Common.{bias, slot_at, is_retired, have_passed, are_clear, are_collected}
 use Rattle.cpu_words.specs.Common.{IsFreedFrom, did, Makes, IsDrained, keeper_after_vacate}
 use Rattle.passive_list.specs.declared.keeper.KeptSlot.{KeptSlot}
@@ -11,9 +11,9 @@ pub record IsDrainedOn (x : OnKeeper) (t : ℕ) : Type 0 where
   pub retired : (e : Entry) × (slot_at x.slots t ≡ Retired e)
   pub drained : IsDrained x.view t
 
--- the row of a slot says so
-abbrev pub is_drained_row : ℕ → KeptSlot → Bool
-is_drained_row cpus r = is_retired r.state && (have_passed cpus r.marks && (are_clear cpus r.marks && (are_collected cpus r.marks && total_or_bias r == bias)))
+-- the row and the marks of a slot say so
+abbrev pub is_drained_row : ℕ → KeptSlot → List Mark → Bool
+is_drained_row cpus r marks = is_retired r.state && (have_passed cpus marks && (are_clear cpus marks && (are_collected cpus marks && total_or_bias r == bias)))
 
 -- the slot is vacant: Vacate, and a Hear; the entry that it had is gone from there, by the log
 pub record HasVacated (a : OnKeeper) (t : ℕ) (b : OnKeeper) : Type 0 where

@@ -1,5 +1,5 @@
 -- A walk in a section: the row that it writes, and what it leaves of the CPU.
-use Rattle.std.specs.Prelude.{◌≡◌, ℕ, ◌<◌, ◌≤◌, List, length, Some, None}
+use Rattle.std.specs.Prelude.{◌≡◌, ℕ, ◌<◌, ◌≤◌, List, length, map, take, drop, Some, None}
 use Rattle.std.specs.List.{AllPairs, Contains}
 use mathlib.Core.List.{IsPrefix}
 use Rattle.passive_list.specs.Types.{Entry, Change}
@@ -35,3 +35,8 @@ pub record HasWalked (a b : OnCpu) (row : List Entry) : Type 0 where
   pub newest_first : AreNewestFirst row
   -- the search goes by as many entries as are in the row
   pub log : HasGoneOverBy a.view.id a.view.settings.slots (length row) a.log b.log
+
+-- the row has what is written for each of these entries, as far as it goes, and the rest of it stays
+pub record IsWritten {P : Type 0} (written : Entry → P) (met : List Entry) (old new : List P) : Type 0 where
+  pub first : take (length met) new ≡ take (length old) (map written met)
+  pub rest : drop (length met) new ≡ drop (length met) old

@@ -7,7 +7,7 @@ ghost use Rattle.protocol.specs.Common.{mark_at, total_at};
 ghost use Rattle.cpu_words.specs.Common.{AreWordsOf};
 ghost use Rattle.passive_list.specs.Draining.{HasCollectedInto, AreHeld};
 
-use crate::keeper::Keeper;
+use crate::keeper::{Keeper, mark_place};
 use cpu_words::{Words, steps};
 use registry_values::{BIAS, collected as collected_mark};
 
@@ -26,12 +26,11 @@ pub fn collect(words: &Words, keeper: &mut Keeper, slot: u8, cpu: u8)
     ensures words { keeper.new.words ≡ keeper.old.words }
 {
     let word = steps::collect(words, &mut keeper.seat, slot, cpu);
-    let mut row = keeper.rows[slot as usize];
-    let total = row.total_or_bias() + word - BIAS;
+    let total = keeper.rows[slot as usize].total_or_bias() + word - BIAS;
     steps::total_add(words, &mut keeper.seat, slot, total);
-    row.total = Some(total);
-    row.marks[cpu as usize] = collected_mark(row.marks[cpu as usize]);
-    keeper.rows[slot as usize] = row;
+    keeper.rows[slot as usize].total = Some(total);
+    let at = mark_place(keeper.settings.cpus, slot, cpu);
+    keeper.marks[at] = collected_mark(keeper.marks[at]);
 }
 
 /// Whether the keeper has collected the count word of a CPU for the retired entry in `slot`.

@@ -6,7 +6,7 @@ ghost use Rattle.passive_list.specs.Cpus.{HoldsFound};
 ghost use Rattle.passive_list.specs.Memories.{no_memory};
 ghost use Rattle.registry_values.specs.Common.{are_fit};
 
-use crate::plain_cpu::PlainCpu;
+use crate::plain_cpu::{CpuRows, PlainCpu};
 use cpu_words::{CpuSeat, Domain};
 use std::marker::Model;
 use std::sync::ledger::Share;
@@ -40,16 +40,17 @@ impl<D: Domain> Model for Cpu<D> {
 
 impl<D: Domain> Cpu<D> {
     /// The CPU of a new seat: outside, with nothing found and nothing held. What its share has is what its calls have made.
-    /// Condition: the seat is of D's table, as `Words::new` gave it, `id` is its number, below how many CPUs the table has, and the share is one
-    /// part of D's ledger.
-    pub fn of_seat(seat: CpuSeat, id: u8, share: Share<D>) -> Cpu<D>
+    /// Condition: the seat is of D's table, as `Words::new` gave it, `id` is its number, below how many CPUs the table has, the rows are for the
+    /// table's slots, and the share is one part of D's ledger.
+    pub fn of_seat(seat: CpuSeat, id: u8, rows: CpuRows, share: Share<D>) -> Cpu<D>
         requires table { (seat.table ≡ D.table) × IsTrue (are_fit D.settings) × (id < D.settings.cpus) }
         requires new { seat.view ≡ new_cpu D.settings id }
+        requires rows { rows ≡ D.settings.slots }
         requires part { share.parts ≡ 1 }
-        ensures { result ≡ record { view = new_cpu D.settings id; depth = 0; made = share.amount; memory = no_memory; known_log = seat.known_log; log = seat.log } }
+        ensures { result ≡ record { view = new_cpu D.settings id; depth = 0; made = share.amount; memory = no_memory D.settings.slots; known_log = seat.known_log; log = seat.log } }
     {
         Cpu {
-            plain: PlainCpu::of_seat(seat, id),
+            plain: PlainCpu::of_seat(seat, id, rows),
             share,
         }
     }

@@ -9,7 +9,7 @@ ghost use Rattle.passive_list.specs.Draining.{HasFreed, kept_slot, place_of};
 
 use crate::keeper::{Keeper, KeptSlot, SlotState};
 use cpu_words::{Words, steps};
-use registry_values::{MOST_SLOTS, has_number};
+use registry_values::has_number;
 
 /// Frees the slot of a retired and drained interface: the reference to its driver is given up in the same step.
 /// Condition: the slot is drained (`Keeper::is_drained`), and its entry is an interface.
@@ -35,7 +35,7 @@ pub fn free_iface(words: &Words, keeper: &mut Keeper, slot: u8)
 }
 
 /// The slot whose live or retired entry has the number kept.
-fn kept_slot(keeps: Option<u64>, rows: &[KeptSlot; MOST_SLOTS]) -> Option<usize>
+fn kept_slot(keeps: Option<u64>, rows: &[KeptSlot]) -> Option<usize>
     ensures { result ≡ kept_slot keeps rows.now }
 {
     match keeps {

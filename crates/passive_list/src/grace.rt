@@ -7,7 +7,7 @@ ghost use Rattle.protocol.specs.Common.{mark_at};
 ghost use Rattle.cpu_words.specs.Common.{AreWordsOf, HasLooked, keeper_after_look, did, Makes};
 ghost use Rattle.cpu_words.specs.declared.view.View.TheVariants.{Keeper as OfKeeper};
 
-use crate::keeper::Keeper;
+use crate::keeper::{Keeper, mark_place};
 use cpu_words::{Words, steps};
 use registry_values::looked;
 
@@ -26,8 +26,9 @@ pub fn look(words: &Words, keeper: &mut Keeper, slot: u8, cpu: u8) -> bool
     ensures words { keeper.new.words ≡ keeper.old.words }
 {
     let word = steps::look(words, &mut keeper.seat, slot, cpu);
-    let mark = looked(keeper.rows[slot as usize].marks[cpu as usize], word);
-    keeper.rows[slot as usize].marks[cpu as usize] = mark;
+    let at = mark_place(keeper.settings.cpus, slot, cpu);
+    let mark = looked(keeper.marks[at], word);
+    keeper.marks[at] = mark;
     mark.passed
 }
 

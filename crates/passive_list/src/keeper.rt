@@ -1,14 +1,15 @@
 //! The keeper, the writer behind the interlock: its seat, and plain data that agree with what the seat knows.
 
-ghost use Rattle.std.specs.Prelude.{◌≡◌, ◌<◌, IsTrue, length, replicate};
+ghost use Rattle.std.specs.Prelude.{◌≡◌, ◌<◌, ◌+◌, ◌*◌, IfOk, IsTrue, length, replicate};
 ghost use Rattle.passive_list.specs.Types.{Vacant};
 ghost use Rattle.registry_values.specs.Common.{are_fit, slot_at};
 ghost use Rattle.protocol.specs.Common.{kept_at};
 ghost use Rattle.cpu_words.specs.Common.{keeper_with};
-ghost use Rattle.passive_list.specs.Keepers.{total_or_bias};
+ghost use Rattle.passive_list.specs.Keepers.{AreRowsOfNew, total_or_bias};
 
 use cpu_words::KeeperSeat;
-use registry_values::{BIAS, MOST_CPUS, MOST_SLOTS, Mark, NO_MARK, Settings};
+use registry_values::{BIAS, Mark, NO_MARK, Settings};
+use std::alloc::{AllocError, Global};
 use std::marker::Model;
 
 /// The state of a slot, as the keeper has it. A slot that was retired and drained is `Vacant` once it was vacated.
@@ -19,10 +20,7 @@ pub use registry_values::Slot as SlotState;
 pub struct KeptSlot {
     /// Vacant, or the slot's live or retired entry.
     pub state: SlotState,
-    /// What was noted of each CPU for a retired entry.
-    pub marks: [Mark; MOST_CPUS],
-    /// The slot's total: the bias, what was collected, less the references given up under the interlock. `None` is the bias. So a row
-    /// is all zeros until something is attached there, and LLVM writes the rows of a new keeper straight to their block.
+    /// The slot's total: the bias, what was collected, less the references given up under the interlock. `None` is the bias.
     pub total: Option<u64>,
     /// The number of the driver that the slot keeps a reference to.
     pub keeps: Option<u64>,
@@ -40,26 +38,41 @@ pub struct Keeper {
     /// How many changes there were: attaches and detaches.
     pub(crate) changes: u64,
     /// By slot.
-    pub(crate) rows: [KeptSlot; MOST_SLOTS],
+    pub(crate) rows: Vec<KeptSlot>,
+    /// What was noted of the CPUs for a retired entry, a slot's marks side by side (`mark_place`).
+    pub(crate) marks: Vec<Mark>,
+}
+
+/// The rows of a keeper that isn't seated yet, by the settings.
+#[derive(Drop)]
+pub struct KeeperRows {
+    slots: Vec<KeptSlot>,
+    marks: Vec<Mark>,
 }
 
 impl Model for Keeper {
-    ghost use Rattle.passive_list.specs.Keepers.{OnPlainKeeper, IsOurKeeper, on_keeper};
+    ghost use Rattle.passive_list.specs.Keepers.{OnPlainKeeper, IsOurKeeper, MarksAgree, on_keeper};
 
     ghost Value = { OnPlainKeeper };
 
-    ghost view = { λ k. on_keeper k.seat.table k.settings k.seat.view k.rows k.seat.log };
+    ghost view = { λ k. on_keeper k.seat.table k.settings k.seat.view k.rows.items k.seat.log };
 
-    ghost invariant = { λ k. IsOurKeeper k.settings k.seat.view k.rows k.changes };
+    ghost invariant = { λ k. IsOurKeeper k.settings k.seat.view k.rows.items k.changes × MarksAgree k.settings k.seat.view k.marks.items };
 }
 
 /// A slot that nothing was ever in.
 const VACANT_SLOT: KeptSlot = KeptSlot {
     state: SlotState::Vacant,
-    marks: [NO_MARK; MOST_CPUS],
     total: None,
     keeps: None,
 };
+
+/// The place of a CPU's mark for a slot.
+pub(crate) fn mark_place(cpus: u8, slot: u8, cpu: u8) -> usize
+    ensures { result ≡ slot * cpus + cpu }
+{
+    slot as usize * cpus as usize + cpu as usize
+}
 
 impl KeptSlot {
     /// The slot's total, and the bias where nothing was collected or given up yet.
@@ -70,20 +83,36 @@ impl KeptSlot {
     }
 }
 
+impl KeeperRows {
+    /// A row for each slot, and a mark for each CPU there: all slots are vacant.
+    /// Refused: no memory.
+    pub fn new(alloc: Global, settings: Settings) -> Result<KeeperRows, AllocError>
+        ensures { IfOk result (λ rows. AreRowsOfNew settings rows) }
+    {
+        Ok(KeeperRows {
+            slots: vec![in alloc; VACANT_SLOT; settings.slots as usize]?,
+            marks: vec![in alloc; NO_MARK; mark_place(settings.cpus, settings.slots, 0)]?,
+        })
+    }
+}
+
 impl Keeper {
     /// The keeper of a new seat: all slots are vacant, and there was no change.
-    /// Condition: the seat is as `Words::new` gave it for these settings.
-    pub fn of_seat(seat: KeeperSeat, settings: Settings) -> Keeper
+    /// Conditions: the seat is as `Words::new` gave it for these settings, and the rows were made for them.
+    pub fn of_seat(seat: KeeperSeat, settings: Settings, rows: KeeperRows) -> Keeper
         requires fit { IsTrue (are_fit settings) }
         requires new { seat.view ≡ keeper_with settings settings.cpus }
+        requires rows { AreRowsOfNew settings rows }
         ensures words { result.words ≡ record { table = seat.table; settings = settings } }
-        ensures keeper { result.keeper ≡ record { view = keeper_with settings settings.cpus; slots = replicate MOST_SLOTS Vacant; log = seat.log } }
+        ensures keeper { result.keeper ≡ record { view = keeper_with settings settings.cpus; slots = replicate settings.slots Vacant; log = seat.log } }
     {
+        let KeeperRows { slots, marks } = rows;
         Keeper {
             seat,
             settings,
             changes: 0,
-            rows: [VACANT_SLOT; MOST_SLOTS],
+            rows: slots,
+            marks,
         }
     }
 
@@ -96,17 +125,19 @@ impl Keeper {
             settings: _,
             changes: _,
             rows: _,
+            marks: _,
         } = self;
         seat
     }
 
-    /// The state of a slot, from 0.
-    /// Condition: the slot is below `MOST_SLOTS`.
+    /// The state of a slot, from 0; past the table's slots nothing is.
     pub fn slot(&self, s: u8) -> SlotState
-        requires { s < MOST_SLOTS }
         ensures { result ≡ slot_at self.now.keeper.slots s }
     {
-        self.rows[s as usize].state
+        match self.rows.get(s as usize) {
+            Some(row) => row.state,
+            None => SlotState::Vacant,
+        }
     }
 
     /// How many changes there were: attaches and detaches.

@@ -40,15 +40,15 @@ pub use freeing::free_iface;
 pub use from_outside::find_from_outside;
 pub use giving_up::give_up;
 pub use grace::{glance, look, snapshot};
-pub use keeper::{Keeper, KeptSlot, SlotState};
+pub use keeper::{Keeper, KeeperRows, KeptSlot, SlotState};
 pub use keeper_notes::{hear_keeper, tell_keeper};
 pub use keeping::publish_keeping;
 pub use looking::look_passive;
 pub use lookup::{Seen, entry_of, find, find_on};
-pub use memory::{Memo, Memory};
+pub use memory::{Hint, Memo, Memory};
 pub use notes::{Note, hear, hear_on, tell, tell_on};
 pub use place::{Found, NumberedCount};
-pub use plain_cpu::PlainCpu;
+pub use plain_cpu::{CpuRows, PlainCpu};
 pub use publishing::publish;
 pub use recalling::{recall_head_on, recall_on, refind_on};
 pub use remembering::{
@@ -58,4 +58,4 @@ pub use remembering::{
 pub use retiring::retire;
 pub use sections::{enter, enter_on, exit, exit_on, may_begin_on};
 pub use vacating::vacate;
-pub use walks::{walk, walk_on};
+pub use walks::{WritesEntry, walk, walk_on};

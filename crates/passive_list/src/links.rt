@@ -1,13 +1,11 @@
 //! The live entries by number: the list is newest first, so they say where each link leads.
 
-ghost use Rattle.std.specs.Prelude.{◌≡◌, ◌≤◌, ℕ};
-ghost use Rattle.passive_list.specs.Types.{Vacant};
+ghost use Rattle.std.specs.Prelude.{◌≡◌, length};
 ghost use Rattle.cpu_words.specs.Common.{LeadsBelow, IsBefore, IsLinkPlace};
-ghost use Rattle.passive_list.specs.Keepers.{row_at, states_of};
+ghost use Rattle.passive_list.specs.Keepers.{states_of};
 ghost use Rattle.passive_list.specs.Links.{is_newer, newer_of, is_older, older_of, link_to, place_of};
 
 use crate::keeper::{KeptSlot, SlotState};
-use registry_values::MOST_SLOTS;
 
 /// A live entry: where it is, and its number.
 #[derive(Clone, Copy)]
@@ -17,10 +15,8 @@ pub(crate) struct At {
 }
 
 /// The link that leads to the live entry with the greatest number below `number`: its slot plus 1, or 0 where there is none.
-/// Condition: the slots from `slots` on are vacant.
-pub(crate) fn link_below(rows: &[KeptSlot; MOST_SLOTS], slots: u8, number: u64) -> u64
-    requires slots { slots ≤ MOST_SLOTS }
-    requires beyond { (t : ℕ) → slots ≤ t → (row_at rows.now t).state ≡ Vacant }
+pub(crate) fn link_below(rows: &[KeptSlot], slots: u8, number: u64) -> u64
+    requires { length rows.now ≡ slots }
     ensures { LeadsBelow (states_of rows.now) number result }
 {
     let mut best = None;
@@ -31,10 +27,8 @@ pub(crate) fn link_below(rows: &[KeptSlot; MOST_SLOTS], slots: u8, number: u64) 
 }
 
 /// The slot of the live entry with the least number above `number`.
-/// Condition: the slots from `slots` on are vacant.
-pub(crate) fn slot_above(rows: &[KeptSlot; MOST_SLOTS], slots: u8, number: u64) -> Option<u8>
-    requires slots { slots ≤ MOST_SLOTS }
-    requires beyond { (t : ℕ) → slots ≤ t → (row_at rows.now t).state ≡ Vacant }
+pub(crate) fn slot_above(rows: &[KeptSlot], slots: u8, number: u64) -> Option<u8>
+    requires { length rows.now ≡ slots }
     ensures before { IsBefore (states_of rows.now) number result }
     ensures place { IsLinkPlace slots result }
 {

@@ -7,7 +7,7 @@ ghost use Rattle.protocol.specs.Common.{mark_at};
 ghost use Rattle.cpu_words.specs.Common.{AreWordsOf, HasLookedPassive, did, Makes};
 ghost use Rattle.cpu_words.specs.declared.view.View.TheVariants.{Keeper as OfKeeper};
 
-use crate::keeper::Keeper;
+use crate::keeper::{Keeper, mark_place};
 use cpu_words::{Words, steps};
 use registry_values::cleared;
 
@@ -27,7 +27,8 @@ pub fn look_passive(words: &Words, keeper: &mut Keeper, slot: u8, cpu: u8) -> bo
     ensures words { keeper.new.words ≡ keeper.old.words }
 {
     let word = steps::passive_look(words, &mut keeper.seat, slot, cpu);
-    let mark = cleared(keeper.rows[slot as usize].marks[cpu as usize], word);
-    keeper.rows[slot as usize].marks[cpu as usize] = mark;
+    let at = mark_place(keeper.settings.cpus, slot, cpu);
+    let mark = cleared(keeper.marks[at], word);
+    keeper.marks[at] = mark;
     mark.clear
 }

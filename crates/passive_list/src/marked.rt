@@ -1,10 +1,10 @@
 //! What the keeper has of the CPUs for a retired entry: tests for the conditions of looks, of a drain and of its end.
 
-ghost use Rattle.std.specs.Prelude.{◌≡◌, ◌<◌, slice_index_or, []};
+ghost use Rattle.std.specs.Prelude.{◌≡◌, ◌<◌, slice_index_or, take, []};
 ghost use Rattle.registry_values.specs.Common.{have_passed, are_clear, are_collected};
 ghost use Rattle.protocol.specs.Common.{mark_at};
 
-use crate::keeper::Keeper;
+use crate::keeper::{Keeper, mark_place};
 use registry_values::{Mark, are_clear, are_collected, have_passed};
 
 impl Keeper {
@@ -14,7 +14,7 @@ impl Keeper {
         requires { (slot < self.now.words.settings.slots) × (cpu < self.now.words.settings.cpus) }
         ensures { result ≡ mark_at self.now.keeper.view.marks slot cpu }
     {
-        self.rows[slot as usize].marks[cpu as usize]
+        self.marks[mark_place(self.settings.cpus, slot, cpu)]
     }
 
     /// Whether all CPUs have passed for the entry in `slot` (pserialize(9)): no section may hold it any more.
@@ -23,7 +23,7 @@ impl Keeper {
         requires { slot < self.now.words.settings.slots }
         ensures { result ≡ have_passed self.now.words.settings.cpus (slice_index_or self.now.keeper.view.marks slot []) }
     {
-        have_passed(self.settings.cpus, &self.rows[slot as usize].marks)
+        have_passed(self.settings.cpus, self.marks_of(slot))
     }
 
     /// Whether all CPUs are clear for the entry in `slot` (psref(9)): none has a passive reference to it any more.
@@ -32,7 +32,7 @@ impl Keeper {
         requires { slot < self.now.words.settings.slots }
         ensures { result ≡ are_clear self.now.words.settings.cpus (slice_index_or self.now.keeper.view.marks slot []) }
     {
-        are_clear(self.settings.cpus, &self.rows[slot as usize].marks)
+        are_clear(self.settings.cpus, self.marks_of(slot))
     }
 
     /// Whether the count words of all CPUs for the entry in `slot` were collected (localcount(9)).
@@ -41,6 +41,15 @@ impl Keeper {
         requires { slot < self.now.words.settings.slots }
         ensures { result ≡ are_collected self.now.words.settings.cpus (slice_index_or self.now.keeper.view.marks slot []) }
     {
-        are_collected(self.settings.cpus, &self.rows[slot as usize].marks)
+        are_collected(self.settings.cpus, self.marks_of(slot))
+    }
+
+    /// The slot's marks, and all that lie behind them.
+    /// Condition: the slot is one of the table's.
+    pub(crate) fn marks_of(&self, slot: u8) -> &[Mark]
+        requires { slot < self.now.words.settings.slots }
+        ensures { take self.now.words.settings.cpus result.now ≡ take self.now.words.settings.cpus (slice_index_or self.now.keeper.view.marks slot []) }
+    {
+        &self.marks[mark_place(self.settings.cpus, slot, 0)..]
     }
 }

@@ -1,6 +1,6 @@
 //! A virtual CPU that names its table by its own seat: what a call on a CPU does is done with one, whoever makes it.
 
-ghost use Rattle.std.specs.Prelude.{◌≡◌, ◌≢◌, ◌↔◌, ◌<◌, IsTrue, None};
+ghost use Rattle.std.specs.Prelude.{◌≡◌, ◌≢◌, ◌↔◌, ◌<◌, IfOk, IsTrue, None};
 ghost use Rattle.registry_values.specs.Common.{are_fit};
 ghost use Rattle.cpu_words.specs.Common.{new_cpu};
 ghost use Rattle.passive_list.specs.Cpus.{HoldsFound};
@@ -9,8 +9,42 @@ ghost use Rattle.passive_list.specs.Memories.{no_memory};
 use crate::memory::Memory;
 use crate::place::{Found, NumberedCount};
 use cpu_words::CpuSeat;
-use registry_values::MOST_SLOTS;
+use std::alloc::{AllocError, Global};
 use std::marker::Model;
+
+/// What a new CPU has on the heap: nothing is held or remembered. It is made before the CPU's seat is taken, since it takes memory. To a contract it
+/// is the number of the slots that it is for.
+#[derive(Drop)]
+pub struct CpuRows {
+    passive: Vec<NumberedCount>,
+    net: Vec<NumberedCount>,
+    memory: Memory,
+}
+
+impl Model for CpuRows {
+    ghost use Rattle.std.specs.Prelude.{ℕ, length};
+    ghost use Rattle.passive_list.specs.Cpus.{AreNewRows};
+
+    ghost Value = { ℕ };
+
+    ghost view = { λ r. length r.passive.items };
+
+    ghost invariant = { λ r. AreNewRows (length r.passive.items) r.passive.items r.net.items r.memory };
+}
+
+impl CpuRows {
+    /// The rows of one CPU of a table with so many slots.
+    pub fn new(alloc: Global, slots: u8) -> Result<CpuRows, AllocError>
+        requires { 0 < slots }
+        ensures { IfOk result (λ rows. rows ≡ slots) }
+    {
+        Ok(CpuRows {
+            passive: vec![in alloc; NumberedCount::NONE; slots as usize]?,
+            net: vec![in alloc; NumberedCount::NONE; slots as usize]?,
+            memory: Memory::new(alloc, slots)?,
+        })
+    }
+}
 
 /// A virtual CPU of the table that its seat is of: the seat, and plain data that agree with what the seat knows. To a contract it is that
 /// table with its settings, and what `Cpu` is to one. Binding is ownership: the thread that owns the value runs on that CPU.
@@ -26,9 +60,9 @@ pub struct PlainCpu {
     /// The entry that its last lookup in the open section found.
     pub found: Found,
     /// By slot: its passive references.
-    pub passive: [NumberedCount; MOST_SLOTS],
+    pub passive: Vec<NumberedCount>,
     /// By slot: its net count of local references, over the bias.
-    pub net: [NumberedCount; MOST_SLOTS],
+    pub net: Vec<NumberedCount>,
     /// The entries that it has found.
     pub memory: Memory,
 }
@@ -40,27 +74,33 @@ impl Model for PlainCpu {
 
     ghost view = { λ c. record { words = record { table = c.seat.table; settings = c.seat.view.settings }; cpu = record { view = c.seat.view; depth = c.depth; made = 0; memory = c.memory; known_log = c.seat.known_log; log = c.seat.log } } };
 
-    ghost invariant = { λ c. IsOurCpu c.seat.table c.seat.view.settings c.seat.table c.seat.view c.id c.ended c.depth c.found c.passive c.net c.memory };
+    ghost invariant = { λ c. IsOurCpu c.seat.table c.seat.view.settings c.seat.table c.seat.view c.id c.ended c.depth c.found c.passive.items c.net.items c.memory };
 }
 
 impl PlainCpu {
     /// The CPU of a new seat: outside, with nothing found and nothing held.
-    /// Condition: the seat is as `Words::new` gave it, and `id` is its number, below how many CPUs the table has.
-    pub fn of_seat(seat: CpuSeat, id: u8) -> PlainCpu
+    /// Condition: the seat is as `Words::new` gave it, `id` is its number, below how many CPUs the table has, and the rows are for its slots.
+    pub fn of_seat(seat: CpuSeat, id: u8, rows: CpuRows) -> PlainCpu
         requires fit { IsTrue (are_fit seat.view.settings) × (id < seat.view.settings.cpus) }
         requires new { seat.view ≡ new_cpu seat.view.settings id }
+        requires rows { rows ≡ seat.view.settings.slots }
         ensures words { result.words ≡ record { table = seat.table; settings = seat.view.settings } }
-        ensures cpu { result.cpu ≡ record { view = seat.view; depth = 0; made = 0; memory = no_memory; known_log = seat.known_log; log = seat.log } }
+        ensures cpu { result.cpu ≡ record { view = seat.view; depth = 0; made = 0; memory = no_memory seat.view.settings.slots; known_log = seat.known_log; log = seat.log } }
     {
+        let CpuRows {
+            passive,
+            net,
+            memory,
+        } = rows;
         PlainCpu {
             seat,
             id,
             ended: 0,
             depth: 0,
             found: Found::NONE,
-            passive: [NumberedCount::NONE; MOST_SLOTS],
-            net: [NumberedCount::NONE; MOST_SLOTS],
-            memory: Memory::new(),
+            passive,
+            net,
+            memory,
         }
     }
 

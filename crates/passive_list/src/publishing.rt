@@ -11,7 +11,7 @@ ghost use Rattle.passive_list.specs.Publishing.{MayAttach, HasEntry, HasAttached
 use crate::keeper::{Keeper, KeptSlot, SlotState};
 use crate::links::link_below;
 use cpu_words::{KeeperSeat, Words, steps};
-use registry_values::{BIAS, Entry, MOST_CPUS, MOST_SLOTS, Record, kind_word};
+use registry_values::{BIAS, Entry, MOST_CPUS, Record, kind_word};
 
 /// Publishes an entry in `slot`: from now on lookups find it, and the history ends with its attach. Its number is how many changes there
 /// are then. Returns the entry.
@@ -47,12 +47,7 @@ pub fn publish(words: &Words, keeper: &mut Keeper, slot: u8, rec: Record) -> Ent
 /// Publishes the entry by the keeper's seat alone, as `publish` does, when the rows say already what is in each slot: for calls that have
 /// made another step with the seat.
 /// Condition: that of `publish`, of the seat and the rows; the entry's number is how many changes there are then.
-pub(crate) fn publish_entry(
-    words: &Words,
-    seat: &mut KeeperSeat,
-    rows: &[KeptSlot; MOST_SLOTS],
-    entry: &Entry,
-)
+pub(crate) fn publish_entry(words: &Words, seat: &mut KeeperSeat, rows: &[KeptSlot], entry: &Entry)
     requires table { seat.old.table ≡ words.now.table }
     requires may { MayAttach words.now.settings seat.old.view rows.now entry.now }
     ensures table { seat.new.table ≡ seat.old.table }

@@ -1,7 +1,7 @@
 //! Lookups by memory, from outside: by one load, where the CPU remembers an entry with this kind and name that is live; by two, where it
 //! remembers that none had them, and the newest live entry is the same.
 
-ghost use Rattle.std.specs.Prelude.{◌≡◌, ◌≢◌, ◌↔◌, ◌<◌, IfSome, IsTrue, None, true};
+ghost use Rattle.std.specs.Prelude.{◌≡◌, ◌≢◌, ◌↔◌, ◌<◌, IfSome, IsTrue, None, length, true};
 ghost use Rattle.cpu_words.specs.Common.{AreWordsOf, key_with};
 ghost use Rattle.passive_list.specs.Memories.{HasNumbered, IsMiss, IsTrueMiss, Recalls, WasAbsent, hint_of, miss_at, with_miss};
 ghost use Rattle.passive_list.specs.Recalling.{HasRecalledOn};
@@ -126,7 +126,7 @@ pub fn find_anew(words: &Words, cpu: &mut PlainCpu, kind: Kind, name: Name) -> O
 
 /// The last miss of a name with this one's hint.
 fn last_miss(cpu: &PlainCpu, name: Name) -> Miss
-    ensures is { result ≡ miss_at cpu.now.cpu.memory.missed (hint_of name) }
+    ensures is { result ≡ miss_at cpu.now.cpu.memory.missed (hint_of (length cpu.now.cpu.memory.missed) name) }
     ensures so { IsTrueMiss cpu.now.cpu.view.pass result }
 {
     cpu.memory.miss_of(name)

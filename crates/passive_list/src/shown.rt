@@ -5,7 +5,7 @@ ghost use Rattle.passive_list.specs.declared.keeper.KeptSlot.{KeptSlot};
 ghost use Rattle.passive_list.specs.Keepers.{HasRows};
 
 use crate::keeper::{Keeper, KeptSlot};
-use registry_values::{MOST_SLOTS, Settings};
+use registry_values::Settings;
 
 impl Keeper {
     /// What the table was made for. `own` is what every keeper keeps of itself: it is at rest, some state shows its view, and the settings are fit.
@@ -16,9 +16,8 @@ impl Keeper {
         self.settings
     }
 
-    /// What it has of each slot, from 0. The rows of the table's slots agree with what its seat knows; those past them are vacant, and no more is
-    /// said of them.
-    pub fn rows(&self) -> &[KeptSlot; MOST_SLOTS]
+    /// What it has of each slot, from 0: it agrees with what its seat knows.
+    pub fn rows(&self) -> &[KeptSlot]
         ensures { HasRows self.now result.now }
     {
         &self.rows

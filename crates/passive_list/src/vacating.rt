@@ -7,7 +7,7 @@ ghost use Rattle.passive_list.specs.Vacating.{HasVacated, IsDrainedOn, is_draine
 
 use crate::keeper::{Keeper, KeptSlot, SlotState};
 use cpu_words::{Words, steps};
-use registry_values::{BIAS, are_clear, are_collected, have_passed};
+use registry_values::{BIAS, Mark, are_clear, are_collected, have_passed};
 
 impl Keeper {
     /// Whether the entry in `slot` is retired and drained: all CPUs have passed, are clear and collected, and the total counts no local
@@ -17,7 +17,11 @@ impl Keeper {
         requires { slot < self.now.words.settings.slots }
         ensures { IsTrue result ↔ IsDrainedOn self.now.keeper slot }
     {
-        is_drained_row(self.settings.cpus, &self.rows[slot as usize])
+        is_drained_row(
+            self.settings.cpus,
+            &self.rows[slot as usize],
+            self.marks_of(slot),
+        )
     }
 }
 
@@ -34,12 +38,12 @@ pub fn vacate(words: &Words, keeper: &mut Keeper, slot: u8)
     keeper.rows[slot as usize].state = SlotState::Vacant;
 }
 
-fn is_drained_row(cpus: u8, row: &KeptSlot) -> bool
-    ensures { result ≡ is_drained_row cpus row.now }
+fn is_drained_row(cpus: u8, row: &KeptSlot, marks: &[Mark]) -> bool
+    ensures { result ≡ is_drained_row cpus row.now marks.now }
 {
     matches!(row.state, SlotState::Retired(_))
-        && have_passed(cpus, &row.marks)
-        && are_clear(cpus, &row.marks)
-        && are_collected(cpus, &row.marks)
+        && have_passed(cpus, marks)
+        && are_clear(cpus, marks)
+        && are_collected(cpus, marks)
         && row.total_or_bias() == BIAS
 }

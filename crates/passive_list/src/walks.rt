@@ -3,87 +3,119 @@
 //! It is one search for a name that no entry has, so it goes by each entry on the list. The search loads the words that it compares: the
 //! number, the kind and the name. The walk loads the value beside them.
 
-ghost use Rattle.std.specs.Prelude.{◌≡◌, ◌≢◌, ◌<◌, ◌≤◌, None, take, drop, length};
-ghost use Rattle.passive_list.specs.Types.{Kind};
+ghost use Rattle.std.specs.Prelude.{◌≡◌, ◌≢◌, ◌<◌, ◌≤◌, List, None, take, drop, set, length};
+ghost use Rattle.passive_list.specs.Types.{Entry, Kind};
 ghost use Rattle.registry_values.specs.Common.{kind_word};
 ghost use Rattle.cpu_words.specs.Common.{AreWordsOf, IsShownCpu, MaySeek};
 ghost use Rattle.passive_list.specs.Searches.{IsWalkLoad, GoesOnBySoMany, HasGoneOverBy};
 ghost use Rattle.passive_list.specs.GoingOver.{MayGoBy, HasGoneByOne, HasGoneOver};
-ghost use Rattle.passive_list.specs.Walks.{HasWalked};
+ghost use Rattle.passive_list.specs.Walks.{HasWalked, IsWritten};
 
 use crate::cpu::Cpu;
 use crate::plain_cpu::PlainCpu;
 use cpu_words::{CpuSeat, Domain, Words, steps};
 use registry_values::{Entry, Kind, MOST_SLOTS, Name, Record};
 
+/// How a walk writes an entry into a place of its row.
+pub trait WritesEntry {
+    /// What a place has.
+    type Place;
+
+    /// What is written for an entry.
+    ghost written: { Entry → Self.Place };
+
+    fn write(place: &mut Self::Place, entry: Entry)
+        ensures { place.new ≡ written entry };
+}
+
+/// Writes each entry as it is.
+struct AsItIs;
+
+impl WritesEntry for AsItIs {
+    type Place = Entry;
+
+    ghost written = { λ e. e };
+
+    /// Field by field. An entry that is copied whole takes the bytes between its fields along, which takes longer than to load it.
+    #[inline(always)]
+    fn write(place: &mut Entry, entry: Entry) {
+        place.number = entry.number;
+        place.slot = entry.slot;
+        place.rec = entry.rec;
+    }
+}
+
 /// Walks over all entries: writes the live ones into the row, the newest first, and returns how many there are. The rest of the row stays.
 /// The last found entry is cleared. It takes no memory.
-/// Condition: inside.
+/// Conditions: inside; the row has as many places as the registry has slots.
 ///
 /// 1. Each entry that is live from the start to the end is in the row, once.
 /// 2. Each entry in the row was live at some point from what this CPU had seen at the call to what it has seen at the return.
 /// 3. Each of them keeps its slot until this section ends.
 ///
 /// With n entries in the row there are 6 n + 1 loads (`log` of `HasWalked`).
-pub fn walk<D: Domain>(words: &Words, cpu: &mut Cpu<D>, row: &mut [Entry; MOST_SLOTS]) -> usize
+pub fn walk<D: Domain>(words: &Words, cpu: &mut Cpu<D>, row: &mut [Entry]) -> usize
     requires words { AreWordsOf words.now D.table D.settings }
     requires inside { cpu.old.view.begin ≢ None }
-    ensures count { result ≤ MOST_SLOTS }
+    requires room { D.settings.slots ≤ length row.old }
+    ensures count { result ≤ D.settings.slots }
     ensures walked { HasWalked cpu.old cpu.new (take result row.new) }
     ensures rest { drop result row.new ≡ drop result row.old }
 {
-    walk_on(words, &mut cpu.plain, row)
+    walk_on::<AsItIs>(words, &mut cpu.plain, row)
 }
 
-/// `walk` on a CPU that names its own table. Conditions: the words are its table's; inside.
-pub fn walk_on(words: &Words, cpu: &mut PlainCpu, row: &mut [Entry; MOST_SLOTS]) -> usize
+/// `walk` on a CPU that names its own table, into a row of any length: what it has no place for isn't written. Returns how many entries there are,
+/// with those. Conditions: the words are its table's; inside.
+pub fn walk_on<W: WritesEntry>(words: &Words, cpu: &mut PlainCpu, row: &mut [W::Place]) -> usize
     requires words { AreWordsOf words.now cpu.old.words.table cpu.old.words.settings }
     requires inside { cpu.old.cpu.view.begin ≢ None }
-    ensures count { result ≤ MOST_SLOTS }
-    ensures walked { HasWalked cpu.old.cpu cpu.new.cpu (take result row.new) }
-    ensures rest { drop result row.new ≡ drop result row.old }
+    ensures count { result ≤ cpu.old.words.settings.slots }
+    ensures walked { (met : List Entry) × (result ≡ length met) × HasWalked cpu.old.cpu cpu.new.cpu met × IsWritten W.written met row.old row.new }
     ensures words { cpu.new.words ≡ cpu.old.words }
 {
-    let count = go_over(words, &mut cpu.seat, cpu.id, row);
+    let count = go_over::<W>(words, &mut cpu.seat, cpu.id, row);
     cpu.found.number = 0;
     count
 }
 
 /// The whole walk, by the CPU's seat. Its search finds nothing, so the last found entry is cleared.
-fn go_over(words: &Words, seat: &mut CpuSeat, cpu: u8, row: &mut [Entry; MOST_SLOTS]) -> usize
+fn go_over<W: WritesEntry>(
+    words: &Words,
+    seat: &mut CpuSeat,
+    cpu: u8,
+    row: &mut [W::Place],
+) -> usize
     requires table { seat.old.table ≡ words.now.table }
     requires cpu { (cpu < words.now.settings.cpus) × (seat.old.view.id ≡ cpu) }
     requires settings { seat.old.view.settings ≡ words.now.settings }
     requires may { MaySeek seat.old.view }
     ensures table { seat.new.table ≡ seat.old.table }
-    ensures count { result ≤ MOST_SLOTS }
-    ensures change { HasGoneOver seat.old.view seat.new.view (take result row.new) }
+    ensures change { (met : List Entry) × (result ≡ length met) × HasGoneOver seat.old.view seat.new.view met × IsWritten W.written met row.old row.new }
     ensures is_shown { IsShownCpu seat.new.view }
-    ensures rest { drop result row.new ≡ drop result row.old }
     ensures known_log { seat.new.known_log ≡ seat.old.known_log }
-    ensures log { HasGoneOverBy cpu seat.old.view.settings.slots (length (take result row.new)) seat.old.log seat.new.log }
+    ensures log { HasGoneOverBy cpu seat.old.view.settings.slots result seat.old.log seat.new.log }
 {
     let mut count = 0;
     let mut link = steps::seek(words, seat, cpu, Kind::Iface, Name::of_words(0, 0));
     while link != 0 {
         let slot = (link - 1) as usize;
         let entry = go_by(words, seat, cpu, slot);
-        put(&mut row[count], entry);
+        write_at::<W>(row, count, entry);
         count += 1;
         link = steps::load_link(words, seat, cpu, link);
     }
     count
 }
 
-/// Writes an entry into a place of the row, field by field. An entry that is copied whole takes the bytes between its fields along, which takes
-/// longer than to load it.
+/// Writes an entry into its place, if the row goes so far.
 #[inline(always)]
-fn put(place: &mut Entry, entry: Entry)
-    ensures { place.new ≡ entry }
+fn write_at<W: WritesEntry>(row: &mut [W::Place], place: usize, entry: Entry)
+    ensures { row.new ≡ set row.old place (W.written entry) }
 {
-    place.number = entry.number;
-    place.slot = entry.slot;
-    place.rec = entry.rec;
+    if place < row.len() {
+        W::write(&mut row[place], entry);
+    }
 }
 
 /// Loads all words of the entry in a slot.

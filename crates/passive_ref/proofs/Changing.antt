@@ -3,9 +3,8 @@ use Rattle.std.proofs.Common.{◌≡◌, ◌≢◌, ⊎_elim, ℕ, ◌+◌, ◌-
 use Rattle.std.proofs.lemmas.Bool.{cases_eq}
 use Rattle.std.proofs.lemmas.List.{length-set}
 use Rattle.std.specs.List.{Contains}
-use Rattle.passive_list.specs.declared.memory.Memory.{Memory}
 use Rattle.atomic_table.specs.Seated.{TableId}
-use Rattle.passive_list.specs.Types.{Entry, Settings, MOST_SLOTS, CpuView}
+use Rattle.passive_list.specs.Types.{Entry, Settings, CpuView}
 use Rattle.protocol.specs.Common.{IsAttached}
 use Rattle.protocol.proofs.history.History.{at_within}
 use Rattle.cpu_words.specs.Common.{references_to, without, IsShownCpu, IsAt, IsAloneAt, HasSubtracted}
@@ -13,13 +12,13 @@ use Rattle.cpu_words.specs.Passives.{HasAdded}
 use Rattle.cpu_words.proofs.shown.ReferenceLists.{to_same, to_other, in_cons, counts, one_less, others_stay, was_in}
 use Rattle.passive_list.specs.declared.place.Found.{Found}
 use Rattle.passive_list.specs.declared.place.NumberedCount.{NumberedCount}
-use Rattle.passive_list.specs.Common.{no_place, place_at, IsPlaceOf, PassiveAgree, IsOurCpu}
+use Rattle.passive_list.specs.Common.{Memory, no_place, place_at, IsPlaceOf, PassiveAgree, IsOurCpu}
 use Rattle.passive_list.proofs.Agreeing.{net_same}
 use Rattle.passive_ref.proofs.Places.{place_of}
 
 -- the places of a CPU with p at t
-place_here : (ps : List NumberedCount) (t : ℕ) (p : NumberedCount) → length ps ≡ MOST_SLOTS → t < MOST_SLOTS → place_at (set ps t p) t ≡ p
-place_here ps t p size few = get_or-set_same ps t p no_place (omega (arith, size, few))
+place_here : (ps : List NumberedCount) (t z : ℕ) (p : NumberedCount) → length ps ≡ z → t < z → place_at (set ps t p) t ≡ p
+place_here ps t z p size few = get_or-set_same ps t p no_place (omega (arith, size, few))
 
 place_other : (ps : List NumberedCount) (t u : ℕ) (p : NumberedCount) → u ≢ t → place_at (set ps t p) u ≡ place_at ps u
 place_other ps t u p off = get_or-set_other ps t u p no_place off
@@ -33,7 +32,7 @@ is_of : (x : CpuView) (e : Entry) (t n : ℕ) → IsAt e t n → IsAttached x.pa
 is_of x e t n at attached = record { entry = e; attached = attached; slot = at.slot; number = at.number }
 
 -- one reference more
-pub added_passive : (x : CpuView) (ps : List NumberedCount) (e : Entry) (t n m : ℕ) → PassiveAgree x ps → IsAt e t n → IsAttached x.pass e → t < MOST_SLOTS → IsAloneAt x t n
+pub added_passive : (x : CpuView) (ps : List NumberedCount) (e : Entry) (t n m : ℕ) → PassiveAgree x ps → IsAt e t n → IsAttached x.pass e → t < x.settings.slots → IsAloneAt x t n
     → m ≡ references_to n x.references
     → PassiveAgree (record x { references = e ∷ x.references }) (set ps t (record { number = n; count = m + 1 }))
 added_passive x ps e t n m agree at attached few alone is = record { size = length-set ps t new ∙ agree.size; counts = counted; placed = placed; each = each }
@@ -42,7 +41,7 @@ added_passive x ps e t n m agree at attached few alone is = record { size = leng
     new = record { number = n; count = m + 1 }
 
     here : place_at (set ps t new) t ≡ new
-    here = place_here ps t new agree.size few
+    here = place_here ps t x.settings.slots new agree.size few
 
     counted : (u : ℕ) → (place_at (set ps t new) u).count ≡ references_to (place_at (set ps t new) u).number (e ∷ x.references)
     counted u = ⊎_elim
@@ -66,7 +65,7 @@ added_passive x ps e t n m agree at attached few alone is = record { size = leng
         subst (λ (p : NumberedCount). IsPlaceOf x.pass u p.number) (sym now) (agree.placed u (λ q. some (ap (λ (p : NumberedCount). p.number) now ∙ q))))
         (cases_eq u t)
 
-    later : (f : Entry) → Contains x.references f → (f.slot < MOST_SLOTS) × IsAttached x.pass f × ((place_at (set ps t new) f.slot).number ≡ f.number) × (0 < f.number)
+    later : (f : Entry) → Contains x.references f → (f.slot < x.settings.slots) × IsAttached x.pass f × ((place_at (set ps t new) f.slot).number ≡ f.number) × (0 < f.number)
     later f among =
         let old = agree.each f among in
         let number : (place_at (set ps t new) f.slot).number ≡ f.number = ⊎_elim
@@ -75,7 +74,7 @@ added_passive x ps e t n m agree at attached few alone is = record { size = leng
         (cases_eq f.slot t) in
         (old.0, old.1, number, old.3)
 
-    first : (e.slot < MOST_SLOTS) × IsAttached x.pass e × ((place_at (set ps t new) e.slot).number ≡ e.number) × (0 < e.number)
+    first : (e.slot < x.settings.slots) × IsAttached x.pass e × ((place_at (set ps t new) e.slot).number ≡ e.number) × (0 < e.number)
     first =
         let slot = at.slot in (
           omega (arith, few, slot),
@@ -84,9 +83,9 @@ added_passive x ps e t n m agree at attached few alone is = record { size = leng
           (at_within x.pass e.number _ attached).0,
         )
 
-    each : (f : Entry) → Contains (e ∷ x.references) f → (f.slot < MOST_SLOTS) × IsAttached x.pass f × ((place_at (set ps t new) f.slot).number ≡ f.number) × (0 < f.number)
+    each : (f : Entry) → Contains (e ∷ x.references) f → (f.slot < x.settings.slots) × IsAttached x.pass f × ((place_at (set ps t new) f.slot).number ≡ f.number) × (0 < f.number)
     each f among = ⊎_elim
-        (λ (same : e ≡ f). subst (λ (h : Entry). (h.slot < MOST_SLOTS) × IsAttached x.pass h × ((place_at (set ps t new) h.slot).number ≡ h.number) × (0 < h.number)) same first)
+        (λ (same : e ≡ f). subst (λ (h : Entry). (h.slot < x.settings.slots) × IsAttached x.pass h × ((place_at (set ps t new) h.slot).number ≡ h.number) × (0 < h.number)) same first)
         (λ (old : Contains x.references f). later f old)
         (in_cons e f x.references among)
 
@@ -98,11 +97,11 @@ less_passive x ps e t n agree at among = record { size = length-set ps t new ∙
     new : NumberedCount
     new = record { number = (place_at ps t).number; count = (place_at ps t).count - 1 }
 
-    few : t < MOST_SLOTS
+    few : t < x.settings.slots
     few = let its = (agree.each e among).0 in let slot = at.slot in omega (arith, its, slot)
 
     here : place_at (set ps t new) t ≡ new
-    here = place_here ps t new agree.size few
+    here = place_here ps t x.settings.slots new agree.size few
 
     number : (place_at ps t).number ≡ n
     number = ap (λ v. (place_at ps v).number) (sym at.slot) ∙ (agree.each e among).2 ∙ at.number
@@ -129,7 +128,7 @@ less_passive x ps e t n agree at among = record { size = length-set ps t new ∙
     placed : (u : ℕ) → (place_at (set ps t new) u).number ≢ 0 → IsPlaceOf x.pass u (place_at (set ps t new) u).number
     placed u some = subst (λ k. IsPlaceOf x.pass u k) (sym (same_number u)) (agree.placed u (λ q. some (same_number u ∙ q)))
 
-    each : (f : Entry) → Contains (without n x.references) f → (f.slot < MOST_SLOTS) × IsAttached x.pass f × ((place_at (set ps t new) f.slot).number ≡ f.number) × (0 < f.number)
+    each : (f : Entry) → Contains (without n x.references) f → (f.slot < x.settings.slots) × IsAttached x.pass f × ((place_at (set ps t new) f.slot).number ≡ f.number) × (0 < f.number)
     each f left =
         let old = agree.each f (was_in n x.references f left) in
         (old.0, old.1, same_number f.slot ∙ old.2, old.3)
@@ -149,14 +148,14 @@ with_references z a t u x c w d o ps qs ns ms references our same is_shown agree
   depth = our.depth;
   found = our.found;
   passive = agree;
-  net = net_same x (record x { references = references }) ns refl refl refl our.net;
+  net = net_same x (record x { references = references }) ns refl refl refl refl our.net;
   memory = our.memory;
   is_shown = is_shown;
 }
 
 -- a reference was added
 pub added_agrees : (z : TableId) (a : Settings) (t u : TableId) (x y : CpuView) (c w d : ℕ) (o : Found) (ps ns : List NumberedCount) (ms : Memory) (s n m : ℕ)
-    → IsOurCpu z a t x c w d o ps ns ms → u ≡ t → IsShownCpu y → HasAdded x s n y → s < MOST_SLOTS → IsAloneAt x s n → m ≡ references_to n x.references
+    → IsOurCpu z a t x c w d o ps ns ms → u ≡ t → IsShownCpu y → HasAdded x s n y → s < x.settings.slots → IsAloneAt x s n → m ≡ references_to n x.references
     → IsOurCpu z a u y c w d o (set ps s (record { number = n; count = m + 1 })) ns ms
 added_agrees z a t u x y c w d o ps ns ms s n m our same is_shown had few alone is = subst (λ (v : CpuView). IsOurCpu z a u v c w d o (set ps s (record { number = n; count = m + 1 })) ns ms) (sym had.3)
     (with_references z a t u x c w d o ps (set ps s (record { number = n; count = m + 1 })) ns ms (had.0 ∷ x.references) our same (subst IsShownCpu had.3 is_shown)

@@ -3,9 +3,8 @@ use Rattle.std.proofs.Common.{◌≡◌, ◌≢◌, ⊎_elim, ℕ, ◌+◌, ◌<
 use Rattle.std.proofs.lemmas.Bool.{cases_eq, eq-eqb, ne_eqb}
 use Rattle.std.specs.List.{Contains}
 use mathlib.Core.List.{IsPrefix}
-use Rattle.passive_list.specs.declared.memory.Memory.{Memory}
 use Rattle.atomic_table.specs.Seated.{TableId}
-use Rattle.passive_list.specs.Types.{Entry, Key, Settings, MOST_SLOTS, Event, Try, Confirm, TakeBack, Recall, Word, CpuView, LogItem}
+use Rattle.passive_list.specs.Types.{Entry, Key, Settings, Event, Try, Confirm, TakeBack, Recall, Word, CpuView, LogItem}
 use Rattle.protocol.specs.Common.{IsAttached, IsLiveAt, IsLookup, entry_with}
 use Rattle.protocol.proofs.history.History.{one_entry}
 use Rattle.cpu_words.proofs.shown.Passes.{attached_prefix}
@@ -15,7 +14,7 @@ use Rattle.cpu_words.specs.Common.{Named, references_to, with_hand, did, IsAlone
 use Rattle.passive_list.specs.declared.place.Found.{Found}
 use Rattle.passive_list.specs.declared.place.NumberedCount.{NumberedCount}
 use Rattle.passive_list.specs.declared.lookup.Seen.{Seen}
-use Rattle.passive_list.specs.Common.{HasSeen as HasSeenOf, place_at, PassiveAgree, IsOurCpu, OnCpu, OnPlainCpu}
+use Rattle.passive_list.specs.Common.{Memory, HasSeen as HasSeenOf, place_at, PassiveAgree, IsOurCpu, OnCpu, OnPlainCpu}
 use Rattle.passive_list.proofs.Memories.{stays}
 use Rattle.passive_list.proofs.Agreeing.{net_same, noted_agrees, own_agrees, passive_longer}
 use Rattle.passive_ref.specs.Psrefs.{OnPsref}
@@ -121,13 +120,13 @@ counted_here x ps e t n agree at attached =
 
 -- the data agree with the view
 pub taken_agrees : (z : TableId) (a : Settings) (t u : TableId) (x y : CpuView) (c w d : ℕ) (o : Found) (ps ns : List NumberedCount) (ms : Memory) (s n m : ℕ)
-    → IsOurCpu z a t x c w d o ps ns ms → IsShownCpu y → u ≡ t → s < MOST_SLOTS → IsTakenAs x y s n → m ≡ counted_for n (place_at ps s)
+    → IsOurCpu z a t x c w d o ps ns ms → IsShownCpu y → u ≡ t → s < x.settings.slots → IsTakenAs x y s n → m ≡ counted_for n (place_at ps s)
     → IsOurCpu u y.settings u y c w d o (set ps s (record { number = n; count = m + 1 })) ns ms
 taken_agrees z a t u x y c w d o ps ns ms s n m our is_shown same few taken counted =
     let e = taken.entry in
     let v : CpuView = record x { pass = y.pass } in
     let z0 : CpuView = record x { pass = y.pass; references = e ∷ x.references } in
-    let agree : PassiveAgree v ps = passive_longer x v ps refl taken.longer our.passive in
+    let agree : PassiveAgree v ps = passive_longer x v ps refl refl taken.longer our.passive in
     let attached : IsAttached y.pass e = attached_prefix x.pass y.pass e taken.longer taken.attached in
     let count : m ≡ references_to n x.references = counted ∙ counted_here v ps e s n agree taken.at attached in
     let p = added_passive v ps e s n m agree taken.at attached few taken.alone count in
@@ -143,7 +142,7 @@ taken_agrees z a t u x y c w d o ps ns ms s n m our is_shown same few taken coun
       depth = our.depth;
       found = our.found;
       passive = record { size = p.size; counts = p.counts; placed = p.placed; each = p.each };
-      net = net_same x z0 ns refl refl refl our.net;
+      net = net_same x z0 ns refl refl refl refl our.net;
       memory = stays x.settings.slots x.pass y.pass ms taken.longer our.memory;
       is_shown = subst IsShownCpu taken.is is_shown;
     } in

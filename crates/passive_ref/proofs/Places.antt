@@ -5,12 +5,12 @@ use Rattle.std.proofs.lemmas.Option.{none-some}
 use Rattle.std.proofs.lemmas.List.Quantifiers.{position-Some}
 use Rattle.std.specs.Prelude.{position}
 use Rattle.std.specs.List.{Contains}
-use Rattle.passive_list.specs.Types.{Entry, Settings, MOST_SLOTS, CpuView}
+use Rattle.passive_list.specs.Types.{Entry, Settings, CpuView}
 use Rattle.protocol.specs.Common.{IsAttached}
 use Rattle.protocol.proofs.history.History.{one_entry, at_within}
 use Rattle.protocol.proofs.slots.Numbers.{position_passes}
 use Rattle.cpu_words.specs.Common.{references_to, IsAt, IsShownCpu}
-use Rattle.cpu_words.proofs.shown.ReferenceLists.{some_of}
+use Rattle.cpu_words.proofs.shown.ReferenceLists.{counts, some_of}
 use Rattle.passive_list.specs.declared.place.NumberedCount.{NumberedCount}
 use Rattle.passive_list.specs.Common.{no_place, place_at, PassiveAgree}
 use Rattle.passive_list.proofs.Agreeing.{slot_within}
@@ -25,12 +25,20 @@ place_of x ps t e agree attached same =
     ap (λ (f : Entry). f.slot) one ∙ here.slot
 
 -- a place that counts for n is the slot of an entry that the CPU refers to
-pub held_at : (x : CpuView) (ps : List NumberedCount) (n t : ℕ) → PassiveAgree x ps → t < MOST_SLOTS → (place_at ps t).number ≡ n → 0 < (place_at ps t).count → IsHeldAt x t n
+pub held_at : (x : CpuView) (ps : List NumberedCount) (n t : ℕ) → PassiveAgree x ps → t < x.settings.slots → (place_at ps t).number ≡ n → 0 < (place_at ps t).count → IsHeldAt x t n
 held_at x ps n t agree few number some =
     let count = agree.counts t ∙ ap (λ k. references_to k x.references) number in
     let one = some_of n x.references (omega (arith, some, count)) in
     let attached = (agree.each one.entry one.among).1 in
     record { entry = one.entry; at = record { slot = place_of x ps t one.entry agree attached (number ∙ sym one.number); number = one.number }; held = one.among; attached = attached; few = few }
+
+-- it counts some
+pub held_counts : (x : CpuView) (ps : List NumberedCount) (n t : ℕ) → PassiveAgree x ps → IsHeldAt x t n → 0 < (place_at ps t).count
+held_counts x ps n t agree held =
+    let number : (place_at ps t).number ≡ n = ap (λ u. (place_at ps u).number) (sym held.at.slot) ∙ (agree.each held.entry held.held).2 ∙ held.at.number in
+    let count = agree.counts t ∙ ap (λ k. references_to k x.references) number in
+    let some = counts x.references held.entry n held.held held.at.number in
+    omega (arith, count, some)
 
 -- the first place that counts for n
 pub held_here : (x : CpuView) (ps : List NumberedCount) (n t : ℕ) → PassiveAgree x ps → position (counts_for n) ps ≡ Some t → IsHeldAt x t n

@@ -1,7 +1,7 @@
 -- Passive references of a CPU (psref(9)): why a call is refused, what it returns and leaves.
 use Rattle.std.specs.Prelude.{◌≡◌, ◌⊎◌, ℕ, ◌<◌, ◌==◌, ◌&&◌, nat_lt, Bool, List, ◌∷◌, ◌++◌, Option, Some, None, Result, Ok, Err}
 use Rattle.std.specs.List.{Contains}
-use Rattle.passive_list.specs.Types.{Entry, Record, Refusal, NothingFound, MOST_SLOTS, LoadRecord, PassiveAdd, PassiveSub, Passive, Word, CpuView, LogItem}
+use Rattle.passive_list.specs.Types.{Entry, Record, Refusal, NothingFound, LoadRecord, PassiveAdd, PassiveSub, Passive, Word, CpuView, LogItem}
 use Rattle.registry_values.specs.Answers as answers
 use Rattle.protocol.specs.Common.{word, words_of, IsAttached}
 use Rattle.cpu_words.specs.Common.{did, references_to, without, IsAt}
@@ -69,14 +69,14 @@ pub record IsHeldAt (x : CpuView) (t n : ℕ) : Type 0 where
   pub at : IsAt entry t n
   pub held : Contains x.references entry
   pub attached : IsAttached x.pass entry
-  pub few : t < MOST_SLOTS
+  pub few : t < x.settings.slots
 
 -- the CPU found the entry n of the slot t last, or refers to it
 pub record MayRefer (x : CpuView) (t n : ℕ) : Type 0 where
   pub entry : Entry
   pub at : IsAt entry t n
   pub known : (x.found ≡ Some entry) ⊎ Contains x.references entry
-  pub few : t < MOST_SLOTS
+  pub few : t < x.settings.slots
 
 -- the place counts references to n
 abbrev pub counts_for : ℕ → NumberedCount → Bool

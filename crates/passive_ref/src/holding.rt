@@ -8,7 +8,7 @@ ghost use Rattle.passive_ref.specs.Psrefs.{IsHeldAt, MayRefer, counts_for, why_u
 use crate::psref::Psref;
 use cpu_words::Domain;
 use passive_list::{Cpu, NumberedCount, PlainCpu};
-use registry_values::{MOST_SLOTS, Refusal, why_unusable};
+use registry_values::{Refusal, why_unusable};
 
 /// Whether this CPU holds a passive reference to that number, whichever CPU the reference names (psref(9)).
 pub fn held<D: Domain>(cpu: &Cpu<D>, psref: &Psref) -> bool
@@ -54,7 +54,7 @@ fn slot_by(cpu: &PlainCpu, hint: u8, number: u64) -> Option<u8>
 pub(crate) fn counts_at(cpu: &PlainCpu, slot: u8, number: u64) -> bool
     ensures { IsTrue result → IsHeldAt cpu.now.cpu.view slot number }
 {
-    if usize::from(slot) >= MOST_SLOTS {
+    if usize::from(slot) >= cpu.passive.len() {
         return false;
     }
     let place = cpu.passive[slot as usize];
@@ -69,7 +69,7 @@ fn slot_of(cpu: &PlainCpu, number: u64) -> Option<u8>
     ensures some { IfSome result (λ t. IsHeldAt cpu.now.cpu.view t number) }
     ensures none { result ≡ None → references_to number cpu.now.cpu.view.references ≡ 0 }
 {
-    match place_for(number, &cpu.passive) {
+    match place_for(number, cpu.passive.as_slice()) {
         Some(slot) => Some(slot as u8),
         None => None,
     }

@@ -32,7 +32,7 @@ pub use Rattle.protocol.specs.Events.{after_refind, may_recall_head, may_refind,
 pub use Rattle.protocol.specs.History.{EndsAt, IsAttached, IsLawful, IsLegal, IsLiveAt, IsLookup, IsNewestAt, MayHold, after_change}
 pub use Rattle.protocol.specs.Invariant.{AllBelow, AreRows, Balances, CountsHold, DriversKept, DueHolds, FoundHold, HandHolds, HasShape, HeldStay, Holds, IsCounting, IsIn, IsSnapshotDue, Leads}
 pub use Rattle.protocol.specs.Invariant.{LinksStay, ListShows, MarksHold, Occupies, PassiveShow, PlaceHolds, ReferencesHold, RowsShow, SearchHolds, SearchesHold, SeatsShow, SectionsShow, SlotsShow}
-pub use Rattle.protocol.specs.Invariant.{SnapshotsStand, StandsOn, To_end, To_entry, addition_due_at, greatest_limit, held_at, in_hand, is_adding_at, itself, kept_of, one_if, one_if_used, standing_of}
+pub use Rattle.protocol.specs.Invariant.{IsSeenInHand, SnapshotsStand, StandsOn, To_end, To_entry, addition_due_at, greatest_limit, held_at, in_hand, is_adding_at, itself, kept_of, one_if, one_if_used, standing_of, TriesSeen}
 pub use Rattle.protocol.specs.Invariant.{subtraction_due_at}
 pub use Rattle.protocol.specs.Laws.{AnswersLawfully, BalanceAtRest, BalancesAtRest, DriversOutlive, EndsByExit, EveryRunKeeps, GraceLaw, HasBegun, HasExit, HasMoved, Headline, InvariantSuffices}
 pub use Rattle.protocol.specs.Laws.{IsAllowed, IsAnswered, IsBalanced, IsLoadOf, IsSafe, LawfulAnswers, ObeysLaws, OutliveInterfaces, ReusesSafely, SafeReuse, after, after_event, answer_of}
@@ -41,8 +41,8 @@ pub use Rattle.protocol.specs.Laws.{AnswersFreshly, FreshAnswers, HasTry, IsFres
 pub use Rattle.protocol.specs.Loaded.{SlotWithin, entry_with, loaded_at, loaded_of_name, row_of_place}
 pub use Rattle.protocol.specs.Marking.{AllClear, AllCollected, AllPassed, MarksGrow, SameElsewhere}
 pub use Rattle.protocol.specs.Model.{Acquires, Answers, Attaches, Copies, Counts, Detaches, Enters, Exits, Gives_up, Goes_on, IsDriverHere, IsModelRun, IsModelStep, IsUnheld, Lookup, Model, Releases}
-pub use Rattle.protocol.specs.Model.{Seeks, Sees, Stays, Takes, Uncounts, Vacates, empty_model, put, with_locals, with_passive}
-pub use Rattle.protocol.specs.Picture.{EveryRunIsModelRun, HasConfirm, IsConfirm, locals_of, lookup_of, number_in, passive_in, picture, subtractions_due}
+pub use Rattle.protocol.specs.Model.{Seeks, Sees, Stays, Takes, TakesNone, Uncounts, Vacates, empty_model, put, with_locals, with_passive}
+pub use Rattle.protocol.specs.Picture.{Confirms, EveryRunIsModelRun, HasConfirm, locals_of, lookup_of, number_in, passive_in, picture, subtractions_due}
 pub use Rattle.protocol.specs.Rows.{CollectRace, TryRace, FrozenLink, Gives, all_three, attaches, detaches, done_replies, first, has_found, loads, search_begins, search_case, search_goes_on, try_replies}
 pub use Rattle.protocol.specs.Rows.{two_cpus, unlinked_case, wm0, wm1, wm2}
 pub use Rattle.protocol.specs.Run.{Run, empty_run, run_of_events, run_with_event}

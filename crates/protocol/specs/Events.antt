@@ -1,5 +1,5 @@
 -- The events, a line each: where it is allowed, the state that it leaves, and its reply.
-use Rattle.std.specs.Prelude.{ℕ, zero, suc, ◌+◌, ◌-◌, ◌*◌, ◌==◌, nat_lt, List, ◌∷◌, [], ◌++◌, length, replicate, position, Option, Some, None, is_none, is_some, Bool, true, false, not, ◌&&◌, ◌||◌}
+use Rattle.std.specs.Prelude.{ℕ, zero, suc, ◌+◌, ◌-◌, ◌*◌, ◌==◌, nat_le, nat_lt, List, ◌∷◌, [], ◌++◌, length, replicate, position, Option, Some, None, is_none, is_some, Bool, true, false, not, ◌&&◌, ◌||◌}
 use Rattle.std.specs.Prelude.{if◌then◌else◌, slice_index_or, slice_set, take}
 use Rattle.std.specs.List.{list_all}
 use Rattle.protocol.specs.Types.{MOST_CPUS, Room, Kind, Iface, Driver, Entry, Change, Attach, Detach, Key, Slot, Vacant, Live, Retired, Mark}
@@ -548,8 +548,9 @@ refind s c t n (Retired e) = None
 abbrev pub after_tried : State → ℕ → ℕ → ℕ → Hand → State
 after_tried s c t v hand = record s { passive = with_cell s.passive t c v; hands = slice_set s.hands c hand }
 
-abbrev pub may_try : State → ℕ → ℕ → Bool
-may_try s c t = is_idle s c && (nat_lt t s.settings.slots && nat_lt (passive_at s.passive c t) s.settings.passive_limit)
+-- the CPU is idle and has fewer references in that slot than the limit; the attach of the number n is one that it has seen
+abbrev pub may_try : State → ℕ → ℕ → ℕ → Bool
+may_try s c t n = is_idle s c && (nat_le n (seen_at s c) && (nat_lt t s.settings.slots && nat_lt (passive_at s.passive c t) s.settings.passive_limit))
 
 abbrev pub after_try : State → ℕ → ℕ → ℕ → State
 after_try s c t n = after_tried s c t (passive_at s.passive c t + 1) (Trying t n)
@@ -625,7 +626,7 @@ step s (Hide t) = guard (may_hide s t) (some_outcome (after_live_store s t 0) Do
 step s (Recall c t) = recall s c t
 step s (RecallHead c) = guard (may_recall_head s c) (some_outcome (after_seeing s c) (Word s.head))
 step s (Refind c t n) = refind s c t n (slot_at s.slots t)
-step s (Try c t n) = guard (may_try s c t) (some_outcome (after_try s c t n) (Word (passive_at s.passive c t)))
+step s (Try c t n) = guard (may_try s c t n) (some_outcome (after_try s c t n) (Word (passive_at s.passive c t)))
 step s (Confirm c) = confirm s c (hand_at s c)
 step s (TakeBack c) = take_back s c (hand_at s c)
 

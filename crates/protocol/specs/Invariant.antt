@@ -242,6 +242,18 @@ HandHolds slots locals c (Giving n id) = Occupies slots n × (local_at locals id
 HandHolds slots locals c (Back n id) = Occupies slots n × (local_at locals id ≡ Lifted c)
 HandHolds slots locals c (Trying t n) = Unit {0}
 
+-- of a CPU that has seen so many changes, a number that it tries is among these
+abbrev pub IsSeenInHand : ℕ → Hand → Type 0
+IsSeenInHand seen Empty = Unit {0}
+IsSeenInHand seen (Taking n) = Unit {0}
+IsSeenInHand seen (Giving n id) = Unit {0}
+IsSeenInHand seen (Back n id) = Unit {0}
+IsSeenInHand seen (Trying t n) = n ≤ seen
+
+-- tries: each CPU tries what it has seen
+abbrev pub TriesSeen : List ℕ → List Hand → Type 0
+TriesSeen seen hands = (c : ℕ) → IsSeenInHand (slice_index_or seen c 0) (slice_index_or hands c Empty)
+
 -- what the keeper must do next is at a slot where it can
 abbrev pub DueHolds : ℕ → List Slot → Due → Type 0
 DueHolds cpus slots Rest = Unit {0}
@@ -278,5 +290,6 @@ pub record Holds (s : State) : Type 0 where
   pub last_found : FoundHold s.history s.begins s.found
   pub passive : PassiveShow s.settings.cpus s.settings.passive_limit s.slots s.marks s.passive s.hands
   pub balance : CountsHold s.settings s.slots s.marks s.counts s.nets s.totals s.hands s.keeps s.due s.locals
+  pub tries : TriesSeen s.seen s.hands
   pub references : ReferencesHold s.settings.cpus s.slots s.hands s.due s.locals
   pub kept_drivers : DriversKept s.slots s.keeps

@@ -182,11 +182,12 @@ pub record SeesAll (s : State) : Type 0 where
   pub refound : (c t n : ℕ) → IsAllowed s (Refind c t n) → seen_at (after_event s (Refind c t n)) c ≡ length s.history
   pub confirmed : (c : ℕ) → IsAllowed s (Confirm c) → seen_at (after_event s (Confirm c)) c ≡ length s.history
 
--- what a CPU recalls, finds again, or confirms, is live at that very point of the history
+-- what a CPU recalls, finds again, or confirms, is live at that very point of the history; what it confirms it had seen before
 pub record RecallsLive (s : State) : Type 0 where
   -- the word that is loaded is 0, or the number of the entry, of all that were ever attached, that is live in the slot
   pub recalled : (c t : ℕ) (e : Entry) → IsAllowed s (Recall c t) → IsAttached s.history e → e.number ≡ live_at s.lives t → IsLiveAt s.history (length s.history) e × (e.slot ≡ t)
-  pub confirmed : (c t : ℕ) (e : Entry) → hand_at s c ≡ Trying t e.number → IsAllowed s (Confirm c) → IsAttached s.history e → IsLiveAt s.history (length s.history) e × (e.slot ≡ t)
+  pub confirmed : (c t : ℕ) (e : Entry) → hand_at s c ≡ Trying t e.number → IsAllowed s (Confirm c) → IsAttached s.history e
+      → IsLiveAt s.history (length s.history) e × (e.slot ≡ t) × (e.number ≤ seen_at s c)
   -- and what is found again is the last found entry
   pub refound : (c t : ℕ) (e : Entry) → IsAllowed s (Refind c t e.number) → IsAttached s.history e
       → IsLiveAt s.history (length s.history) e × (e.slot ≡ t) × (found_at (after_event s (Refind c t e.number)) c ≡ Some e)
@@ -298,7 +299,7 @@ pub record ObeysLaws (s : State) : Type 0 where
   pub grace : EndsByExit s
   -- the invariant goes on, and so does the run of the model
   pub keeps : (later : List Event) → Holds (after s later)
-  pub modelled : (later : List Event) → IsModelRun (HasConfirm later) (picture s) (picture (after s later))
+  pub modelled : (later : List Event) → IsModelRun (HasConfirm s later) (picture s) (picture (after s later))
 
 -- the invariant is enough for them, in any state that has it
 abbrev pub InvariantSuffices : Type 0

@@ -63,8 +63,12 @@ with_passive m c n k = record m { passive = put m.passive c (put (m.passive c) n
 abbrev pub with_locals : Model → ℕ → ℕ → Model
 with_locals m n k = record m { locals = put m.locals n k }
 
--- One step of the registry. Only where `MayTake` is so may a reference be taken without a section.
-pub data IsModelStep (MayTake : Type 0) (m : Model) : Model → Type 0 where
+-- no CPU takes any number
+abbrev pub TakesNone : ℕ → ℕ → Type 0
+TakesNone = λ c n. ⊥
+
+-- One step of the registry. Without a section the CPU c may take a reference to n only where `MayTake c n` is so.
+pub data IsModelStep (MayTake : ℕ → ℕ → Type 0) (m : Model) : Model → Type 0 where
   -- an outermost enter: the pass becomes the history
   Enters : (c : ℕ) → m.sections c ≡ None
       → IsModelStep MayTake m (record m { sections = put m.sections c (Some (length m.history)); passes = put m.passes c (length m.history) })
@@ -95,8 +99,8 @@ pub data IsModelStep (MayTake : Type 0) (m : Model) : Model → Type 0 where
       → IsModelStep MayTake m (with_passive m c n (m.passive c n + 1))
   Releases : (c n : ℕ) → 0 < m.passive c n
       → IsModelStep MayTake m (with_passive m c n (m.passive c n - 1))
-  -- a passive reference without a section, to a live entry
-  Takes : (c t : ℕ) (e : Entry) → IsLiveAt m.history (length m.history) e → m.occupants t ≡ Some e.number → MayTake
+  -- a passive reference without a section, to a live entry whose attach is in the CPU's pass
+  Takes : (c t : ℕ) (e : Entry) → IsLiveAt m.history (length m.history) e → m.occupants t ≡ Some e.number → e.number ≤ m.passes c → MayTake c e.number
       → IsModelStep MayTake m (with_passive m c e.number (m.passive c e.number + 1))
   -- a local reference to the last found entry; its release, by anyone
   Counts : (c : ℕ) (e : Entry) → m.found c ≡ Some e
@@ -111,6 +115,6 @@ pub data IsModelStep (MayTake : Type 0) (m : Model) : Model → Type 0 where
       → IsModelStep MayTake m (record (with_locals m d (m.locals d + 1)) { occupants = put m.occupants t None; keeps = put m.keeps t None })
 
 -- any number of steps, none among them
-pub data IsModelRun (MayTake : Type 0) (m : Model) : Model → Type 0 where
+pub data IsModelRun (MayTake : ℕ → ℕ → Type 0) (m : Model) : Model → Type 0 where
   Stays : IsModelRun MayTake m m
   Goes_on : (a b : Model) → IsModelRun MayTake m a → IsModelStep MayTake a b → IsModelRun MayTake m b

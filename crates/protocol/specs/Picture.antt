@@ -1,17 +1,19 @@
 -- The picture of a core state: the model state that it shows.
-use Rattle.std.specs.Prelude.{ℕ, ◌+◌, ◌-◌, ◌⊎◌, [], ◌∷◌, List, Option, Some, None, IsTrue, sum_by, if◌then◌else◌}
+use Rattle.std.specs.Prelude.{◌≡◌, ℕ, ◌+◌, ◌-◌, ◌⊎◌, [], ◌∷◌, List, Option, Some, None, IsSome, IsTrue, sum_by, if◌then◌else◌}
 use Rattle.protocol.specs.declared.event.Event.{Event}
 use Rattle.protocol.specs.declared.event.Event.TheVariants.{Confirm}
 use Rattle.protocol.specs.Types.{Settings, Slot, Vacant, Live, Retired}
 use Rattle.protocol.specs.declared.state.Search.{Search}
 use Rattle.protocol.specs.declared.state.Hand.{Hand}
+use Rattle.protocol.specs.declared.state.Hand.TheVariants.{Trying}
 use Rattle.protocol.specs.declared.state.Due.{Due}
 use Rattle.protocol.specs.declared.state.Due.TheVariants.{Rest, Snapshots, Adding, Subtracting}
 use Rattle.registry_values.specs.Common.{are_fit, slot_at, has_number, slot_of}
-use Rattle.protocol.specs.State.{State, begin_at, seen_at, search_at, found_at, kept_at, passive_at, trying_at, opening}
+use Rattle.protocol.specs.State.{State, begin_at, seen_at, search_at, found_at, hand_at, kept_at, passive_at, trying_at, opening}
+use Rattle.protocol.specs.Events.{state_after, step}
 use Rattle.protocol.specs.Invariant.{standing_of, in_hand}
 use Rattle.protocol.specs.Run.{run_of_events, empty_run}
-use Rattle.protocol.specs.Model.{Model, Lookup, empty_model, IsModelRun}
+use Rattle.protocol.specs.Model.{Model, Lookup, TakesNone, empty_model, IsModelRun}
 
 abbrev pub lookup_of : Option Search → Option Lookup
 lookup_of None = None
@@ -51,16 +53,17 @@ picture s = record {
   keeps = λ t. kept_at s.keeps t;
 }
 
--- the event makes what a CPU was trying a reference
-abbrev pub IsConfirm : Event → Type 0
-IsConfirm (Confirm c) = Unit {0}
-IsConfirm _ = ⊥
+-- the event is an allowed Confirm of the CPU c, which is trying n
+abbrev pub Confirms : State → Event → ℕ → ℕ → Type 0
+Confirms s (Confirm d) = λ c n. (c ≡ d) × ((t : ℕ) × (hand_at s d ≡ Trying t n)) × IsSome (step s (Confirm d))
+Confirms s _ = TakesNone
 
--- one of the events does
-abbrev pub HasConfirm : List Event → Type 0
-HasConfirm [] = ⊥
-HasConfirm (event ∷ events) = IsConfirm event ⊎ HasConfirm events
+-- one of the events is, in the list that goes on from s
+abbrev pub HasConfirm : State → List Event → ℕ → ℕ → Type 0
+HasConfirm s [] c n = ⊥
+HasConfirm s (event ∷ events) c n = Confirms s event c n ⊎ HasConfirm (state_after s (step s event)) events c n
 
--- For fit settings and every list of events, the picture is reached by a run of the model. Where no event of the list is a Confirm, that run takes no reference without a section.
+-- For fit settings and every list of events, the picture is reached by a run of the model. In that run a CPU takes a reference without a section only to a number that it was trying at an allowed Confirm
+-- of the list.
 abbrev pub EveryRunIsModelRun : Type 0
-EveryRunIsModelRun = (z : Settings) (events : List Event) → IsTrue (are_fit z) → IsModelRun (HasConfirm events) empty_model (picture (run_of_events (empty_run (opening z)) events).state)
+EveryRunIsModelRun = (z : Settings) (events : List Event) → IsTrue (are_fit z) → IsModelRun (HasConfirm (opening z) events) empty_model (picture (run_of_events (empty_run (opening z)) events).state)

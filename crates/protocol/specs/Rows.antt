@@ -202,9 +202,9 @@ refused = None ∷ []
 abbrev pub fourth : Entry
 fourth = driver 5 2 wm2 13
 
--- wm2 is shown, and CPU 0 tries it: it is busy until it confirms, and then has a reference
+-- wm2 is shown, and CPU 0 tries it once it has seen it: it is busy until it confirms, and then has a reference
 abbrev pub take_events : List Event
-take_events = Show 2 ∷ Recall 0 2 ∷ Try 0 2 3 ∷ PassiveAdd 0 3 ∷ Confirm 0 ∷ PassiveSub 0 3 ∷ []
+take_events = Show 2 ∷ Try 0 2 3 ∷ Recall 0 2 ∷ Try 0 2 3 ∷ PassiveAdd 0 3 ∷ Confirm 0 ∷ PassiveSub 0 3 ∷ []
 
 -- wm2 is hidden and detached between: CPU 0 comes too late
 abbrev pub detach_between : List Event
@@ -234,10 +234,10 @@ give_between = attach_events 1 fourth 2 (StoreSlot 2 5 bias ∷ StoreSlot 2 6 bi
 
 -- the row try-race
 pub record TryRace : Type 0 where
-  pub tries : replies all_three take_events ≡ done_replies 1 ++ loads 3 ++ loads 0 ++ refused ++ loads 3 ++ loads 1
+  pub tries : replies all_three take_events ≡ done_replies 1 ++ refused ++ loads 3 ++ loads 0 ++ refused ++ loads 3 ++ loads 1
   -- what is tried is no reference, and what is confirmed is one
-  pub tried : (picture (after all_three (Try 0 2 3 ∷ []))).passive 0 3 ≡ 0
-  pub confirmed : (picture (after all_three (Try 0 2 3 ∷ Confirm 0 ∷ []))).passive 0 3 ≡ 1
+  pub tried : (picture (after all_three (Recall 0 2 ∷ Try 0 2 3 ∷ []))).passive 0 3 ≡ 0
+  pub confirmed : (picture (after all_three (Recall 0 2 ∷ Try 0 2 3 ∷ Confirm 0 ∷ []))).passive 0 3 ≡ 1
   pub detached : replies (after all_three take_events) detach_between ≡ loads 0 ++ done_replies 2 ++ loads 0 ++ loads 0 ++ refused ++ loads 0 ++ loads 1
   pub headed : replies all_three head_events ≡ loads 3 ++ done_replies 1 ++ loads 0 ++ loads 0 ++ loads 2
   pub refound : replies all_three refind_events ≡ done_replies 1 ++ refused ++ done_replies 1 ++ refused ++ refused ++ loads 3 ++ loads 0 ++ loads 1 ++ done_replies 1

@@ -88,7 +88,8 @@ pub enum Event {
     RecallHead(u8),
     /// The CPU, inside a section and with no search, finds the slot's live entry again by its live word. The CPU, the slot, the number.
     Refind(u8, u8, u64),
-    /// The CPU counts its passive word of the slot up, to get a reference to the entry with this number. The CPU, the slot, the number.
+    /// The CPU counts its passive word of the slot up, to get a reference to the entry with this number. It has seen that entry's attach. The
+    /// CPU, the slot, the number.
     Try(u8, u8, u64),
     /// What the CPU has counted up is a reference: its entry is the slot's live one. The slot's live word is loaded.
     Confirm(u8),

@@ -18,7 +18,8 @@ pub fn headline()
 /// Theorem, no effect at run time: what every list of events keeps, also with events that aren't allowed.
 ///
 /// - `keeps`: the core invariant;
-/// - `modelled`: a run of the model reaches the picture of the state. Where no event is a Confirm, it takes no reference without a section.
+/// - `modelled`: a run of the model reaches the picture of the state. In it a CPU takes a reference without a section only to a number that it was
+///   trying at an allowed Confirm of the list.
 /// - `untried`: where no event is a Try, no CPU is trying, so each passive word counts references alone.
 pub fn every_run_keeps()
     ensures keeps { EveryRunKeeps }
@@ -46,7 +47,8 @@ pub fn lawful_answers()
 /// - `fresh`: it is the registry's at some point from the search's Seek on, to the CPU's new pass, even if the CPU's pass was older. So an
 ///   entry that was live at the Seek and isn't detached yet is found, and one that was detached before the Seek isn't.
 /// - `whole`: a CPU that has just entered a section, heard a note, or recalled an entry or the head, has seen the whole history.
-/// - `live`: an entry that a CPU recalls, finds again, or confirms a reference to, is live at that very point of the history.
+/// - `live`: an entry that a CPU recalls, finds again, or confirms a reference to, is live at that very point of the history. What it confirms
+///   it had seen before.
 /// - `newest`: the head that a CPU recalls leads to the newest entry that is live at that very point, or no entry is.
 pub fn fresh_answers()
     ensures fresh { FreshAnswers }

@@ -5,10 +5,11 @@ ghost use Rattle.std.specs.Prelude.{◌≡◌, IsTrue};
 ghost use Rattle.registry_values.specs.Common.{is_lawful};
 ghost use Rattle.name_registry.specs.Common.{IsBlankOf};
 
+use crate::failure::Failure;
 use crate::loops::leave;
 use crate::opening::{attach_all, driver, settings_for};
+use crate::plan::MOST_ENTRIES;
 use crate::waiting::nanoseconds;
-use bench_plans::{Failure, MOST_ENTRIES};
 use cpu_words::Domain;
 use local_count::acquire_local;
 use name_registry::{Blank, Registry};

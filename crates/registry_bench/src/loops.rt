@@ -3,12 +3,13 @@
 ghost use Rattle.std.specs.Prelude.{◌≢◌, None};
 ghost use Rattle.cpu_words.specs.Common.{AreWordsOf};
 
-use bench_plans::Operation;
+use crate::plan::Operation;
 use cpu_words::{Domain, Words};
 use local_count::{LocalRef, acquire_local, try_release};
+use name_registry::Registry;
 use passive_list::{Cpu, enter, exit, find, walk};
 use passive_ref::{acquire, release};
-use registry_values::{Entry, Kind, MOST_SLOTS, Name, Record};
+use registry_values::{Entry, Kind, Name, Record, USUAL_SLOTS};
 use std::sync::Wait;
 
 /// How many lookups a section of a batch has.
@@ -17,21 +18,21 @@ const BATCH: u32 = 32;
 /// Makes the operation `count` times. Each name is that of an entry whose value is the name's place; references are to the last.
 pub fn make<D: Domain, R: Wait>(
     rt: &R,
-    words: &Words,
+    registry: &Registry<D>,
     cpu: &mut Cpu<D>,
     names: &[Name],
     operation: Operation,
     count: u32,
-) -> u32
-    requires words { AreWordsOf words.now D.table D.settings }
-{
+) -> u32 {
+    let words = registry.words();
     match operation {
         Operation::Lookup => look_up_all(words, cpu, names, count),
         Operation::Batch => look_up_batches(words, cpu, names, count),
         Operation::Walk => walk_all(words, cpu, names, count),
-        Operation::Passive => refer_passively(words, cpu, names, false, count),
+        Operation::Passive => refer_passively(words, cpu, count),
         Operation::Local => refer_locally(rt, words, cpu, count),
-        Operation::Get => refer_passively(words, cpu, names, true, count),
+        Operation::LookUp => recall_all(registry, cpu, names, count),
+        Operation::Get => get_all(registry, cpu, names, count),
     }
 }
 
@@ -150,7 +151,7 @@ fn walk_all<D: Domain>(words: &Words, cpu: &mut Cpu<D>, names: &[Name], count: u
         number: 0,
         slot: 0,
         rec,
-    }; MOST_SLOTS];
+    }; USUAL_SLOTS];
     for made in 0..count {
         if walk_once(words, cpu, &mut row) != names.len() {
             return made;
@@ -159,10 +160,13 @@ fn walk_all<D: Domain>(words: &Words, cpu: &mut Cpu<D>, names: &[Name], count: u
     count
 }
 
-/// Enters, walks and exits. Returns how many entries it met.
-fn walk_once<D: Domain>(words: &Words, cpu: &mut Cpu<D>, row: &mut [Entry; MOST_SLOTS]) -> usize
+/// Enters, walks and exits. Returns how many entries it met; 0 if the row is too short.
+fn walk_once<D: Domain>(words: &Words, cpu: &mut Cpu<D>, row: &mut [Entry]) -> usize
     requires words { AreWordsOf words.now D.table D.settings }
 {
+    if usize::from(words.settings().slots) > row.len() {
+        return 0;
+    }
     if enter(words, cpu).is_err() || !cpu.inside() {
         return 0;
     }
@@ -180,45 +184,82 @@ fn found_value<D: Domain>(words: &Words, cpu: &mut Cpu<D>, name: &Name) -> Optio
     find(words, cpu, Kind::Driver, name).map(|entry| entry.rec.value)
 }
 
-/// Acquires and releases passive references, until one is refused or an answer is wrong: to the last found entry, or each to the next name's,
-/// by a section of its own. One loop for both: where acquire and release have one caller each, the compiler puts them in line.
-fn refer_passively<D: Domain>(
-    words: &Words,
+/// Looks the names up in turn, outside a section, until an answer is wrong. After the first round the CPU remembers each.
+fn recall_all<D: Domain>(
+    registry: &Registry<D>,
     cpu: &mut Cpu<D>,
     names: &[Name],
-    alone: bool,
     count: u32,
-) -> u32
-    requires words { AreWordsOf words.now D.table D.settings }
-{
+) -> u32 {
     let mut place = 0;
     for made in 0..count {
-        if alone {
-            if place >= names.len() || begin_at(words, cpu, &names[place]) != Some(place as u64) {
-                return made;
-            }
-            place = if place + 1 < names.len() {
-                place + 1
-            } else {
-                0
-            };
+        if place >= names.len() || recalled(registry, cpu, &names[place]) != Some(place as u64) {
+            return made;
         }
-        if !passive_pair(words, cpu, alone) {
+        place = if place + 1 < names.len() {
+            place + 1
+        } else {
+            0
+        };
+    }
+    count
+}
+
+/// Looks the driver up. Returns the value found.
+fn recalled<D: Domain>(registry: &Registry<D>, cpu: &mut Cpu<D>, name: &Name) -> Option<u64> {
+    match registry.look_up(cpu, Kind::Driver, name) {
+        Ok(entry) => Some(entry.rec.value),
+        Err(_) => None,
+    }
+}
+
+/// Gets the names' entries in turn and releases each, until an answer is wrong.
+fn get_all<D: Domain>(registry: &Registry<D>, cpu: &mut Cpu<D>, names: &[Name], count: u32) -> u32 {
+    let mut place = 0;
+    for made in 0..count {
+        if place >= names.len() || got(registry, cpu, &names[place]) != Some(place as u64) {
+            return made;
+        }
+        place = if place + 1 < names.len() {
+            place + 1
+        } else {
+            0
+        };
+    }
+    count
+}
+
+/// Gets the driver and releases it. Returns its value.
+fn got<D: Domain>(registry: &Registry<D>, cpu: &mut Cpu<D>, name: &Name) -> Option<u64> {
+    let Ok((entry, reference)) = registry.get(cpu, Kind::Driver, name) else {
+        return None;
+    };
+    match release(registry.words(), cpu, reference) {
+        Ok(()) => Some(entry.rec.value),
+        Err((_, reference)) => {
+            reference.forget();
+            None
+        }
+    }
+}
+
+/// Acquires and releases passive references to the last found entry, until one is refused.
+fn refer_passively<D: Domain>(words: &Words, cpu: &mut Cpu<D>, count: u32) -> u32
+    requires words { AreWordsOf words.now D.table D.settings }
+{
+    for made in 0..count {
+        if !passive_pair(words, cpu) {
             return made;
         }
     }
     count
 }
 
-/// Acquires a reference to the last found entry and releases it, and ends the section between the two where that is asked for.
-fn passive_pair<D: Domain>(words: &Words, cpu: &mut Cpu<D>, ends: bool) -> bool
+/// Acquires a reference to the last found entry and releases it.
+fn passive_pair<D: Domain>(words: &Words, cpu: &mut Cpu<D>) -> bool
     requires words { AreWordsOf words.now D.table D.settings }
 {
-    let acquired = acquire(words, cpu);
-    if ends {
-        leave(words, cpu);
-    }
-    let Ok(reference) = acquired else {
+    let Ok(reference) = acquire(words, cpu) else {
         return false;
     };
     match release(words, cpu, reference) {

@@ -3,17 +3,20 @@
 #![tactic(auto)]
 
 mod changes;
+mod failure;
 mod gate;
 mod loops;
 mod measure;
 mod opening;
 mod parts;
+mod plan;
 mod waiting;
 
-use bench_plans::{Failure, MOST_ENTRIES, MOST_THREADS, Operation, RunPlan, WaitPlan, changes_of};
 use changes::{Changes, measure_changes};
+use failure::Failure;
 use measure::measure;
 use parts::Parts;
+use plan::{MOST_ENTRIES, MOST_THREADS, Operation, RunPlan, WaitPlan, changes_of};
 use std::alloc::Global;
 use std::env;
 use std::process::ExitCode;
@@ -117,11 +120,12 @@ fn run_one<R: Print + Alloc<A = Global> + Threads + Wait + Clock + Sync>(
     let walk = measure(rt, rt.alloc(), plan, Operation::Walk)?.nanoseconds_each(operations);
     let passive = measure(rt, rt.alloc(), plan, Operation::Passive)?.nanoseconds_each(operations);
     let local = measure(rt, rt.alloc(), plan, Operation::Local)?.nanoseconds_each(operations);
+    let look_up = measure(rt, rt.alloc(), plan, Operation::LookUp)?.nanoseconds_each(operations);
     let get = measure(rt, rt.alloc(), plan, Operation::Get)?.nanoseconds_each(operations);
     print!(rt;
         "threads {threads} entries {entries} lookup {lookup:.2} batch {batch:.2} walk {walk:.2}"
     )?;
-    println!(rt; " passive {passive:.2} local {local:.2} get {get:.2}")?;
+    println!(rt; " passive {passive:.2} local {local:.2} look_up {look_up:.2} get {get:.2}")?;
     Ok(())
 }
 
@@ -192,11 +196,12 @@ fn check<R: Print + Alloc<A = Global> + Threads + Wait + Clock + Sync>(
         let walks = measure(rt, rt.alloc(), plan, Operation::Walk)?.right;
         let passives = measure(rt, rt.alloc(), plan, Operation::Passive)?.right;
         let locals = measure(rt, rt.alloc(), plan, Operation::Local)?.right;
+        let look_ups = measure(rt, rt.alloc(), plan, Operation::LookUp)?.right;
         let gets = measure(rt, rt.alloc(), plan, Operation::Get)?.right;
         print!(rt;
             "threads 2 entries {entries} lookups {lookups} batches {batches} walks {walks}"
         )?;
-        println!(rt; " passives {passives} locals {locals} gets {gets}")?;
+        println!(rt; " passives {passives} locals {locals} look_ups {look_ups} gets {gets}")?;
     }
     check_waiting(rt)
 }

@@ -3,10 +3,11 @@
 ghost use Rattle.std.specs.Prelude.{◌≡◌};
 ghost use Rattle.name_registry.specs.Common.{IsBlankOf};
 
+use crate::failure::Failure;
 use crate::gate::Gate;
 use crate::loops::{leave, make, prepare};
 use crate::opening::{attach_all, settings_for};
-use bench_plans::{Failure, Operation, RunPlan};
+use crate::plan::{Operation, RunPlan};
 use cpu_words::Domain;
 use name_registry::{Blank, Registry};
 use passive_list::Cpu;
@@ -111,10 +112,10 @@ fn run<D: Domain, R: Wait + Clock>(
 ) -> io::Result<Measured> {
     let words = registry.words();
     prepare(words, &mut cpu, names, operation);
-    make(rt, words, &mut cpu, names, operation, count / WARMING);
+    make(rt, registry, &mut cpu, names, operation, count / WARMING);
     gate.pass();
     let began = Instant::now(rt)?;
-    let right = make(rt, words, &mut cpu, names, operation, count);
+    let right = make(rt, registry, &mut cpu, names, operation, count);
     let ended = Instant::now(rt)?;
     leave(words, &mut cpu);
     Ok(Measured {

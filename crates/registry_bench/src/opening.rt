@@ -3,7 +3,7 @@
 ghost use Rattle.std.specs.Prelude.{IfOk, IsTrue};
 ghost use Rattle.registry_values.specs.Common.{is_lawful};
 
-use bench_plans::Failure;
+use crate::failure::Failure;
 use cpu_words::Domain;
 use name_registry::Registry;
 use passive_list::Cpu;

@@ -1,8 +1,9 @@
 //! The parts of a replacement, each timed on its own, with local references held to the entry as it is detached.
 
+use crate::failure::Failure;
 use crate::loops::leave;
+use crate::plan::WaitPlan;
 use crate::waiting::{Bench, PATIENCE, nanoseconds};
-use bench_plans::{Failure, WaitPlan};
 use cpu_words::Domain;
 use local_count::acquire_local;
 use passive_list::{Cpu, enter, find};

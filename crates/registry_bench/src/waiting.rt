@@ -4,11 +4,12 @@ ghost use Rattle.std.specs.Prelude.{◌≡◌, IsTrue};
 ghost use Rattle.registry_values.specs.Common.{is_lawful};
 ghost use Rattle.name_registry.specs.Common.{IsBlankOf};
 
+use crate::failure::Failure;
 use crate::gate::Gate;
 use crate::loops::leave;
 use crate::opening::{attach_all, driver, settings_for};
 use crate::parts::Parts;
-use bench_plans::{Failure, WaitPlan};
+use crate::plan::WaitPlan;
 use cpu_words::Domain;
 use name_registry::{Blank, Registry};
 use passive_list::{Cpu, enter, find};

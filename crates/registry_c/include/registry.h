@@ -374,8 +374,8 @@ registry_answer registry_enter_find(struct registry_cpu *cpu, uint64_t kind,
  * registry_walk - all live entries, the newest first, in a section
  *
  * The entries are written to the first places of `row`, which has `room` places, and their number
- * to `count`. REGISTRY_MOST_SLOTS places are enough. Each entry of the row keeps its slot until the
- * section ends. If the section was entered for this walk:
+ * to `count`. As many places as the registry has slots are enough. Each entry of the row keeps its
+ * slot until the section ends. If the section was entered for this walk:
  *
  * - An entry whose attach returned before the registry_enter is in the row, once, unless its detach
  *   begins before the walk returns.
@@ -385,25 +385,26 @@ registry_answer registry_enter_find(struct registry_cpu *cpu, uint64_t kind,
  * In a section that was open already, the registry_enter of these lines is the outermost one, or a
  * registry_audit since. The last found entry is cleared. The call allocates no memory.
  * Returns REGISTRY_EMPTY_HANDLE, REGISTRY_NULL if `row` is NULL and `room` isn't 0,
- * REGISTRY_OUTSIDE, REGISTRY_NO_ROOM if there are more entries than `room`. With the last one their
- * number is written to `count`, and no entry is written.
+ * REGISTRY_OUTSIDE, REGISTRY_NO_ROOM if there are more entries than `room`. With the last one the
+ * newest `room` entries are written to `row`, and the number of all to `count`.
  */
 registry_answer registry_walk(struct registry_cpu *cpu, struct registry_entry *row, size_t room,
     size_t *count) REGISTRY_NONNULL(1) REGISTRY_CHECKED;
 
-/* A row that registry_first has walked, and how far it was read. All of it is private. */
+/* A row of the caller's that registry_first walks, and how far it was read. */
 struct registry_cursor {
-	uint64_t next;
-	uint64_t count;
-	struct registry_entry row[REGISTRY_MOST_SLOTS];
+	struct registry_entry *row;	/* the caller sets this */
+	size_t room;			/* and this: how many places it has */
+	size_t next;			/* private, as is what follows */
+	size_t count;
 };
 
 /*
  * registry_first - the first of all live entries, in a section
  *
- * It is a registry_walk into the cursor, which may lie on the caller's stack, and then a
- * registry_next. In C: tested, not proved.
- * Returns REGISTRY_EMPTY_HANDLE, REGISTRY_NULL if `cursor` is NULL, REGISTRY_OUTSIDE,
+ * It is a registry_walk into the cursor's row, and then a registry_next. In C: tested, not proved.
+ * Returns REGISTRY_EMPTY_HANDLE, REGISTRY_NULL if `cursor` is NULL, or its row is and its room
+ * isn't 0, REGISTRY_OUTSIDE, REGISTRY_NO_ROOM if there are more entries than `room`,
  * REGISTRY_NO_MORE if there is no live entry.
  */
 registry_answer registry_first(struct registry_cpu *cpu, struct registry_cursor *cursor,
@@ -749,7 +750,7 @@ void registry_limits(struct registry_limits *limits);
 
 /*
  * Compares the limits of a program with the library's, for registry_open. Its name has the most
- * CPUs, the most slots and the version, such as registry_for_8_cpus_32_slots_v0_1, so that no
+ * CPUs, the most slots and the version, such as registry_for_64_cpus_255_slots_v0_1, so that no
  * program links or starts with a library whose structs or calls are others.
  * Returns REGISTRY_NULL if `limits` is NULL, REGISTRY_OTHER_LIMITS if any of them differs.
  */
@@ -791,7 +792,7 @@ REGISTRY_WORDS(struct registry_entry, 6);
 REGISTRY_WORDS(struct registry_stage, 2);
 REGISTRY_WORDS(struct registry_balance, 4 + REGISTRY_MOST_CPUS);
 REGISTRY_WORDS(struct registry_wait, 2 * REGISTRY_MOST_CPUS + REGISTRY_MOST_SLOTS + 1);
-REGISTRY_WORDS(struct registry_cursor, 2 + 6 * REGISTRY_MOST_SLOTS);
+REGISTRY_WORDS(struct registry_cursor, 4);
 REGISTRY_WORDS(struct registry_limits, 6);
 
 #ifdef __cplusplus

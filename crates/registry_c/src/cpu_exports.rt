@@ -2,15 +2,15 @@
 
 ghost use Rattle.std.specs.Prelude.{◌≡◌};
 ghost use Rattle.name_registry.specs.Common.{is_inside};
-ghost use Rattle.c_values.specs.declared.values.TheConstants.{DONE};
-ghost use Rattle.c_values.specs.Places.{put};
+ghost use Rattle.c_handles.specs.declared.values.plain.TheConstants.{DONE};
+ghost use Rattle.c_handles.specs.values.Places.{put};
 ghost use Rattle.c_calls.specs.Calls.{Acquires, Copies, CpuCloses, Enters, Exits, FindsNamed, HoldsSay, Reads, Releases, Through};
 
-use c_bodies::handle::CpuHandle;
 use c_calls::through_cpu;
-use c_values::answer::{EntryAnswer, FlagAnswer, NamedAnswer, NumberAnswer};
-use c_values::given::GivenName;
-use c_values::place::{EntryPlace, FlagPlace, NumberPlace};
+use c_handles::handle::CpuHandle;
+use c_handles::values::answer::{EntryAnswer, FlagAnswer, NamedAnswer, NumberAnswer};
+use c_handles::values::given::GivenName;
+use c_handles::values::place::{EntryPlace, FlagPlace, NumberPlace};
 use std::alloc::Global;
 
 /// `registry_close_cpu` of the header.

@@ -4,15 +4,15 @@ ghost use Rattle.std.specs.Prelude.{◌≡◌};
 ghost use Rattle.name_registry.specs.Common.{is_inside, room_answer};
 ghost use Rattle.c_calls.specs.Calls.{AreOfOne, Through, ThroughBoth};
 ghost use Rattle.c_calls.specs.KeeperCalls.{AdvanceAnswers, AttachesNamed, DestroyAnswers, DetachesNamed, KeeperCloses, PerformCalls, TurnCalls};
-ghost use Rattle.c_values.specs.declared.values.TheConstants.{DONE};
-ghost use Rattle.c_values.specs.Places.{put};
-ghost use Rattle.c_values.specs.Values.{number_of, settings_out};
+ghost use Rattle.c_handles.specs.declared.values.plain.TheConstants.{DONE};
+ghost use Rattle.c_handles.specs.values.Places.{put};
+ghost use Rattle.c_handles.specs.values.Values.{number_of, settings_out};
 
-use c_bodies::handle::{CpuHandle, KeeperHandle};
 use c_calls::through_keeper;
-use c_values::answer::{NamedAnswer, SettingsAnswer, StageAnswer, TurnAnswer, WaitAnswer};
-use c_values::given::GivenName;
-use c_values::place::{EntryPlace, NumberPlace, SettingsPlace, StagePlace, WaitPlace};
+use c_handles::handle::{CpuHandle, KeeperHandle};
+use c_handles::values::answer::{NamedAnswer, SettingsAnswer, StageAnswer, TurnAnswer, WaitAnswer};
+use c_handles::values::given::GivenName;
+use c_handles::values::place::{EntryPlace, NumberPlace, SettingsPlace, StagePlace, WaitPlace};
 use std::alloc::Global;
 
 /// `registry_close_keeper` of the header.

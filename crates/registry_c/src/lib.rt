@@ -1,4 +1,4 @@
-//! The running registry for C: the exports of registry.h. Each is one call of `c_calls` or `c_values`, and says its contract again.
+//! The running registry for C: the exports of registry.h. Each is one call of `c_calls` or `c_handles`, and says its contract again.
 #![tactic(auto)]
 
 mod cpu_exports;

@@ -3,15 +3,15 @@
 ghost use Rattle.std.specs.Prelude.{◌≡◌};
 ghost use Rattle.c_calls.specs.Calls.{AreOfOne, IsOfCpu, IsOfKeeper, Through};
 ghost use Rattle.c_calls.specs.LocalCalls.{AttachesIfaceNamed, LocalAcquireAnswers, LocalForgets, LocalGivesUp, LocalReleases, ThroughAll, ThroughLocal};
-ghost use Rattle.c_values.specs.declared.values.TheConstants.{DONE};
-ghost use Rattle.c_values.specs.Places.{put};
-ghost use Rattle.c_values.specs.Values.{entry_out};
+ghost use Rattle.c_handles.specs.declared.values.plain.TheConstants.{DONE};
+ghost use Rattle.c_handles.specs.values.Places.{put};
+ghost use Rattle.c_handles.specs.values.Values.{entry_out};
 
-use c_bodies::handle::{CpuHandle, KeeperHandle, LocalHandle};
 use c_calls::through_local;
-use c_values::answer::{EntryAnswer, NamedAnswer};
-use c_values::given::GivenName;
-use c_values::place::EntryPlace;
+use c_handles::handle::{CpuHandle, KeeperHandle, LocalHandle};
+use c_handles::values::answer::{EntryAnswer, NamedAnswer};
+use c_handles::values::given::GivenName;
+use c_handles::values::place::EntryPlace;
 use std::alloc::Global;
 
 /// `registry_local_acquire` of the header.

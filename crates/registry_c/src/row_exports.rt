@@ -1,21 +1,21 @@
 //! The calls that take a row of C's with its length beside it.
 
 ghost use Rattle.std.specs.Prelude.{◌≡◌};
-ghost use Rattle.held.specs.Rows.{IsLong};
+ghost use Rattle.c_handles.specs.heap.Rows.{IsLong};
 ghost use Rattle.c_calls.specs.Opening.{OpensInto, bodies_of};
 ghost use Rattle.c_calls.specs.Calls.{Through};
 ghost use Rattle.c_calls.specs.Walks.{WalksBy};
 ghost use Rattle.c_calls.specs.Audits.{AreAllOf, AuditsRows};
-ghost use Rattle.c_values.specs.Places.{row_in};
+ghost use Rattle.c_handles.specs.values.Places.{row_in};
 
-use c_bodies::answer::{AuditAnswer, OpenedAnswer};
-use c_bodies::handle::{CpuHandle, KeeperHandle};
-use c_bodies::rows::CpusPlace;
 use c_calls::{audit, opening, walks};
-use c_values::answer::WalkAnswer;
-use c_values::given::GivenSettings;
-use c_values::place::NumberPlace;
-use c_values::rows::{BalancesPlace, EntriesPlace};
+use c_handles::answer::{AuditAnswer, OpenedAnswer};
+use c_handles::handle::{CpuHandle, KeeperHandle};
+use c_handles::rows::CpusPlace;
+use c_handles::values::answer::WalkAnswer;
+use c_handles::values::given::GivenSettings;
+use c_handles::values::place::NumberPlace;
+use c_handles::values::rows::{BalancesPlace, EntriesPlace};
 use std::alloc::Global;
 
 /// `registry_open` of the header.

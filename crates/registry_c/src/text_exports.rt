@@ -1,18 +1,18 @@
 //! The calls that need no handle.
 
 ghost use Rattle.std.specs.Prelude.{◌≡◌};
-ghost use Rattle.held.specs.Rows.{IsLong};
+ghost use Rattle.c_handles.specs.heap.Rows.{IsLong};
 ghost use Rattle.registry_values.specs.Ids.{name_of_id};
-ghost use Rattle.c_values.specs.Places.{put};
-ghost use Rattle.c_values.specs.Texts.{ParsesGiven, TellsBy, TellsId};
-ghost use Rattle.c_values.specs.Values.{name_out};
-ghost use Rattle.c_values.specs.declared.values.TheConstants.{DONE};
+ghost use Rattle.c_handles.specs.values.Places.{put};
+ghost use Rattle.c_handles.specs.values.Texts.{ParsesGiven, TellsBy, TellsId};
+ghost use Rattle.c_handles.specs.values.Values.{name_out};
+ghost use Rattle.c_handles.specs.declared.values.plain.TheConstants.{DONE};
 
-use c_values::answer::{BytesAnswer, IdAnswer, NameAnswer, TextAnswer};
-use c_values::given::{GivenBytes, GivenName};
-use c_values::place::{NamePlace, NumberPlace};
-use c_values::rows::TextPlace;
-use c_values::texts;
+use c_handles::values::answer::{BytesAnswer, IdAnswer, NameAnswer, TextAnswer};
+use c_handles::values::given::{GivenBytes, GivenName};
+use c_handles::values::place::{NamePlace, NumberPlace};
+use c_handles::values::rows::TextPlace;
+use c_handles::values::texts;
 
 /// `registry_name_parse` of the header.
 #[unsafe(no_mangle)]

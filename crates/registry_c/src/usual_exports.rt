@@ -4,11 +4,11 @@ ghost use Rattle.std.specs.Prelude.{◌≡◌};
 ghost use Rattle.c_calls.specs.Calls.{Through};
 ghost use Rattle.c_calls.specs.UsualCalls.{EntersAndFinds, Gets, LooksUp};
 
-use c_bodies::handle::CpuHandle;
 use c_calls::through_usual;
-use c_values::answer::NamedAnswer;
-use c_values::given::GivenName;
-use c_values::place::EntryPlace;
+use c_handles::handle::CpuHandle;
+use c_handles::values::answer::NamedAnswer;
+use c_handles::values::given::GivenName;
+use c_handles::values::place::EntryPlace;
 
 /// `registry_look_up` of the header.
 #[unsafe(no_mangle)]

@@ -12,12 +12,27 @@
 //! - 4 if memory ran out.
 #![tactic(auto)]
 
+mod comparing;
+mod cutting;
+mod engines;
+mod making;
+mod reach;
+mod sketch;
+mod tally;
+mod telling;
+#[cfg(test)]
+mod tests;
+mod words;
+
+use comparing::SeedRange;
+use engines::Engines;
+use making::Seeds;
 use registry_script::parse_number;
-use script_comparison::{Engines, SeedRange, Seeds, compare, exit_code};
 use std::alloc::Global;
 use std::process::ExitCode;
 use std::rt::Env;
 use std::{env, io};
+use telling::{compare, exit_code};
 
 fn main(rt: HostRuntime) -> ExitCode {
     let Some(range) = asked(&rt) else {

@@ -12,5 +12,5 @@ new_are_all z xs new = record {
   count = new.count;
   each = λ c x at.
       let below : c < z.cpus = omega (arith, (cpu_at xs c x x at).0, new.count) in
-      ap (λ (y : OnCpu). y.view.id) (some-injective x (record { view = new_cpu z c; depth = 0; made = 0; memory = no_memory; known_log = []; log = [] }) (sym at ∙ new.each c below));
+      ap (λ (y : OnCpu). y.view.id) (some-injective x (record { view = new_cpu z c; depth = 0; made = 0; memory = no_memory z.slots; known_log = []; log = [] }) (sym at ∙ new.each c below));
 }

@@ -2,7 +2,7 @@
 use Rattle.std.specs.Prelude.{◌≡◌, ℕ, ◌<◌, ◌↔◌, List, Some, Bool, true, false}
 use Rattle.registry_report.specs.Types.{Change, Key}
 use Rattle.registry_values.specs.Common.{least_below}
-use Rattle.protocol.specs.Common.{EndsAt, IsLegal, IsLookup, empty_model, IsModelRun}
+use Rattle.protocol.specs.Common.{EndsAt, IsLegal, IsLookup, empty_model, IsModelRun, TakesNone}
 use Rattle.registry_report.specs.Changes.{end_of, lookup}
 use Rattle.registry_language.specs.Program.{Program, IsProgram}
 use Rattle.registry_report.specs.Registry.{opening_registry}
@@ -11,7 +11,7 @@ use Rattle.registry_report.specs.Sound.{after_each}
 
 -- Over the commands of every script the registry's model is reached by a run of lawful steps, from the one in which nothing has happened. It takes no reference without a section.
 abbrev pub ReportIsModelRun : Type 0
-ReportIsModelRun = (p : Program) → IsProgram p → IsModelRun ⊥ empty_model (after_each after (opening_registry p.settings) p.commands).model
+ReportIsModelRun = (p : Program) → IsProgram p → IsModelRun TakesNone empty_model (after_each after (opening_registry p.settings) p.commands).model
 
 -- What is computed change by change is the lookup of the history at each point.
 abbrev pub LookupIsExact : Type 0

@@ -1,7 +1,7 @@
 -- What lets each turn of a registry be a run of lawful steps of its model: by the history, who holds what, and the labels.
 use Rattle.std.specs.Prelude.{◌≡◌, ℕ, ◌<◌, ◌≤◌, List, [], ◌∷◌, length, Option, Some, None}
 use Rattle.registry_report.specs.Types.{Entry, Change, Settings}
-use Rattle.protocol.specs.Common.{IsAttached, IsLegal, IsLiveAt, MayHold, Model, IsModelRun}
+use Rattle.protocol.specs.Common.{IsAttached, IsLegal, IsLiveAt, MayHold, Model, IsModelRun, TakesNone}
 use Rattle.registry_report.specs.Answers.{count_below, is_this}
 use Rattle.registry_report.specs.Registry.{Registry}
 
@@ -39,7 +39,7 @@ IsSound r = IsSoundModel r.settings r.model r.local_labels
 
 -- a turn from r to q keeps that and the settings, and is a run of lawful steps
 abbrev pub IsLawfulTurn : Registry → Registry → Type 0
-IsLawfulTurn r q = IsSound q × IsModelRun ⊥ r.model q.model × (q.settings ≡ r.settings)
+IsLawfulTurn r q = IsSound q × IsModelRun TakesNone r.model q.model × (q.settings ≡ r.settings)
 
 -- the registry after commands, one after the other
 abbrev pub after_each : {C : Type 0} → (Registry → C → Registry) → Registry → List C → Registry

@@ -1,15 +1,23 @@
 //! Runs a script on standard input and writes its report to standard output, or runs a storm and prints what it found.
 #![tactic(auto)]
 
-ghost use Rattle.std.specs.Prelude.{IfOk};
-ghost use Rattle.run_tasks.specs.Doing.{IsPossible};
+mod doing;
+mod failure;
+mod task;
+#[cfg(test)]
+mod tests;
 
+ghost use Rattle.std.specs.Prelude.{IfOk};
+ghost use Rattle.registry_run.specs.Doing.{IsPossible};
+
+use doing::{OurStorms, carry_out};
+use failure::{Failure, exit_code};
 use registry_script::RunFault;
-use run_tasks::{Failure, OurStorms, Task, carry_out, exit_code};
 use std::alloc::Global;
 use std::process::ExitCode;
 use std::rt::Env;
 use std::{env, io};
+use task::Task;
 
 fn main(rt: HostRuntime) -> ExitCode {
     let ended = match chosen(&rt) {

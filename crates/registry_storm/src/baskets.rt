@@ -1,7 +1,7 @@
 //! Baskets in which workers leave local references to one another.
 
 ghost use Rattle.std.specs.Prelude.{◌≡◌, ◌<◌, vec_len};
-ghost use Rattle.registry_values.specs.declared.limits.TheConstants.{USUAL_CPUS};
+ghost use Rattle.registry_values.specs.declared.limits.TheConstants.{MOST_CPUS};
 ghost use Rattle.registry_storm.specs.Judging.{GoesOn};
 
 use crate::sum::Counts;
@@ -9,7 +9,7 @@ use cpu_words::Domain;
 use local_count::LocalRef;
 use name_registry::Registry;
 use passive_list::Cpu;
-use registry_values::USUAL_CPUS;
+use registry_values::MOST_CPUS;
 use std::alloc::{AllocError, Global};
 use std::sync::{Mutex, Wait};
 
@@ -28,14 +28,14 @@ type Basket<D> = Mutex<Option<Laid<D>>>;
 /// dropped: what lies in them is spent by `empty`.
 pub struct Baskets<D: Domain> {
     places: Vec<Basket<D>>,
-    ghost all: { vec_len places ≡ USUAL_CPUS },
+    ghost all: { vec_len places ≡ MOST_CPUS },
 }
 
 impl<D: Domain> Baskets<D> {
     /// Nothing lies in them. Refused where there is no memory for them.
     pub fn new(alloc: Global) -> Result<Baskets<D>, AllocError> {
-        let mut places = Vec::with_capacity(alloc, USUAL_CPUS)?;
-        for _ in 0..USUAL_CPUS {
+        let mut places = Vec::with_capacity(alloc, MOST_CPUS)?;
+        for _ in 0..MOST_CPUS {
             places.push_reserved(Mutex::new(None));
         }
         Ok(Baskets { places })
@@ -43,14 +43,14 @@ impl<D: Domain> Baskets<D> {
 
     /// Lays the reference into a place, from 0, and takes out what lay there.
     pub fn exchange<R: Wait>(&self, rt: &R, place: u8, laid: Laid<D>) -> Option<Laid<D>>
-        requires { place < USUAL_CPUS }
+        requires { place < MOST_CPUS }
     {
         self.places[place as usize].lock(rt).replace(laid)
     }
 
     /// Takes out what lies in a place, from 0.
     pub fn take<R: Wait>(&self, rt: &R, place: u8) -> Option<Laid<D>>
-        requires { place < USUAL_CPUS }
+        requires { place < MOST_CPUS }
     {
         self.places[place as usize].lock(rt).take()
     }

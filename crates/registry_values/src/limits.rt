@@ -1,15 +1,15 @@
-//! The limits of a build: its capacity, `MOST_*`, for which everything is proved, and within it the usual ranges, `USUAL_*`. C and Rust open registries up
+//! The limits of a build: its capacity, `MOST_*`, and within it the usual ranges, `USUAL_*`. Everything is proved for the whole capacity. C and Rust open registries up
 //! to the capacity; Rattle programs and scripts, within the ranges. Code, definitions and proofs speak by these names; so do tests and texts, except those
-//! that docs/CONTRIBUTING.md lists. A build with another capacity has to be proved like this one. `limits_law` says that it leaves room.
+//! that docs/RECIPES.md lists. A build with another capacity has to be proved like this one. `limits_law` says that it leaves room.
 
 ghost use Rattle.registry_values.specs.Limits.{LimitsLeaveRoom};
 
 /// The most CPUs that a registry may have. CPU numbers are `u8` and signed counts are summed over them, so at most 128.
-pub const MOST_CPUS: usize = 8;
+pub const MOST_CPUS: usize = 64;
 
 /// The most entries that a registry may hold at a time, and so the most slots. Slot numbers are `u8`, and one value more stands for none, so
 /// at most 255.
-pub const MOST_SLOTS: usize = 32;
+pub const MOST_SLOTS: usize = 255;
 
 /// The most changes that a registry's history may have room for: attaches and detaches together. An entry's number is at most this.
 pub const MOST_CHANGES: u64 = 1 << 40;

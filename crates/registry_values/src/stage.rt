@@ -10,7 +10,7 @@ use crate::refusal::Refusal;
 pub enum Stage {
     /// A section of this CPU may still hold the entry (pserialize(9)).
     Grace(u8),
-    /// This CPU still has a passive reference to it (psref(9)).
+    /// This CPU has a passive reference to it (psref(9)).
     Passive(u8),
     /// So many local references to it are held (localcount(9)); never 0.
     Local(u64),

@@ -10,18 +10,18 @@
 #include "registry_limits.h"
 #include "sys_types.h"
 
-#ifdef __cplusplus
-extern "C" {
+__BEGIN_DECLS
+
+/* How many CPUs there are, numbered from 0. A build of the layer may have up to 63, by -D. */
+#ifndef KUPALDIZ_CPUS
+#define KUPALDIZ_CPUS	7
 #endif
 
-/* How many CPUs there are, numbered from 0: those of a registry without the one that the layer keeps for itself. */
-#define KUPALDIZ_CPUS	(REGISTRY_MOST_CPUS - 1)
-
-/* A symbol with the limits of the build in its name. Each file that has this header refers to it: for other CPUs it neither links nor starts. */
-#define KUPALDIZ_NAMED_BY(limits)	kupaldiz_##limits
-#define KUPALDIZ_NAMED(limits)		KUPALDIZ_NAMED_BY(limits)
-extern const char KUPALDIZ_NAMED(REGISTRY_BUILT_FOR);
-static const char *const kupaldiz_built_for __attribute__((used)) = &KUPALDIZ_NAMED(REGISTRY_BUILT_FOR);
+/* A symbol with the limits of the build and its CPUs in its name. Each file that has this header refers to it: for others it neither links nor starts. */
+#define KUPALDIZ_NAMED_BY(limits, cpus)	kupaldiz_##limits##_on_##cpus
+#define KUPALDIZ_NAMED(limits, cpus)	KUPALDIZ_NAMED_BY(limits, cpus)
+extern const char KUPALDIZ_NAMED(REGISTRY_BUILT_FOR, KUPALDIZ_CPUS);
+static const char *const kupaldiz_built_for __attribute__((used)) = &KUPALDIZ_NAMED(REGISTRY_BUILT_FOR, KUPALDIZ_CPUS);
 
 /* A CPU, as far as it is looked into. */
 struct cpu_info {
@@ -124,7 +124,5 @@ bool cpu_softintr_p(void);
 #define kpreempt_enable()	(kupaldiz_at(KUPALDIZ_HERE), kpreempt_enable())
 #endif
 
-#ifdef __cplusplus
-}
-#endif
+__END_DECLS
 #endif

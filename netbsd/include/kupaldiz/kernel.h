@@ -14,9 +14,7 @@
 #include "cpu.h"
 #include "locks.h"
 
-#ifdef __cplusplus
-extern "C" {
-#endif
+__BEGIN_DECLS
 
 /* panic - end the process by abort(3), after one line on standard error. */
 void panic(const char *format, ...) __attribute__((noreturn, format(printf, 1, 2)));
@@ -189,7 +187,5 @@ typedef enum {
 	} \
 	extern int kupaldiz_##name##_modcmd(modcmd_t command, void *opaque)
 
-#ifdef __cplusplus
-}
-#endif
+__END_DECLS
 #endif

@@ -22,9 +22,7 @@
 #include "cpu.h"
 #include "locks.h"
 
-#ifdef __cplusplus
-extern "C" {
-#endif
+__BEGIN_DECLS
 
 /* A local count. It lies in the object that it protects; only the calls look into it. */
 struct localcount {
@@ -88,7 +86,5 @@ uint32_t localcount_debug_refcnt(const struct localcount *lc);
 #define localcount_release(lc, cv, interlock)	(kupaldiz_at(KUPALDIZ_HERE), localcount_release(lc, cv, interlock))
 #endif
 
-#ifdef __cplusplus
-}
-#endif
+__END_DECLS
 #endif

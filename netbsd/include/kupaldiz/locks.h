@@ -10,9 +10,7 @@
 
 #include "sys_types.h"
 
-#ifdef __cplusplus
-extern "C" {
-#endif
+__BEGIN_DECLS
 
 /* A lock. Only the calls look into it. */
 typedef struct kmutex {
@@ -178,7 +176,5 @@ int rw_lock_held(krwlock_t *rw);
 #define rw_exit(rw)		(kupaldiz_at(KUPALDIZ_HERE), rw_exit(rw))
 #endif
 
-#ifdef __cplusplus
-}
-#endif
+__END_DECLS
 #endif

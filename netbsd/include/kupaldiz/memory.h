@@ -9,9 +9,7 @@
 
 #include "cpu.h"
 
-#ifdef __cplusplus
-extern "C" {
-#endif
+__BEGIN_DECLS
 
 typedef unsigned km_flag_t;
 #define KM_SLEEP	0x01u
@@ -140,7 +138,5 @@ void percpu_foreach_xcall(percpu_t *percpu, unsigned flags, percpu_callback_t lo
 #define percpu_putref(percpu)		(kupaldiz_at(KUPALDIZ_HERE), percpu_putref(percpu))
 #endif
 
-#ifdef __cplusplus
-}
-#endif
+__END_DECLS
 #endif

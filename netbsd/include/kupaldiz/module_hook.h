@@ -9,9 +9,7 @@
 
 #include "localcount.h"
 
-#ifdef __cplusplus
-extern "C" {
-#endif
+__BEGIN_DECLS
 
 /* MODULE_HOOK - declare a hook of this name for functions of this type. One file defines it: `struct NAME_t NAME;`. */
 #define MODULE_HOOK(hook, type, parameters) \
@@ -66,7 +64,5 @@ void module_hook_exit(struct localcount *lc);
 		} \
 	} while (0)
 
-#ifdef __cplusplus
-}
-#endif
+__END_DECLS
 #endif

@@ -22,9 +22,7 @@
 #include "cpu.h"
 #include "locks.h"
 
-#ifdef __cplusplus
-extern "C" {
-#endif
+__BEGIN_DECLS
 
 typedef struct pserialize *pserialize_t;
 
@@ -70,7 +68,5 @@ bool pserialize_not_in_read_section(void);
 #define pserialize_perform(psz)	(kupaldiz_at(KUPALDIZ_HERE), pserialize_perform(psz))
 #endif
 
-#ifdef __cplusplus
-}
-#endif
+__END_DECLS
 #endif

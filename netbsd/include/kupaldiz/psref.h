@@ -7,7 +7,7 @@
  *
  * What differs from the page:
  * - A class's level changes nothing: a soft interrupt runs at the end of a call, never within one (kupaldiz_softint(3)).
- * - psref_acquire searches a list of at most 32 entries (the size of a registry of the default build) for its target. It notes the reference in a table
+ * - psref_acquire searches a list of at most 32 entries (a registry of the layer's) for its target. It notes the reference in a table
  *   of its CPU, where psref_release and psref_copy look it up. In the kernel a reference lies in a list of its CPU, and nothing is looked up.
  * - psref_target_destroy looks at the words of all CPUs, as pserialize_perform does; no CPU runs anything for it.
  * - psref_target_destroy waits for read sections, too: the ones that are open at the call, and the ones that are open as the last reference is released.
@@ -23,9 +23,7 @@
 #include "cpu.h"
 #include "locks.h"
 
-#ifdef __cplusplus
-extern "C" {
-#endif
+__BEGIN_DECLS
 
 struct psref_class;
 
@@ -106,7 +104,5 @@ bool psref_held(const struct psref_target *target, struct psref_class *psref_cla
 #define psref_held(target, psref_class)			(kupaldiz_at(KUPALDIZ_HERE), psref_held(target, psref_class))
 #endif
 
-#ifdef __cplusplus
-}
-#endif
+__END_DECLS
 #endif

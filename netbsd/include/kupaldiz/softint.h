@@ -17,9 +17,7 @@
 
 #include "cpu.h"
 
-#ifdef __cplusplus
-extern "C" {
-#endif
+__BEGIN_DECLS
 
 #define SOFTINT_CLOCK	0x0000u
 #define SOFTINT_BIO	0x0001u
@@ -160,7 +158,5 @@ void callout_ack(callout_t *callout);
 #define callout_halt(callout, interlock)	(kupaldiz_at(KUPALDIZ_HERE), callout_halt(callout, interlock))
 #endif
 
-#ifdef __cplusplus
-}
-#endif
+__END_DECLS
 #endif

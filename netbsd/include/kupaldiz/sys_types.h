@@ -15,9 +15,7 @@
 
 #include "names.h"
 
-#ifdef __cplusplus
-extern "C" {
-#endif
+__BEGIN_DECLS
 
 #define KUPALDIZ_TEXT_OF(line)	#line
 #define KUPALDIZ_TEXT(line)	KUPALDIZ_TEXT_OF(line)
@@ -105,7 +103,5 @@ static inline ipl_cookie_t makeiplcookie(int level)
 	return level;
 }
 
-#ifdef __cplusplus
-}
-#endif
+__END_DECLS
 #endif

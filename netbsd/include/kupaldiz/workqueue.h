@@ -9,9 +9,7 @@
 
 #include "cpu.h"
 
-#ifdef __cplusplus
-extern "C" {
-#endif
+__BEGIN_DECLS
 
 #define WQ_MPSAFE	0x01
 #define WQ_PERCPU	0x02
@@ -57,7 +55,5 @@ void workqueue_destroy(struct workqueue *queue);
 #define workqueue_destroy(queue)		(kupaldiz_at(KUPALDIZ_HERE), workqueue_destroy(queue))
 #endif
 
-#ifdef __cplusplus
-}
-#endif
+__END_DECLS
 #endif

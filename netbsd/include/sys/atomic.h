@@ -9,9 +9,7 @@
 
 #include "../kupaldiz/sys_types.h"
 
-#ifdef __cplusplus
-extern "C" {
-#endif
+__BEGIN_DECLS
 
 /* What a program hears of a fence that the thread sanitizer doesn't know. */
 #if defined(__SANITIZE_THREAD__) && !defined(__clang__)
@@ -139,7 +137,5 @@ static inline void *atomic_cas_ptr_ni(volatile void *at, void *expected, void *v
 	return atomic_cas_ptr(at, expected, value);
 }
 
-#ifdef __cplusplus
-}
-#endif
+__END_DECLS
 #endif

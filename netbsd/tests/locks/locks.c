@@ -1,5 +1,5 @@
 /*
- * locks - the locks beside the three pages: what each guards, levels, waiting writers, downgrades, conditions, and many that wait
+ * locks - the locks beside the three pages: what each guards, levels, conditions, and many that wait
  */
 #include <sys/param.h>
 #include <sys/systm.h>
@@ -75,27 +75,6 @@ static void test_levels_in_spin_locks(void)
 	mutex_destroy(&highest);
 }
 
-/* A lock spins by its type or by its level, and raises the CPU to that level: one of IPL_NONE to IPL_VM. */
-static void test_levels_of_locks(void)
-{
-	static const struct {
-		kmutex_type_t type;
-		int level, raised;
-	} each[] = {{MUTEX_SPIN, IPL_NONE, IPL_VM}, {MUTEX_SPIN, IPL_SOFTNET, IPL_SOFTNET}, {MUTEX_DEFAULT, IPL_VM, IPL_VM},
-	    {MUTEX_DEFAULT, IPL_SCHED, IPL_SCHED}, {MUTEX_DEFAULT, IPL_HIGH, IPL_HIGH}, {MUTEX_DEFAULT, IPL_SOFTSERIAL, IPL_NONE}};
-	for (unsigned i = 0; i < sizeof(each) / sizeof(each[0]); i++) {
-		kmutex_t of_level;
-		mutex_init(&of_level, each[i].type, each[i].level);
-		EXPECT(mutex_tryenter(&of_level) == 1 && kpreempt_disabled() == (each[i].raised != IPL_NONE));
-		int s = splsoftclock();
-		EXPECT(s == each[i].raised);
-		splx(s);
-		mutex_exit(&of_level);
-		EXPECT(!kpreempt_disabled());
-		mutex_destroy(&of_level);
-	}
-}
-
 static void test_mutexes(void)
 {
 	plain = pair[0] = 0;
@@ -106,7 +85,6 @@ static void test_mutexes(void)
 	mutex_spin_exit(&spin);
 	EXPECT(!kpreempt_disabled());
 	test_levels_in_spin_locks();
-	test_levels_of_locks();
 	kmutex_t *counted = mutex_obj_alloc(MUTEX_DEFAULT, IPL_NONE);
 	mutex_obj_hold(counted);
 	EXPECT(!mutex_obj_free(counted));
@@ -150,58 +128,6 @@ static void test_rwlocks(void)
 	rw_exit(&rw);
 	EXPECT(rw_tryupgrade(&rw) && rw_write_held(&rw) && !rw_tryenter(&rw, RW_READER));
 	rw_exit(&rw);
-}
-
-/* Takes the lock once, to read or to write. */
-struct taker {
-	krw_t how;
-	atomic_uint turns;
-};
-
-static void *take_once(void *of)
-{
-	struct taker *taker = of;
-	rw_enter(&rw, taker->how);
-	atomic_fetch_add(&taker->turns, 1);
-	rw_exit(&rw);
-	return of;
-}
-
-/* A writer that waits goes before the readers that come after it. */
-static void test_waiting_writer(void)
-{
-	pthread_t thread;
-	struct taker writer = {RW_WRITER, 0};
-	unsigned turn = 0;
-	rw_enter(&rw, RW_READER);
-	start_thread(&thread, take_once, &writer);
-	for (; turn < 100000 && rw_tryenter(&rw, RW_READER); turn++) {
-		rw_exit(&rw);
-		sleep_for(100);
-	}
-	EXPECT(turn < 100000 && atomic_load(&writer.turns) == 0 && rw_read_held(&rw) && !rw_write_held(&rw));
-	rw_exit(&rw);
-	end_thread(thread);
-	EXPECT(atomic_load(&writer.turns) == 1 && rw_tryenter(&rw, RW_READER) && rw_tryenter(&rw, RW_READER));
-	rw_exit(&rw);
-	rw_exit(&rw);
-}
-
-/* Who waits to read goes on beside the writer that becomes a reader. */
-static void test_downgrade(void)
-{
-	pthread_t thread;
-	struct taker reader = {RW_READER, 0};
-	rw_enter(&rw, RW_WRITER);
-	start_thread(&thread, take_once, &reader);
-	sleep_for(20000);
-	EXPECT(atomic_load(&reader.turns) == 0);
-	rw_downgrade(&rw);
-	for (unsigned turn = 0; turn < 100000 && atomic_load(&reader.turns) == 0; turn++)
-		sleep_for(100);
-	EXPECT(atomic_load(&reader.turns) == 1 && rw_read_held(&rw) && !rw_write_held(&rw) && !rw_tryenter(&rw, RW_WRITER));
-	rw_exit(&rw);
-	end_thread(thread);
 }
 
 static void *wait_and_count(void *arg)
@@ -379,8 +305,6 @@ int main(void)
 	rw_init(&rw);
 	test_mutexes();
 	test_rwlocks();
-	test_waiting_writer();
-	test_downgrade();
 	test_condvars();
 	test_order(1, 231);
 	test_order(2, 132);

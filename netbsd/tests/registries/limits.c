@@ -1,6 +1,6 @@
 /*
  * limits - more than one registry takes: over a layer whose registries have four rows, forty changes, twenty thousand sections of a CPU and two
- * thousand references. With `full` over the true limits, as far as a test comes to them: more than a million changes, and hundreds of live targets.
+ * thousand references. With `full` over the true limits, as far as a test comes to them: more than two million changes, and hundreds of live targets.
  */
 #include <sys/condvar.h>
 #include <sys/intr.h>
@@ -13,7 +13,7 @@
 
 #include "test.h"
 
-enum { MOST_LIVE = 300, READERS = 4, MANY = 300000, MANY_CHANGES = 1100000, REFERENCES = 3501 };	/* no multiple of 7 */
+enum { MOST_LIVE = 300, READERS = 4, MANY = 300000, MANY_CHANGES = 2200000, REFERENCES = 3501 };	/* no multiple of 7 */
 
 static struct psref_class *things;
 static pserialize_t psz;
@@ -50,7 +50,7 @@ static void test_live(unsigned live)
 	}
 }
 
-/* One target after another, beside one that stays. */
+/* One target after another, beside one that stays. With `full` they are more than a million, and none has its name. */
 static void test_changes(unsigned changes)
 {
 	struct psref kept, psref;
@@ -240,6 +240,6 @@ int main(int argc, char **argv)
 	pserialize_destroy(psz);
 	cv_destroy(&drained);
 	mutex_destroy(&lock);
-	puts(full ? "more than a million changes" : "more than each registry takes");
+	puts(full ? "more than two million changes" : "more than each registry takes");
 	return 0;
 }

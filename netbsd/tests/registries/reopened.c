@@ -2,16 +2,11 @@
  * reopened - a target goes into a registry that has room; one whose changes are used up is opened anew once it is empty, and no earlier than the last call on
  * it has returned
  *
- * Over a layer whose registries have four rows and forty changes. A release of the last reference loses its processor just before it returns. The linker leads
- * registry_release and registry_close_cpu here (--wrap).
+ * Over a layer whose registries have four rows and forty changes. A release of the last reference loses its processor just before it returns. At the end all
+ * registries are closed, as the bench does after each run: for that the test looks into the layer. The linker leads here (--wrap) what opens, what closes, a
+ * release, and what forgets a reference.
  */
-#include <sys/condvar.h>
-#include <sys/localcount.h>
-#include <sys/mutex.h>
-#include <sys/pserialize.h>
-#include <sys/psref.h>
-
-#include "registry.h"
+#include "src/layer.h"
 #include "test.h"
 #include "wraps.h"
 
@@ -37,27 +32,30 @@ uint32_t __wrap_registry_release(struct registry_cpu *cpu, uint64_t number)
 uint32_t __wrap_registry_close_cpu(struct registry_cpu *cpu)
 {
 	EXPECT(!atomic_load(&returning));
-	atomic_fetch_add(&closed, 1);
-	return __real_registry_close_cpu(cpu);
+	uint32_t answer = __real_registry_close_cpu(cpu);
+	atomic_fetch_add(&closed, answer == REGISTRY_DONE);
+	return answer;
 }
 
 static const struct registry_keeper *first_keeper;	/* of the first registry */
 static bool first_closed;
-static unsigned registries;	/* that are open */
+static unsigned registries, opened;	/* those that are open, and all */
 
-uint32_t __wrap_registry_open(const struct registry_settings *settings, struct registry_keeper *keeper, struct registry_cpu *cpus, size_t count)
+uint32_t __wrap_registry_open(const struct registry_settings *settings, struct registry_keeper *keeper, struct registry_cpu *handles, size_t count)
 {
 	if (first_keeper == NULL)
 		first_keeper = keeper;
 	registries++;
-	return __real_registry_open(settings, keeper, cpus, count);
+	opened++;
+	return __real_registry_open(settings, keeper, handles, count);
 }
 
 uint32_t __wrap_registry_close_keeper(struct registry_keeper *keeper)
 {
+	uint32_t answer = __real_registry_close_keeper(keeper);
 	first_closed |= keeper == first_keeper;
-	registries--;
-	return __real_registry_close_keeper(keeper);
+	registries -= answer == REGISTRY_DONE;
+	return answer;
 }
 
 static void *hold(void *arg)
@@ -150,6 +148,57 @@ static void fill_registries(void)
 	}
 }
 
+/* ---- The end of all registries. ---- */
+
+enum { LIVE = 2 * ROWS + 1, LEFT = 3 };
+
+static struct localcount counts[LIVE];
+static unsigned forgotten;
+static atomic_bool inside;
+
+uint32_t __wrap_registry_local_forget(struct registry_local *local)
+{
+	uint32_t answer = __real_registry_local_forget(local);
+	forgotten += answer == REGISTRY_DONE;
+	return answer;
+}
+
+static void *stay_inside(void *arg)
+{
+	kupaldiz_bind(4);
+	(void)pserialize_read_enter();
+	(void)pserialize_read_enter();
+	atomic_store(&inside, true);
+	for (;;)
+		sleep_for(1000000);
+	return arg;
+}
+
+/* Leaves counts live with references, in first rows and in others, and two CPUs inside sections: one is in there twice, as a call of the archive nests. */
+static void leave_all(void)
+{
+	pthread_t thread;
+	for (unsigned i = 0; i < LIVE; i++) {
+		localcount_init(&counts[i]);
+		for (unsigned turn = 0; turn < LEFT; turn++)
+			localcount_acquire(&counts[i]);
+	}
+	start_thread(&thread, stay_inside, NULL);
+	await_flag(&inside);
+	for (unsigned turn = 0; turn < 2; turn++)
+		EXPECT(registry_enter(&cpus[0].bank->cpus[0].cpu) == REGISTRY_DONE);
+}
+
+/* All that was opened is closed then, and each reference is forgotten. */
+static void test_close(void)
+{
+	struct thread nobody = {.call = "closing"};
+	leave_all();
+	EXPECT(forgotten == 0);
+	close_banks(&nobody);
+	EXPECT(registries == 0 && atomic_load(&closed) == opened * ALL_CPUS && forgotten == LIVE * LEFT);
+}
+
 int main(void)
 {
 	things = psref_class_create("thing", IPL_NONE);
@@ -165,6 +214,7 @@ int main(void)
 	EXPECT(atomic_load(&closed) >= ROUNDS);
 	end_sections();
 	psref_class_destroy(things);
+	test_close();
 	printf("%u handles were closed, none while a call used it\n", atomic_load(&closed));
 	return 0;
 }

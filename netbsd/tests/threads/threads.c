@@ -222,6 +222,26 @@ static void test_memory(void)
 	EXPECT(atomic_load(&blocks_taken) == before);
 }
 
+/* Ends bound. */
+THREAD(end_bound, kupaldiz_bind(3); EXPECT((curlwp->l_pflag & LP_BOUND) != 0 && cpu_number() == 3))
+
+/* A thread that has just begun ran nowhere, and isn't bound, though it has the memory of one that was. */
+static void *begin_anew(void *arg)
+{
+	EXPECT(curlwp->l_cpu == NULL && curlwp->l_pflag == 0 && curlwp->l_name[0] == '\0');
+	EXPECT(cpu_number() < KUPALDIZ_CPUS && curlwp->l_cpu == curcpu());
+	return arg;
+}
+
+static void test_anew(void)
+{
+	pthread_t thread;
+	for (unsigned life = 0; life < 20; life++) {
+		start_thread(&thread, life % 2 == 0 ? end_bound : begin_anew, NULL);
+		end_thread(thread);
+	}
+}
+
 /* The thread sanitizer is gone before what the layer keeps of such a thread. */
 #ifndef __SANITIZE_THREAD__
 
@@ -561,6 +581,7 @@ int main(void)
 	EXPECT(curlwp != NULL);
 	EXPECT(pthread_key_create(&late, judge_end) == 0);
 	test_memory();
+	test_anew();
 	test_unjoined();
 	test_joined();
 	test_cancelled();

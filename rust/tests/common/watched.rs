@@ -26,6 +26,7 @@ static CALLS: AtomicU32 = AtomicU32::new(0);
 thread_local! {
     static LOCALS: Cell<i64> = const { Cell::new(0) };
     static CLOSED: Cell<usize> = const { Cell::new(0) };
+    static IS_WITHIN: Cell<bool> = const { Cell::new(false) };
 }
 
 /// How many local references this thread has acquired and not released: blocks of the archive's.
@@ -104,6 +105,7 @@ mod edges {
     extern "C" {
         fn __tsan_acquire(at: Word);
         fn __tsan_release(at: Word);
+        fn registry_local_read(local: Handle, entry: Word) -> u32;
     }
 
     // What is found in the section of this thread: numbers of entries.
@@ -155,7 +157,7 @@ mod edges {
     pub fn before_local(local: Handle) {
         let mut entry = [0u64; 6];
         // SAFETY: the caller of the wrapped call guarantees the handle.
-        if unsafe { super::__real_registry_local_read(local, entry.as_mut_ptr() as Word) } == super::DONE {
+        if unsafe { registry_local_read(local, entry.as_mut_ptr() as Word) } == super::DONE {
             before_release(entry[0]);
         }
     }
@@ -180,22 +182,27 @@ mod edges {
 /// the sanitizer.
 #[cfg(registry_watched)]
 macro_rules! wrapped {
-    ($($wrap:ident($($name:ident: $type:ty),*) = $real:ident, [$($handle:ident),*] $(once [$($once:ident),*])? $(($local:ident))? $(closes $closed:ident)? $(before $before:block)? $(after $after:block)?;)*) => {$(
-        extern "C" {
-            fn $real($($name: $type),*) -> u32;
-        }
-
+    ($($call:ident($($name:ident: $type:ty),*) [$($handle:ident),*] $(once [$($once:ident),*])? $(($local:ident))? $(closes $closed:ident)? $(before $before:block)? $(after $after:block)?;)*) => {$(
         /// # Safety
         ///
         /// As of the call that it wraps.
-        #[no_mangle]
+        #[export_name = concat!("__wrap_", stringify!($call))]
         #[deny(unsafe_op_in_unsafe_fn)]
-        pub unsafe extern "C" fn $wrap($($name: $type),*) -> u32 {
+        pub unsafe extern "C" fn $call($($name: $type),*) -> u32 {
+            extern "C" {
+                #[link_name = concat!("__real_", stringify!($call))]
+                fn real($($name: $type),*) -> u32;
+            }
+            // Some linkers also lead here what the archive calls itself.
+            if IS_WITHIN.with(|within| within.replace(true)) {
+                // SAFETY: the caller guarantees it.
+                return unsafe { real($($name),*) };
+            }
             #[cfg(not(registry_edges))]
             let _in_use = {
                 // What the call frees may be another thread's before it is back, so it is looked at once.
-                $(drop(InUse::take(stringify!($real), &[$($once),*]));)?
-                InUse::take(stringify!($real), &[$($handle),*])
+                $(drop(InUse::take(stringify!($call), &[$($once),*]));)?
+                InUse::take(stringify!($call), &[$($handle),*])
             };
             // SAFETY: the caller guarantees it.
             $(let before = unsafe { *$local };)?
@@ -204,7 +211,7 @@ macro_rules! wrapped {
                 $($before)?
             }
             // SAFETY: the caller guarantees it.
-            let answer = unsafe { $real($($name),*) };
+            let answer = unsafe { real($($name),*) };
             #[cfg(registry_edges)]
             if answer == DONE {
                 $($after)?
@@ -214,6 +221,7 @@ macro_rules! wrapped {
                 let _ = $closed;
                 count_closed(answer);
             })?
+            IS_WITHIN.with(|within| within.set(false));
             answer
         }
     )*};
@@ -222,36 +230,35 @@ macro_rules! wrapped {
 // SAFETY of what is told: the caller guarantees the pointers, and a call that is done has written what it writes.
 #[cfg(registry_watched)]
 wrapped! {
-    __wrap_registry_close_cpu(cpu: Handle) = __real_registry_close_cpu, [] once [cpu] closes cpu;
-    __wrap_registry_close_keeper(keeper: Handle) = __real_registry_close_keeper, [] once [keeper] closes keeper;
-    __wrap_registry_enter(cpu: Handle) = __real_registry_enter, [cpu];
-    __wrap_registry_exit(cpu: Handle) = __real_registry_exit, [cpu] before { edges::before_exit() };
-    __wrap_registry_depth(cpu: Handle, depth: Word) = __real_registry_depth, [cpu];
-    __wrap_registry_find(cpu: Handle, kind: u64, name: Word, found: Word) = __real_registry_find, [cpu] after { unsafe { edges::found(found) } };
-    __wrap_registry_walk(cpu: Handle, row: Word, room: usize, count: Word) = __real_registry_walk, [cpu]
+    registry_close_cpu(cpu: Handle) [] once [cpu] closes cpu;
+    registry_close_keeper(keeper: Handle) [] once [keeper] closes keeper;
+    registry_enter(cpu: Handle) [cpu];
+    registry_exit(cpu: Handle) [cpu] before { edges::before_exit() };
+    registry_depth(cpu: Handle, depth: Word) [cpu];
+    registry_find(cpu: Handle, kind: u64, name: Word, found: Word) [cpu] after { unsafe { edges::found(found) } };
+    registry_walk(cpu: Handle, row: Word, room: usize, count: Word) [cpu]
         after { (0..unsafe { *(count as *const usize) }).for_each(|place| unsafe { edges::found((row as *mut u64).add(6 * place) as Word) }) };
-    __wrap_registry_acquire(cpu: Handle, number: Word) = __real_registry_acquire, [cpu];
-    __wrap_registry_copy(cpu: Handle, number: u64) = __real_registry_copy, [cpu];
-    __wrap_registry_held(cpu: Handle, number: u64, held: Word) = __real_registry_held, [cpu];
-    __wrap_registry_release(cpu: Handle, number: u64) = __real_registry_release, [cpu] before { edges::before_release(number) };
-    __wrap_registry_look_up(cpu: Handle, kind: u64, name: Word, found: Word) = __real_registry_look_up, [cpu];
-    __wrap_registry_get(cpu: Handle, kind: u64, name: Word, found: Word) = __real_registry_get, [cpu] after { unsafe { edges::found(found) } };
-    __wrap_registry_enter_find(cpu: Handle, kind: u64, name: Word, found: Word) = __real_registry_enter_find, [cpu] after { unsafe { edges::found(found) } };
-    __wrap_registry_local_acquire(cpu: Handle, local: Handle) = __real_registry_local_acquire, [cpu] (local);
-    __wrap_registry_local_release(cpu: Handle, local: Handle) = __real_registry_local_release, [cpu] once [local] (local) before { edges::before_local(local) };
-    __wrap_registry_local_give_up(keeper: Handle, local: Handle) = __real_registry_local_give_up, [keeper] once [local] (local) before { edges::before_local(local) };
-    __wrap_registry_local_forget(local: Handle) = __real_registry_local_forget, [] once [local] (local);
-    __wrap_registry_local_read(local: Handle, entry: Word) = __real_registry_local_read, [local];
-    __wrap_registry_attach(keeper: Handle, cpu: Handle, name: Word, value: u64, made: Word) = __real_registry_attach, [keeper, cpu]
+    registry_acquire_entry(cpu: Handle, entry: Word) [cpu];
+    registry_copy(cpu: Handle, number: u64) [cpu];
+    registry_held(cpu: Handle, number: u64, held: Word) [cpu];
+    registry_release(cpu: Handle, number: u64) [cpu] before { edges::before_release(number) };
+    registry_look_up(cpu: Handle, kind: u64, name: Word, found: Word) [cpu];
+    registry_get(cpu: Handle, kind: u64, name: Word, found: Word) [cpu] after { unsafe { edges::found(found) } };
+    registry_enter_find(cpu: Handle, kind: u64, name: Word, found: Word) [cpu] after { unsafe { edges::found(found) } };
+    registry_local_acquire_entry(cpu: Handle, entry: Word, local: Handle) [cpu] (local);
+    registry_local_release(cpu: Handle, local: Handle) [cpu] once [local] (local) before { edges::before_local(local) };
+    registry_local_give_up(keeper: Handle, local: Handle) [keeper] once [local] (local) before { edges::before_local(local) };
+    registry_local_forget(local: Handle) [] once [local] (local);
+    registry_attach(keeper: Handle, cpu: Handle, name: Word, value: u64, made: Word) [keeper, cpu] before { edges::before_attach(value) };
+    registry_attach_iface(keeper: Handle, cpu: Handle, driver: Handle, name: Word, value: u64, made: Word) [keeper, cpu] once [driver] (driver)
         before { edges::before_attach(value) };
-    __wrap_registry_attach_iface(keeper: Handle, cpu: Handle, driver: Handle, name: Word, value: u64, made: Word) = __real_registry_attach_iface,
-        [keeper, cpu] once [driver] (driver) before { edges::before_attach(value) };
-    __wrap_registry_detach(keeper: Handle, cpu: Handle, kind: u64, name: Word, gone: Word) = __real_registry_detach, [keeper, cpu];
-    __wrap_registry_advance(keeper: Handle, number: u64, met: Word) = __real_registry_advance, [keeper]
-        after { if unsafe { edges::is_freed(met) } { edges::after_freed(number) } };
-    __wrap_registry_destroy(keeper: Handle, cpu: Handle, number: u64, met: Word) = __real_registry_destroy, [keeper, cpu]
-        after { edges::after_freed(number) };
-    __wrap_registry_perform_begin(keeper: Handle, cpu: Handle, wait: Word) = __real_registry_perform_begin, [keeper, cpu];
-    __wrap_registry_perform_turn(keeper: Handle, cpu: Handle, wait: Word, waited: Word) = __real_registry_perform_turn, [keeper, cpu];
-    __wrap_registry_audit(keeper: Handle, cpus: Handle, many: usize, list: Word, room: usize, length: Word) = __real_registry_audit, [keeper, cpus];
+    registry_replace(keeper: Handle, cpu: Handle, name: Word, value: u64, gone: Word, made: Word) [keeper, cpu] before { edges::before_attach(value) };
+    registry_replace_iface(keeper: Handle, cpu: Handle, driver: Handle, name: Word, value: u64, gone: Word, made: Word) [keeper, cpu] once [driver] (driver)
+        before { edges::before_attach(value) };
+    registry_detach(keeper: Handle, cpu: Handle, kind: u64, name: Word, gone: Word) [keeper, cpu];
+    registry_advance(keeper: Handle, number: u64, met: Word) [keeper] after { if unsafe { edges::is_freed(met) } { edges::after_freed(number) } };
+    registry_destroy(keeper: Handle, cpu: Handle, number: u64, met: Word) [keeper, cpu] after { edges::after_freed(number) };
+    registry_perform_begin(keeper: Handle, cpu: Handle, wait: Word) [keeper, cpu];
+    registry_perform_turn(keeper: Handle, cpu: Handle, wait: Word, waited: Word) [keeper, cpu];
+    registry_audit(keeper: Handle, cpus: Handle, many: usize, list: Word, room: usize, length: Word) [keeper, cpus];
 }

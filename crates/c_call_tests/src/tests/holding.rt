@@ -4,7 +4,7 @@ use super::waits::driver;
 use crate::holding::hold;
 use crate::waiting::opened;
 use c_calls::keeper_calls::attach;
-use c_values::values::{DONE, NOT_COLLECTED};
+use c_handles::values::plain::{DONE, NOT_COLLECTED};
 use std::test::*;
 
 #[test]

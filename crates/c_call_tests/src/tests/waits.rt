@@ -4,8 +4,8 @@ ghost use Rattle.std.specs.Prelude.{◌≡◌, IsTrue};
 ghost use Rattle.registry_values.specs.Common.{is_lawful};
 
 use crate::waiting::{hand_over, leave, leave_alone, opened, waited};
-use c_bodies::{CpuBody, KeeperBody};
 use c_calls::keeper_calls::{advance_for, attach, detach};
+use c_handles::{CpuBody, KeeperBody};
 use registry_values::{Kind, Name, Record, Refusal, Stage};
 use std::process::Abort;
 use std::test::*;

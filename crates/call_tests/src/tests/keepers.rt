@@ -11,11 +11,8 @@ use super::records::{Wanted, record};
 use cpu_words::Words;
 use passive_list::{Keeper, KeptSlot, SlotState, look, publish, retire};
 use passive_ref::look_passive;
-use registry_values::{Entry, Key, Kind, Record, is_live_as};
+use registry_values::{Entry, Key, Kind, MOST_SLOTS, Record, is_live_as};
 use std::process::Abort;
-
-/// How many slots there are at most.
-const MOST_SLOTS: u64 = 32;
 
 /// A call on the words by the keeper, of slot 0.
 #[derive(Clone, Copy)]
@@ -67,7 +64,7 @@ pub(crate) fn published<R: Abort>(rt: &R, words: &Words, keeper: &mut Keeper, re
     assert!(rt; 0 < keeper.settings().slots);
     assert!(rt; keeper.slot(0) == SlotState::Vacant && keeper.keeps(0).is_none());
     assert!(rt; !is_taken(keeper, rec));
-    assert!(rt; keeper.changes() + MOST_SLOTS + 2 <= keeper.settings().change_limit);
+    assert!(rt; keeper.changes() + MOST_SLOTS as u64 + 2 <= keeper.settings().change_limit);
     publish(words, keeper, 0, rec)
 }
 

@@ -10,7 +10,7 @@ use passive_list::{
     Cpu, enter, exit, find, find_inside, find_remembered, may_begin_on, recall_on, walk,
 };
 use passive_ref::{Psref, acquire, copy, get_remembered, held, read, release};
-use registry_values::{Entry, MOST_SLOTS, Record, Refusal};
+use registry_values::{Entry, MOST_SLOTS, Record, Refusal, USUAL_SLOTS};
 use std::process::Abort;
 
 /// A call on the words by a CPU.
@@ -278,16 +278,17 @@ pub(crate) fn walked<D: Domain, R: Abort>(
     rt: &R,
     words: &Words,
     cpu: &mut Cpu<D>,
-) -> (usize, [Entry; 32])
+) -> (usize, [Entry; USUAL_SLOTS])
     requires words { AreWordsOf words.now D.table D.settings }
 {
     assert!(rt; cpu.inside());
+    assert!(rt; usize::from(words.settings().slots) <= USUAL_SLOTS);
     let stale = Entry {
         number: 77,
         slot: 0,
         rec: record(rt, WM),
     };
-    let mut row = [stale; 32];
+    let mut row = [stale; USUAL_SLOTS];
     let count = walk(words, cpu, &mut row);
     for place in 1..count {
         assert!(rt; row[place].number < row[place - 1].number);

@@ -3,13 +3,14 @@
 ghost use Rattle.std.specs.Prelude.{◌≡◌, IsTrue};
 ghost use Rattle.registry_values.specs.Common.{are_fit};
 ghost use Rattle.cpu_words.specs.Common.{AreWordsOf, keeper_with, new_cpu};
+ghost use Rattle.registry_values.specs.declared.limits.TheConstants.{MOST_CPUS};
 
 use super::answers::Answer;
 use super::keepers::{Writer, by_keeper};
 use super::readers::{Held, Reader, by_reader};
 use cpu_words::{CpuSeat, Domain, KeeperSeat, Words};
-use passive_list::{Cpu, Keeper};
-use registry_values::Settings;
+use passive_list::{Cpu, CpuRows, Keeper, KeeperRows};
+use registry_values::{MOST_CPUS, Settings};
 use std::alloc::Global;
 use std::process::Abort;
 use std::sync::ledger;
@@ -24,11 +25,11 @@ pub(crate) struct Table {
     pub(crate) second: CpuSeat,
     pub(crate) changes: ledger::Blank,
     ghost fit: { IsTrue (are_fit words.settings) },
-    ghost cpus: { words.settings.cpus ≡ 2 },
+    ghost sizes: { (words.settings.cpus ≡ 2) × (words.settings.slots ≡ 2) },
     ghost with_keeper: { (keeper.table ≡ words.table) × (keeper.view ≡ keeper_with words.settings words.settings.cpus) },
     ghost with_first: { (first.table ≡ words.table) × (first.view ≡ new_cpu words.settings 0) },
     ghost with_second: { (second.table ≡ words.table) × (second.view ≡ new_cpu words.settings 1) },
-    ghost parts: { changes.parts ≡ 8 },
+    ghost parts: { changes.parts ≡ MOST_CPUS },
 }
 
 /// A table in which each CPU may begin so many sections, and have two passive references and one local reference to an entry.
@@ -48,7 +49,7 @@ pub(crate) fn opened(alloc: Global, section_limit: u64) -> Result<Table, Fail> {
             keeper,
             first,
             second,
-            changes: ledger::Blank::new(8),
+            changes: ledger::Blank::new(MOST_CPUS as u64),
         }),
         _ => Err(Fail::from("two seats")),
     }
@@ -66,9 +67,9 @@ pub(crate) struct Seats<D: Domain> {
 }
 
 impl<D: Domain> Seats<D> {
-    pub(crate) fn of(table: Table) -> Seats<D>
+    pub(crate) fn of(alloc: Global, table: Table) -> Result<Seats<D>, Fail>
         requires words { AreWordsOf table.words D.table D.settings }
-        requires ledger { (table.changes.name ≡ D.name) × (D.parts ≡ 8) }
+        requires ledger { (table.changes.name ≡ D.name) × (D.parts ≡ MOST_CPUS) }
     {
         let Table {
             words,
@@ -78,14 +79,17 @@ impl<D: Domain> Seats<D> {
             changes,
         } = table;
         let settings = words.settings();
+        let rows = KeeperRows::new(alloc, settings)?;
+        let first_rows = CpuRows::new(alloc, settings.slots)?;
+        let second_rows = CpuRows::new(alloc, settings.slots)?;
         let (_book, mut shares) = changes.open::<D>();
         let (one, other) = (shares.split_off(1, 0), shares.split_off(1, 0));
-        Seats {
+        Ok(Seats {
             words,
-            keeper: Keeper::of_seat(keeper, settings),
-            first: Cpu::of_seat(first, 0, one),
-            second: Cpu::of_seat(second, 1, other),
-        }
+            keeper: Keeper::of_seat(keeper, settings, rows),
+            first: Cpu::of_seat(first, 0, first_rows, one),
+            second: Cpu::of_seat(second, 1, second_rows, other),
+        })
     }
 
     /// Checks that each step returns what the row says.

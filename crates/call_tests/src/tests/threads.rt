@@ -2,6 +2,7 @@
 
 ghost use Rattle.std.specs.Prelude.{◌≡◌, IsTrue};
 ghost use Rattle.registry_values.specs.Common.{is_lawful};
+ghost use Rattle.registry_values.specs.declared.limits.TheConstants.{MOST_CPUS};
 ghost use Rattle.cpu_words.specs.Common.{AreWordsOf};
 
 use super::keepers::{looked, passive_look, published, retired};
@@ -11,6 +12,7 @@ use cpu_words::{Domain, Words};
 use local_count::{LocalRef, acquire_local, collect, collected, total, try_release};
 use passive_list::{Cpu, Keeper, Note, SlotState, enter, exit, find, hear, tell, tell_keeper};
 use registry_values::{Kind, Name, Record, Refusal, USUAL_SECTIONS};
+use std::alloc::Global;
 use std::marker::{Brand, PhantomData};
 use std::process::Abort;
 use std::sync::atomic::{AtomicBool, Ordering};
@@ -32,20 +34,23 @@ fn number_found<D: Domain>(words: &Words, cpu: &mut Cpu<D>, name: &Name) -> Opti
 
 #[test]
 fn a_lookup_finds_what_another_thread_publishes(rt: HostRuntime) -> Result<(), Fail> {
-    one_lookup::<Brand, _>(&rt, opened(rt.alloc(), USUAL_SECTIONS)?);
-    Ok(())
+    one_lookup::<Brand, _>(&rt, rt.alloc(), opened(rt.alloc(), USUAL_SECTIONS)?)
 }
 
-fn one_lookup<D: Domain + Send, R: Threads + Abort + Sync>(rt: &R, table: Table)
+fn one_lookup<D: Domain + Send, R: Threads + Abort + Sync>(
+    rt: &R,
+    alloc: Global,
+    table: Table,
+) -> Result<(), Fail>
     requires words { AreWordsOf table.words D.table D.settings }
-    requires ledger { (table.changes.name ≡ D.name) × (D.parts ≡ 8) }
+    requires ledger { (table.changes.name ≡ D.name) × (D.parts ≡ MOST_CPUS) }
 {
     let Seats {
         words,
         keeper,
         first,
         ..
-    } = Seats::<D>::of(table);
+    } = Seats::<D>::of(alloc, table)?;
     let driver = record(rt, WM);
     let (words, missed) = (&words, &AtomicBool::new(false));
     let (found, published) = join(
@@ -60,6 +65,7 @@ fn one_lookup<D: Domain + Send, R: Threads + Abort + Sync>(rt: &R, table: Table)
     );
     assert_eq!(rt; published, Some(1));
     assert_eq!(rt; found, Some(1));
+    Ok(())
 }
 
 /// Looks the driver up, in a section each time, until it is found. It sets the flag where it isn't, and returns the number found.
@@ -127,20 +133,24 @@ fn was_set(flag: &AtomicBool) -> bool {
 
 #[test]
 fn a_note_tells_another_thread_what_was_published(rt: HostRuntime) -> Result<(), Fail> {
-    told_twice::<Brand, _>(&rt, opened(rt.alloc(), USUAL_SECTIONS)?)
+    told_twice::<Brand, _>(&rt, rt.alloc(), opened(rt.alloc(), USUAL_SECTIONS)?)
 }
 
 /// Both sections begin before the driver is published. One CPU hears of it from the keeper, the other from that CPU.
-fn told_twice<D: Domain + Send, R: Threads + Abort + Sync>(rt: &R, table: Table) -> Result<(), Fail>
+fn told_twice<D: Domain + Send, R: Threads + Abort + Sync>(
+    rt: &R,
+    alloc: Global,
+    table: Table,
+) -> Result<(), Fail>
     requires words { AreWordsOf table.words D.table D.settings }
-    requires ledger { (table.changes.name ≡ D.name) × (D.parts ≡ 8) }
+    requires ledger { (table.changes.name ≡ D.name) × (D.parts ≡ MOST_CPUS) }
 {
     let Seats {
         words,
         keeper,
         mut first,
         mut second,
-    } = Seats::<D>::of(table);
+    } = Seats::<D>::of(alloc, table)?;
     let driver = record(rt, WM);
     let words = &words;
     enter_both(words, &mut first, &mut second)?;
@@ -214,21 +224,24 @@ fn find_once_told<D: Domain>(
 
 #[test]
 fn a_reference_is_released_on_another_thread(rt: HostRuntime) -> Result<(), Fail> {
-    one_reference::<Brand, _>(&rt, opened(rt.alloc(), 1)?);
-    Ok(())
+    one_reference::<Brand, _>(&rt, rt.alloc(), opened(rt.alloc(), 1)?)
 }
 
 /// CPU 0 acquires the reference, and another thread reads and releases it on CPU 1. Then nobody holds the entry.
-fn one_reference<D: Domain + Send, R: Threads + Abort + Sync>(rt: &R, table: Table)
+fn one_reference<D: Domain + Send, R: Threads + Abort + Sync>(
+    rt: &R,
+    alloc: Global,
+    table: Table,
+) -> Result<(), Fail>
     requires words { AreWordsOf table.words D.table D.settings }
-    requires ledger { (table.changes.name ≡ D.name) × (D.parts ≡ 8) }
+    requires ledger { (table.changes.name ≡ D.name) × (D.parts ≡ MOST_CPUS) }
 {
     let Seats {
         words,
         mut keeper,
         mut first,
         second,
-    } = Seats::<D>::of(table);
+    } = Seats::<D>::of(alloc, table)?;
     let driver = record(rt, WM);
     let words = &words;
     published(rt, words, &mut keeper, driver);
@@ -247,6 +260,7 @@ fn one_reference<D: Domain + Send, R: Threads + Abort + Sync>(rt: &R, table: Tab
     assert!(rt; read == Some((1, Kind::Driver, driver)));
     retired(rt, words, &mut keeper);
     assert_eq!(rt; total_once_drained(rt, words, &mut keeper), 0);
+    Ok(())
 }
 
 /// Finds the driver in a section, and acquires a local reference to it.

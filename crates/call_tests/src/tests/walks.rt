@@ -14,7 +14,7 @@ use super::records::{VGA, WM, record};
 use cpu_words::{Domain, Words};
 use name_registry::{Blank, Registry};
 use passive_list::{Cpu, enter, exit};
-use registry_values::{Entry, Kind, Name, Record, USUAL_CHANGES};
+use registry_values::{Entry, Kind, Name, Record, USUAL_CHANGES, USUAL_SLOTS};
 use std::alloc::Global;
 use std::marker::Brand;
 use std::process::Abort;
@@ -23,7 +23,7 @@ use std::sync::atomic::{AtomicBool, Ordering};
 use std::test::*;
 use std::thread::{Threads, join, yield_now};
 
-const SLOTS: u8 = 32;
+const SLOTS: u8 = USUAL_SLOTS as u8;
 
 /// After so many turns a side gives up, and the test fails.
 const TURNS: u32 = 100_000_000;
@@ -52,7 +52,7 @@ fn full<D: Domain, R: Wait + Abort>(rt: &R, alloc: Global, blank: Blank) -> Resu
 {
     let (registry, mut cpu) = filled::<D, _>(rt, alloc, blank)?;
     let (count, row) = walked_inside(rt, registry.words(), &mut cpu);
-    assert_eq!(rt; count, 32);
+    assert_eq!(rt; count, USUAL_SLOTS);
     for (entry, n) in row.iter().zip((0..SLOTS).rev()) {
         assert!(rt; (entry.number, entry.slot, entry.rec) == (u64::from(n) + 1, n, nth(rt, n)));
     }
@@ -88,7 +88,7 @@ fn walked_inside<D: Domain, R: Abort>(
     rt: &R,
     words: &Words,
     cpu: &mut Cpu<D>,
-) -> (usize, [Entry; 32])
+) -> (usize, [Entry; USUAL_SLOTS])
     requires words { AreWordsOf words.now D.table D.settings }
 {
     let Ok(()) = enter(words, cpu) else {

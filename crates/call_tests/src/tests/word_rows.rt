@@ -1,6 +1,7 @@
 //! Rows of calls on the bare words, each on a table of its own: sections and passive references, up to what the looks answer.
 
 ghost use Rattle.std.specs.Prelude.{◌≡◌};
+ghost use Rattle.registry_values.specs.declared.limits.TheConstants.{MOST_CPUS};
 ghost use Rattle.cpu_words.specs.Common.{AreWordsOf};
 
 use super::answers::Answer::{self, At, Done, Is, Looks, Names, Number, Refused};
@@ -169,15 +170,16 @@ fn word_rows(rt: HostRuntime) -> Result<(), Fail> {
 
 /// Runs the row on a table of its own.
 fn run<R: Abort>(rt: &R, alloc: Global, row: &Row) -> Result<(), Fail> {
-    follow::<Brand, _>(rt, opened(alloc, 10)?, row);
-    Ok(())
+    follow::<Brand, _>(rt, alloc, opened(alloc, 10)?, row)
 }
 
-fn follow<D: Domain, R: Abort>(rt: &R, table: Table, row: &Row)
+fn follow<D: Domain, R: Abort>(rt: &R, alloc: Global, table: Table, row: &Row) -> Result<(), Fail>
     requires words { AreWordsOf table.words D.table D.settings }
-    requires ledger { (table.changes.name ≡ D.name) × (D.parts ≡ 8) }
+    requires ledger { (table.changes.name ≡ D.name) × (D.parts ≡ MOST_CPUS) }
 {
+    let mut seats = Seats::<D>::of(alloc, table)?;
     let mut refs = Held::nothing();
-    Seats::<D>::of(table).follow(rt, &mut refs, row.name, row.steps);
+    seats.follow(rt, &mut refs, row.name, row.steps);
     refs.end(rt);
+    Ok(())
 }

@@ -108,7 +108,7 @@ const ROWS: [Row; 8] = [
             (1, Ask::Advance(3), Ok(Told::Stage(Stage::Freed(0)))),
         ],
     },
-    // A CPU may try any slot and any number; it confirms only what the slot has.
+    // A CPU may try any slot, and any number whose attach it has seen; it confirms only what the slot has.
     Row {
         name: "not what the slot has",
         settings: USUAL,
@@ -122,7 +122,8 @@ const ROWS: [Row; 8] = [
             (0, Ask::Step(Event::Try(0, 1, 1)), Ok(Told::Word(0))),
             (0, CONFIRM, Ok(Told::NotAllowed)),
             (0, TAKE_BACK, Ok(Told::Word(1))),
-            (0, Ask::Step(Event::Try(0, 0, 2)), Ok(Told::Word(0))),
+            (0, Ask::Step(Event::Try(0, 0, 2)), Ok(Told::NotAllowed)),
+            (0, Ask::Step(Event::Try(0, 0, 0)), Ok(Told::Word(0))),
             (0, CONFIRM, Ok(Told::NotAllowed)),
             (0, TAKE_BACK, Ok(Told::Word(1))),
             (0, TRY, Ok(Told::Word(0))),
@@ -142,13 +143,15 @@ const ROWS: [Row; 8] = [
             (0, TRY, Ok(Told::NotAllowed)),
         ],
     },
-    // Each CPU has its own word. What one is trying stops no other.
+    // Each CPU has its own word. What one is trying stops no other. CPU 1 tries wm once it has heard of it.
     Row {
         name: "two CPUs",
         settings: USUAL,
         lines: &[
             ATTACH_WM,
             (0, TRY, Ok(Told::Word(0))),
+            (1, Ask::Step(Event::Try(1, 0, 1)), Ok(Told::NotAllowed)),
+            (1, Ask::Step(Event::Hear(Some(1))), Ok(Told::Done)),
             (1, Ask::Step(Event::Try(1, 0, 1)), Ok(Told::Word(0))),
             (1, Ask::Step(Event::Confirm(1)), Ok(Told::Word(0))),
             (0, CONFIRM, Ok(Told::Word(0))),
@@ -189,7 +192,7 @@ fn list_of_tries(rt: HostRuntime) -> Result<(), Fail> {
     let mut core = core_after(&rt, &[])?;
     let events = [
         Event::Show(0),
-        Event::Try(0, 0, 2),
+        Event::Try(0, 0, 0),
         Event::Confirm(0),
         Event::Recall(0, 0),
         Event::TakeBack(0),

@@ -161,7 +161,14 @@ fn settings_fit_the_capacity(rt: HostRuntime) {
     assert_eq!(rt; least.check_fit(), Ok(()));
     assert_eq!(rt; MOST.check_fit(), Ok(()));
     let below = with_each(MOST, NONE);
-    let above = with_each(least, one_more(MOST));
+    // No `u8` is more than `MOST_SLOTS`.
+    let above = with_each(
+        least,
+        Settings {
+            slots: 0,
+            ..one_more(MOST)
+        },
+    );
     for settings in below.iter().chain(&above) {
         assert_eq!(rt; settings.check_fit(), Err(Refusal::BadSettings));
     }

@@ -1,7 +1,7 @@
 -- Passive references without a section, on the words.
 use Rattle.std.proofs.Common.{◌≡◌, ◌≢◌, inl, inr, ⊎_elim, ℕ, ◌+◌, ◌-◌, ◌%◌, ◌^◌, ◌<◌, ◌≤◌, ◌&&◌, ◌==◌, nat_le, Bool, true, false, if◌then◌else◌, List, [], ◌∷◌, length, set, take, get_or, Some, None, is_none, IsTrue, refl, sym, ap}
 use Rattle.std.proofs.Common.{◌∙◌, subst, arith, leb-true, get_or-set_same, get_or-set_other}
-use Rattle.std.proofs.lemmas.Bool.{and_from, and_parts, lt-ltb, eq-eqb, ne_eqb, cases_eq, cases_lt}
+use Rattle.std.proofs.lemmas.Bool.{and_from, and_parts, le-leb, lt-ltb, eq-eqb, ne_eqb, cases_eq, cases_lt}
 use Rattle.std.specs.List.{Contains}
 use Rattle.std.specs.Prelude.{slice_index}
 use mathlib.Core.Option.{some}
@@ -21,7 +21,7 @@ use Rattle.cpu_words.specs.declared.view.InHand.TheVariants.{Empty as NoEntry, T
 use Rattle.cpu_words.specs.Common.{InHand, CpuView, View, Cpu, passive_of, live_of, index, CpuOwn, own_of, cpu_view, depth_of, SameHand, HandFits, trying_in, references_to}
 use Rattle.cpu_words.specs.Common.{CpuShown, cpu_of, Agrees, Good, Ruled, GoesOn, did, Makes, CpuMay, IsIdle}
 use Rattle.cpu_words.specs.Common.{EndTold, HasConfirmed, HasTakenBack, HasTried, IsTrying, MayEndTry, MayTakeBack, MayTry, TriedTold, event_by, is_hear, maker, the_cpu}
-use Rattle.cpu_words.proofs.shown.Passes.{attached_longer, attached_prefix, prefix_longer, take_whole, taken_is_prefix}
+use Rattle.cpu_words.proofs.shown.Passes.{attached_longer, attached_prefix, number_within, prefix_longer, take_whole, taken_is_prefix}
 use Rattle.cpu_words.proofs.shown.Placing.{agrees_same}
 use Rattle.cpu_words.proofs.shown.ReferenceLists.{to_same, to_other, in_cons, some_of}
 use Rattle.cpu_words.proofs.shown.Seeing.{Seen, seen_of, idle_of, empty_hand, idle_tries, trying_here, trying_elsewhere}
@@ -157,6 +157,7 @@ try_at z x e idle inside attached room s r i at fits =
     let within : e.slot < g.settings.slots = subst (λ (a : Settings). e.slot < a.slots) seen.settings inside in
     let old = passive_at g.passive x.id e.slot in
     let below = word_room g x e.slot r.good had idle room in
+    let reach : e.number ≤ seen_at g x.id = number_within g.history (seen_at g x.id) e seen.within (subst (λ (p : List Change). IsAttached p e) seen.pass attached) in
     let word = slice_index s.words (index z (passive_of x.id e.slot)) in
     let m = (word + 1) % 2 ^ 64 in
     let stands : word ≡ old = r.words.at (passive_of x.id e.slot) (seen.lt, within) in
@@ -166,7 +167,7 @@ try_at z x e idle inside attached room s r i at fits =
     let l = try_lists g x.id passive h in
     let own : CpuOwn = record (own_of x) { hand = TryingEntry e } in
     let made : step g (Try x.id e.slot e.number) ≡ Some (record { state = with_lists g l; reply = Word word }) =
-    rw (idle_of g x seen had idle, lt-ltb e.slot g.settings.slots within, lt-ltb old g.settings.passive_limit below)
+    rw (idle_of g x seen had idle, le-leb e.number (seen_at g x.id) reach, lt-ltb e.slot g.settings.slots within, lt-ltb old g.settings.passive_limit below)
     (λ k. Some (record { state = with_lists g (try_lists g x.id (with_cell g.passive e.slot x.id (sym next k)) h); reply = Word (sym stands k) })) in
     let leaves = tries_leave g x.id passive h (λ d t ne. cell_other 0 g.passive e.slot x.id m t d (λ _ same. ne same)) in
     let shown = retried g x passive h (TryingEntry e) x.references r.good had (refl, refl) tt (tried_counts g x e m r.good had idle within next) had.gone had.references in

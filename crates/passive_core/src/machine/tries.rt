@@ -11,13 +11,14 @@ use crate::machine::recalls::has_live;
 use protocol::{Hand, Reply, StepFault};
 
 impl Core {
-    /// Whether the CPU is idle, the slot is known, and the CPU's word for it is below the limit.
-    fn may_try(&self, c: u8, t: u8) -> bool
-        ensures value { result ≡ may_try self.now c t }
+    /// Whether the CPU is idle and has seen the attach of that number, the slot is known, and the CPU's word for it is below the limit.
+    fn may_try(&self, c: u8, t: u8, number: u64) -> bool
+        ensures value { result ≡ may_try self.now c t number }
         ensures slot { IsTrue result → t < self.now.settings.slots }
         ensures cpu { IsTrue result → c < self.now.settings.cpus }
     {
         self.is_idle(c)
+            && number <= self.seen_at(c)
             && t < self.settings.slots
             && self.passive_at(c, t) < self.settings.passive_limit
     }
@@ -25,7 +26,7 @@ impl Core {
     pub(crate) fn step_try(&mut self, c: u8, t: u8, number: u64) -> Result<Reply, StepFault>
         ensures { Steps self.old self.new (Try c t number) result }
     {
-        if !self.may_try(c, t) {
+        if !self.may_try(c, t, number) {
             return Err(StepFault::NotAllowed);
         }
         let word = self.passive_at(c, t);

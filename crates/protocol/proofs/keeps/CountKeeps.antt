@@ -1,8 +1,8 @@
 -- The events on local references keep the invariant.
-use Rattle.std.proofs.Common.{Bool, List, None, Some, [], ap, arith, false, get_or, get_or-set_other, get_or-set_same, inl, inr, length, length-set, ltb-true, not, refl, set, subst, sym, true, ℕ, ◌&&◌, ◌+◌, ◌-◌, ◌<◌, ◌∙◌, ◌≡◌, ◌==◌, ◌≤◌}
+use Rattle.std.proofs.Common.{Bool, List, None, Some, [], ap, arith, false, get_or, get_or-set_other, get_or-set_same, inl, leb-true, inr, length, length-set, ltb-true, not, refl, set, subst, sym, true, ℕ, ◌&&◌, ◌+◌, ◌-◌, ◌<◌, ◌∙◌, ◌≡◌, ◌==◌, ◌≤◌}
 use Rattle.std.proofs.lemmas.Bool.{and_parts, cases_Bool, cases_eq, cases_lt, eq-eqb, eqb-true}
 use Rattle.std.proofs.lemmas.List.{get_or_past}
-use Rattle.std.specs.Prelude.{if◌then◌else◌, is_none, nat_lt}
+use Rattle.std.specs.Prelude.{if◌then◌else◌, is_none, nat_le, nat_lt}
 use Rattle.protocol.proofs.counts.Counts as C
 use Rattle.protocol.proofs.keeps.ListKeeps.{CountsOf, cell_sized, may_write_tells, false_from}
 use Rattle.protocol.proofs.keeps.MarkKeeps.{cpus_fit, mark_place, may_examine_tells}
@@ -14,9 +14,10 @@ use Rattle.protocol.proofs.keeps.Drivers.{drivers_keep}
 use Rattle.protocol.proofs.keeps.References.{back_holds, due_adding, due_subtracting, giving_holds, hand_seated, references_collect, references_collected, references_count_add, references_count_down}
 use Rattle.protocol.proofs.keeps.References.{references_join, references_join_keeper, references_keep, references_split, references_split_back, references_total, references_unheld, seats_hand}
 use Rattle.protocol.proofs.keeps.SectionKeeps.{idle_parts, idle_tells, none_from, see_keeps}
+use Rattle.protocol.proofs.keeps.Sections.{tries_hand}
 use Rattle.protocol.specs.Common.{after_collect, after_collected, after_count_add, after_count_down, after_count_store, after_hand, after_join_keeper, after_keep, after_split, after_total, after_confirm, after_taking, after_take_back, after_try, exchange}
 use Rattle.protocol.specs.Common.{is_drainable, is_driver_slot, is_idle, is_number, may_collect, may_count, may_examine, may_join, may_join_keeper, may_keep, may_write, may_try, may_confirm, has_live, search_at, some_outcome, Holds}
-use Rattle.protocol.specs.Common.{IsCounting, IsIn, SeatsShow, SnapshotsStand, at_rest, State, count_at, found_at, hand_at, kept_at, local_at, mark_at, passive_at, total_at, trying_at, trying_of, with_cell, Keeps, Collected, Word, Due, Adding}
+use Rattle.protocol.specs.Common.{IsCounting, IsIn, IsSeenInHand, SeatsShow, TriesSeen, seen_at, SnapshotsStand, at_rest, State, count_at, found_at, hand_at, kept_at, local_at, mark_at, passive_at, total_at, trying_at, trying_of, with_cell, Keeps, Collected, Word, Due, Adding}
 use Rattle.protocol.specs.Common.{Rest, Snapshots, Subtracting, Hand, Back, Empty, Giving, Taking, Trying, Lifted, Standing}
 use Rattle.registry_values.specs.Common.{mark_after_collect, are_clear, have_passed, is_clear, is_some_collected, no_mark, is_retired, slot_of, slot_at, bias}
 use Rattle.protocol.specs.Types.{Entry, Slot, Vacant, Live, Retired}
@@ -37,16 +38,19 @@ not_at_rest due t d rest is = let q : Rest ≡ Snapshots t d = sym rest ∙ is i
 pub hand_within : (s : State) (c : ℕ) → Holds s → (hand_at s c ≡ Empty → ⊥) → c < s.settings.cpus
 hand_within s c on off = omega (arith, hand_seated s.settings.cpus s.seated s.begins s.searches s.hands c off on.seats, on.seats.within)
 
--- a hand that is written: the seats stay
-hand_put : (s : State) (c : ℕ) (h : Hand) → Holds s → c < s.seated → (length (set s.hands c h) ≡ s.settings.cpus) × SeatsShow s.settings.cpus s.seated s.begins s.searches (set s.hands c h)
-hand_put s c h on lt = (length-set s.hands c h ∙ on.shape.hands, seats_hand s.settings.cpus s.seated s.begins s.searches s.hands c h lt on.seats)
+-- what stays where a hand is written: the seats, and that what is tried was seen
+abbrev HandPut : State → ℕ → Hand → Type 0
+HandPut s c h = (length (set s.hands c h) ≡ s.settings.cpus) × SeatsShow s.settings.cpus s.seated s.begins s.searches (set s.hands c h) × TriesSeen s.seen (set s.hands c h)
+
+hand_put : (s : State) (c : ℕ) (h : Hand) → Holds s → c < s.seated → IsSeenInHand (seen_at s c) h → HandPut s c h
+hand_put s c h on lt seen =
+    (length-set s.hands c h ∙ on.shape.hands, seats_hand s.settings.cpus s.seated s.begins s.searches s.hands c h lt on.seats, tries_hand s.seen s.hands c h seen on.tries)
 
 -- a hand that wasn't empty
-pub hand_full : (s : State) (c : ℕ) (h x : Hand) → Holds s → hand_at s c ≡ x → (x ≡ Empty → ⊥)
-    → (c < length s.hands) × ((length (set s.hands c h) ≡ s.settings.cpus) × SeatsShow s.settings.cpus s.seated s.begins s.searches (set s.hands c h))
-hand_full s c h x on hand full =
+pub hand_full : (s : State) (c : ℕ) (h x : Hand) → Holds s → hand_at s c ≡ x → (x ≡ Empty → ⊥) → IsSeenInHand (seen_at s c) h → (c < length s.hands) × HandPut s c h
+hand_full s c h x on hand full seen =
     let lt = hand_seated s.settings.cpus s.seated s.begins s.searches s.hands c (λ empty. full (sym hand ∙ empty)) on.seats in
-    (omega (arith, lt, on.seats.within, on.shape.hands), hand_put s c h on lt)
+    (omega (arith, lt, on.seats.within, on.shape.hands), hand_put s c h on lt seen)
 
 -- the slot that a number has is the only one
 pub only_slot : (s : State) (t n : ℕ) (e : Entry) → Holds s → IsIn e (slot_at s.slots t) → e.number ≡ n → (u : ℕ) (f : Entry) → IsIn f (slot_at s.slots u) → f.number ≡ n → u ≡ t
@@ -91,7 +95,7 @@ count_add_keeps s c t e on found of may =
     assumption (
       cell_sized s.counts t c (count_at s.counts c t + 1) on.shape.counts on.shape.count_rows,
       cell_sized s.nets t c (count_at s.nets c t + 1) on.shape.nets on.shape.net_rows,
-      hand_put s c (Taking e.number) on (idle_parts s c p.0).0,
+      hand_put s c (Taking e.number) on (idle_parts s c p.0).0 tt,
       C.count_add on.balance (fit_of s on) c t e.number e idle.0 counting.0 refl (only_slot s t e.number e on counting.0 refl) counting.1 idle.1 fits,
       passive_hand s.settings.cpus s.settings.passive_limit s.slots s.marks s.passive s.hands c (Taking e.number) (λ u. sym (ap (trying_of u) idle.1)) on.passive,
       references_count_add s.settings.cpus s.slots s.hands s.due s.locals c e.number (slot_occupied s.slots e.number t of) on.references,
@@ -99,7 +103,7 @@ count_add_keeps s c t e on found of may =
 
 pub split_keeps : (s : State) (c n : ℕ) → Holds s → hand_at s c ≡ Taking n → Holds (after_split s c n)
 split_keeps s c n on hand =
-    let full = hand_full s c Empty (Taking n) on hand (λ is. let q : Taking n ≡ Empty = is in cc) in
+    let full = hand_full s c Empty (Taking n) on hand (λ is. let q : Taking n ≡ Empty = is in cc) tt in
     assumption (
       full.1,
       C.split_ref on.balance c n full.0 hand,
@@ -111,7 +115,7 @@ pub join_keeps : (s : State) (c n id : ℕ) → Holds s → local_at s.locals id
 join_keeps s c n id on at idle =
     let told = idle_tells s c on idle in
     assumption (
-      hand_put s c (Giving n id) on (idle_parts s c idle).0,
+      hand_put s c (Giving n id) on (idle_parts s c idle).0 tt,
       C.join_ref on.balance c n id (omega (arith, told.0, on.shape.hands)) told.1 at,
       passive_hand s.settings.cpus s.settings.passive_limit s.slots s.marks s.passive s.hands c (Giving n id) (λ u. sym (ap (trying_of u) told.1)) on.passive,
       references_join s.settings.cpus s.slots s.hands s.due s.locals c n id at on.references,
@@ -120,7 +124,7 @@ join_keeps s c n id on at idle =
 -- the word isn't collected, and one is counted down
 pub count_down_keeps : (s : State) (c n id t : ℕ) → Holds s → hand_at s c ≡ Giving n id → slot_of s.slots n ≡ Some t → count_at s.counts c t ≡ count_at s.nets c t → Holds (after_count_down s c t id)
 count_down_keeps s c n id t on hand of same =
-    let full = hand_full s c Empty (Giving n id) on hand (λ is. let q : Giving n id ≡ Empty = is in cc) in
+    let full = hand_full s c Empty (Giving n id) on hand (λ is. let q : Giving n id ≡ Empty = is in cc) tt in
     let lt : c < s.settings.cpus = omega (arith, full.0, on.shape.hands) in
     let lifted = (giving_holds s.settings.cpus s.slots s.hands s.due s.locals c n id hand on.references).1 in
     let has = slot_has s.slots n t of in
@@ -136,7 +140,7 @@ count_down_keeps s c n id t on hand of same =
 -- the word is collected, and the reference stays
 pub collected_keeps : (s : State) (c n id : ℕ) → Holds s → hand_at s c ≡ Giving n id → Holds (after_collected s c n id)
 collected_keeps s c n id on hand =
-    let full = hand_full s c (Back n id) (Giving n id) on hand (λ is. let q : Giving n id ≡ Empty = is in cc) in
+    let full = hand_full s c (Back n id) (Giving n id) on hand (λ is. let q : Giving n id ≡ Empty = is in cc) tt in
     assumption (
       full.1,
       C.found_collected on.balance c n id full.0 hand,
@@ -146,7 +150,7 @@ collected_keeps s c n id on hand =
 
 pub split_back_keeps : (s : State) (c n id : ℕ) → Holds s → hand_at s c ≡ Back n id → Holds (after_hand s c Empty id (Standing n))
 split_back_keeps s c n id on hand =
-    let full = hand_full s c Empty (Back n id) on hand (λ is. let q : Back n id ≡ Empty = is in cc) in
+    let full = hand_full s c Empty (Back n id) on hand (λ is. let q : Back n id ≡ Empty = is in cc) tt in
     let lifted = (back_holds s.settings.cpus s.slots s.hands s.due s.locals c n id hand on.references).1 in
     assumption (
       full.1,
@@ -238,17 +242,24 @@ passive_place s c t on low within =
     let tp : t < length s.passive = omega (arith, within, on.shape.passive) in
     (tp, omega (arith, on.shape.passive_rows t tp, low, cpus_fit s.settings on.fit))
 
-pub try_keeps : (s : State) (c t n : ℕ) → Holds s → may_try s c t ≡ true → Holds (after_try s c t n)
+-- what the test of a Try tells
+pub may_try_tells : (s : State) (c t n : ℕ) → may_try s c t n ≡ true → (is_idle s c ≡ true) × (n ≤ seen_at s c) × (t < s.settings.slots) × (passive_at s.passive c t < s.settings.passive_limit)
+may_try_tells s c t n may =
+    let p = and_parts (is_idle s c) _ may in
+    let q = and_parts (nat_le n (seen_at s c)) _ p.1 in
+    let r = and_parts (nat_lt t s.settings.slots) (nat_lt (passive_at s.passive c t) s.settings.passive_limit) q.1 in
+    (p.0, leb-true n (seen_at s c) q.0, ltb-true t s.settings.slots r.0, ltb-true (passive_at s.passive c t) s.settings.passive_limit r.1)
+
+pub try_keeps : (s : State) (c t n : ℕ) → Holds s → may_try s c t n ≡ true → Holds (after_try s c t n)
 try_keeps s c t n on may =
-    let p = and_parts (is_idle s c) (nat_lt t s.settings.slots && nat_lt (passive_at s.passive c t) s.settings.passive_limit) may in
-    let q = and_parts (nat_lt t s.settings.slots) (nat_lt (passive_at s.passive c t) s.settings.passive_limit) p.1 in
-    let idle = idle_tells s c on p.0 in
-    let fits : passive_at s.passive c t < s.settings.passive_limit = ltb-true (passive_at s.passive c t) s.settings.passive_limit q.1 in
-    let place = passive_place s c t on idle.0 (ltb-true t s.settings.slots q.0) in
+    let told = may_try_tells s c t n may in
+    let idle = idle_tells s c on told.0 in
+    let fits = told.3 in
+    let place = passive_place s c t on idle.0 told.2 in
     let lt : c < length s.hands = omega (arith, idle.0, on.shape.hands) in
     assumption (
       cell_sized s.passive t c (passive_at s.passive c t + 1) on.shape.passive on.shape.passive_rows,
-      hand_put s c (Trying t n) on (idle_parts s c p.0).0,
+      hand_put s c (Trying t n) on (idle_parts s c told.0).0 told.1,
       passive_shifted s.settings.cpus s.settings.passive_limit s.slots s.marks s.passive (with_cell s.passive t c (passive_at s.passive c t + 1)) s.hands (set s.hands c (Trying t n))
           (shifted_try s.passive s.hands c t n place.0 place.1 lt idle.1)
           (λ d u. cell_put 0 s.passive t c (passive_at s.passive c t + 1) (λ v i x. x ≤ s.settings.passive_limit) u d (omega (arith, fits)) (on.passive.limited d u))
@@ -271,11 +282,15 @@ trying_tells s c t n on hand =
     absurd (omega (arith, some, none))) in
     (low, within, some)
 
+-- the CPU has seen what it is trying
+pub tried_seen : (s : State) (c t n : ℕ) → Holds s → hand_at s c ≡ Trying t n → n ≤ seen_at s c
+tried_seen s c t n on hand = subst (IsSeenInHand (seen_at s c)) hand (on.tries c)
+
 pub take_back_keeps : (s : State) (c t n : ℕ) → Holds s → hand_at s c ≡ Trying t n → Holds (after_take_back s c t)
 take_back_keeps s c t n on hand =
     let told = trying_tells s c t n on hand in
     let place = passive_place s c t on told.0 told.1 in
-    let full = hand_full s c Empty (Trying t n) on hand (λ is. let q : Trying t n ≡ Empty = is in cc) in
+    let full = hand_full s c Empty (Trying t n) on hand (λ is. let q : Trying t n ≡ Empty = is in cc) tt in
     assumption (
       cell_sized s.passive t c (passive_at s.passive c t - 1) on.shape.passive on.shape.passive_rows,
       full.1,
@@ -298,7 +313,7 @@ pub taking_keeps : (s : State) (c t n : ℕ) → Holds s → hand_at s c ≡ Try
 taking_keeps s c t n on hand may =
     let told = trying_tells s c t n on hand in
     let is = live_tells n (slot_at s.slots t) may in
-    let full = hand_full s c Empty (Trying t n) on hand (λ is. let q : Trying t n ≡ Empty = is in cc) in
+    let full = hand_full s c Empty (Trying t n) on hand (λ is. let q : Trying t n ≡ Empty = is in cc) tt in
     assumption (
       full.1,
       passive_hands s.settings.cpus s.settings.passive_limit s.slots s.marks s.passive s.hands (set s.hands c Empty)

@@ -220,7 +220,7 @@ step_keeps s (Hide t) on = guard_keeps (may_hide s t) _ (λ may. live_store_keep
 step_keeps s (Recall c t) on = guard_keeps (may_recall s c t) _ (λ may. recall_keeps s c t on may)
 step_keeps s (RecallHead c) on = guard_keeps (may_recall_head s c) _ (λ may. recall_head_keeps s c on may)
 step_keeps s (Refind c t n) on = refind_slot_keeps s c t n (slot_at s.slots t) on refl
-step_keeps s (Try c t n) on = guard_keeps (may_try s c t) _ (λ may. try_keeps s c t n on may)
+step_keeps s (Try c t n) on = guard_keeps (may_try s c t n) _ (λ may. try_keeps s c t n on may)
 step_keeps s (Confirm c) on = confirm_hand_keeps s c (hand_at s c) on refl
 step_keeps s (TakeBack c) on = take_back_hand_keeps s c (hand_at s c) on refl
 

@@ -13,7 +13,7 @@ use Rattle.protocol.proofs.keeps.Passive.{found_not_passed, passive_counted, pas
 use Rattle.protocol.proofs.keeps.Unlinking.{within_retired}
 use Rattle.protocol.specs.Common.{after_add, after_kept_sub, after_look, after_look_passive, after_snapshot, after_sub, after_vacate, is_drainable, is_drained, is_idle, is_number, is_snapshot_due}
 use Rattle.protocol.specs.Common.{may_add, may_examine, may_look_passive, may_sub, may_vacate, snapshot_mark, AreRows, DueHolds, Holds, IsIn, SnapshotsStand, To_end, at_rest, State, found_at, kept_at}
-use Rattle.protocol.specs.Common.{mark_at, no_words, opening, passive_at, trying_at, trying_of, section_at, total_at, Rest, Snapshots, Empty}
+use Rattle.protocol.specs.Common.{mark_at, no_words, opening, passive_at, trying_at, trying_of, section_at, total_at, Rest, Snapshots, Empty, IsSeenInHand}
 use Rattle.registry_values.specs.Common.{mark_after_passive_look, mark_after_look, are_clear, are_collected, has_changed, have_passed, is_clear, is_collected, is_even, is_passed, no_mark, are_fit}
 use Rattle.registry_values.specs.Common.{is_retired, live_count, slot_of, slot_at, bias}
 use Rattle.registry_values.proofs.Fit.{ranges}
@@ -290,6 +290,7 @@ opening_holds z fit counts references drivers =
         limited = λ c t. omega (arith, cell_all {X = ℕ} z.slots MOST_CPUS 0 t c);
       };
       balance = counts;
+      tries = λ c. subst (IsSeenInHand (get_or (replicate z.cpus 0) c 0)) (sym (get_or_all z.cpus Empty c)) tt;
       references = references;
       kept_drivers = drivers;
     }

@@ -8,7 +8,7 @@ use Rattle.protocol.specs.Types.{Entry, Live}
 use Rattle.registry_values.specs.Common.{slot_at}
 use Rattle.protocol.proofs.keeps.Searching.{found_some}
 use Rattle.protocol.proofs.keeps.Sections.{seats_seat, seats_begin, sections_enter, held_enter, links_enter, marks_enter, searches_enter, found_enter, sections_exit, held_exit, links_exit, marks_exit}
-use Rattle.protocol.proofs.keeps.Sections.{searches_exit, found_exit, sections_see, searches_see}
+use Rattle.protocol.proofs.keeps.Sections.{searches_exit, found_exit, sections_see, searches_see, tries_see}
 
 -- What the tests tell.
 pub none_from : {X : Type 0} (o : Option X) → is_none o ≡ true → o ≡ None
@@ -67,6 +67,7 @@ enter_keeps s c on ok =
       seats_begin s.settings.cpus s.seated s.begins s.searches s.hands c (Some (length s.history)) idle.0 on.seats,
       sections_enter s.settings s.history s.section s.begins s.depths s.seen c cs cb cd cw out room on.sections,
       searches_enter s.history s.begins s.seen s.searches c (Some (length s.history)) (length s.history) idle.1 on.searches,
+      tries_see s.history s.seen s.hands c on.sections.prefix on.tries,
       found_enter s.history s.begins s.found c (Some (length s.history)) out on.last_found,
     )
 
@@ -103,6 +104,7 @@ see_keeps s c on lt =
       length-set s.seen c (length s.history) ∙ on.shape.seen,
       sections_see s.settings s.history s.section s.begins s.depths s.seen c cw on.sections,
       searches_see s.settings s.history s.section s.begins s.depths s.seen s.searches c cw on.sections on.searches,
+      tries_see s.history s.seen s.hands c on.sections.prefix on.tries,
     )
 
 -- the CPU is seated and has no search, the slot is in range, and its live word is honest

@@ -3,8 +3,8 @@ use Rattle.std.proofs.Common.{◌≡◌, ◌≢◌, ℕ, suc, ◌+◌, ◌*◌, 
 use Rattle.std.proofs.lemmas.Option.{none-some, same_Some}
 use Rattle.std.proofs.lemmas.Bool.{cases_lt, cases_eq}
 use Rattle.protocol.specs.Types.{Entry, Change, Attach, Detach, Settings, Slot, Retired, Mark, Key}
-use Rattle.protocol.specs.Common.{SearchPlace, AtHead, AtNext, AtNumber, AtKind, AtHigh, AtLow, AtValue, Search, Hand, mark_at, EndsAt, MayHold, SlotsShow, HeldStay, IsIn, Leads, LinksStay, MarksHold}
-use Rattle.protocol.specs.Common.{SectionsShow, SeatsShow, StandsOn, PlaceHolds, SearchHolds, SearchesHold, FoundHold}
+use Rattle.protocol.specs.Common.{SearchPlace, AtHead, AtNext, AtNumber, AtKind, AtHigh, AtLow, AtValue, Search, Hand, Empty, Taking, Giving, Back, Trying, mark_at, EndsAt, MayHold, SlotsShow, HeldStay, IsIn, Leads, LinksStay, MarksHold}
+use Rattle.protocol.specs.Common.{SectionsShow, SeatsShow, StandsOn, PlaceHolds, SearchHolds, SearchesHold, FoundHold, IsSeenInHand, TriesSeen}
 use Rattle.registry_values.specs.Common.{slot_at}
 use Rattle.protocol.proofs.slots.Cells.{place_in, place_put}
 use Rattle.protocol.proofs.history.History.{at_within}
@@ -193,6 +193,22 @@ place_later h from to later key (AtKind t n) le p = (p.0, stands_later h from to
 place_later h from to later key (AtHigh t n k) le p = (p.0, stands_later h from to later t p.0 le p.1, all_below_later h from to later key (suc p.0.number) le p.2, p.3, p.4)
 place_later h from to later key (AtLow t n k x) le p = (p.0, stands_later h from to later t p.0 le p.1, all_below_later h from to later key (suc p.0.number) le p.2, p.3, p.4, p.5)
 place_later h from to later key (AtValue t n) le p = (p.0, stands_later h from to later t p.0 le p.1, p.2, p.3)
+
+-- a number that is tried stays seen
+seen_later : (from to : ℕ) (h : Hand) → from ≤ to → IsSeenInHand from h → IsSeenInHand to h
+seen_later from to Empty le is = tt
+seen_later from to (Taking n) le is = tt
+seen_later from to (Giving n id) le is = tt
+seen_later from to (Back n id) le is = tt
+seen_later from to (Trying t n) le is = omega (arith, le, is)
+
+pub tries_see : (h : List Change) (seen : List ℕ) (hands : List Hand) (c : ℕ) → ((d : ℕ) → get_or seen d 0 ≤ length h) → TriesSeen seen hands → TriesSeen (set seen c (length h)) hands
+tries_see h seen hands c prefix hold d =
+    place_put 0 seen c (length h) (λ i y. IsSeenInHand y (get_or hands i Empty)) d (seen_later (get_or seen c 0) (length h) (get_or hands c Empty) (prefix c) (hold c)) (hold d)
+
+-- a hand is written that tries nothing, or what its CPU has seen
+pub tries_hand : (seen : List ℕ) (hands : List Hand) (c : ℕ) (h : Hand) → IsSeenInHand (get_or seen c 0) h → TriesSeen seen hands → TriesSeen seen (set hands c h)
+tries_hand seen hands c h now hold d = place_put Empty hands c h (λ i x. IsSeenInHand (get_or seen i 0) x) d now (hold d)
 
 pub searches_see : (z : Settings) (h : List Change) (section : List ℕ) (begins : List (Option ℕ)) (depths seen : List ℕ) (searches : List (Option Search)) (c : ℕ) → c < length seen
     → SectionsShow z h section begins depths seen → SearchesHold h begins seen searches → SearchesHold h begins (set seen c (length h)) searches

@@ -34,22 +34,22 @@ same_model a b alike = λ i. record {
 }
 
 -- the pictures are equal: no step
-pub no_step : {MayTake : Type 0} (a b : Model) → Alike a b → IsModelRun MayTake a b
+pub no_step : {MayTake : ℕ → ℕ → Type 0} (a b : Model) → Alike a b → IsModelRun MayTake a b
 no_step {MayTake} a b alike = subst (IsModelRun MayTake a) (same_model a b alike) Stays
 
-pub one_step : {MayTake : Type 0} (m a b : Model) → IsModelStep MayTake m a → Alike a b → IsModelRun MayTake m b
+pub one_step : {MayTake : ℕ → ℕ → Type 0} (m a b : Model) → IsModelStep MayTake m a → Alike a b → IsModelRun MayTake m b
 one_step {MayTake} m a b step alike = subst (IsModelRun MayTake m) (same_model a b alike) (Goes_on m a Stays step)
 
-pub two_steps : {MayTake : Type 0} (m a n b : Model) → IsModelStep MayTake m a → IsModelStep MayTake a n → Alike n b → IsModelRun MayTake m b
+pub two_steps : {MayTake : ℕ → ℕ → Type 0} (m a n b : Model) → IsModelStep MayTake m a → IsModelStep MayTake a n → Alike n b → IsModelRun MayTake m b
 two_steps {MayTake} m a n b first second alike = subst (IsModelRun MayTake m) (same_model n b alike) (Goes_on a n (Goes_on m a Stays first) second)
 
 -- runs one after the other
-pub join_runs : {MayTake : Type 0} (a b c : Model) → IsModelRun MayTake a b → IsModelRun MayTake b c → IsModelRun MayTake a c
+pub join_runs : {MayTake : ℕ → ℕ → Type 0} (a b c : Model) → IsModelRun MayTake a b → IsModelRun MayTake b c → IsModelRun MayTake a c
 join_runs a b _ first Stays = first
 join_runs a b _ first (Goes_on d e rest step) = Goes_on d e (join_runs a b d first rest) step
 
 -- where no less may be taken without a section, each step is one still
-pub widen_step : {P Q : Type 0} → (P → Q) → (m n : Model) → IsModelStep P m n → IsModelStep Q m n
+pub widen_step : {P Q : ℕ → ℕ → Type 0} → ((c n : ℕ) → P c n → Q c n) → (m n : Model) → IsModelStep P m n → IsModelStep Q m n
 widen_step wide m _ (Enters c out) = Enters c out
 widen_step wide m _ (Exits c b in_ none) = Exits c b in_ none
 widen_step wide m _ (Sees c n from to) = Sees c n from to
@@ -61,13 +61,13 @@ widen_step wide m _ (Keeps t d vacant none here some) = Keeps t d vacant none he
 widen_step wide m _ (Acquires c e found) = Acquires c e found
 widen_step wide m _ (Copies c n some) = Copies c n some
 widen_step wide m _ (Releases c n some) = Releases c n some
-widen_step wide m _ (Takes c t e live there taking) = Takes c t e live there (wide taking)
+widen_step wide m _ (Takes c t e live there seen taking) = Takes c t e live there seen (wide c e.number taking)
 widen_step wide m _ (Counts c e found) = Counts c e found
 widen_step wide m _ (Uncounts n some) = Uncounts n some
 widen_step wide m _ (Vacates t n p there ends unheld none) = Vacates t n p there ends unheld none
 widen_step wide m _ (Gives_up t n p d there ends unheld kept) = Gives_up t n p d there ends unheld kept
 
-pub widen_run : {P Q : Type 0} → (P → Q) → (m n : Model) → IsModelRun P m n → IsModelRun Q m n
+pub widen_run : {P Q : ℕ → ℕ → Type 0} → ((c n : ℕ) → P c n → Q c n) → (m n : Model) → IsModelRun P m n → IsModelRun Q m n
 widen_run wide m _ Stays = Stays
 widen_run wide m _ (Goes_on a b run step) = Goes_on a b (widen_run wide m a run) (widen_step wide a b step)
 
@@ -99,15 +99,15 @@ unwritten f d xs c x stays j = either (written_cases d xs c x j)
     (λ here. ap (λ (k : ℕ). f (get_or xs k d)) here.0 ∙ (stays ∙ ap f (sym here.1)))
     (λ off. ap f (sym off.1))
 
--- what an outcome must give: from the invariant after it, a run from m to its picture, in which references are taken without a section only where `MayTake` is so
-abbrev pub Makes : Type 0 → Model → Option Outcome → Type 0
+-- what an outcome must give: from the invariant after it, a run from m to its picture, in which references are taken without a section only as `MayTake` says
+abbrev pub Makes : (ℕ → ℕ → Type 0) → Model → Option Outcome → Type 0
 Makes MayTake m None = Unit {0}
 Makes MayTake m (Some o) = Holds o.state → IsModelRun MayTake m (picture o.state)
 
-pub makes_guard : (MayTake : Type 0) (m : Model) (b : Bool) (o : Option Outcome) → (b ≡ true → Makes MayTake m o) → Makes MayTake m (guard b o)
+pub makes_guard : (MayTake : ℕ → ℕ → Type 0) (m : Model) (b : Bool) (o : Option Outcome) → (b ≡ true → Makes MayTake m o) → Makes MayTake m (guard b o)
 makes_guard MayTake m true o made = made refl
 makes_guard MayTake m false o made = tt
 
-pub makes_some : {X : Type 0} (MayTake : Type 0) (m : Model) (o : Option X) (f : X → Option Outcome) → ((x : X) → o ≡ Some x → Makes MayTake m (f x)) → Makes MayTake m (with_some o f)
+pub makes_some : {X : Type 0} (MayTake : ℕ → ℕ → Type 0) (m : Model) (o : Option X) (f : X → Option Outcome) → ((x : X) → o ≡ Some x → Makes MayTake m (f x)) → Makes MayTake m (with_some o f)
 makes_some MayTake m None f made = tt
 makes_some MayTake m (Some x) f made = made x refl

@@ -6,7 +6,7 @@ use Rattle.protocol.specs.Types.{Entry, Change, Attach, Detach, Slot, Vacant, Li
 use Rattle.protocol.specs.Common.{Free, Standing, Due, Rest, after_change, IsLegal, EndsAt, State, row_at, passive_at, kept_at, local_at, after_row_store, after_count_store, after_link_store}
 use Rattle.protocol.specs.Common.{may_write, entry_of, may_publish, after_publish, with_retired, with_link_past, after_unpublish, is_driver_slot, may_keep, after_keep, is_drained, after_kept_sub}
 use Rattle.protocol.specs.Common.{may_vacate, after_vacate, Holds, IsIn, SlotsShow, held_at, standing_of, in_hand, put, IsUnheld, IsDriverHere, IsModelRun, Stays, number_in, passive_in}
-use Rattle.protocol.specs.Common.{Hand, trying_at, subtractions_due, locals_of, picture}
+use Rattle.protocol.specs.Common.{Hand, trying_at, subtractions_due, locals_of, picture, TakesNone}
 use Rattle.registry_values.specs.Common.{slot_at, slot_of, slot_before}
 use Rattle.protocol.specs.Model
 use Rattle.protocol.proofs.history.History.{one_entry}
@@ -58,18 +58,18 @@ waiting_rest slots n due is = ap (subtractions_due slots n) is
 
 -- Stores to a vacant slot show nothing.
 
-pub row_store_refines : (s : State) (t k v : ℕ) → IsModelRun ⊥ (picture s) (picture (after_row_store s t k v))
+pub row_store_refines : (s : State) (t k v : ℕ) → IsModelRun TakesNone (picture s) (picture (after_row_store s t k v))
 row_store_refines s t k v = Stays
 
-pub count_store_refines : (s : State) (t c v : ℕ) → IsModelRun ⊥ (picture s) (picture (after_count_store s t c v))
+pub count_store_refines : (s : State) (t c v : ℕ) → IsModelRun TakesNone (picture s) (picture (after_count_store s t c v))
 count_store_refines s t c v = Stays
 
-pub link_store_refines : (s : State) (t v : ℕ) → IsModelRun ⊥ (picture s) (picture (after_link_store s t v))
+pub link_store_refines : (s : State) (t v : ℕ) → IsModelRun TakesNone (picture s) (picture (after_link_store s t v))
 link_store_refines s t v = Stays
 
 -- Publish and Unpublish
 
-publish_own : (s : State) (e : Entry) → Holds s → Holds (after_publish s e.slot e) → may_publish s e.slot e ≡ true → IsModelRun ⊥ (picture s) (picture (after_publish s e.slot e))
+publish_own : (s : State) (e : Entry) → Holds s → Holds (after_publish s e.slot e) → may_publish s e.slot e ≡ true → IsModelRun TakesNone (picture s) (picture (after_publish s e.slot e))
 publish_own s e on now ok =
     let told = may_publish_tells s e.slot e on.shape ok in
     let unheld : (c : ℕ) → passive_at s.passive c e.slot - trying_at s.hands c e.slot ≡ 0 = λ c. omega (arith, on.passive.vacant c e.slot told.vacant) in
@@ -91,14 +91,14 @@ publish_own s e on now ok =
     })
 
 pub publish_refines : (s : State) (t : ℕ) (e : Entry) → Holds s → Holds (after_publish s t e) → entry_of t (row_at s.rows t) ≡ Some e → may_publish s t e ≡ true
-    → IsModelRun ⊥ (picture s) (picture (after_publish s t e))
+    → IsModelRun TakesNone (picture s) (picture (after_publish s t e))
 publish_refines s t e on now is ok =
-    subst (λ (u : ℕ). Holds (after_publish s u e) → may_publish s u e ≡ true → IsModelRun ⊥ (picture s) (picture (after_publish s u e)))
+    subst (λ (u : ℕ). Holds (after_publish s u e) → may_publish s u e ≡ true → IsModelRun TakesNone (picture s) (picture (after_publish s u e)))
     (entry_shows t (row_at s.rows t) e is).0 (λ later may. publish_own s e on later may) now ok
 
 retiring_refines : (s : State) (t : ℕ) (e : Entry) → Holds s → s.due ≡ Rest → slot_at s.slots t ≡ Live e → IsLegal (after_change s.history (Detach e.number))
     → SlotsShow (after_change s.history (Detach e.number)) (set s.slots t (Retired e))
-    → IsModelRun ⊥ (picture s) (picture (with_retired s t e))
+    → IsModelRun TakesNone (picture s) (picture (with_retired s t e))
 retiring_refines s t e on rest at legal later =
     one_step (picture s) _ (picture (with_retired s t e)) (Model.Detaches e.number legal) (record {
       history = refl;
@@ -123,11 +123,11 @@ retiring_refines s t e on rest at legal later =
     })
 
 unlinked_refines : (s : State) (t : ℕ) (e : Entry) (before : Option ℕ) → Holds s → Holds (with_retired (with_link_past s t before) t e) → s.due ≡ Rest → slot_at s.slots t ≡ Live e
-    → IsModelRun ⊥ (picture s) (picture (with_retired (with_link_past s t before) t e))
+    → IsModelRun TakesNone (picture s) (picture (with_retired (with_link_past s t before) t e))
 unlinked_refines s t e None on now rest at = retiring_refines s t e on rest at now.legal now.slots
 unlinked_refines s t e (Some p) on now rest at = retiring_refines s t e on rest at now.legal now.slots
 
-pub unpublish_refines : (s : State) (t : ℕ) (e : Entry) → Holds s → Holds (after_unpublish s t e) → s.due ≡ Rest → slot_at s.slots t ≡ Live e → IsModelRun ⊥ (picture s) (picture (after_unpublish s t e))
+pub unpublish_refines : (s : State) (t : ℕ) (e : Entry) → Holds s → Holds (after_unpublish s t e) → s.due ≡ Rest → slot_at s.slots t ≡ Live e → IsModelRun TakesNone (picture s) (picture (after_unpublish s t e))
 unpublish_refines s t e on now rest at = unlinked_refines s t e (slot_before s.slots s.next t) on now rest at
 
 -- Keep
@@ -136,7 +136,7 @@ pub number_of : (x : Slot) (e : Entry) → IsIn e x → number_in x ≡ Some e.n
 number_of x e is = either is (λ live. ap number_in live) (λ gone. ap number_in gone)
 
 pub keep_refines : (s : State) (t id n u : ℕ) → Holds s → local_at s.locals id ≡ Standing n → slot_of s.slots n ≡ Some u → may_keep s t u ≡ true
-    → IsModelRun ⊥ (picture s) (picture (after_keep s t id n))
+    → IsModelRun TakesNone (picture s) (picture (after_keep s t id n))
 keep_refines s t id n u on at of ok =
     let p = and_parts (may_write s t) _ ok in
     let p1 = and_parts _ (is_driver_slot (slot_at s.slots u)) p.1 in
@@ -227,7 +227,7 @@ vacated_locals : (s : State) (t n : ℕ) → Drained s t n → (i : ℕ) → loc
 vacated_locals s t n d i =
     ap (λ (w : ℕ). sum_by (standing_of i) s.locals + sum_by (in_hand i) s.hands + w) (waiting_rest s.slots i s.due d.due ∙ sym (waiting_rest (set s.slots t Vacant) i s.due d.due))
 
-pub vacate_refines : (s : State) (t : ℕ) → Holds s → Holds (after_vacate s t) → may_vacate s t ≡ true → IsModelRun ⊥ (picture s) (picture (after_vacate s t))
+pub vacate_refines : (s : State) (t : ℕ) → Holds s → Holds (after_vacate s t) → may_vacate s t ≡ true → IsModelRun TakesNone (picture s) (picture (after_vacate s t))
 vacate_refines s t on now ok =
     let p = and_parts _ (is_drained s t) ok in
     let n = occupant_of s t on p.1 in
@@ -238,7 +238,7 @@ vacate_refines s t on now ok =
       written number_in Vacant s.slots t Vacant (in_within s.slots t d.entry (inr d.gone)),
     ))
 
-pub kept_sub_refines : (s : State) (t u k : ℕ) → Holds s → Holds (after_kept_sub s t u) → kept_at s.keeps t ≡ Some k → is_drained s t ≡ true → IsModelRun ⊥ (picture s) (picture (after_kept_sub s t u))
+pub kept_sub_refines : (s : State) (t u k : ℕ) → Holds s → Holds (after_kept_sub s t u) → kept_at s.keeps t ≡ Some k → is_drained s t ≡ true → IsModelRun TakesNone (picture s) (picture (after_kept_sub s t u))
 kept_sub_refines s t u k on now kept ok =
     let n = occupant_of s t on ok in
     let d : Drained s t n.0 = drained s t n.0 on ok n.1 in

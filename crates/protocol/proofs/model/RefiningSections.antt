@@ -6,17 +6,17 @@ use Rattle.registry_values.specs.Common.{key_of, slot_at}
 use Rattle.protocol.proofs.Either.{either}
 use Rattle.protocol.specs.Common.{Loaded, On, Over, SearchPlace, AtHead, AtNumber, Search, IsLawful, State, section_at, begin_at, depth_at, seen_at, search_at, loaded_at, row_of_place, is_idle}
 use Rattle.protocol.specs.Common.{is_outside, is_inside, after_refind, may_recall, may_recall_head, may_refind, after_seat, may_enter, after_enter, may_exit, after_exit, after_seeing, may_seek, after_seek, with_search_at, search_over, with_some, link_at}
-use Rattle.protocol.specs.Common.{link_loaded, load_link, load_searched, outcome_of, Holds, IsModelStep, IsModelRun, Stays, Goes_on, lookup_of, picture}
+use Rattle.protocol.specs.Common.{link_loaded, load_link, load_searched, outcome_of, Holds, IsModelStep, IsModelRun, Stays, Goes_on, lookup_of, picture, TakesNone}
 use Rattle.protocol.specs.Model
 use Rattle.protocol.proofs.keeps.Searching.{within_some}
 use Rattle.protocol.proofs.keeps.SectionKeeps.{none_from, some_from, idle_parts, idle_tells, recall_head_tells, recall_tells, refind_tells}
 use Rattle.protocol.proofs.keeps.SearchKeeps.{AnswersLookup, link_answers, record_answers}
 use Rattle.protocol.proofs.model.Picturing.{Alike, Makes, same_model, no_step, one_step, written, unwritten}
 
-pub seat_refines : (s : State) (c : ℕ) → IsModelRun ⊥ (picture s) (picture (after_seat s c))
+pub seat_refines : (s : State) (c : ℕ) → IsModelRun TakesNone (picture s) (picture (after_seat s c))
 seat_refines s c = Stays
 
-pub enter_refines : (s : State) (c : ℕ) → Holds s → may_enter s c ≡ true → IsModelRun ⊥ (picture s) (picture (after_enter s c))
+pub enter_refines : (s : State) (c : ℕ) → Holds s → may_enter s c ≡ true → IsModelRun TakesNone (picture s) (picture (after_enter s c))
 enter_refines s c on ok =
     let p = and_parts (is_idle s c) (is_outside s c && nat_lt (section_at s c) (2 * s.settings.section_limit)) ok in
     let p1 = and_parts (is_outside s c) (nat_lt (section_at s c) (2 * s.settings.section_limit)) p.1 in
@@ -26,7 +26,7 @@ enter_refines s c on ok =
       written (λ (x : ℕ). x) 0 s.seen c (length s.history) (omega (arith, lt, on.shape.seen)),
     ))
 
-pub exit_refines : (s : State) (c : ℕ) → Holds s → may_exit s c ≡ true → IsModelRun ⊥ (picture s) (picture (after_exit s c))
+pub exit_refines : (s : State) (c : ℕ) → Holds s → may_exit s c ≡ true → IsModelRun TakesNone (picture s) (picture (after_exit s c))
 exit_refines s c on ok =
     let p = and_parts (is_idle s c) (is_inside s c && nat_eq (depth_at s c) 1) ok in
     let p1 = and_parts (is_inside s c) (nat_eq (depth_at s c) 1) p.1 in
@@ -39,24 +39,24 @@ exit_refines s c on ok =
     ))
 
 -- the pass of a CPU grows to the whole history
-see_step : (s : State) (c : ℕ) → Holds s → c < s.settings.cpus → IsModelStep ⊥ (picture s) (picture (after_seeing s c))
-see_step s c on lt = subst (IsModelStep ⊥ (picture s))
+see_step : (s : State) (c : ℕ) → Holds s → c < s.settings.cpus → IsModelStep TakesNone (picture s) (picture (after_seeing s c))
+see_step s c on lt = subst (IsModelStep TakesNone (picture s))
     (same_model _ (picture (after_seeing s c)) (assumption (written (λ (x : ℕ). x) 0 s.seen c (length s.history) (omega (arith, lt, on.shape.seen)))))
     (Model.Sees c (length s.history) (on.sections.prefix c) (omega arith))
 
-pub seeing_refines : (s : State) (c : ℕ) → Holds s → c < s.settings.cpus → IsModelRun ⊥ (picture s) (picture (after_seeing s c))
+pub seeing_refines : (s : State) (c : ℕ) → Holds s → c < s.settings.cpus → IsModelRun TakesNone (picture s) (picture (after_seeing s c))
 seeing_refines s c on lt = Goes_on _ _ Stays (see_step s c on lt)
 
-pub recall_refines : (s : State) (c t : ℕ) → Holds s → may_recall s c t ≡ true → IsModelRun ⊥ (picture s) (picture (after_seeing s c))
+pub recall_refines : (s : State) (c t : ℕ) → Holds s → may_recall s c t ≡ true → IsModelRun TakesNone (picture s) (picture (after_seeing s c))
 recall_refines s c t on ok = let seated = (recall_tells s c t ok).0 in seeing_refines s c on (omega (arith, seated, on.seats.within))
 
-pub recall_head_refines : (s : State) (c : ℕ) → Holds s → may_recall_head s c ≡ true → IsModelRun ⊥ (picture s) (picture (after_seeing s c))
+pub recall_head_refines : (s : State) (c : ℕ) → Holds s → may_recall_head s c ≡ true → IsModelRun TakesNone (picture s) (picture (after_seeing s c))
 recall_head_refines s c on ok = let seated = (recall_head_tells s c ok).0 in seeing_refines s c on (omega (arith, seated, on.seats.within))
 
-pub hear_refines : (s : State) (c : ℕ) → Holds s → is_idle s c ≡ true → IsModelRun ⊥ (picture s) (picture (after_seeing s c))
+pub hear_refines : (s : State) (c : ℕ) → Holds s → is_idle s c ≡ true → IsModelRun TakesNone (picture s) (picture (after_seeing s c))
 hear_refines s c on ok = seeing_refines s c on (idle_tells s c on ok).0
 
-pub seek_refines : (s : State) (c : ℕ) (key : Key) → Holds s → may_seek s c ≡ true → IsModelRun ⊥ (picture s) (picture (after_seek s c key))
+pub seek_refines : (s : State) (c : ℕ) (key : Key) → Holds s → may_seek s c ≡ true → IsModelRun TakesNone (picture s) (picture (after_seek s c key))
 seek_refines s c key on ok =
     let p = and_parts (is_idle s c) (is_inside s c) ok in
     let idle = idle_parts s c p.0 in
@@ -75,8 +75,8 @@ unsought searches c q none few d = either (cases_eq d c)
 
 -- a lookup is over, with a lawful answer
 over_step : (s : State) (c : ℕ) (q : Search) (answer : Option Entry) → c < length s.found → search_at s c ≡ Some q
-    → IsLawful s.history q.start (seen_at s c) q.key answer → IsModelStep ⊥ (picture s) (picture (search_over s c answer))
-over_step s c q answer lt is lawful = subst (IsModelStep ⊥ (picture s))
+    → IsLawful s.history q.start (seen_at s c) q.key answer → IsModelStep TakesNone (picture s) (picture (search_over s c answer))
+over_step s c q answer lt is lawful = subst (IsModelStep TakesNone (picture s))
     (same_model _ (picture (search_over s c answer)) (assumption (
       written lookup_of None s.searches c None (within_some s.searches c q is),
       written (λ (x : Option Entry). x) None s.found c answer lt,
@@ -84,11 +84,11 @@ over_step s c q answer lt is lawful = subst (IsModelStep ⊥ (picture s))
     (Model.Answers c (record { key = q.key; start = q.start }) answer (ap lookup_of is) lawful)
 
 pub over_refines : (s : State) (c : ℕ) (q : Search) (answer : Option Entry) → Holds s → search_at s c ≡ Some q
-    → IsLawful s.history q.start (seen_at s c) q.key answer → IsModelRun ⊥ (picture s) (picture (search_over s c answer))
+    → IsLawful s.history q.start (seen_at s c) q.key answer → IsModelRun TakesNone (picture s) (picture (search_over s c answer))
 over_refines s c q answer on is lawful = Goes_on _ _ Stays (over_step s c q answer (omega (arith, within_some s.searches c q is, on.shape.searches, on.shape.found)) is lawful)
 
 -- an entry is found again: the pass grows to the whole history, and a lookup begins there and is answered there
-pub refind_refines : (s : State) (c t n : ℕ) (e : Entry) → Holds s → slot_at s.slots t ≡ Live e → may_refind s c t n e ≡ true → IsModelRun ⊥ (picture s) (picture (after_refind s c e))
+pub refind_refines : (s : State) (c t n : ℕ) (e : Entry) → Holds s → slot_at s.slots t ≡ Live e → may_refind s c t n e ≡ true → IsModelRun TakesNone (picture s) (picture (after_refind s c e))
 refind_refines s c t n e on at ok =
     let told = refind_tells s c t n e ok in
     let lt : c < s.settings.cpus = omega (arith, told.0, on.seats.within) in
@@ -105,49 +105,49 @@ refind_refines s c t n e on at ok =
       up_to = omega (arith, sees);
       answered = ((on.slots.live t e at).0, refl);
     } in
-    let seek : IsModelStep ⊥ (picture a) (picture b) = subst (IsModelStep ⊥ (picture a))
+    let seek : IsModelStep TakesNone (picture a) (picture b) = subst (IsModelStep TakesNone (picture a))
     (same_model _ (picture b) (assumption (written lookup_of None s.searches c (Some q) few)))
     (Model.Seeks c told.2.0 key told.2.1 (ap lookup_of told.1)) in
     let alike : Alike (picture (search_over b c (Some e))) (picture (after_refind s c e)) = assumption (λ (d : ℕ). ap lookup_of (unsought s.searches c q told.1 few d)) in
-    subst (IsModelRun ⊥ (picture s)) (same_model _ _ alike)
+    subst (IsModelRun TakesNone (picture s)) (same_model _ _ alike)
     (Goes_on _ _ (Goes_on _ _ (seeing_refines s c on lt) seek) (over_step b c q (Some e) (omega (arith, lt, on.shape.found)) is lawful))
 
 -- a search that goes on shows nothing
 going_on_alike : (s : State) (c : ℕ) (q : Search) (place : SearchPlace) → search_at s c ≡ Some q → Alike (picture s) (picture (with_search_at s c q place))
 going_on_alike s c q place is = assumption (unwritten lookup_of None s.searches c (Some (record { key = q.key; start = q.start; place = place })) (ap lookup_of is))
 
-pub going_on_refines : (s : State) (c : ℕ) (q : Search) (place : SearchPlace) → search_at s c ≡ Some q → IsModelRun ⊥ (picture s) (picture (with_search_at s c q place))
+pub going_on_refines : (s : State) (c : ℕ) (q : Search) (place : SearchPlace) → search_at s c ≡ Some q → IsModelRun TakesNone (picture s) (picture (with_search_at s c q place))
 going_on_refines s c q place is = no_step (picture s) (picture (with_search_at s c q place)) (going_on_alike s c q place is)
 
 -- The loads of a search.
 
 pub missed_refines : (s : State) (c : ℕ) (q : Search) → Holds s → search_at s c ≡ Some q → IsLawful s.history q.start (seen_at (after_seeing s c) c) q.key None
-    → IsModelRun ⊥ (picture s) (picture (search_over (after_seeing s c) c None))
+    → IsModelRun TakesNone (picture s) (picture (search_over (after_seeing s c) c None))
 missed_refines s c q on is lawful =
     let within = within_some s.searches c q is in
     Goes_on _ _ (seeing_refines s c on (omega (arith, within, on.shape.searches))) (over_step (after_seeing s c) c q None (omega (arith, within, on.shape.searches, on.shape.found)) is lawful)
 
-pub followed_refines : (s : State) (c : ℕ) (q : Search) (t : ℕ) → Holds s → search_at s c ≡ Some q → IsModelRun ⊥ (picture s) (picture (with_search_at (after_seeing s c) c q (AtNumber t)))
+pub followed_refines : (s : State) (c : ℕ) (q : Search) (t : ℕ) → Holds s → search_at s c ≡ Some q → IsModelRun TakesNone (picture s) (picture (with_search_at (after_seeing s c) c q (AtNumber t)))
 followed_refines s c q t on is =
     one_step (picture s) (picture (after_seeing s c)) (picture (with_search_at (after_seeing s c) c q (AtNumber t))) (see_step s c on (omega (arith, within_some s.searches c q is, on.shape.searches)))
     (going_on_alike (after_seeing s c) c q (AtNumber t) is)
 
-link_loaded_makes : (s : State) (c : ℕ) (q : Search) (x : ℕ) → Holds s → search_at s c ≡ Some q → AnswersLookup c q (link_loaded s c q x) → Makes ⊥ (picture s) (link_loaded s c q x)
+link_loaded_makes : (s : State) (c : ℕ) (q : Search) (x : ℕ) → Holds s → search_at s c ≡ Some q → AnswersLookup c q (link_loaded s c q x) → Makes TakesNone (picture s) (link_loaded s c q x)
 link_loaded_makes s c q zero on is lawful = λ now. missed_refines s c q on is lawful
 link_loaded_makes s c q (suc t) on is lawful = λ now. followed_refines s c q t on is
 
 followed_makes : (s : State) (c : ℕ) (q : Search) (x : Option ℕ) → Holds s → search_at s c ≡ Some q → AnswersLookup c q (with_some x (link_loaded s c q))
-    → Makes ⊥ (picture s) (with_some x (link_loaded s c q))
+    → Makes TakesNone (picture s) (with_some x (link_loaded s c q))
 followed_makes s c q None on is lawful = tt
 followed_makes s c q (Some x) on is lawful = link_loaded_makes s c q x on is lawful
 
-pub link_makes : (s : State) (c : ℕ) (q : Search) → Holds s → search_at s c ≡ Some q → Makes ⊥ (picture s) (load_link s c q q.place)
+pub link_makes : (s : State) (c : ℕ) (q : Search) → Holds s → search_at s c ≡ Some q → Makes TakesNone (picture s) (load_link s c q q.place)
 link_makes s c q on is = followed_makes s c q (link_at s q.place) on is (link_answers s c q on is)
 
-outcome_makes : (s : State) (c : ℕ) (q : Search) (o : Option Loaded) → Holds s → search_at s c ≡ Some q → AnswersLookup c q (outcome_of s c q o) → Makes ⊥ (picture s) (outcome_of s c q o)
+outcome_makes : (s : State) (c : ℕ) (q : Search) (o : Option Loaded) → Holds s → search_at s c ≡ Some q → AnswersLookup c q (outcome_of s c q o) → Makes TakesNone (picture s) (outcome_of s c q o)
 outcome_makes s c q None on is lawful = tt
 outcome_makes s c q (Some (On p w)) on is lawful = λ now. going_on_refines s c q p is
 outcome_makes s c q (Some (Over e)) on is lawful = λ now. over_refines s c q (Some e) on is lawful
 
-pub record_makes : (s : State) (c : ℕ) (q : Search) → Holds s → search_at s c ≡ Some q → Makes ⊥ (picture s) (load_searched s c q q.place)
+pub record_makes : (s : State) (c : ℕ) (q : Search) → Holds s → search_at s c ≡ Some q → Makes TakesNone (picture s) (load_searched s c q q.place)
 record_makes s c q on is = outcome_makes s c q (loaded_at q q.place (row_of_place s.rows q.place)) on is (record_answers s c q on is)

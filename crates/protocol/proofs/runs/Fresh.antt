@@ -17,7 +17,7 @@ use Rattle.protocol.proofs.history.History.{at_within, at_prefix, one_entry, one
 use Rattle.protocol.proofs.history.Growing.{place_old}
 use Rattle.protocol.proofs.keeps.Keeping.{step_keeps, after_keeps}
 use Rattle.protocol.proofs.keeps.SectionKeeps.{idle_parts, recall_head_tells, recall_tells, refind_tells, some_from}
-use Rattle.protocol.proofs.keeps.CountKeeps.{confirm_tells, live_tells, trying_tells}
+use Rattle.protocol.proofs.keeps.CountKeeps.{confirm_tells, live_tells, tried_seen, trying_tells}
 use Rattle.protocol.proofs.keeps.Searching.{Walks, Steps, IsStep, load_link_steps, load_searched_steps, weight, placed, within_some, seen_now, searching_within}
 use Rattle.protocol.proofs.runs.Answers.{history_grows}
 use Rattle.protocol.proofs.runs.Steps.{Sort, Refused, Left, Entered, Exited, Sought, Heard, Recalled, Searched, Published, Unpublished, IsOn, step_sort, after_more}
@@ -371,7 +371,7 @@ recalls_live s on = record {
       let slot : made.slot ≡ t = trying_slot made.slot made.number t e.number same in
       let number : made.number ≡ e.number = trying_number made.slot made.number t e.number same in
       let found = live_is s made.slot made.number e on (confirm_tells s c made.number (slot_at s.slots made.slot) made.may).1 attached (sym number) in
-      (found.0, found.1 ∙ slot);
+      (found.0, found.1 ∙ slot, tried_seen s c t e.number on hand);
   refound = λ c t e allowed attached.
       let made = refinds s c t e.number (slot_at s.slots t) allowed in
       let told = refind_tells s c t e.number made.entry made.may in

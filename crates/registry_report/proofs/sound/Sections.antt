@@ -3,7 +3,7 @@ use Rattle.std.proofs.Common.{◌≡◌, ℕ, ◌+◌, ◌<◌, length, Option, 
 use Rattle.std.specs.Prelude.{Ok, if◌then◌else◌, ◌==◌}
 use Rattle.std.proofs.lemmas.Option.{same_Some}
 use Rattle.registry_report.specs.Types.{Entry, Attach, Settings, Key}
-use Rattle.protocol.specs.Common.{IsLawful, IsLiveAt, IsLookup, Lookup, Model, put, IsModelRun, Stays, Goes_on, Answers, Enters, Exits, Seeks, Sees}
+use Rattle.protocol.specs.Common.{IsLawful, IsLiveAt, IsLookup, Lookup, Model, put, IsModelRun, Stays, TakesNone, Goes_on, Answers, Enters, Exits, Seeks, Sees}
 use Rattle.registry_values.proofs.Least.{none_is}
 use Rattle.protocol.proofs.history.History.{at_within}
 use Rattle.protocol.proofs.model.Picturing.{Alike, put_here, put_is, put_other, same_model}
@@ -116,7 +116,7 @@ lookup_live r key e on is =
     found.0
 
 -- the lookup begins, the CPU sees the whole history, and the answer is the one now
-find_run : (r : Registry) (c b : ℕ) (key : Key) → IsSound r → r.model.sections c ≡ Some b → IsModelRun ⊥ r.model (with_found r c (lookup_now r key)).model
+find_run : (r : Registry) (c b : ℕ) (key : Key) → IsSound r → r.model.sections c ≡ Some b → IsModelRun TakesNone r.model (with_found r c (lookup_now r key)).model
 find_run r c b key on in_ =
     let m : Model = r.model in
     let q : Lookup = record { key = key; start = m.passes c } in
@@ -132,7 +132,7 @@ find_run r c b key on in_ =
     let alike : Alike (record seen { lookups = put seen.lookups c None; found = put m.found c (lookup_now r key) }) (with_found r c (lookup_now r key)).model = assumption (
     put_is (put m.lookups c (Some q)) m.lookups c None (sym (on.unsearching c)) (λ j off. put_other m.lookups c (Some q) j off)
     ) in
-    subst (IsModelRun ⊥ m) (same_model (record seen { lookups = put seen.lookups c None; found = put m.found c (lookup_now r key) }) (with_found r c (lookup_now r key)).model alike)
+    subst (IsModelRun TakesNone m) (same_model (record seen { lookups = put seen.lookups c None; found = put m.found c (lookup_now r key) }) (with_found r c (lookup_now r key)).model alike)
     (Goes_on seen _ (Goes_on sought _ (Goes_on m _ Stays (Seeks c b key in_ (on.unsearching c))) (Sees c (length m.history) (on.seen c) (omega arith)))
     (Answers c q (lookup_now r key) (put_here m.lookups c (Some q)) lawful))
 

@@ -6,10 +6,10 @@ use Rattle.passive_list.specs.Common.{OnPlainCpu}
 use Rattle.cpu_words.specs.Common.{Named}
 use Rattle.name_registry.proofs.Gathered.{listened_none}
 use Rattle.name_registry.proofs.Tallies.{known_keeper}
-use Rattle.c_values.specs.declared.values.TheConstants.{DONE, NO_ROOM}
+use Rattle.c_handles.specs.declared.values.plain.TheConstants.{DONE, NO_ROOM}
 use Rattle.c_calls.specs.Audits.{AreAllHere, AreTold, AuditWrites, Audits, cpus_in, occupied}
 use Rattle.c_calls.specs.Opening.{bodies_of, body_at}
-use Rattle.c_values.specs.Places.{put}
+use Rattle.c_handles.specs.values.Places.{put}
 use Rattle.c_calls.proofs.Audited.{audit_told}
 use Rattle.c_calls.proofs.AuditsAnswered.{audited, missing_cpu, no_room}
 use Rattle.c_calls.proofs.Gathering.{here_still, none_heard}

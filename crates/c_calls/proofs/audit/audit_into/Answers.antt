@@ -1,9 +1,9 @@
 -- The CPUs lent are those of the row.
 use Rattle.std.proofs.Common.{◌≡◌, List, Some, sym, ap, ◌∙◌, subst}
-use Rattle.c_bodies.specs.declared.handle.CpuHandle.{CpuHandle}
-use Rattle.c_bodies.specs.declared.rows.CpusPlace.{CpusPlace}
+use Rattle.c_handles.specs.declared.handle.CpuHandle.{CpuHandle}
+use Rattle.c_handles.specs.declared.rows.CpusPlace.{CpusPlace}
 use Rattle.c_calls.specs.Opening.{bodies_of, body_at}
-use Rattle.c_values.specs.Places.{row_in}
+use Rattle.c_handles.specs.values.Places.{row_in}
 use Rattle.c_calls.proofs.audit.audit_into.Goals as goal
 
 pub audit_list-requires-clause-same : goal.audit_list-requires-clause-same

@@ -1,6 +1,6 @@
 -- Without a list the audit writes to none.
 use Rattle.std.proofs.Common.{sym, ap, ◌∙◌}
-use Rattle.c_values.specs.declared.rows.BalancesPlace.{BalancesPlace}
+use Rattle.c_handles.specs.declared.values.rows.BalancesPlace.{BalancesPlace}
 use Rattle.c_calls.specs.Opening.{bodies_of}
 use Rattle.c_calls.proofs.AuditsAnswered.{without_list}
 use Rattle.c_calls.proofs.audit.audit_list.Goals as goal

@@ -1,8 +1,8 @@
 -- What a lookup writes.
 use Rattle.std.proofs.Common.{Option, refl, sym, ap, subst, ◌∙◌}
 use Rattle.c_calls.specs.Types.{Seen}
-use Rattle.c_values.specs.declared.values.TheConstants.{DONE}
-use Rattle.c_values.specs.Places.{put}
+use Rattle.c_handles.specs.declared.values.plain.TheConstants.{DONE}
+use Rattle.c_handles.specs.values.Places.{put}
 use Rattle.c_calls.proofs.UsualCalls.{told, writes}
 use Rattle.c_calls.proofs.cpu_calls.put_seen.Goals as goal
 

@@ -2,7 +2,7 @@
 use Rattle.std.proofs.Common.{◌<◌, ◌∙◌, sym, subst}
 use Rattle.c_calls.specs.Types.{ReferenceView}
 use Rattle.passive_list.specs.Common.{OnPlainCpu}
-use Rattle.c_bodies.specs.Bodies.{IsReferenceOf}
+use Rattle.c_handles.specs.Bodies.{IsReferenceOf}
 use Rattle.c_calls.proofs.local_calls.release_local.Goals as goal
 
 pub try_release_on-requires-clause-reference : goal.try_release_on-requires-clause-reference

@@ -2,10 +2,10 @@
 use Rattle.std.proofs.Common.{None, Some, Ok, Err, refl, sym, ap, subst, ◌∙◌}
 use Rattle.std.specs.Prelude.{Result}
 use Rattle.c_calls.specs.Types.{Entry, Iface, Name, Refusal}
-use Rattle.c_bodies.specs.Bodies.{OnLocalBody}
+use Rattle.c_handles.specs.Bodies.{OnLocalBody}
 use Rattle.c_calls.specs.KeeperCalls.{AttachesIface, record_of}
 use Rattle.c_calls.specs.LocalCalls.{WritesIface}
-use Rattle.c_values.specs.Places.{put}
+use Rattle.c_handles.specs.values.Places.{put}
 use Rattle.c_calls.proofs.Named.{no_name, one_name}
 use Rattle.c_calls.proofs.local_keeper.attach_iface.Goals as goal
 

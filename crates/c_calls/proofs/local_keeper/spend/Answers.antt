@@ -2,7 +2,7 @@
 use Rattle.std.proofs.Common.{◌<◌, ◌∙◌, sym, subst}
 use Rattle.c_calls.specs.Types.{ReferenceView}
 use Rattle.passive_list.specs.Common.{OnPlainKeeper}
-use Rattle.c_bodies.specs.Bodies.{IsReferenceOf}
+use Rattle.c_handles.specs.Bodies.{IsReferenceOf}
 use Rattle.c_calls.proofs.local_keeper.spend.Goals as goal
 
 pub release_under-requires-clause-reference : goal.release_under-requires-clause-reference

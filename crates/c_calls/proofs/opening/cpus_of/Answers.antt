@@ -36,6 +36,11 @@ of_seat-cpu-requires-clause-new c =
     let id = sym (c.len-id.ensures ∙ c.pop.new.self.ok.0) in
     ap (λ (s : Seated CpuView). s.view) taken.last ∙ (λ i. new_cpu (its i) (id i))
 
+pub of_seat-cpu-requires-clause-rows : goal.of_seat-cpu-requires-clause-rows
+of_seat-cpu-requires-clause-rows c =
+    let taken = take_last _ _ _ _ _ c.in-Some.ensures.items c.loop-seat.invariant.0 in
+    c.in_ok-rows.ensures ∙ ap (λ (z : Settings). z.slots) (c.settings.ensures ∙ ap (λ (w : Named). w.settings) c.deref.ensures ∙ sym (ap (λ (s : Seated CpuView). s.view.settings) taken.last))
+
 pub of-body-requires : goal.of-body-requires
 of-body-requires c =
     let taken = take_last _ _ _ _ _ c.in-Some.ensures.items c.loop-seat.invariant.0 in
@@ -62,7 +67,7 @@ loop-seat-preserved c =
       view = (ap (λ (s : Seated CpuView). s.view) taken.last) i;
       depth = 0;
       made = 0;
-      memory = no_memory;
+      memory = no_memory (ap (λ (s : Seated CpuView). s.view.settings) taken.last i).slots;
       known_log = ap (λ (s : Seated CpuView). s.known_log) taken.last i;
       log = ap (λ (s : Seated CpuView). s.log) taken.last i;
     }) in

@@ -1,6 +1,6 @@
 -- What the load told is the answer; else what was found anew.
 use Rattle.std.proofs.Common.{ℕ, Option, ◌∙◌}
-use Rattle.c_values.specs.declared.values.CEntry.{CEntry}
+use Rattle.c_handles.specs.declared.values.plain.CEntry.{CEntry}
 use Rattle.passive_list.proofs.ByMemory.{still_outside}
 use Rattle.c_calls.specs.UsualCalls.{LooksUpByMemory}
 use Rattle.c_calls.proofs.UsualCalls.{answered, looked_anew, recalled_at_once}

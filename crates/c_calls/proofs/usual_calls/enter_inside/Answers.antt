@@ -2,7 +2,7 @@
 use Rattle.std.proofs.Common.{◌≡◌, None, ap, subst, ◌∙◌}
 use Rattle.std.specs.Prelude.{◌↔◌}
 use Rattle.passive_list.specs.Common.{OnPlainCpu}
-use Rattle.c_bodies.specs.declared.cpu_body.CpuBody.TheInside.{Inside}
+use Rattle.c_handles.specs.declared.cpu_body.CpuBody.TheInside.{Inside}
 use Rattle.c_calls.proofs.UsualCalls.{begin_of, entered_inside}
 use Rattle.c_calls.proofs.usual_calls.enter_inside.Goals as goal
 

@@ -2,8 +2,8 @@
 use Rattle.std.proofs.Common.{◌≡◌, length, replicate, rules, subst}
 use Rattle.passive_list.specs.Common.{OnPlainCpu, OnPlainKeeper}
 use Rattle.passive_list.proofs.Rows.{keeper_is}
-use Rattle.c_values.specs.declared.wait.CWait.{CWait}
-use Rattle.c_values.specs.declared.wait.TheConstants.{BEGUN}
+use Rattle.c_handles.specs.declared.values.wait.CWait.{CWait}
+use Rattle.c_handles.specs.declared.values.wait.TheConstants.{BEGUN}
 use Rattle.c_calls.specs.KeeperCalls.{Begins}
 use Rattle.c_calls.proofs.Turned.{begins_by}
 use Rattle.c_calls.proofs.waiting.begin_body.Goals as goal

@@ -1,8 +1,18 @@
-use Rattle.std.proofs.Common.{ℕ, List, Option, subst}
+-- `pass_retired`: its clause `passed`.
+use Rattle.std.proofs.Common.{map, subst}
+use Rattle.c_calls.specs.Types.{Settings}
+use Rattle.c_handles.specs.values.Flags.{none_or_number}
 use Rattle.name_registry.specs.Common.{HasPassedAll}
+use Rattle.name_registry.proofs.Passed.{made_passes}
 use Rattle.c_calls.proofs.waiting.pass_retired.Goals as goal
 
 pub returns-clause-passed : goal.returns-clause-passed
-returns-clause-passed c = subst
-    (λ (n : List (Option ℕ)). HasPassedAll c.args.keeper.now.words.settings c.args.keeper.now.keeper c.args.cpu.now.cpu n c.pass_all.new.keeper.keeper c.pass_all.new.cpu.cpu)
-    c.read_numbers.ensures c.pass_all.ensures.passed
+returns-clause-passed c =
+    let hear = c.hear_cpu.ensures in
+    let again = c.hear_cpu-2.ensures in
+    let show = c.show_cpu.ensures in
+    let numbers = map none_or_number c.args.retired.now in
+    subst (λ (z : Settings). HasPassedAll z c.args.keeper.now.keeper c.args.cpu.now.cpu numbers c.show_cpu.new.keeper.keeper c.show_cpu.new.cpu.cpu) c.requires.words.1
+    (made_passes c.args.words.now.settings numbers c.args.keeper.now.keeper c.hear_cpu.new.keeper.keeper c.pass_entries.new.keeper.keeper c.hear_cpu-2.new.keeper.keeper
+    c.show_cpu.new.keeper.keeper c.args.cpu.now.cpu c.hear_cpu.new.cpu.cpu c.hear_cpu-2.new.cpu.cpu c.show_cpu.new.cpu.cpu
+    hear.known hear.keeper hear.cpu c.pass_entries.ensures.passes again.own again.keeper again.cpu show.keeper show.cpu show.told show.log)

@@ -19,9 +19,10 @@ count_add-word-requires-clause-may c =
     may_count _ _ _ _ _ _ _ _ _ _ _ c.cpu.invariant (may_acquire _ _ _ _ c.cpu.invariant.is_shown c.cpu.invariant.found
     (ap (λ (o : OnPlainCpu). o.cpu.view) c.cpu.view_is) c.why_not_acquired_local.ensures c.in_default.not-Some)
 
-pub bounds-cpu-inside-found : goal.bounds-cpu-inside-found
-bounds-cpu-inside-found c =
-    (may_acquire _ _ _ _ c.cpu.invariant.is_shown c.cpu.invariant.found (ap (λ (o : OnPlainCpu). o.cpu.view) c.cpu.view_is) c.why_not_acquired_local.ensures c.in_default.not-Some).kept.few
+pub index_mut-requires : goal.index_mut-requires
+index_mut-requires c =
+    let may = may_acquire _ _ _ _ c.cpu.invariant.is_shown c.cpu.invariant.found (ap (λ (o : OnPlainCpu). o.cpu.view) c.cpu.view_is) c.why_not_acquired_local.ensures c.in_default.not-Some in
+    omega (arith, may.kept.within, c.cpu.invariant.net.size, c.cpu.inside.net.ok.0)
 
 pub invariant_of-result : goal.invariant_of-result
 invariant_of-result c =

@@ -1,10 +1,11 @@
 -- The count of the place decides, where something was found.
-use Rattle.std.proofs.Common.{◌≡◌, ◌+◌, ap, ◌∙◌, subst, sym, None}
+use Rattle.std.proofs.Common.{◌≡◌, ◌+◌, ap, ◌∙◌, arith, subst, sym, None}
 use Rattle.passive_list.specs.Types.{Settings}
 use Rattle.registry_values.specs.Common.{why_uncounted, bias}
+use Rattle.passive_list.specs.declared.place.NumberedCount.{NumberedCount}
 use Rattle.passive_list.specs.Common.{OnPlainCpu}
-use Rattle.passive_list.proofs.Agreeing.{found_as, found_none}
-use Rattle.local_count.specs.References.{why_not_acquired_local}
+use Rattle.passive_list.proofs.Agreeing.{found_as, found_none, place_is}
+use Rattle.local_count.specs.References.{net_by, why_not_acquired_local}
 use Rattle.local_count.proofs.Acquiring.{nothing_found, why_by_place}
 use Rattle.local_count.proofs.acquire.why_not_acquired_local.Goals as goal
 
@@ -12,8 +13,10 @@ pub returns-then-found-eq0 : goal.returns-then-found-eq0
 returns-then-found-eq0 c =
     nothing_found c.args.cpu.now.cpu.view (subst (λ (o : OnPlainCpu). o.cpu.view.found ≡ None) c.cpu.view_is (found_none _ _ c.cpu.invariant.is_shown c.cpu.invariant.found c.if-found-eq0.true))
 
-pub bounds-cpu-inside-found : goal.bounds-cpu-inside-found
-bounds-cpu-inside-found c = (found_as _ _ c.cpu.invariant.is_shown c.cpu.invariant.found c.if-found-eq0.false).few
+pub index-requires : goal.index-requires
+index-requires c =
+    let kept = found_as _ _ c.cpu.invariant.is_shown c.cpu.invariant.found c.if-found-eq0.false in
+    omega (arith, kept.within, c.cpu.invariant.net.size, c.cpu.inside.net.ok.0)
 
 pub returns : goal.returns
 returns c =
@@ -22,4 +25,5 @@ returns c =
     let kept = found_as _ _ c.cpu.invariant.is_shown c.cpu.invariant.found c.if-found-eq0.false in
     c.why_uncounted.ensures.value
     ∙ subst (λ (o : OnPlainCpu). why_uncounted c.net_count-count.result (bias + c.settings.result.count_limit) ≡ why_not_acquired_local o.cpu.view o.cpu.view.found) c.cpu.view_is
-    (why_by_place _ _ _ _ _ _ _ _ _ _ _ _ _ kept c.cpu.invariant c.net_count-count.ensures limit)
+    (why_by_place _ _ _ _ _ _ _ _ _ _ _ _ _ kept c.cpu.invariant
+    (c.net_count-count.ensures ∙ ap (λ (p : NumberedCount). net_by p c.cpu.inside.found.number) (place_is _ c.cpu.inside.found.slot _ c.index.ensures (omega (arith, kept.within, c.cpu.invariant.net.size)))) limit)

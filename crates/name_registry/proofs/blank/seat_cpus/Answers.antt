@@ -6,7 +6,7 @@ use Rattle.name_registry.specs.Types.{CpuView}
 use Rattle.cpu_words.specs.Common.{Seated, new_cpu}
 use Rattle.passive_list.specs.Common.{OnCpu, no_memory}
 use Rattle.name_registry.specs.Common.{AreNewCpus}
-use Rattle.name_registry.proofs.Opened.{seat_after, more_cpus}
+use Rattle.name_registry.proofs.Opened.{last_equal, more_cpus, seat_after}
 use Rattle.name_registry.proofs.blank.seat_cpus.Goals as goal
 
 pub of_seat-requires : goal.of_seat-requires
@@ -15,9 +15,11 @@ of_seat-requires g c =
     let z = g.D.Domain.settings in
     let is = i.0 ∙ ap (λ (l : List (Seated CpuView)). c.loop-seat.yielded ++ l) c.in-Some.ensures.steps.0 in
     let after = seat_after g.D.Domain.table z c.args.seats.items c.loop-seat.yielded (into_iter_items c.next.new.self) c.in-Some.seat c.requires.seats is in
+    let last = last_equal _ _ _ _ (sym i.6.0 ∙ c.in-Some-pop.ensures.items) in
     record {
       table = (ap (λ (s : Seated CpuView). s.table) after.1, c.requires.fit, omega (arith, after.0, c.len-id.ensures, i.2, ranges z c.requires.fit));
       new = ap (λ (s : Seated CpuView). s.view) after.1 ∙ ap (λ k. new_cpu z k) (sym (c.len-id.ensures ∙ i.2));
+      rows = last.0;
       part = c.split_off-share.ensures.parts;
     }
 
@@ -30,11 +32,12 @@ loop-seat-preserved g c =
     let more = length-append seen (c.in-Some.seat ∷ []) in
     let is = i.0 ∙ ap (λ (l : List (Seated CpuView)). seen ++ l) c.in-Some.ensures.steps.0 in
     let after = seat_after g.D.Domain.table z c.args.seats.items seen (into_iter_items c.next.new.self) c.in-Some.seat c.requires.seats is in
+    let last = last_equal _ _ _ _ (sym i.6.0 ∙ c.in-Some-pop.ensures.items) in
     let new = c.of_seat.ensures ∙ (λ j. record {
       view = new_cpu z ((c.len-id.ensures ∙ i.2) j);
       depth = 0;
       made = c.split_off-share.ensures.amount j;
-      memory = no_memory;
+      memory = no_memory z.slots;
       known_log = ap (λ (s : Seated CpuView). s.known_log) after.1 j;
       log = ap (λ (s : Seated CpuView). s.log) after.1 j;
     }) in
@@ -45,4 +48,5 @@ loop-seat-preserved g c =
       subst (λ k. z.cpus ≤ k) (sym c.push_reserved.ensures.capacity) i.3,
       omega (arith, c.split_off-share.ensures.parts_left, i.4, more),
       omega (arith, c.split_off-share.ensures.amount_left, i.5),
+      (last.1, omega (arith, i.6.1, more, length-append c.pop.new.self.items (c.in-Some-pop.own ∷ []), ap length c.in-Some-pop.ensures.items)),
     )

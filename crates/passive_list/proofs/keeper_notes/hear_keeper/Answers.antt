@@ -5,4 +5,4 @@ use Rattle.passive_list.proofs.Logs.{own_log}
 use Rattle.passive_list.proofs.keeper_notes.hear_keeper.Goals as goal
 
 pub returns-clause-own : goal.returns-clause-own
-returns-clause-own c = subst (λ (x : OnPlainKeeper). HasOwnLog x.words.settings x.keeper) c.keeper.view_is (own_log _ _ _ _ _ _ c.keeper.invariant c.hear_keeper.ensures.own_log)
+returns-clause-own c = subst (λ (x : OnPlainKeeper). HasOwnLog x.words.settings x.keeper) c.keeper.view_is (own_log _ _ _ _ _ _ c.keeper.invariant.0 c.hear_keeper.ensures.own_log)

@@ -10,4 +10,4 @@ returns c =
     let rows = c.args.rows.now in
     let end : c.loop-t.t ≡ c.args.slots = omega (arith, c.loop-t.auto.t-end, c.loop-t-test.false) in
     subst (LeadsBelow (states_of rows) c.args.number) (sym (c.link_to.ensures ∙ ap link_to (c.loop-t.invariant ∙ ap (newest_to rows c.args.number) end)))
-    (newest_leads rows c.args.number c.args.slots c.requires.beyond)
+    (newest_leads rows c.args.number c.args.slots c.requires)

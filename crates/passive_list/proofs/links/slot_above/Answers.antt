@@ -10,11 +10,11 @@ returns-clause-before c =
     let rows = c.args.rows.now in
     let end : c.loop-t.t ≡ c.args.slots = omega (arith, c.loop-t.auto.t-end, c.loop-t-test.false) in
     subst (IsBefore (states_of rows) c.args.number) (sym (c.place_of.ensures ∙ ap place_of (c.loop-t.invariant ∙ ap (oldest_to rows c.args.number) end)))
-    (oldest_before rows c.args.number c.args.slots c.requires.beyond).0
+    (oldest_before rows c.args.number c.args.slots c.requires).0
 
 pub returns-clause-place : goal.returns-clause-place
 returns-clause-place c =
     let rows = c.args.rows.now in
     let end : c.loop-t.t ≡ c.args.slots = omega (arith, c.loop-t.auto.t-end, c.loop-t-test.false) in
     subst (IsLinkPlace c.args.slots) (sym (c.place_of.ensures ∙ ap place_of (c.loop-t.invariant ∙ ap (oldest_to rows c.args.number) end)))
-    (oldest_before rows c.args.number c.args.slots c.requires.beyond).1
+    (oldest_before rows c.args.number c.args.slots c.requires).1

@@ -1,8 +1,7 @@
 -- What was found is an entry of the pass, and is remembered.
 use Rattle.std.proofs.Common.{ap, subst}
-use Rattle.passive_list.specs.declared.memory.Memory.{Memory}
 use Rattle.cpu_words.specs.Common.{key_with}
-use Rattle.passive_list.specs.Common.{OnCpu, RemembersAnswer}
+use Rattle.passive_list.specs.Common.{Memory, OnCpu, RemembersAnswer}
 use Rattle.passive_list.proofs.ByMemory.{kept_seen}
 use Rattle.passive_list.proofs.remembering.find_and_remember.Goals as goal
 

@@ -1,17 +1,17 @@
 -- One slot on the list after the other.
-use Rattle.std.proofs.Common.{◌≡◌, ◌≤◌, suc, ◌+◌, ◌-◌, ◌<◌, [], ◌++◌, length, take, set, refl, sym, ap, ◌∙◌, subst, arith, length-set, append_assoc}
-use Rattle.std.proofs.lemmas.List.{length-take-le}
+use Rattle.std.proofs.Common.{◌≡◌, ◌≤◌, suc, ◌+◌, ◌-◌, ◌<◌, [], ◌∷◌, ◌++◌, length, set, refl, sym, ap, ◌∙◌, subst, arith, length-append, length-set, append_assoc}
 use Rattle.passive_list.specs.Types.{Entry, Iface, Key, Seek, LoadLink, Done, Settings, MOST_SLOTS}
 use Rattle.cpu_words.specs.Common.{did, HasFollowed, cpu_after_seek, search_for, key_with, link_answer}
 use Rattle.cpu_words.proofs.shown.KeepersShown.{step_is_shown}
-use Rattle.passive_list.specs.Common.{nobody, HasGoneByOne, HasGoneOverBy, IsGoingOver}
-use Rattle.passive_list.proofs.GoingOver.{going_begins, on_slot, slot_within, may_go_by, may_go_on, has_room, one_more, rest_stays, few_gone_over, going_id, slot_id, gone_over}
+use Rattle.passive_list.specs.Common.{nobody, HasGoneOverBy, IsGoingOver, IsWritten}
+use Rattle.passive_list.proofs.GoingOver.{going_begins, on_slot, slot_within, may_go_by, may_go_on, room_for_next, goes_by_next, none_written, one_more_written, few_gone_over, going_id, slot_id, gone_over}
 use Rattle.passive_list.proofs.Searches.{walk_begun, one_gone_by, walk_over}
+use Rattle.passive_list.proofs.walks.go_over.Given.{Over}
 use Rattle.passive_list.proofs.walks.go_over.Goals.{After-go_by-entry}
 use Rattle.passive_list.proofs.walks.go_over.Goals as goal
 
 pub loop-link-init : goal.loop-link-init
-loop-link-init c =
+loop-link-init g c =
     let x = c.args.seat.now.view in
     let y = c.seek-link.new.seat.view in
     let m = c.seek-link.result in
@@ -27,89 +27,84 @@ loop-link-init c =
           ∙ ap (λ (k : Key). c.args.seat.now.log ++ (did (Seek c.args.cpu k.kind k.name) Done ++ did (LoadLink c.args.cpu) (link_answer m))) key);
       ends = (c.args.seat.now.log ++ did (Seek c.args.cpu Iface c.of_words.result) Done, rw append_assoc c.seek-link.ensures.step.log);
       few = omega arith;
-      size = c.told-row;
-      over = over;
-      rest = refl;
+      size = refl;
+      met = ([], refl, over, none_written g.W.WritesEntry.written c.args.row.now);
     }
 
 pub go_by-entry-requires-clause-cpu : goal.go_by-entry-requires-clause-cpu
-go_by-entry-requires-clause-cpu c = (c.requires.cpu.0, c.loop-link.invariant.cpu)
+go_by-entry-requires-clause-cpu g c = (c.requires.cpu.0, c.loop-link.invariant.cpu)
 
 pub go_by-entry-requires-clause-slot : goal.go_by-entry-requires-clause-slot
-go_by-entry-requires-clause-slot c =
-    let within = slot_within _ _ _ _ (on_slot _ _ _ _ _ c.loop-link-test.true c.loop-link.invariant.over) in
+go_by-entry-requires-clause-slot g c =
+    let within = slot_within _ _ _ _ (on_slot _ _ _ _ c.loop-link-test.true c.loop-link.invariant.met.2) in
     (within.0, subst (λ (z : Settings). c.loop-link.link - 1 < z.slots) c.requires.settings within.1)
 
 pub go_by-entry-requires-clause-may : goal.go_by-entry-requires-clause-may
-go_by-entry-requires-clause-may c = may_go_by _ _ _ _ (on_slot _ _ _ _ _ c.loop-link-test.true c.loop-link.invariant.over)
+go_by-entry-requires-clause-may g c = may_go_by _ _ _ _ (on_slot _ _ _ _ c.loop-link-test.true c.loop-link.invariant.met.2)
 
 -- where the walk stood as it came to the slot
-on : (c : After-go_by-entry) → IsGoingOver c.args.seat.now.view (take c.loop-link.count c.loop-link.row) (suc (c.loop-link.link - 1)) c.loop-link.seat.view
-on c = on_slot _ _ _ _ _ c.loop-link-test.true c.loop-link.invariant.over
+on : (g : Over) (c : After-go_by-entry g) → IsGoingOver c.args.seat.now.view c.loop-link.invariant.met.0 (suc (c.loop-link.link - 1)) c.loop-link.seat.view
+on g c = on_slot _ _ _ _ c.loop-link-test.true c.loop-link.invariant.met.2
 
-room : (c : After-go_by-entry) → c.loop-link.count < MOST_SLOTS
-room c = has_room _ _ _ _ _ _ _ (omega (arith, c.loop-link.invariant.few, c.loop-link.invariant.size)) (on c) c.go_by-entry.ensures.change
-
-pub bounds-row-count : goal.bounds-row-count
-bounds-row-count c = room (goal.at.bounds-row-count c).After-go_by-entry
+room : (g : Over) (c : After-go_by-entry g) → c.loop-link.count < MOST_SLOTS
+room g c = omega (arith, room_for_next _ _ _ _ _ _ (on g c) c.go_by-entry.ensures.change, c.loop-link.invariant.met.1)
 
 pub load_link-link-requires-clause-cpu : goal.load_link-link-requires-clause-cpu
-load_link-link-requires-clause-cpu c =
-    (c.requires.cpu.0, slot_id _ _ _ _ _ _ (on (goal.at.load_link-link-requires-clause-cpu c).After-go_by-entry) c.go_by-entry.ensures.change ∙ c.loop-link.invariant.cpu)
+load_link-link-requires-clause-cpu g c =
+    (c.requires.cpu.0, slot_id _ _ _ _ _ _ (on g (goal.at.load_link-link-requires-clause-cpu g c).After-go_by-entry) c.go_by-entry.ensures.change ∙ c.loop-link.invariant.cpu)
 
 pub load_link-link-requires-clause-slot : goal.load_link-link-requires-clause-slot
-load_link-link-requires-clause-slot c =
-    let within = slot_within _ _ _ _ (on (goal.at.load_link-link-requires-clause-slot c).After-go_by-entry) in
+load_link-link-requires-clause-slot g c =
+    let within = slot_within _ _ _ _ (on g (goal.at.load_link-link-requires-clause-slot g c).After-go_by-entry) in
     let same = ap (λ (z : Settings). z.slots) c.requires.settings in
     (omega (arith, c.loop-link-test.true), omega (arith, within), omega (arith, within, same))
 
 pub load_link-link-requires-clause-may : goal.load_link-link-requires-clause-may
-load_link-link-requires-clause-may c = may_go_on _ _ _ _ _ _ (on (goal.at.load_link-link-requires-clause-may c).After-go_by-entry) c.go_by-entry.ensures.change
+load_link-link-requires-clause-may g c = may_go_on _ _ _ _ _ _ (on g (goal.at.load_link-link-requires-clause-may g c).After-go_by-entry) c.go_by-entry.ensures.change
 
 pub loop-link-smaller : goal.loop-link-smaller
-loop-link-smaller c =
-    let few = room (goal.at.loop-link-smaller c).After-go_by-entry in
+loop-link-smaller g c =
+    let few = room g (goal.at.loop-link-smaller g c).After-go_by-entry in
     omega (arith, few)
 
 pub loop-link-preserved : goal.loop-link-preserved
-loop-link-preserved c =
-    let v = (goal.at.loop-link-preserved c).After-go_by-entry in
+loop-link-preserved g c =
+    let v = (goal.at.loop-link-preserved g c).After-go_by-entry in
     let x = c.args.seat.now.view in
     let w = c.load_link-link.new.seat.view in
     let row = c.loop-link.row in
-    let count = c.loop-link.count in
-    let m = c.load_link-link.result in
-    let e : Entry = c.put.new.place in
-    let few = room v in
-    let gone : HasGoneByOne c.loop-link.seat.view (c.loop-link.link - 1) e c.go_by-entry.new.seat.view =
-    subst (λ (e : Entry). HasGoneByOne c.loop-link.seat.view (c.loop-link.link - 1) e c.go_by-entry.new.seat.view) (sym c.put.ensures) c.go_by-entry.ensures.change in
-    let more = one_more x _ _ w row count _ m e (omega (arith, few, c.loop-link.invariant.size)) (on v) gone c.load_link-link.ensures.change in
+    let had = c.loop-link.invariant.met in
+    let e : Entry = c.go_by-entry.result in
+    let few = room g v in
+    let more = goes_by_next x _ _ w had.0 _ c.load_link-link.result e (on g v) c.go_by-entry.ensures.change c.load_link-link.ensures.change in
+    let put = one_more_written g.W.WritesEntry.written had.0 e c.args.row.now row c.loop-link.invariant.size had.3 in
+    let size = length-append had.0 (e ∷ []) in
     record {
       table = c.load_link-link.ensures.step.table ∙ c.go_by-entry.ensures.table ∙ c.loop-link.invariant.table;
-      cpu = going_id x w (take (count + 1) (set row count e)) m more ∙ c.requires.cpu.1;
+      cpu = going_id x w (had.0 ++ e ∷ []) c.load_link-link.result more ∙ c.requires.cpu.1;
       is_shown = step_is_shown c.load_link-link.ensures.step.event;
       known_log = c.load_link-link.ensures.step.known_log ∙ c.go_by-entry.ensures.known_log ∙ c.loop-link.invariant.known_log;
-      log = one_gone_by c.args.cpu count _ _ _ _ _ c.loop-link.invariant.log c.go_by-entry.ensures.log c.load_link-link.ensures.step.log;
+      log = one_gone_by c.args.cpu c.loop-link.count _ _ _ _ _ c.loop-link.invariant.log c.go_by-entry.ensures.log c.load_link-link.ensures.step.log;
       ends = (c.go_by-entry.new.seat.log, c.load_link-link.ensures.step.log);
       few = omega (arith, few);
-      size = length-set row count e ∙ c.loop-link.invariant.size;
-      over = more;
-      rest = rest_stays c.args.row.now row count e c.loop-link.invariant.rest;
+      size = ap length c.write_at.ensures ∙ length-set row c.loop-link.count (g.W.WritesEntry.written e) ∙ c.loop-link.invariant.size;
+      met = (
+        had.0 ++ e ∷ [],
+        omega (arith, size, had.1),
+        more,
+        subst (λ r. IsWritten g.W.WritesEntry.written (had.0 ++ e ∷ []) c.args.row.now r) (ap (λ n. set row n (g.W.WritesEntry.written e)) (sym had.1) ∙ sym c.write_at.ensures) put,
+      );
     }
 
 pub returns-clause-change : goal.returns-clause-change
-returns-clause-change c =
+returns-clause-change g c =
     let x = c.args.seat.now.view in
-    let es = take c.loop-link.count c.loop-link.row in
-    gone_over x c.loop-link.seat.view es (subst (λ m. IsGoingOver x es m c.loop-link.seat.view) c.loop-link-test.false c.loop-link.invariant.over)
+    let had = c.loop-link.invariant.met in
+    (had.0, had.1, gone_over x c.loop-link.seat.view had.0 (subst (λ m. IsGoingOver x had.0 m c.loop-link.seat.view) c.loop-link-test.false had.2), had.3)
 
 pub returns-clause-log : goal.returns-clause-log
-returns-clause-log c =
+returns-clause-log g c =
     let x = c.args.seat.now.view in
-    let row = c.loop-link.row in
-    let es = take c.loop-link.count row in
-    let within : c.loop-link.count ≤ length row = omega (arith, c.loop-link.invariant.few, c.loop-link.invariant.size) in
-    let size : length es ≡ c.loop-link.count = length-take-le c.loop-link.count row within in
-    let few = few_gone_over x c.loop-link.seat.view es c.loop-link.link c.loop-link.invariant.over in
-    let over = walk_over c.args.cpu x.settings.slots c.loop-link.link c.loop-link.count _ _ c.loop-link-test.false (omega (arith, few, size)) c.loop-link.invariant.log c.loop-link.invariant.ends in
-    subst (λ n. HasGoneOverBy c.args.cpu x.settings.slots n c.args.seat.now.log c.loop-link.seat.log) (sym size) over
+    let had = c.loop-link.invariant.met in
+    let few = few_gone_over x c.loop-link.seat.view had.0 c.loop-link.link had.2 in
+    walk_over c.args.cpu x.settings.slots c.loop-link.link c.loop-link.count _ _ c.loop-link-test.false (omega (arith, few, had.1)) c.loop-link.invariant.log c.loop-link.invariant.ends

@@ -13,7 +13,7 @@ returns-then-found-eq0-clause-answer c =
 pub add-requires-clause-known : goal.add-requires-clause-known
 add-requires-clause-known c =
     let kept = subst (λ (o : OnPlainCpu). IsFoundAs o.cpu.view c.cpu.inside.found) c.cpu.view_is (found_as _ _ c.cpu.invariant.is_shown c.cpu.invariant.found c.if-found-eq0.false) in
-    record { entry = kept.entry; at = record { slot = sym kept.slot; number = sym kept.number }; known = inl kept.found; few = kept.few }
+    record { entry = kept.entry; at = record { slot = sym kept.slot; number = sym kept.number }; known = inl kept.found; few = kept.within }
 
 pub returns-clause-answer : goal.returns-clause-answer
 returns-clause-answer c =

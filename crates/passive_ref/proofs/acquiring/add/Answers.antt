@@ -16,6 +16,7 @@ passive_add-requires-clause-place c =
 
 pub invariant_of-cpu : goal.invariant_of-cpu
 invariant_of-cpu c =
+    let known = subst (λ (o : OnPlainCpu). MayRefer o.cpu.view c.args.slot c.args.number) (sym c.cpu.view_is) c.requires.known in
     let count = c.count_of-count.ensures ∙ ap (λ (o : OnPlainCpu). references_to c.args.number o.cpu.view.references) (sym c.cpu.view_is) in
     own_agrees _ _ _ _ _ _ _ _ _ _ _ (added_agrees _ _ _ _ _ _ _ _ _ _ _ _ _ _ _ _ c.cpu.invariant c.passive_add.ensures.step.table
-    (step_is_shown c.passive_add.ensures.step.event) c.passive_add.ensures.change c.requires.known.few c.passive_add.ensures.alone count)
+    (step_is_shown c.passive_add.ensures.step.event) c.passive_add.ensures.change known.few c.passive_add.ensures.alone count)

@@ -1,11 +1,12 @@
 -- The data agree with the view as a reference is taken away.
-use Rattle.std.proofs.Common.{◌∙◌, inr, sym, ap, subst}
-use Rattle.passive_list.specs.Common.{OnPlainCpu}
+use Rattle.std.proofs.Common.{◌∙◌, ◌-◌, ap, arith, inr, set, subst, sym}
+use Rattle.passive_list.specs.declared.place.NumberedCount.{NumberedCount}
+use Rattle.passive_list.specs.Common.{IsOurCpu, OnPlainCpu}
 use Rattle.passive_ref.specs.Psrefs.{IsHeldAt}
 use Rattle.cpu_words.proofs.shown.KeepersShown.{step_is_shown}
-use Rattle.passive_list.proofs.Agreeing.{own_agrees}
+use Rattle.passive_list.proofs.Agreeing.{own_agrees, place_is}
 use Rattle.passive_ref.proofs.Changing.{less_agrees}
-use Rattle.passive_ref.proofs.Places.{within}
+use Rattle.passive_ref.proofs.Places.{held_counts, within}
 use Rattle.passive_ref.proofs.acquiring.subtract.Goals as goal
 
 pub passive_sub-requires-clause-place : goal.passive_sub-requires-clause-place
@@ -16,5 +17,18 @@ passive_sub-requires-clause-place c =
 pub invariant_of-cpu : goal.invariant_of-cpu
 invariant_of-cpu c =
     let held = subst (λ (o : OnPlainCpu). IsHeldAt o.cpu.view c.args.slot c.args.number) (sym c.cpu.view_is) c.requires.held in
-    own_agrees _ _ _ _ _ _ _ _ _ _ _ (less_agrees _ _ _ _ _ _ _ _ _ _ _ _ _ held.entry _ _ c.cpu.invariant c.passive_sub.ensures.step.table
-    (step_is_shown c.passive_sub.ensures.step.event) held.at held.held c.passive_sub.ensures.change)
+    let i = c.cpu.inside in
+    let agree = c.cpu.invariant.passive in
+    let here = place_is i.passive.items c.args.slot _ c.index_mut.ensures.value (omega (arith, held.few, agree.size)) in
+    let seat = c.passive_sub.new.seat in
+    subst (λ (p : NumberedCount). IsOurCpu seat.table seat.view.settings seat.table seat.view i.id i.ended i.depth i.found (set i.passive.items c.args.slot (record { number = p.number; count = p.count - 1 })) i.net.items i.memory) (sym here)
+    (own_agrees _ _ _ _ _ _ _ _ _ _ _ (less_agrees _ _ _ _ _ _ _ _ _ _ _ _ _ held.entry _ _ c.cpu.invariant c.passive_sub.ensures.step.table
+    (step_is_shown c.passive_sub.ensures.step.event) held.at held.held c.passive_sub.ensures.change))
+
+pub overflow_sub-index_mut : goal.overflow_sub-index_mut
+overflow_sub-index_mut c =
+    let held = subst (λ (o : OnPlainCpu). IsHeldAt o.cpu.view c.args.slot c.args.number) (sym c.cpu.view_is) c.requires.held in
+    let agree = c.cpu.invariant.passive in
+    let here = place_is c.cpu.inside.passive.items c.args.slot _ c.index_mut.ensures.value (omega (arith, held.few, agree.size)) in
+    let some = held_counts _ _ _ c.args.slot agree held in
+    omega (arith, ap (λ (p : NumberedCount). p.count) here, some)

@@ -1,15 +1,19 @@
 -- The data agree with the view, whether the CPU has its reference or not.
-use Rattle.std.proofs.Common.{◌<◌, ◌∙◌, inl, inr, rules, refl, sym, ap, subst}
+use Rattle.std.proofs.Common.{◌<◌, ◌≤◌, ◌∙◌, arith, inl, inr, rules, refl, sym, ap, subst}
 use Rattle.passive_list.specs.Types.{Settings}
+use Rattle.passive_list.specs.declared.place.NumberedCount.{NumberedCount}
 use Rattle.passive_list.specs.Common.{OnPlainCpu}
-use Rattle.passive_ref.specs.Gets.{HasSeen, HasTriedOnSeat, IsFullAt}
+use Rattle.passive_list.proofs.Agreeing.{place_is}
+use Rattle.passive_ref.specs.Gets.{HasSeen, HasTriedOnSeat, IsFullAt, counted_for}
 use Rattle.passive_ref.proofs.Gets.{full_at, given_on, got_on, may_try, taken_agrees, vain_agrees}
 use Rattle.passive_ref.proofs.getting.get_on.Goals as goal
 
 pub try_on_seat-done-requires-clause-may : goal.try_on_seat-done-requires-clause-may
 try_on_seat-done-requires-clause-may c =
     let seen = subst (λ (o : OnPlainCpu). HasSeen o.cpu.view c.args.slot c.args.number) (sym c.cpu.view_is) c.requires.seen in
-    may_try _ _ _ _ seen c.cpu.invariant.idle c.cpu.invariant.passive (search rules)
+    let agree = c.cpu.invariant.passive in
+    let here = place_is _ c.args.slot _ c.index.ensures (omega (arith, seen.slots, agree.size)) in
+    may_try _ _ _ _ seen c.cpu.invariant.idle agree (subst (λ (p : NumberedCount). p.count < c.cpu.inside.seat.view.settings.passive_limit) here (search rules))
 
 pub try_on_seat-done-requires-clause-slot : goal.try_on_seat-done-requires-clause-slot
 try_on_seat-done-requires-clause-slot c =
@@ -19,17 +23,14 @@ try_on_seat-done-requires-clause-slot c =
 pub invariant_of-cpu : goal.invariant_of-cpu
 invariant_of-cpu c =
     let had = subst (HasTriedOnSeat c.args.slot c.args.number _ _ _ _) c.if-done.true c.try_on_seat-done.ensures.tried in
-    taken_agrees _ _ _ _ _ _ _ _ _ _ _ _ _ _ _ _ c.cpu.invariant c.try_on_seat-done.ensures.is_shown c.try_on_seat-done.ensures.table c.requires.slot had.0 c.counted_for.ensures
+    let seen = subst (λ (o : OnPlainCpu). HasSeen o.cpu.view c.args.slot c.args.number) (sym c.cpu.view_is) c.requires.seen in
+    taken_agrees _ _ _ _ _ _ _ _ _ _ _ _ _ _ _ _ c.cpu.invariant c.try_on_seat-done.ensures.is_shown c.try_on_seat-done.ensures.table seen.slots had.0
+    (c.counted_for.ensures ∙ ap (counted_for c.args.number) (place_is _ c.args.slot _ c.index-place.ensures (omega (arith, seen.slots, c.cpu.invariant.passive.size))))
 
 pub invariant_of-cpu-else-done : goal.invariant_of-cpu-else-done
 invariant_of-cpu-else-done c =
     let had = subst (HasTriedOnSeat c.args.slot c.args.number _ _ _ _) c.if-done.false c.try_on_seat-done.ensures.tried in
     vain_agrees _ _ _ _ _ _ _ _ _ _ _ _ _ c.cpu.invariant c.try_on_seat-done.ensures.is_shown c.try_on_seat-done.ensures.table had.0
-
-pub returns-then-cpu-slot-clause-got : goal.returns-then-cpu-slot-clause-got
-returns-then-cpu-slot-clause-got c =
-    let i = c.cpu.inside in
-    inl (refl, subst (λ (o : OnPlainCpu). IsFullAt o.cpu.view c.args.slot) c.cpu.view_is (full_at i.seat.view i.passive c.args.slot c.cpu.invariant.passive (search rules)))
 
 pub returns-then-done-clause-got : goal.returns-then-done-clause-got
 returns-then-done-clause-got c =

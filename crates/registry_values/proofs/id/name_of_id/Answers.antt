@@ -1,3 +1,4 @@
+-- `name_of_id`: its bytes are a name's, and its clause `value`.
 use Rattle.std.proofs.Common.{ap, ◌∙◌, arith}
 use Rattle.registry_values.specs.Common.{is_name, name_of}
 use Rattle.registry_values.specs.Ids.{name_of_id}

@@ -9,7 +9,7 @@ use Rattle.passive_core.proofs.machine.Core.step_try.Goals as goal
 
 pub invariant_of-self : goal.invariant_of-self
 invariant_of-self c =
-    let test = ap (λ (x : State). may_try x c.args.c c.args.t) c.self.view_is ∙ (sym c.may_try.ensures.value ∙ c.if-not-may_try.false) in
+    let test = ap (λ (x : State). may_try x c.args.c c.args.t c.args.number) c.self.view_is ∙ (sym c.may_try.ensures.value ∙ c.if-not-may_try.false) in
     let word = c.passive_at-word.ensures ∙ ap (λ (x : State). passive_at x.passive c.args.c c.args.t) (sym c.self.view_is) in
     let low : c.args.t < length c.self.inside.passive.items = search rules in
     let row = get_or_read c.self.inside.passive.items c.args.t c.index_mut.result.now low c.index_mut.ensures.value [] in

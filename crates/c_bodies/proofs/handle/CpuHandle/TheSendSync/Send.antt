@@ -1,9 +1,0 @@
--- The handle of a CPU may go to another thread, as its body may.
-use denote.Param.Send.{IsSend}
-use Rattle.held.proofs.Sent.{keyless, sent}
-use Rattle.c_bodies.specs.contracts.cpu_body.CpuBody.{the_row as body}
-use Rattle.c_bodies.specs.contracts.handle.CpuHandle.{the_row, the_type}
-use Rattle.c_bodies.proofs.Sent.{cpu_send}
-
-pub send : IsSend the_row
-send = sent the_type (λ h. (h.at, tt)) (λ h. keyless body cpu_send h.at h.body)

@@ -1,0 +1,14 @@
+-- `value_mut` lends what the pointer is to.
+use Rattle.std.proofs.Common.{refl, Some}
+use Rattle.c_handles.specs.contracts.values.plain.CStage.{the_row as stage_row}
+use Rattle.c_handles.specs.heap.Handles.{is_testable}
+use Rattle.c_handles.proofs.Holding.{lent_tests}
+use Rattle.c_handles.proofs.Lent.{lent}
+use Rattle.c_handles.specs.contracts.values.place.StagePlace.{the_type as for_c}
+use Rattle.c_handles.specs.contracts.values.place.StagePlace.value_mut as f
+use Rattle.c_handles.proofs.values.place.StagePlace.value_mut.Statement.{statement}
+use Rattle.c_handles.proofs.values.place.StagePlace.value_mut.Code as code
+
+pub value_mut_spec : {M : Type 1} → statement M
+value_mut_spec 𝓤 𝓛 𝓜 𝓡 wired = lent is_testable lent_tests for_c (λ p. (p.at, tt)) stage_row (λ p. p.value) (λ p x. record { at = p.at; value = Some x }) (λ p. refl) (λ p x. refl)
+    (λ p x. refl) 𝓛 𝓜 𝓡 f.Key.name (code.unfolded 𝓤 𝓛.H 𝓜 𝓡 wired)

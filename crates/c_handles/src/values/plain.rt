@@ -1,0 +1,213 @@
+//! The plain structs that cross to C, and the numbers that a call returns.
+
+ghost use Rattle.std.specs.Prelude.{◌≡◌, IfOk, IfErr, false};
+ghost use Rattle.registry_values.specs.Common.{are_fit, number_of_refusal};
+ghost use Rattle.c_handles.specs.values.Values.{entry_out, fault_of, kind_in, name_in, name_out, number_of, settings_in, settings_out, stage_out};
+
+use registry_values::{
+    Entry, Kind, MOST_CPUS, MOST_SLOTS, Name, NameFault, Refusal, Settings, Stage, kind_word,
+};
+
+/// Done. Numbers 1 to 19 are those of the refusals (`Refusal::number`).
+pub const DONE: u32 = 0;
+/// The CPU is outside any section.
+pub const OUTSIDE: u32 = 64;
+/// A handle is empty that must not be.
+pub const EMPTY_HANDLE: u32 = 65;
+/// A handle isn't empty that must be.
+pub const FULL_HANDLE: u32 = 66;
+/// Neither an interface nor a driver.
+pub const BAD_KIND: u32 = 68;
+/// Two words that no name has, or the name of no id.
+pub const BAD_NAME: u32 = 69;
+/// A name has at least one byte.
+pub const NAME_EMPTY: u32 = 70;
+/// A name has at most 15 bytes.
+pub const NAME_TOO_LONG: u32 = 71;
+/// A byte may not stand where it does.
+pub const NAME_BAD_BYTE: u32 = 72;
+/// The keeper has collected this CPU's count.
+pub const COLLECTED: u32 = 73;
+/// The keeper has collected no count of this entry.
+pub const NOT_COLLECTED: u32 = 74;
+/// The list is too short for the answer.
+pub const NO_ROOM: u32 = 75;
+/// The wait was never begun.
+pub const NOT_BEGUN: u32 = 76;
+/// A pointer is null to something that the call needs.
+pub const NULL: u32 = 77;
+
+/// A name, by its two words.
+#[repr(C)]
+#[derive(Clone, Copy)]
+pub struct CName {
+    pub high: u64,
+    pub low: u64,
+}
+
+/// Settings.
+#[repr(C)]
+#[derive(Clone, Copy)]
+pub struct CSettings {
+    pub cpus: u64,
+    pub slots: u64,
+    pub change_limit: u64,
+    pub section_limit: u64,
+    pub passive_limit: u64,
+    pub count_limit: u64,
+}
+
+/// An entry.
+#[repr(C)]
+#[derive(Clone, Copy)]
+pub struct CEntry {
+    pub number: u64,
+    pub slot: u64,
+    pub kind: u64,
+    pub name: CName,
+    pub value: u64,
+}
+
+/// How far the destruction of an entry has come: 0 grace, 1 passive, 2 local, 3 freed, each with its CPU, count or slot.
+#[repr(C)]
+#[derive(Drop)]
+pub struct CStage {
+    pub stage: u64,
+    pub what: u64,
+}
+
+/// What the counts say of the local references to a live or retired entry.
+#[repr(C)]
+#[derive(Drop)]
+pub struct CBalance {
+    pub number: u64,
+    pub slot: u64,
+    pub held: i64,
+    pub locals: [i64; MOST_CPUS],
+    pub total: i64,
+}
+
+/// The number of a refusal.
+pub fn refused(refusal: Refusal) -> u32
+    ensures { result ≡ number_of_refusal refusal }
+{
+    u32::from(refusal.number())
+}
+
+/// The number of a result that says only whether it was done.
+pub fn answered(answer: Result<(), Refusal>) -> u32
+    ensures { result ≡ number_of answer }
+{
+    match answer {
+        Ok(()) => DONE,
+        Err(refusal) => refused(refusal),
+    }
+}
+
+/// The number of a fault of a name.
+pub fn faulty(fault: NameFault) -> u32
+    ensures { result ≡ fault_of fault }
+{
+    match fault {
+        NameFault::Empty => NAME_EMPTY,
+        NameFault::TooLong => NAME_TOO_LONG,
+        NameFault::BadByte(_) => NAME_BAD_BYTE,
+    }
+}
+
+/// The kind of a word: 1 an interface, 2 a driver.
+pub fn kind_in(word: u64) -> Option<Kind>
+    ensures { result ≡ kind_in word }
+{
+    if word == 1 {
+        return Some(Kind::Iface);
+    }
+    if word == 2 {
+        return Some(Kind::Driver);
+    }
+    None
+}
+
+/// The two words as a name, whether or not one has them.
+pub fn name_in(name: &CName) -> Name
+    ensures { result ≡ name_in name.now }
+{
+    Name::of_words(name.high, name.low)
+}
+
+/// The settings, where each fits its type. Refused: `BadSettings`; they don't fit a registry then, either.
+pub fn settings_in(given: &CSettings) -> Result<Settings, Refusal>
+    ensures ok { IfOk result (λ settings. settings ≡ settings_in given.now) }
+    ensures err { IfErr result (λ refusal. (refusal ≡ Refusal.BadSettings) × (are_fit (settings_in given.now) ≡ false)) }
+{
+    if given.cpus > MOST_CPUS as u64 || given.slots > MOST_SLOTS as u64 {
+        return Err(Refusal::BadSettings);
+    }
+    Ok(Settings {
+        cpus: given.cpus as u8,
+        slots: given.slots as u8,
+        change_limit: given.change_limit,
+        section_limit: given.section_limit,
+        passive_limit: given.passive_limit,
+        count_limit: given.count_limit,
+    })
+}
+
+/// Settings, to C.
+pub fn settings_out(settings: Settings) -> CSettings
+    ensures { result ≡ settings_out settings }
+{
+    CSettings {
+        cpus: u64::from(settings.cpus),
+        slots: u64::from(settings.slots),
+        change_limit: settings.change_limit,
+        section_limit: settings.section_limit,
+        passive_limit: settings.passive_limit,
+        count_limit: settings.count_limit,
+    }
+}
+
+/// A name, to C.
+pub fn name_out(name: Name) -> CName
+    ensures { result ≡ name_out name }
+{
+    let (high, low) = name.words();
+    CName { high, low }
+}
+
+/// An entry, to C.
+pub fn entry_out(entry: Entry) -> CEntry
+    ensures { result ≡ entry_out entry }
+{
+    CEntry {
+        number: entry.number,
+        slot: u64::from(entry.slot),
+        kind: kind_word(entry.rec.kind),
+        name: name_out(entry.rec.name),
+        value: entry.rec.value,
+    }
+}
+
+/// A stage, to C.
+pub fn stage_out(stage: Stage) -> CStage
+    ensures { result ≡ stage_out stage }
+{
+    match stage {
+        Stage::Grace(cpu) => CStage {
+            stage: 0,
+            what: u64::from(cpu),
+        },
+        Stage::Passive(cpu) => CStage {
+            stage: 1,
+            what: u64::from(cpu),
+        },
+        Stage::Local(held) => CStage {
+            stage: 2,
+            what: held,
+        },
+        Stage::Freed(slot) => CStage {
+            stage: 3,
+            what: u64::from(slot),
+        },
+    }
+}

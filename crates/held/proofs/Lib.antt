@@ -1,9 +1,0 @@
-pub mod Answered
-pub mod Given
-pub mod Holding
-pub mod Lent
-pub mod LentRow
-pub mod ReadByte
-pub mod Sent
-pub mod Turned
-pub mod Values

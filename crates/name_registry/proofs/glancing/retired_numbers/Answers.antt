@@ -1,0 +1,39 @@
+-- Past the table's slots nothing is retired.
+use Rattle.std.proofs.Common.{◌≡◌, ◌≤◌, ◌<◌, ⊎_elim, None, refl, sym, ap, ◌∙◌, arith, length-set}
+use Rattle.std.proofs.lemmas.Bool.{cases_eq, cases_lt}
+use Rattle.std.proofs.lemmas.List.{get_or-set_other, get_or-set_same}
+use Rattle.protocol.proofs.slots.Cells.{get_or_all}
+use Rattle.name_registry.specs.Types.{MOST_SLOTS, Settings}
+use Rattle.registry_values.specs.Common.{retired_number}
+use Rattle.registry_values.proofs.Fit.{ranges}
+use Rattle.name_registry.proofs.Passed.{none_retired}
+use Rattle.name_registry.proofs.glancing.retired_numbers.Goals as goal
+
+pub loop-slot-init : goal.loop-slot-init
+loop-slot-init c = record { size = refl; there = λ t lt. absurd (omega (arith, lt)); later = λ t ge. get_or_all MOST_SLOTS None t }
+
+pub loop-slot-preserved : goal.loop-slot-preserved
+loop-slot-preserved c =
+    let l = c.loop-slot in
+    let own = c.settings-slot-end.ensures.own in
+    let slots = ap (λ (z : Settings). z.slots) c.settings-slot-end.ensures.value in
+    let few = (ranges c.args.keeper.now.words.settings own.1.agree.view.fit).slots in
+    let number = c.retired_number.result in
+    let put = c.retired_number.ensures ∙ ap retired_number c.slot.ensures in
+    record {
+      size = length-set l.numbers l.slot number ∙ l.invariant.size;
+      there = λ t lt. ⊎_elim
+          (λ (here : t ≡ l.slot). rw here (get_or-set_same l.numbers l.slot number None (omega (arith, l.invariant.size, c.loop-slot-test.true, slots, few)) ∙ put))
+          (λ off. get_or-set_other l.numbers l.slot t number None off ∙ l.invariant.there t (omega (arith, lt, off)))
+          (cases_eq t l.slot);
+      later = λ t ge. get_or-set_other l.numbers l.slot t number None (λ e. absurd (omega (arith, ge, e))) ∙ l.invariant.later t (omega (arith, ge));
+    }
+
+pub returns : goal.returns
+returns c = λ t lt. ⊎_elim
+    (λ (low : t < c.loop-slot.slot). c.loop-slot.invariant.there t low)
+    (λ (past : c.loop-slot.slot ≤ t).
+    let own = c.settings-slot-end.ensures.own in
+    let slots = ap (λ (z : Settings). z.slots) c.settings-slot-end.ensures.value in
+    c.loop-slot.invariant.later t past ∙ sym (none_retired c.args.keeper.now own.0 t own.1 (omega (arith, past, c.loop-slot-test.false, slots))))
+    (cases_lt t c.loop-slot.slot)
