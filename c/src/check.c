@@ -13,6 +13,7 @@
 #include "waiting.h"
 #include "registry_check.h"
 
+#include <ctype.h>
 #include <inttypes.h>
 #include <stdarg.h>
 #include <stdlib.h>
@@ -544,6 +545,8 @@ static void note_entry(struct record *record, const struct registry_entry *entry
 	record->number = entry->number;
 	if (registry_name_format(&entry->name, record->name, sizeof record->name) != REGISTRY_DONE)
 		record->name[0] = 0;
+	for (char *byte = record->name; *byte != 0; byte++)
+		*byte = isprint((unsigned char)*byte) ? *byte : '?';
 }
 
 /* A CPU has acquired a reference with this number, which has a tag, or gets one. The call's result, and the number that the program gets. */

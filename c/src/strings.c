@@ -1,4 +1,4 @@
-/* registry_strerror and registry_name_format of registry.h. Nothing here is proved. */
+/* registry_strerror, registry_name_of_bytes and registry_name_format of registry.h. Nothing here is proved. */
 #include <string.h>
 
 #include "registry.h"
@@ -48,35 +48,51 @@ const char *registry_strerror(registry_answer answer)
 	return text != NULL ? text : "no call returns this";
 }
 
-/* Writes the bytes of both words, and returns how many come before the first zero. */
-static size_t unpack(const struct registry_name *name, char bytes[REGISTRY_NAME_ROOM])
+registry_answer registry_name_of_bytes(const void *bytes, size_t length, struct registry_name *name)
+{
+	unsigned char row[REGISTRY_KEY_BYTES] = {0};
+	struct registry_name made = {0, 0};
+	if (bytes == NULL && length != 0)
+		return REGISTRY_NULL;
+	if (length > sizeof row)
+		return REGISTRY_NAME_TOO_LONG;
+	if (length > 0)
+		memcpy(row, bytes, length);
+	for (unsigned i = 0; i < 8; i++) {
+		made.high = made.high << 8 | row[i];
+		made.low = made.low << 8 | row[8 + i];
+	}
+	if (made.high == 0 && made.low == 0)
+		return REGISTRY_NAME_EMPTY;
+	if (name != NULL)
+		*name = made;
+	return REGISTRY_DONE;
+}
+
+/* Writes the bytes of both words, and returns how many there are up to the last one that isn't 0. */
+static size_t unpack(const struct registry_name *name, char bytes[REGISTRY_KEY_BYTES])
 {
 	size_t length = 0;
-	for (unsigned i = 0; i < REGISTRY_NAME_ROOM; i++) {
+	for (unsigned i = 0; i < REGISTRY_KEY_BYTES; i++) {
 		uint64_t word = i < 8 ? name->high : name->low;
 		bytes[i] = (char)(word >> (56 - 8 * (i % 8)));
-		length += length == i && bytes[i] != '\0';
+		if (bytes[i] != '\0')
+			length = i + 1;
 	}
 	return length;
 }
 
-/* The words are those of a name, whose bytes these are: parsed, the bytes are the words again. */
-static bool is_name(const struct registry_name *name, const char *bytes, size_t length)
-{
-	struct registry_name again;
-	return registry_name_parse(bytes, length, &again, NULL) == REGISTRY_DONE && again.high == name->high && again.low == name->low;
-}
-
 registry_answer registry_name_format(const struct registry_name *name, char *text, size_t room)
 {
-	char bytes[REGISTRY_NAME_ROOM];
+	char bytes[REGISTRY_KEY_BYTES];
 	if (name == NULL || (text == NULL && room != 0))
 		return REGISTRY_NULL;
 	size_t length = unpack(name, bytes);
-	if (!is_name(name, bytes, length))
+	if (length == 0)
 		return REGISTRY_BAD_NAME;
 	if (length >= room)
 		return REGISTRY_NO_ROOM;
-	memcpy(text, bytes, length + 1);
+	memcpy(text, bytes, length);
+	text[length] = '\0';
 	return REGISTRY_DONE;
 }

@@ -737,6 +737,15 @@ static void refer_more(void)
 	closed(world);
 }
 
+/* Bytes that are no text: one of them is the number, the others are 0. */
+static const unsigned char *any_bytes(unsigned number)
+{
+	static unsigned char bytes[REGISTRY_KEY_BYTES];
+	memset(bytes, 0, sizeof bytes);
+	bytes[number % sizeof bytes] = (unsigned char)number;
+	return bytes;
+}
+
 int main(int argc, char **argv)
 {
 	uint64_t changes = argc > 1 ? strtoull(argv[1], NULL, 10) : LONGEST;
@@ -746,6 +755,9 @@ int main(int argc, char **argv)
 		char text[8];
 		snprintf(text, sizeof text, "n%u", i);
 		names[i] = name_of(text);
+		/* Every other name is of any bytes. */
+		if (i % 2 == 1)
+			DONE(registry_name_of_bytes(any_bytes(i), REGISTRY_KEY_BYTES, &names[i]));
 	}
 	if (part == NULL || strcmp(part, "counts") == 0) {
 		refer_often();

@@ -1,5 +1,5 @@
 /*
- * names - registry_name_format beside registry_name_parse, names of ids, and registry_strerror beside registry_text
+ * names - names of any bytes and of ids, registry_name_format beside registry_name_parse, and registry_strerror beside registry_text
  */
 #include "client.h"
 
@@ -48,38 +48,61 @@ static void check_names(size_t length)
 	}
 }
 
-/* Two words in which one byte is changed are another name or none, as the parser says of their bytes up to the first zero. */
-static void check_changed(unsigned place, unsigned byte)
+/* These bytes give a name, whose words and whose text have them all. It is one that the parser makes only where it takes them as well. */
+static void check_any(const char *bytes, size_t length)
 {
-	struct registry_name name = name_of("wm0"), again;
-	uint64_t *word = place < 8 ? &name.high : &name.low;
-	unsigned shift = 56 - 8 * (place % 8);
-	*word = (*word & ~((uint64_t)0xff << shift)) | (uint64_t)byte << shift;
-	registry_answer answer = format(&name, ROOM);
-	if (answer == REGISTRY_DONE)
-		EXPECT(registry_name_parse(text, strlen(text), &again, NULL) == REGISTRY_DONE && memcmp(&name, &again, sizeof name) == 0);
-	else
-		EXPECT(answer == REGISTRY_BAD_NAME && wrote(0));
-	bool is_letter = byte != 0 && strchr(LETTERS, (int)byte) != NULL && (place > 0 || byte >= 'a');
-	EXPECT((answer == REGISTRY_DONE) == (byte == 0 ? place >= 2 : place <= 3 && is_letter));
+	struct registry_name name, parsed;
+	DONE(registry_name_of_bytes(bytes, length, &name));
+	EXPECT(registry_name_of_bytes(bytes, length, NULL) == REGISTRY_DONE);
+	while (bytes[length - 1] == '\0')
+		length--;
+	for (size_t room = 0; room <= length; room++)
+		EXPECT(format(&name, room) == REGISTRY_NO_ROOM && wrote(0));
+	EXPECT(format(&name, length + 1) == REGISTRY_DONE && memcmp(text, bytes, length) == 0 && text[length] == '\0' && wrote(length + 1));
+	for (unsigned i = 0; i < REGISTRY_KEY_BYTES; i++)
+		EXPECT(((i < 8 ? name.high : name.low) >> (56 - 8 * (i % 8)) & 0xff) == (i < length ? (unsigned char)bytes[i] : 0));
+	if (registry_name_parse(bytes, length, &parsed, NULL) == REGISTRY_DONE)
+		EXPECT(memcmp(&name, &parsed, sizeof name) == 0);
 }
 
-static void check_bytes(unsigned place)
+/* Each byte at this place, alone and behind letters. */
+static void check_place(size_t place, size_t length)
 {
-	for (unsigned byte = 0; byte < 256; byte++)
-		check_changed(place, byte);
+	char bytes[REGISTRY_KEY_BYTES] = {0};
+	for (unsigned byte = 1; byte < 256; byte++) {
+		bytes[place] = (char)byte;
+		check_any(bytes, length);
+	}
+	memset(bytes, 'a', place);
+	for (unsigned byte = place == 0; byte < 256; byte++) {
+		bytes[place] = (char)byte;
+		check_any(bytes, length);
+	}
+}
+
+/* Names of this length. */
+static void check_bytes(size_t length)
+{
+	for (size_t place = 0; place < length; place++)
+		check_place(place, length);
 }
 
 static void misuse_names(void)
 {
-	const struct registry_name none = {0, 0}, capital = {(uint64_t)'W' << 56, 0}, full = {0x6161616161616161, 0x6161616161616161};
-	const struct registry_name gap = {(uint64_t)'a' << 56, (uint64_t)'a' << 56};
-	struct registry_name wm = name_of("wm");
+	const char zeros[REGISTRY_KEY_BYTES + 1] = {0};
+	const struct registry_name none = {0, 0};
+	struct registry_name wm = name_of("wm"), name = wm;
 	EXPECT(format(NULL, ROOM) == REGISTRY_NULL && wrote(0));
 	EXPECT(registry_name_format(&wm, NULL, 1) == REGISTRY_NULL && registry_name_format(&none, NULL, 1) == REGISTRY_NULL);
 	EXPECT(registry_name_format(&wm, NULL, 0) == REGISTRY_NO_ROOM && registry_name_format(&none, NULL, 0) == REGISTRY_BAD_NAME);
-	EXPECT(format(&none, ROOM) == REGISTRY_BAD_NAME && format(&capital, ROOM) == REGISTRY_BAD_NAME && wrote(0));
-	EXPECT(format(&full, ROOM) == REGISTRY_BAD_NAME && format(&gap, ROOM) == REGISTRY_BAD_NAME && wrote(0));
+	EXPECT(format(&none, ROOM) == REGISTRY_BAD_NAME && wrote(0));
+	for (size_t length = 0; length <= REGISTRY_KEY_BYTES; length++)
+		EXPECT(registry_name_of_bytes(zeros, length, &name) == REGISTRY_NAME_EMPTY);
+	EXPECT(registry_name_of_bytes(NULL, 0, &name) == REGISTRY_NAME_EMPTY && registry_name_of_bytes(NULL, 0, NULL) == REGISTRY_NAME_EMPTY);
+	EXPECT(registry_name_of_bytes(NULL, 1, &name) == REGISTRY_NULL && registry_name_of_bytes(NULL, SIZE_MAX, NULL) == REGISTRY_NULL);
+	EXPECT(registry_name_of_bytes(zeros, sizeof zeros, &name) == REGISTRY_NAME_TOO_LONG);
+	EXPECT(registry_name_of_bytes("a", SIZE_MAX, &name) == REGISTRY_NAME_TOO_LONG);
+	EXPECT(memcmp(&name, &wm, sizeof name) == 0);
 }
 
 /* The name of an id has these bytes, and gives the id back; the names of larger ids come behind it. */
@@ -155,8 +178,8 @@ int main(void)
 {
 	for (size_t length = 1; length <= REGISTRY_NAME_BYTES; length++)
 		check_names(length);
-	for (unsigned place = 0; place < REGISTRY_NAME_ROOM; place++)
-		check_bytes(place);
+	for (size_t length = 1; length <= REGISTRY_KEY_BYTES; length++)
+		check_bytes(length);
 	misuse_names();
 	check_ids();
 	for (registry_answer answer = 0; answer < NUMBERS; answer++)

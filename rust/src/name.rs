@@ -5,8 +5,10 @@ use std::error::Error;
 use std::fmt;
 use std::str::{self, FromStr};
 
-/// The name of an entry: a lower-case ASCII letter, and then lower-case letters and digits, 15 bytes at most. It is parsed once, and used in
-/// any number of lookups. Names are ordered as their texts are.
+/// The name of an entry: 1 to 16 bytes that aren't all 0. It is made once, and used in any number of lookups. Names are ordered as their bytes are.
+///
+/// [`parse`](Name::parse) takes the names of NetBSD's interfaces and drivers: a lower-case letter, and then lower-case letters and digits, 15 bytes at
+/// most. [`from_bytes`](Name::from_bytes) takes all others.
 ///
 /// ```
 /// use kupaldiz::{Name, NameFault};
@@ -14,19 +16,22 @@ use std::str::{self, FromStr};
 /// const WM: Name = Name::from_static("wm");
 ///
 /// let wm0 = Name::parse("wm0").unwrap();
-/// assert!(WM < wm0 && wm0.as_str() == "wm0" && wm0.to_string() == "wm0");
+/// assert!(WM < wm0 && wm0 == "wm0" && wm0.to_string() == "wm0");
 /// assert_eq!(Name::parse(""), Err(NameFault::Empty));
 /// assert_eq!(Name::parse("wM0"), Err(NameFault::BadByte(1)));
+///
+/// let vlan = Name::from_bytes(b"eth0.100").unwrap();
+/// assert_eq!(vlan.as_str(), Some("eth0.100"));
 /// ```
 #[derive(Clone, Copy, PartialEq, Eq, Hash, PartialOrd, Ord)]
 pub struct Name {
     /// As C has it: a lookup gives it away as it is.
     pub(crate) words: ffi::Name,
-    /// The text, and zeros after it.
+    /// Its bytes, and zeros after them.
     bytes: [u8; ROOM],
 }
 
-/// The bytes of the two words of C. A text has one less at most.
+/// The bytes of the two words of C. A text that `parse` takes has one less at most.
 const ROOM: usize = 16;
 
 /// The bytes of an id's name.
@@ -39,15 +44,7 @@ impl Name {
     ///
     /// [`NameFault`], in the order `Empty`, `TooLong`, `BadByte`.
     pub const fn parse(text: &str) -> Result<Name, NameFault> {
-        Name::from_bytes(text.as_bytes())
-    }
-
-    /// The name with these bytes, as [`parse`](Name::parse) reads them.
-    ///
-    /// # Errors
-    ///
-    /// As there.
-    pub const fn from_bytes(text: &[u8]) -> Result<Name, NameFault> {
+        let text = text.as_bytes();
         if text.is_empty() {
             return Err(NameFault::Empty);
         }
@@ -64,11 +61,42 @@ impl Name {
             bytes[place] = byte;
             place += 1;
         }
-        Ok(Name::of_text(bytes))
+        Ok(Name::of_row(bytes))
     }
 
-    /// The name with this text, and zeros after it.
-    const fn of_text(bytes: [u8; ROOM]) -> Name {
+    /// The name with these bytes, whichever they are. Zeros at the end aren't told from no bytes: give keys that may end in them, such as addresses, one
+    /// length.
+    ///
+    /// ```
+    /// use kupaldiz::{Name, NameFault};
+    ///
+    /// let loopback = Name::from_bytes(&[127, 0, 0, 1]).unwrap();
+    /// assert_eq!((loopback.as_bytes(), loopback.as_str()), (&[127, 0, 0, 1][..], Some("\u{7f}\0\0\u{1}")));
+    /// assert_eq!(Name::from_bytes(&[0; 4]), Err(NameFault::Empty));
+    /// ```
+    ///
+    /// # Errors
+    ///
+    /// [`NameFault::TooLong`] with more than 16 bytes; [`NameFault::Empty`] if there is none, or all are 0.
+    pub const fn from_bytes(bytes: &[u8]) -> Result<Name, NameFault> {
+        if bytes.len() > ROOM {
+            return Err(NameFault::TooLong);
+        }
+        let mut row = [0; ROOM];
+        let mut place = 0;
+        while place < bytes.len() {
+            row[place] = bytes[place];
+            place += 1;
+        }
+        let name = Name::of_row(row);
+        if name.words.high == 0 && name.words.low == 0 {
+            return Err(NameFault::Empty);
+        }
+        Ok(name)
+    }
+
+    /// The name with these bytes, the zeros at their end left out.
+    const fn of_row(bytes: [u8; ROOM]) -> Name {
         let words = ffi::Name { high: word(&bytes, 0), low: word(&bytes, 8) };
         Name { words, bytes }
     }
@@ -97,7 +125,7 @@ impl Name {
     /// use kupaldiz::Name;
     ///
     /// const SESSION: Name = Name::from_id(1_000);
-    /// assert_eq!((SESSION.as_str(), SESSION.id()), ("a0000000000v8", Some(1_000)));
+    /// assert_eq!((SESSION.as_str(), SESSION.id()), (Some("a0000000000v8"), Some(1_000)));
     /// ```
     #[must_use]
     pub const fn from_id(id: u64) -> Name {
@@ -109,14 +137,14 @@ impl Name {
             bytes[place] = if digit < 10 { b'0' + digit } else { b'a' + digit - 10 };
             place += 1;
         }
-        Name::of_text(bytes)
+        Name::of_row(bytes)
     }
 
     /// The number whose name this is, if it is what [`from_id`](Name::from_id) makes.
     #[must_use]
     pub fn id(&self) -> Option<u64> {
-        let digits = u64::from_str_radix(self.as_str().get(1..)?, 32).ok()?;
-        let id = u64::from(self.bytes[0] - b'a') << 60 | digits;
+        let digits = u64::from_str_radix(self.as_str()?.get(1..)?, 32).ok()?;
+        let id = u64::from(self.bytes[0].wrapping_sub(b'a')) << 60 | digits;
         (Name::from_id(id) == *self).then_some(id)
     }
 
@@ -129,12 +157,17 @@ impl Name {
         Name { words, bytes }
     }
 
-    /// Its text.
+    /// Its bytes, up to the last one that isn't 0.
     #[must_use]
-    pub fn as_str(&self) -> &str {
-        let length = self.bytes.iter().position(|byte| *byte == 0).unwrap_or(ROOM);
-        // Letters and digits of ASCII, so it is a text.
-        str::from_utf8(&self.bytes[..length]).unwrap_or_default()
+    pub fn as_bytes(&self) -> &[u8] {
+        let length = self.bytes.iter().rposition(|byte| *byte != 0).map_or(0, |last| last + 1);
+        &self.bytes[..length]
+    }
+
+    /// Its bytes as a text, if they are UTF-8, as those of [`parse`](Name::parse) are.
+    #[must_use]
+    pub fn as_str(&self) -> Option<&str> {
+        str::from_utf8(self.as_bytes()).ok()
     }
 }
 
@@ -159,19 +192,20 @@ impl FromStr for Name {
 
 impl PartialEq<str> for Name {
     fn eq(&self, text: &str) -> bool {
-        self.as_str() == text
+        self.as_bytes() == text.as_bytes()
     }
 }
 
 impl PartialEq<&str> for Name {
     fn eq(&self, text: &&str) -> bool {
-        self.as_str() == *text
+        *self == **text
     }
 }
 
+/// The text, with escapes for bytes that aren't printable ASCII.
 impl fmt::Display for Name {
     fn fmt(&self, f: &mut fmt::Formatter<'_>) -> fmt::Result {
-        f.pad(self.as_str())
+        f.pad(&self.as_bytes().escape_ascii().to_string())
     }
 }
 
@@ -181,15 +215,15 @@ impl fmt::Debug for Name {
     }
 }
 
-/// Why a text is no name.
+/// Why bytes are no name.
 #[derive(Clone, Copy, Debug, PartialEq, Eq, Hash)]
 #[non_exhaustive]
 pub enum NameFault {
-    /// There is no byte.
+    /// There is no byte, or zeros alone.
     Empty,
-    /// There are more than 15 bytes.
+    /// There are more than 15 bytes for [`Name::parse`], or 16 for [`Name::from_bytes`].
     TooLong,
-    /// The byte at this position, from 0, isn't allowed there. It is the first such byte.
+    /// The byte at this position, from 0, isn't allowed there by [`Name::parse`]. It is the first such byte.
     BadByte(usize),
 }
 
@@ -197,7 +231,7 @@ impl fmt::Display for NameFault {
     fn fmt(&self, f: &mut fmt::Formatter<'_>) -> fmt::Result {
         match self {
             NameFault::Empty => f.write_str("a name has at least one byte"),
-            NameFault::TooLong => f.write_str("a name has at most 15 bytes"),
+            NameFault::TooLong => f.write_str("a name has at most 15 bytes, of any kind 16"),
             NameFault::BadByte(place) => write!(f, "byte {place} of a name may not stand there"),
         }
     }
@@ -212,6 +246,7 @@ mod tests {
 
     extern "C" {
         fn registry_name_parse(bytes: *const u8, length: usize, name: *mut ffi::Name, place: *mut u64) -> u32;
+        fn registry_name_of_bytes(bytes: *const u8, length: usize, name: *mut ffi::Name) -> u32;
         fn registry_name_of_id(id: u64, name: *mut ffi::Name) -> u32;
         fn registry_id_of_name(name: *const ffi::Name, id: *mut u64) -> u32;
     }
@@ -229,6 +264,18 @@ mod tests {
         }
     }
 
+    /// What the archive makes of these bytes.
+    fn made_by_archive(bytes: &[u8]) -> Result<ffi::Name, NameFault> {
+        let mut words = ffi::Name::default();
+        // SAFETY: the bytes are those of the slice, and the place is a value of its own.
+        match unsafe { registry_name_of_bytes(bytes.as_ptr(), bytes.len(), &mut words) } {
+            ffi::DONE => Ok(words),
+            70 => Err(NameFault::Empty),
+            71 => Err(NameFault::TooLong),
+            other => panic!("{other}"),
+        }
+    }
+
     #[test]
     fn names_are_those_of_the_archive() {
         let mut texts: Vec<Vec<u8>> = (0..=255).flat_map(|byte| [vec![byte], vec![b'a', byte], vec![b'z', b'9', byte, b'a']]).collect();
@@ -236,13 +283,24 @@ mod tests {
             texts.extend([b'a', b'z', b'0', b'9', b'A', b'_'].map(|byte| vec![byte; length]));
             texts.push((0..length).map(|place| b'a' + (place % 26) as u8).collect());
         }
-        for text in texts {
-            let name = Name::from_bytes(&text);
-            assert_eq!(name.map(|name| name.words), parsed_by_archive(&text), "{text:?}");
+        for bytes in texts {
+            if let Ok(text) = str::from_utf8(&bytes) {
+                assert_eq!(Name::parse(text).map(|name| name.words), parsed_by_archive(&bytes), "{text}");
+            }
+            let name = Name::from_bytes(&bytes);
+            assert_eq!(name.map(|name| name.words), made_by_archive(&bytes), "{bytes:?}");
             if let Ok(name) = name {
-                assert_eq!((name.as_str().as_bytes(), Name::of_words(name.words)), (&text[..], name));
+                let written = &bytes[..bytes.len() - bytes.iter().rev().take_while(|byte| **byte == 0).count()];
+                assert_eq!((name.as_bytes(), Name::of_words(name.words)), (written, name));
             }
         }
+    }
+
+    #[test]
+    fn other_bytes_are_shown_by_escapes() {
+        let name = Name::from_bytes(b"br-lan\n\xff").unwrap();
+        assert_eq!((name.to_string(), name.as_str(), name.id()), ("br-lan\\n\\xff".to_owned(), None, None));
+        assert_eq!(format!("{:>6}", Name::from_bytes(b"e.1").unwrap()), "   e.1");
     }
 
     /// The name that the archive makes of an id, and the id that it reads from a name.
@@ -268,7 +326,7 @@ mod tests {
         let names: Vec<Name> = ids.iter().map(|id| Name::from_id(*id)).collect();
         for (id, name) in ids.iter().zip(&names) {
             assert_eq!(by_archive(*id, name), (name.words, Some(*id)));
-            assert_eq!((Name::parse(name.as_str()), name.id()), (Ok(*name), Some(*id)));
+            assert_eq!((name.as_str().map(Name::parse), name.id()), (Some(Ok(*name)), Some(*id)));
         }
         assert!(names.windows(2).all(|pair| pair[0] < pair[1]));
     }

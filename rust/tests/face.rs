@@ -26,7 +26,7 @@ fn names_are_told_apart_and_ordered_as_their_texts() {
     let names = texts.map(name);
     assert!(names.windows(2).all(|pair| pair[0] < pair[1]));
     assert_eq!(names.iter().collect::<HashSet<_>>().len(), names.len());
-    let ordered: Vec<&str> = names.iter().rev().collect::<BTreeSet<_>>().into_iter().map(Name::as_str).collect();
+    let ordered: Vec<&str> = names.iter().rev().collect::<BTreeSet<_>>().into_iter().filter_map(Name::as_str).collect();
     assert_eq!(ordered, texts);
     assert!(names.iter().zip(texts).all(|(name, text)| *name == text && *name == *text));
     assert!(WM != "wm0" && WM != *"vm" && Name::from_bytes(b"wm") == Ok(WM));

@@ -260,6 +260,14 @@ impl<'cpu> Bench<'cpu> {
     }
 }
 
+/// A text, or other bytes.
+fn any_name(place: usize) -> Name {
+    if place % 2 == 0 {
+        return name(&format!("d{place}"));
+    }
+    Name::from_bytes(&[0, place as u8, 0xff, b'-', 0]).unwrap()
+}
+
 /// Lookups and references.
 impl<'cpu> Bench<'cpu> {
     fn any_cpu(&mut self) -> (usize, &'cpu Cpu<Tracked>) {
@@ -268,7 +276,7 @@ impl<'cpu> Bench<'cpu> {
     }
 
     fn any_key(&mut self) -> (Kind, Name) {
-        (KINDS[self.dice.below(2)], name(&format!("d{}", self.dice.below(NAMES))))
+        (KINDS[self.dice.below(2)], any_name(self.dice.below(NAMES)))
     }
 
     /// A passive reference, or the refusal that was expected.

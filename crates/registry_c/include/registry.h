@@ -35,21 +35,23 @@ extern "C" {
 /* What a call returns: one of the results below. */
 typedef uint32_t registry_answer;
 
-/* A name: its bytes, the first one highest, then zeros up to 16 (registry_name_parse, .._of_id). */
+/* A name: its bytes, the first one highest, then zeros up to 16. Both words 0 are no name. */
 struct registry_name {
 	uint64_t high;
 	uint64_t low;
 };
 
-#define REGISTRY_NAME_BYTES	15
-#define REGISTRY_NAME_ROOM	(REGISTRY_NAME_BYTES + 1)	/* its text and a zero byte */
+#define REGISTRY_NAME_BYTES	15	/* that registry_name_parse takes */
+#define REGISTRY_KEY_BYTES	16	/* that registry_name_of_bytes takes */
+#define REGISTRY_NAME_ROOM	(REGISTRY_KEY_BYTES + 1)	/* of any name, with a zero byte */
 
 /* ---- The life of a table. Its ten calls. c/examples/smallest.c has them. ---- */
 
 /*
  * registry_name_parse - make the name with these bytes
  *
- * A name is a lower-case ASCII letter and then lower-case letters and digits, 15 bytes at most.
+ * It takes a lower-case ASCII letter and then lower-case letters and digits, 15 bytes at most, as
+ * "wm0". registry_name_of_bytes takes any bytes, as those of "eth0.100" or of an address.
  * Returns REGISTRY_NULL if `bytes` is NULL and `length` isn't 0, REGISTRY_NAME_EMPTY,
  * REGISTRY_NAME_TOO_LONG, REGISTRY_NAME_BAD_BYTE. With the last one the position of the first bad
  * byte, from 0, is written to `place`.
@@ -257,9 +259,9 @@ enum {
 	REGISTRY_EMPTY_HANDLE = 65,	/* a handle is empty that must not be. */
 	REGISTRY_FULL_HANDLE = 66,	/* a handle isn't empty that must be. */
 	REGISTRY_BAD_KIND = 68,		/* neither an interface nor a driver. */
-	REGISTRY_BAD_NAME = 69,		/* `name` is no name, or isn't an id's. */
-	REGISTRY_NAME_EMPTY = 70,	/* a name has at least one byte. */
-	REGISTRY_NAME_TOO_LONG = 71,	/* a name has at most 15 bytes. */
+	REGISTRY_BAD_NAME = 69,		/* both words of `name` are 0, or it isn't an id's. */
+	REGISTRY_NAME_EMPTY = 70,	/* a name has at least one byte, and not zeros alone. */
+	REGISTRY_NAME_TOO_LONG = 71,	/* a name has at most 15 bytes, of any kind 16. */
 	REGISTRY_NAME_BAD_BYTE = 72,	/* a byte isn't allowed in its position. */
 	/* the entry is being destroyed: take the interlock and call registry_local_give_up. */
 	REGISTRY_COLLECTED = 73,
@@ -285,6 +287,18 @@ enum {
 size_t registry_text(registry_answer answer, char *text, size_t room);
 
 /*
+ * registry_name_of_bytes - make the name with these bytes, whichever they are
+ *
+ * It takes 1 to 16 bytes that aren't all 0. Zeros at the end aren't told from no bytes: a key that
+ * may end in them, as an address, has one length in a table. `name` may be NULL. In C: tested, not
+ * proved.
+ * Returns REGISTRY_NULL if `bytes` is NULL and `length` isn't 0, REGISTRY_NAME_TOO_LONG,
+ * REGISTRY_NAME_EMPTY.
+ */
+registry_answer registry_name_of_bytes(const void *bytes, size_t length, struct registry_name *name)
+    REGISTRY_CHECKED;
+
+/*
  * registry_name_of_id - make the name of an id: any number, such as an index or an address
  *
  * A name of 13 bytes: a letter, a to p, for the four highest bits, then twelve digits to the base
@@ -305,7 +319,8 @@ registry_answer registry_id_of_name(const struct registry_name *name, uint64_t *
 /*
  * registry_name_format - write the bytes of a name, and a zero byte, to `text`
  *
- * REGISTRY_NAME_ROOM bytes are always enough. The text is never cut. In C: tested, not proved.
+ * It writes them as they are, up to the last one that isn't 0. REGISTRY_NAME_ROOM bytes are always
+ * enough, and nothing is cut. In C: tested, not proved.
  * Returns REGISTRY_NULL if `name` is NULL, or if `text` is NULL and `room` isn't 0,
  * REGISTRY_BAD_NAME, REGISTRY_NO_ROOM.
  */
