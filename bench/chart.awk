@@ -9,8 +9,10 @@ BEGIN {
     right = 400
     row = 18
     label["registry_bench"] = "here, in a section"
-    label["from-C"] = "here, from C"
-    label["from-Rust"] = "here, from Rust"
+    label["remembered"] = "here, look_up"
+    label["changed"] = "here, from C"
+    label["from-C"] = "here, look_up, C"
+    label["from-Rust"] = "here, look_up, Rust"
     label["urcu-memb"] = "liburcu (default)"
     label["urcu-mb"] = "liburcu mb"
     label["urcu-qsbr"] = "liburcu qsbr"
@@ -32,14 +34,15 @@ BEGIN {
 /^[a-z]+, list of/ || NF == 0 { block = "" }
 
 block == "lookup," && $1 == "hand-kept" { is_quiet = $5 <= 1.3 * $2 }
-block == "lookup," && $1 !~ /^from/ || block == "look_up," && $1 ~ /^from/ {
-    if ($1 != "hand-packed")
-        insert(1, $1, $2)
-    insert(2, $1, $5)
+block == "lookup," && $1 !~ /^from/ || block == "look_up," {
+    who = block == "look_up," && $1 == "registry_bench" ? "remembered" : $1
+    if (who != "hand-packed")
+        insert(1, who, $2)
+    insert(2, who, $5)
 }
 block == "spread" && $1 in label {
     insert(3, $1, $4)
-    insert(4, $1, $6)
+    insert(4, $1 == "from-C" ? "changed" : $1, $6)
 }
 
 END {
@@ -89,7 +92,7 @@ function draw(panel, x, y,    n, top, bottom) {
 
 # A dot on its line, with the contender's name before the axis and its time beside the dot.
 function dot(x, middle, who, time,    kind) {
-    kind = who ~ /^(registry_bench|from-)/ ? "ours" : "other"
+    kind = label[who] ~ /^here/ ? "ours" : "other"
     text(x + 10, middle + 4, kind == "ours" ? "name" : "", label[who])
     printf "<line class=\"base\" x1=\"%d\" y1=\"%.1f\" x2=\"%.1f\" y2=\"%.1f\"/>\n", x + left, middle, at(x, time), middle
     printf "<circle class=\"%s\" cx=\"%.1f\" cy=\"%.1f\" r=\"4.5\"/>\n", kind, at(x, time), middle

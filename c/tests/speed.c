@@ -269,11 +269,13 @@ int main(int argc, char **argv)
 	unsigned readers = waits || spreads ? (unsigned)number(argv[3], MOST_THREADS) : 0;
 	if (plan.threads == 0 || plan.entries == 0 || plan.operations == 0 || readers >= plan.threads)
 		return usage();
+	struct contender at_once = FACE;
+	at_once.lookups = lookups_at_once;
 	FACE.open(&plan);
 	if (waits)
 		print_waits(&plan, readers);
 	else if (spreads)
-		print_spread(&FACE, &plan, readers);
+		print_spread(&at_once, &plan, readers);
 	else
 		print_operations(&plan);
 	for (unsigned i = 0; i < plan.threads; i++)
