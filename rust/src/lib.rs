@@ -1,4 +1,4 @@
-//! A registry of network interfaces and device drivers over virtual CPUs. Each entry carries a value of the caller's.
+//! A small table of named entries, such as interfaces, drivers or plug-ins, that many threads read without a lock. Each entry carries a value of yours.
 //!
 //! # The problem
 //!

@@ -231,7 +231,7 @@ impl fmt::Display for NameFault {
     fn fmt(&self, f: &mut fmt::Formatter<'_>) -> fmt::Result {
         match self {
             NameFault::Empty => f.write_str("a name has at least one byte"),
-            NameFault::TooLong => f.write_str("a name has at most 15 bytes, of any kind 16"),
+            NameFault::TooLong => f.write_str("a name has at most 15 bytes, or 16 of any value"),
             NameFault::BadByte(place) => write!(f, "byte {place} of a name may not stand there"),
         }
     }

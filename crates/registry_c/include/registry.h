@@ -261,7 +261,7 @@ enum {
 	REGISTRY_BAD_KIND = 68,		/* neither an interface nor a driver. */
 	REGISTRY_BAD_NAME = 69,		/* both words of `name` are 0, or it isn't an id's. */
 	REGISTRY_NAME_EMPTY = 70,	/* a name has at least one byte, and not zeros alone. */
-	REGISTRY_NAME_TOO_LONG = 71,	/* a name has at most 15 bytes, of any kind 16. */
+	REGISTRY_NAME_TOO_LONG = 71,	/* more than 15 bytes; of any bytes more than 16. */
 	REGISTRY_NAME_BAD_BYTE = 72,	/* a byte isn't allowed in its position. */
 	/* the entry is being destroyed: take the interlock and call registry_local_give_up. */
 	REGISTRY_COLLECTED = 73,
@@ -289,9 +289,9 @@ size_t registry_text(registry_answer answer, char *text, size_t room);
 /*
  * registry_name_of_bytes - make the name with these bytes, whichever they are
  *
- * It takes 1 to 16 bytes that aren't all 0. Zeros at the end aren't told from no bytes: a key that
- * may end in them, as an address, has one length in a table. `name` may be NULL. In C: tested, not
- * proved.
+ * It takes 1 to 16 bytes that aren't all 0. Zeros at the end don't count: "a" and "a\0" are one
+ * name. So give keys that may end in them, as addresses, one length. `name` may be NULL. In C:
+ * tested, not proved.
  * Returns REGISTRY_NULL if `bytes` is NULL and `length` isn't 0, REGISTRY_NAME_TOO_LONG,
  * REGISTRY_NAME_EMPTY.
  */
