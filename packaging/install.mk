@@ -147,7 +147,7 @@ filled = umask 022; sed -e 's|@LIBDIR@|$(call in_sed,$(LIBDIR))|' -e 's|@INCLUDE
     -e 's|@VERSION@|$(VERSION)|' -e 's|@BUILD@|$(BUILD)|' -e 's|@ABI@|$(ABI)|' -e 's|@LICENCE@|$(LICENCE)|' $(if $(LICENCE),,-e '/^License: *$$/d')
 
 # The .pc file of a library: what it says, and the compiler's flags.
-SAYS_kupaldiz = Registry of network interfaces and device drivers over virtual CPUs
+SAYS_kupaldiz = Table of names whose readers take no lock, and whose removals name the holder
 FLAGS_kupaldiz = -I$${includedir}
 SAYS_kupaldiz-netbsd = pserialize(9), psref(9) and localcount(9) for threads, under their own names
 FLAGS_kupaldiz-netbsd = -I$${includedir}/kupaldiz/netbsd
