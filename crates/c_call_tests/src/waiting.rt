@@ -3,7 +3,7 @@
 
 ghost use Rattle.std.specs.Prelude.{◌≡◌, [], ◌∷◌, Some, None, false, IfOk, IsTrue};
 ghost use mathlib.Core.List.{IsPrefix};
-ghost use Rattle.registry_values.specs.Common.{is_lawful};
+ghost use Rattle.registry_values.specs.Common.{is_key};
 ghost use Rattle.cpu_words.specs.Common.{Named};
 ghost use Rattle.passive_list.specs.Common.{OnPlainCpu};
 ghost use Rattle.name_registry.specs.Common.{HasSeenAllOut, KeepsWords, is_inside};
@@ -145,10 +145,10 @@ pub fn wait_for(
     (first, second)
 }
 
-/// The keeper attaches a driver for the CPU, and detaches it. Conditions: both are of one registry; the name is lawful.
+/// The keeper attaches a driver for the CPU, and detaches it. Conditions: both are of one registry; the name's words aren't both 0.
 fn change(keeper: &mut KeeperBody, cpu: &mut CpuBody, rec: Record) -> Result<Entry, Refusal>
     requires same { cpu.old.words ≡ keeper.old.words }
-    requires name { IsTrue (is_lawful rec.name) }
+    requires name { IsTrue (is_key rec.name) }
     ensures knows { KnowsAllOf cpu.old cpu.new }
     ensures inside { is_inside cpu.new.cpu ≡ is_inside cpu.old.cpu }
     ensures words { KeepsWords keeper.old cpu.old keeper.new cpu.new }
@@ -159,7 +159,7 @@ fn change(keeper: &mut KeeperBody, cpu: &mut CpuBody, rec: Record) -> Result<Ent
 
 /// A wait that is left alone after its first turn. Before its last turn the keeper makes two changes, the CPU makes another wait, and the reader
 /// leaves its section and begins another one. Returns what the first turn told, the last one of the other wait, and the last one.
-/// Conditions: as for `wait_for`; the name is lawful. `met` is the law's hypothesis, of the wait that was left alone.
+/// Conditions: as for `wait_for`; the name's words aren't both 0. `met` is the law's hypothesis, of the wait that was left alone.
 pub fn leave_alone(
     keeper: &mut KeeperBody,
     cpu: &mut CpuBody,
@@ -168,7 +168,7 @@ pub fn leave_alone(
 ) -> Result<(Option<u8>, Option<u8>, Option<u8>), Refusal>
     requires same { cpu.old.words ≡ keeper.old.words }
     requires outside { is_inside cpu.old.cpu ≡ false }
-    requires name { IsTrue (is_lawful rec.name) }
+    requires name { IsTrue (is_key rec.name) }
     ensures met { IfOk result (λ told. told.2 ≡ None → IsWaitedFor keeper.old.words cpu.old cpu.new) }
 {
     let mut wait = unbegun();

@@ -66,7 +66,7 @@ abbrev pub WritesFound : Option Entry → ℕ → Option CEntry → Option CEntr
 WritesFound None n old new = (n ≡ number_of_refusal NotFound) × (new ≡ old)
 WritesFound (Some e) n old new = (n ≡ DONE) × (new ≡ put old (entry_out e))
 
--- of words that no name has, too: nothing is found then, and the last found entry is cleared
+-- of two words of 0, too: nothing is found then, and the last found entry is cleared
 pub record Finds (kind : ℕ) (name : CName) (a b : OnPlainCpu) (n : ℕ) (old new : Option CEntry) : Type 0 where
   pub bad : kind_in kind ≡ None → (n ≡ BAD_KIND) × (b ≡ a) × (new ≡ old)
   pub outside : (k : Kind) → kind_in kind ≡ Some k → a.cpu.view.begin ≡ None → (n ≡ OUTSIDE) × (b ≡ a) × (new ≡ old)

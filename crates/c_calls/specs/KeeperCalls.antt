@@ -1,7 +1,7 @@
 -- What the keeper's calls answer and leave.
 use Rattle.std.specs.Prelude.{◌≡◌, ℕ, ◌<◌, slice_index_or, Bool, true, false, List, map, replicate, Option, Some, None, Result, Ok, Err, IfOk, IfErr}
 use Rattle.c_calls.specs.Types.{Entry, Kind, Driver, Record, Name, Refusal, Inside, Waiting, Settings, Stage, Freed, MOST_CPUS, LogItem}
-use Rattle.registry_values.specs.Common.{name_of_words, number_of_refusal, destroy_result, destroy_result_of}
+use Rattle.registry_values.specs.Common.{key_of_words, number_of_refusal, destroy_result, destroy_result_of}
 use Rattle.cpu_words.specs.Common.{IsFreedFrom}
 use Rattle.passive_list.specs.Common.{OnCpu, OnPlainCpu, OnKeeper, OnPlainKeeper}
 use Rattle.name_registry.specs.Common.{HasAdvanced, HasAttachedFor, HasAttachedIfaceFor, attach_answer, attach_iface_answer, HasAdvancedFor, HasDetachedFor, IsDetachAnswer, IsStageOf, KeepsWords}
@@ -19,7 +19,7 @@ use Rattle.c_handles.specs.values.Flags.{flag_of, is_begun, is_set, none_or_numb
 use Rattle.c_handles.specs.values.Values.{entry_out, kind_in, number_of, stage_out}
 
 abbrev pub words_name : CName → Option Name
-words_name name = name_of_words name.high name.low
+words_name name = key_of_words name.high name.low
 
 -- Attaching and detaching
 

@@ -46,7 +46,7 @@ fn attach(
     ensures place { made.new.at ≡ made.old.at }
     ensures call { AttachAnswers name.now value keeper.old cpu.old keeper.new cpu.new result made.old.value made.new.value }
 {
-    let Some(name) = Name::from_words(name.high, name.low) else {
+    let Some(name) = Name::from_key_words(name.high, name.low) else {
         return BAD_NAME;
     };
     let kind = Kind::Driver;
@@ -92,7 +92,7 @@ fn detach(
     let Some(kind) = kind_in(kind) else {
         return BAD_KIND;
     };
-    let Some(name) = Name::from_words(name.high, name.low) else {
+    let Some(name) = Name::from_key_words(name.high, name.low) else {
         return BAD_NAME;
     };
     match keeper_calls::detach(keeper, cpu, kind, &name) {

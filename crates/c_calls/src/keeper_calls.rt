@@ -2,7 +2,7 @@
 
 ghost use Rattle.std.specs.Prelude.{◌≡◌, IfOk, IfErr, IsTrue, Ok, Err};
 ghost use Rattle.c_calls.specs.Types.{Iface};
-ghost use Rattle.registry_values.specs.Common.{is_lawful};
+ghost use Rattle.registry_values.specs.Common.{is_key};
 ghost use Rattle.name_registry.specs.Common.{HasAttachedFor, HasAttachedIfaceFor, attach_answer, attach_iface_answer, HasDetachedFor, IsDetachAnswer, KeepsWords};
 ghost use Rattle.c_handles.specs.Bodies.{IsReferenceOf};
 ghost use Rattle.c_calls.specs.KeeperCalls.{Advances, AdvancesFor};
@@ -11,10 +11,10 @@ use c_handles::{CpuBody, KeeperBody, LocalBody};
 use name_registry::{advance_in, attach_iface_in, attach_in, detach_in};
 use registry_values::{Entry, Kind, Name, Record, Refusal, Stage};
 
-/// Attaches a driver. Conditions: the CPU is of its table; the name is lawful.
+/// Attaches a driver. Conditions: the CPU is of its table; the name's words aren't both 0.
 pub fn attach(keeper: &mut KeeperBody, cpu: &mut CpuBody, rec: Record) -> Result<Entry, Refusal>
     requires same { cpu.old.words ≡ keeper.old.words }
-    requires name { IsTrue (is_lawful rec.name) }
+    requires name { IsTrue (is_key rec.name) }
     ensures answer { result ≡ attach_answer keeper.old.words.settings keeper.old.keeper cpu.old.cpu rec }
     ensures ok { IfOk result (λ e. HasAttachedFor keeper.old.keeper cpu.old.cpu e keeper.new.keeper cpu.new.cpu) }
     ensures refused { IfErr result (λ _. (keeper.new ≡ keeper.old) × (cpu.new ≡ cpu.old)) }
@@ -24,7 +24,7 @@ pub fn attach(keeper: &mut KeeperBody, cpu: &mut CpuBody, rec: Record) -> Result
 }
 
 /// Attaches an interface on the driver that the reference is to. The reference comes back where that is refused.
-/// Conditions: the CPU and the reference are of its table; the record's kind is Iface, and its name is lawful.
+/// Conditions: the CPU and the reference are of its table; the record's kind is Iface, and its name's words aren't both 0.
 pub fn attach_iface(
     keeper: &mut KeeperBody,
     cpu: &mut CpuBody,
@@ -34,7 +34,7 @@ pub fn attach_iface(
     requires same { cpu.old.words ≡ keeper.old.words }
     requires local { IsReferenceOf keeper.old.words local }
     requires kind { rec.kind ≡ Iface }
-    requires name { IsTrue (is_lawful rec.name) }
+    requires name { IsTrue (is_key rec.name) }
     ensures answer { IfOk result (λ e. attach_iface_answer keeper.old.words.settings keeper.old.keeper cpu.old.cpu rec local.reference ≡ Ok e) }
     ensures ok { IfOk result (λ e. HasAttachedIfaceFor keeper.old.keeper cpu.old.cpu local.reference e keeper.new.keeper cpu.new.cpu) }
     ensures refused { IfErr result (λ back. (attach_iface_answer keeper.old.words.settings keeper.old.keeper cpu.old.cpu rec local.reference ≡ Err back.0) × (back.1 ≡ local)

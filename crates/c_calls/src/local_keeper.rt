@@ -93,7 +93,7 @@ fn attach_iface(
     ensures place { made.new.at ≡ made.old.at }
     ensures call { AttachIfaceAnswers name.now value keeper.old cpu.old local keeper.new cpu.new result.1 result.0 made.old.value made.new.value }
 {
-    let Some(name) = Name::from_words(name.high, name.low) else {
+    let Some(name) = Name::from_key_words(name.high, name.low) else {
         return (BAD_NAME, Some(local));
     };
     let kind = Kind::Iface;

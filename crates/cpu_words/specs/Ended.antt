@@ -14,7 +14,7 @@ use Rattle.cpu_words.specs.Views.{KeeperShown}
 use Rattle.cpu_words.specs.Rule.{Agrees, log_of_events}
 use Rattle.cpu_words.specs.Acts.{part}
 use Rattle.cpu_words.specs.KeeperLog.{IsFreedFrom}
-use Rattle.cpu_words.specs.Logs.{events_of, LoggedRuled}
+use Rattle.cpu_words.specs.Logs.{AreByOwn, events_of, LoggedRuled}
 
 -- the last words, and the settings by which they have their places
 pub record LastView : Type 0 where
@@ -44,6 +44,9 @@ pub record EndsRun (z : Settings) (k : KeeperView) (log : List LogItem) (last : 
   pub acts : List (ℕ × LogItem)
   pub are : events_of acts ≡ log_of_events z events
   pub all : length acts ≡ length events
+  -- the places of the CPUs' seats: the keeper's events were made by the keeper's seat, and each CPU's by that CPU's
+  pub seat : ℕ → ℕ
+  pub owners : AreByOwn seat (after (opening z) events).seated acts
   -- the words are those of the state that the events lead to
   pub words : Agrees z last (after (opening z) events)
   -- it has the core invariant, a run of the model reaches its picture, and all laws of the protocol hold of it

@@ -2,7 +2,7 @@
 use Rattle.std.specs.Prelude.{◌≡◌, ◌⊎◌, ℕ, ◌+◌, ◌*◌, ◌<◌, ◌∷◌, Some, true}
 use Rattle.std.specs.List.{Contains}
 use Rattle.cpu_words.specs.Types.{MOST_SLOTS, Settings, Entry, Event, PassiveAdd, PassiveSub, LoadRecord, Passive, Word}
-use Rattle.registry_values.specs.Names.{are_name_words}
+use Rattle.registry_values.specs.Names.{are_key_words}
 use Rattle.protocol.specs.Common.{IsAttached, word, words_of}
 use Rattle.cpu_words.specs.declared.view.CpuView.{CpuView}
 use Rattle.cpu_words.specs.declared.view.View.TheVariants.{Cpu}
@@ -44,9 +44,9 @@ HasSubtracted x n y = y ≡ record x { references = without n x.references }
 abbrev pub IsWordOf : CpuView → ℕ → ℕ → ℕ → ℕ → Type 0
 IsWordOf x t n k m = (e : Entry) → IsAt e t n → Contains x.references e → m ≡ word (words_of e) k
 
--- the entry n in the slot t has a lawful name; the CPU refers to n
+-- the entry n in the slot t has a name that isn't both words 0; the CPU refers to n
 abbrev pub IsNamed : CpuView → ℕ → ℕ → Type 0
-IsNamed x t n = (e : Entry) → IsAt e t n → Contains x.references e → are_name_words e.rec.name.high e.rec.name.low ≡ true
+IsNamed x t n = (e : Entry) → IsAt e t n → Contains x.references e → are_key_words e.rec.name.high e.rec.name.low ≡ true
 
 -- the CPU's references into the slot t are to the entry n alone
 abbrev pub IsAloneAt : CpuView → ℕ → ℕ → Type 0

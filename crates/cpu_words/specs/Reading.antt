@@ -1,7 +1,7 @@
 -- Loads of a record's words by the seat of a local reference.
 use Rattle.std.specs.Prelude.{◌≡◌, ℕ, IsTrue}
 use Rattle.cpu_words.specs.Types.{Event, LoadRecord, Local, Word}
-use Rattle.registry_values.specs.Common.{is_lawful}
+use Rattle.registry_values.specs.Common.{is_key}
 use Rattle.protocol.specs.Common.{word, words_of}
 use Rattle.cpu_words.specs.declared.view.ReferenceView.{ReferenceView}
 use Rattle.cpu_words.specs.declared.view.View.TheVariants.{Reference}
@@ -15,4 +15,4 @@ loads_by e v = e
 -- What the inner step is told. Which id the core gives the reference is in no view, so the event names any.
 abbrev pub tells_local : Event → ReferenceView → ℕ → Type 0
 tells_local event v m = (id k : ℕ) → event ≡ LoadRecord (Local id k)
-    → ((o : ℕ) × Makes (LoadRecord (Local o k)) (Word m) (Reference v) (Reference v)) × (m ≡ word (words_of v.entry) k) × IsTrue (is_lawful v.entry.rec.name)
+    → ((o : ℕ) × Makes (LoadRecord (Local o k)) (Word m) (Reference v) (Reference v)) × (m ≡ word (words_of v.entry) k) × IsTrue (is_key v.entry.rec.name)

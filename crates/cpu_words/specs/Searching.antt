@@ -3,7 +3,7 @@ use Rattle.std.specs.Prelude.{◌≡◌, ℕ, zero, suc, ◌+◌, ◌*◌, ◌<�
 use mathlib.Core.List.{IsPrefix}
 use Rattle.cpu_words.specs.Types.{Name, Kind, Entry, Change, Settings, MOST_SLOTS, Event, Seek, LoadLink, Reply, Done, Word, Found, Missed, Key, SearchPlace, AtHead, AtNext, AtNumber, AtKind, AtHigh}
 use Rattle.cpu_words.specs.Types.{AtLow, AtValue, RecordWords, Search, Loaded, On, Over}
-use Rattle.registry_values.specs.Names.{are_name_words}
+use Rattle.registry_values.specs.Names.{are_key_words}
 use Rattle.protocol.specs.Common.{word, words_of, IsAttached, IsLiveAt, IsLegal, IsLawful, StandsOn, loaded_at}
 use Rattle.cpu_words.specs.declared.view.CpuView.{CpuView}
 use Rattle.cpu_words.specs.declared.view.View.TheVariants.{Cpu}
@@ -74,7 +74,7 @@ pub record PassTells (begin : Option ℕ) (from : ℕ) (r : List Change) : Type 
   pub since : (b : ℕ) → begin ≡ Some b → b ≤ from
   -- it may be at no more than one entry of a slot, and that has a name
   pub one : (t : ℕ) (e f : Entry) → StandsOn r from (length r) t e → StandsOn r from (length r) t f → e ≡ f
-  pub named : (t : ℕ) (e : Entry) → StandsOn r from (length r) t e → are_name_words e.rec.name.high e.rec.name.low ≡ true
+  pub named : (t : ℕ) (e : Entry) → StandsOn r from (length r) t e → are_key_words e.rec.name.high e.rec.name.low ≡ true
 
 pub record HasFollowed (x : CpuView) (q : Search) (n : ℕ) (y : CpuView) : Type 0 where
   pub pass : IsPrefix x.pass y.pass

@@ -45,10 +45,11 @@ pub fn running_headline()
     ensures balance { SeatsBalance }
 {}
 
-/// The main theorem of a whole run, no effect at run time: what holds of the words that `Words::close` returns. Each finished run has such
-/// words, on any schedule. No hypothesis speaks of the rule: `close` ensures all of it (`HasClosed`).
+/// Theorem, no effect at run time: what holds of the words that `Words::close` returns, on any schedule. Its hypothesis, that they are under the
+/// rule (`HasClosed`), is what `close` ensures.
 ///
-/// A list of events leads from the opening to the words. Each event was made, with its reply, by the seat at its place (`are`, `all`).
+/// A list of events leads from the opening to the words. Each event was made, with its reply, by the seat at its place (`are`, `all`): the keeper's
+/// by the keeper's, and a CPU's by that CPU's (`seat`, `owners`).
 ///
 /// - `words`, `holds`, `modelled`, `laws`: they are the words of the state that the list leads to, which obeys the protocol's laws.
 /// - `keeper`, `shown`: the keeper's log is its whole part of the list, and its view is of that state.

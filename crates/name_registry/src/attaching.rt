@@ -2,7 +2,7 @@
 
 ghost use Rattle.std.specs.Prelude.{◌≡◌, IfOk, IfErr, IsTrue, Ok, Err};
 ghost use Rattle.name_registry.specs.Types.{Iface};
-ghost use Rattle.registry_values.specs.Common.{is_lawful};
+ghost use Rattle.registry_values.specs.Common.{is_key};
 ghost use Rattle.cpu_words.specs.Common.{AreWordsOf};
 ghost use Rattle.name_registry.specs.Attaching.{attach_answer, attach_iface_answer, HasAttachedFor, HasAttachedIfaceFor};
 ghost use Rattle.name_registry.specs.Meeting.{KeepsWords};
@@ -16,7 +16,7 @@ use registry_values::{Entry, Record, Refusal, attach_answer, is_iface};
 
 /// Attaches a driver: it gets the next number, from 1, and the lowest-numbered slot, from 0, that is vacant and keeps nothing. Lookups that
 /// begin from now on find it until it is detached. The caller's CPU has seen its change. It frees no retired slot, and takes no memory.
-/// Condition: the name is lawful, as `Name::parse` gives it.
+/// Condition: the name's words aren't both 0, as `Name::parse` and `Name::from_key_bytes` give them.
 ///
 /// Refused, in this order, and nothing has changed then:
 ///
@@ -33,7 +33,7 @@ pub fn attach_in(
 ) -> Result<Entry, Refusal>
     requires words { AreWordsOf words.now keeper.old.words.table keeper.old.words.settings }
     requires cpu { AreWordsOf words.now cpu.old.words.table cpu.old.words.settings }
-    requires name { IsTrue (is_lawful rec.name) }
+    requires name { IsTrue (is_key rec.name) }
     ensures answer { result ≡ attach_answer keeper.old.words.settings keeper.old.keeper cpu.old.cpu rec }
     ensures ok { IfOk result (λ e. HasAttachedFor keeper.old.keeper cpu.old.cpu e keeper.new.keeper cpu.new.cpu) }
     ensures refused { IfErr result (λ _. (keeper.new ≡ keeper.old) × (cpu.new ≡ cpu.old)) }
@@ -48,7 +48,7 @@ pub fn attach_in(
 }
 
 /// Attaches an interface on the driver that the reference is to: its slot keeps the reference until it is freed. Else it is as `attach_in`.
-/// Condition: the record's kind is Iface, and its name is lawful.
+/// Condition: the record's kind is Iface, and its name's words aren't both 0.
 /// Refused, in this order, and nothing has changed then, and the reference comes back: `Inside` if the CPU is inside a section;
 /// `NeedsDriver` if the reference is to an interface; `NameTaken`; `NoSlot`; `HistoryFull`.
 pub fn attach_iface_in(
@@ -62,7 +62,7 @@ pub fn attach_iface_in(
     requires cpu { AreWordsOf words.now cpu.old.words.table cpu.old.words.settings }
     requires reference { reference.table ≡ keeper.old.words.table }
     requires kind { rec.kind ≡ Iface }
-    requires name { IsTrue (is_lawful rec.name) }
+    requires name { IsTrue (is_key rec.name) }
     ensures answer { IfOk result (λ e. attach_iface_answer keeper.old.words.settings keeper.old.keeper cpu.old.cpu rec reference.reference ≡ Ok e) }
     ensures ok { IfOk result (λ e. HasAttachedIfaceFor keeper.old.keeper cpu.old.cpu reference.reference e keeper.new.keeper cpu.new.cpu) }
     ensures refused { IfErr result (λ back. (attach_iface_answer keeper.old.words.settings keeper.old.keeper cpu.old.cpu rec reference.reference ≡ Err back.0) × (back.1 ≡ reference)

@@ -1,7 +1,7 @@
 //! What the lock guards: the keeper, and the book of the changes that calls have made.
 
 ghost use Rattle.std.specs.Prelude.{◌≡◌, ◌+◌, ◌++◌, ◌<◌, IfOk, IfErr, IsTrue, Some, false, ℕ};
-ghost use Rattle.registry_values.specs.Common.{is_lawful, is_iface};
+ghost use Rattle.registry_values.specs.Common.{is_key, is_iface};
 ghost use Rattle.name_registry.specs.Types.{Attach, Detach, Iface};
 ghost use Rattle.cpu_words.specs.Common.{IsAttachedKeeping, AreWordsOf};
 ghost use Rattle.name_registry.specs.Changes.{HasMade, weigh, weight};
@@ -40,7 +40,7 @@ impl<D: Domain> Interlock<D> {
         rec: Record,
     ) -> Result<Entry, Refusal>
         requires words { AreWordsOf words.now D.table D.settings }
-        requires name { IsTrue (is_lawful rec.name) }
+        requires name { IsTrue (is_key rec.name) }
         ensures may { IfOk result (λ _. MayAttach (is_inside cpu.old) (is_iface rec.kind)) }
         ensures ok { IfOk result (λ e. (e.rec ≡ rec) × HasLearned cpu.old cpu.new × HasSeenAttach cpu.old cpu.new e) }
         ensures made { IfOk result (λ e. HasMade cpu.old (Attach e) cpu.new) }
@@ -64,7 +64,7 @@ impl<D: Domain> Interlock<D> {
     ) -> Result<Entry, (Refusal, LocalRef<D>)>
         requires words { AreWordsOf words.now D.table D.settings }
         requires kind { rec.kind ≡ Iface }
-        requires name { IsTrue (is_lawful rec.name) }
+        requires name { IsTrue (is_key rec.name) }
         ensures may { IfOk result (λ _. MayAttach (is_inside cpu.old) (is_iface reference.entry.rec.kind)) }
         ensures ok { IfOk result (λ e. (e.rec ≡ rec) × HasLearned cpu.old cpu.new × HasSeenAttach cpu.old cpu.new e) }
         ensures made { IfOk result (λ e. HasMade cpu.old (Attach e) cpu.new) }

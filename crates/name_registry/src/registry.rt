@@ -1,7 +1,7 @@
 //! The registry: the shared words, and a lock round the keeper.
 
 ghost use Rattle.std.specs.Prelude.{◌≡◌, ◌↔◌, ◌⊎◌, ◌+ℤ◌, ◌≤◌, All, IfOk, IfErr, IsErrOf, IsTrue, false, length};
-ghost use Rattle.registry_values.specs.Common.{sum_of, is_lawful, is_iface};
+ghost use Rattle.registry_values.specs.Common.{sum_of, is_key, is_iface};
 ghost use Rattle.name_registry.specs.Types.{Attach, Detach, Iface, MOST_CPUS};
 ghost use Rattle.cpu_words.specs.Common.{IsAttachedKeeping, AreWordsOf};
 ghost use Rattle.name_registry.specs.Auditing.{AreAllCpus, HaveHeardAndTold, HaveLearned, IsAuditBy, KnowTheSame};
@@ -41,11 +41,11 @@ impl<D: Domain> Registry<D> {
 
     /// Attaches a driver under the interlock, as `attach_in` does; the caller's CPU has seen its change then, and its share tells that this
     /// one was made, and no other.
-    /// Condition: the name is lawful, as `Name::parse` gives it.
+    /// Condition: the name's words aren't both 0, as `Name::parse` and `Name::from_key_bytes` give them.
     /// Refused, in this order, and nothing has changed then: `Inside` if the CPU is inside a section; `NeedsDriver` if the record's kind is
     /// Iface; `NameTaken`; `NoSlot`; `HistoryFull`.
     pub fn attach<R: Wait>(&self, rt: &R, cpu: &mut Cpu<D>, rec: Record) -> Result<Entry, Refusal>
-        requires name { IsTrue (is_lawful rec.name) }
+        requires name { IsTrue (is_key rec.name) }
         ensures may { IfOk result (λ _. MayAttach (is_inside cpu.old) (is_iface rec.kind)) }
         ensures ok { IfOk result (λ e. (e.rec ≡ rec) × HasLearned cpu.old cpu.new × HasSeenAttach cpu.old cpu.new e) }
         ensures made { IfOk result (λ e. HasMade cpu.old (Attach e) cpu.new) }
@@ -56,7 +56,7 @@ impl<D: Domain> Registry<D> {
 
     /// Attaches an interface under the interlock, on the driver that the reference is to, as `attach_iface_in` does; the caller's CPU has
     /// seen its change then, and its share tells that this one was made, and no other.
-    /// Condition: the record's kind is Iface, and its name is lawful.
+    /// Condition: the record's kind is Iface, and its name's words aren't both 0.
     /// Refused, in this order, and nothing has changed then, and the reference comes back: `Inside` if the CPU is inside a section;
     /// `NeedsDriver` if the reference is to an interface; `NameTaken`; `NoSlot`; `HistoryFull`.
     pub fn attach_iface<R: Wait>(
@@ -67,7 +67,7 @@ impl<D: Domain> Registry<D> {
         reference: LocalRef<D>,
     ) -> Result<Entry, (Refusal, LocalRef<D>)>
         requires kind { rec.kind ≡ Iface }
-        requires name { IsTrue (is_lawful rec.name) }
+        requires name { IsTrue (is_key rec.name) }
         ensures may { IfOk result (λ _. MayAttach (is_inside cpu.old) (is_iface reference.entry.rec.kind)) }
         ensures ok { IfOk result (λ e. (e.rec ≡ rec) × HasLearned cpu.old cpu.new × HasSeenAttach cpu.old cpu.new e) }
         ensures made { IfOk result (λ e. HasMade cpu.old (Attach e) cpu.new) }

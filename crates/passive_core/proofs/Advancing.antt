@@ -7,7 +7,7 @@ use Rattle.std.proofs.lemmas.Option.{none-some, same_Some}
 use Rattle.passive_core.specs.Types.{Entry, Look, PassiveLook, Collect, TotalAdd, KeptSub, Reply, Done, Mark, Slot, Retired, Refusal, Stage, Grace, Passive, Local, Freed}
 use Rattle.passive_core.specs.Common.{AdvanceLeaves, Settles, Empties, Gathers, HoldersAreOpen, LeavesMarks, MarksPass, Passes, ClearBelow, Clears, MarksClear, SameBut, StageMarks, AdvanceMarks, StageLeaves}
 use Rattle.passive_core.specs.Common.{advance_answer, count_given_up, has_passive, is_open_since, is_snapshot, first_obstacle, stage_in, may_act}
-use Rattle.protocol.specs.Common.{AllClear, AllCollected, AllPassed, MarksGrow, Outcome, guard, some_outcome, step, after_look, after_look_passive, after_collect, after_total, after_kept_sub}
+use Rattle.protocol.specs.Common.{AllClear, AllCollected, AllPassed, MarksGrow, Outcome, guard, some_outcome, narrow_step, after_look, after_look_passive, after_collect, after_total, after_kept_sub}
 use Rattle.protocol.specs.Common.{after_vacate, may_collect, may_examine, may_look_passive, may_vacate, is_drainable, is_drained, is_iface_slot, keeps_rightly, Holds, one_if, held_at, at_rest, State}
 use Rattle.protocol.specs.Common.{section_at, begin_at, count_at, kept_at, mark_at, passive_at, total_at, with_cell}
 use Rattle.registry_values.specs.Common.{no_mark, least_below, or_next, mark_after_look, mark_after_passive_look, mark_after_collect, are_collected, has_changed, have_passed, is_even, stage_of, retired_slot}
@@ -143,7 +143,7 @@ pub open_same : (s n : State) (t c : ℕ) → n ≡ record s { marks = n.marks }
 open_same s n t c only marks = rw (ap (λ (x : State). x.begins) only, ap (λ (x : State). x.section) only, (marks.here c).snapshot) refl
 
 pub look_is : (s n : State) (t c : ℕ) (r : Reply) → at_rest s.due ≡ true → is_retired (slot_at s.slots t) ≡ true → c < s.settings.cpus
-    → step s (Look (Some t) c) ≡ Some (record { state = n; reply = r }) → n ≡ after_look s t c
+    → narrow_step s (Look (Some t) c) ≡ Some (record { state = n; reply = r }) → n ≡ after_look s t c
 look_is s n t c r rest gone lt made = made_is (may_examine s t c) (after_look s t c) n _ r (examines s t c rest gone lt) made
 
 -- changes of marks alone, one after the other
@@ -217,7 +217,7 @@ pub examines_passive : (s : State) (t c : ℕ) → at_rest s.due ≡ true → is
 examines_passive s t c rest gone passed lt = and_from (may_examine s t c) _ (examines s t c rest gone lt) (passed_from s t passed)
 
 pub passive_look_is : (s n : State) (t c : ℕ) (r : Reply) → at_rest s.due ≡ true → is_retired (slot_at s.slots t) ≡ true → AllPassed s t → c < s.settings.cpus
-    → step s (PassiveLook t c) ≡ Some (record { state = n; reply = r }) → n ≡ after_look_passive s t c
+    → narrow_step s (PassiveLook t c) ≡ Some (record { state = n; reply = r }) → n ≡ after_look_passive s t c
 passive_look_is s n t c r rest gone passed lt made = made_is (may_look_passive s t c) (after_look_passive s t c) n _ r (examines_passive s t c rest gone passed lt) made
 
 pub passive_look_marks : (s : State) (t c : ℕ) → MarksClear s.marks (after_look_passive s t c).marks t
@@ -237,12 +237,12 @@ collects s t c rest gone passed clear lt yet = and_from (may_examine s t c) _ (e
 
 pub collect_is : (s n : State) (t c : ℕ) (r : Reply) → at_rest s.due ≡ true → is_retired (slot_at s.slots t) ≡ true → AllPassed s t → AllClear s t → c < s.settings.cpus
     → (mark_at s.marks t c).collected ≡ false
-    → step s (Collect t c) ≡ Some (record { state = n; reply = r }) → n ≡ after_collect s t c
+    → narrow_step s (Collect t c) ≡ Some (record { state = n; reply = r }) → n ≡ after_collect s t c
 collect_is s n t c r rest gone passed clear lt yet made = made_is (may_collect s t c) (after_collect s t c) n _ r (collects s t c rest gone passed clear lt yet) made
 
 -- a word was collected, and is to be added
 pub adds : (s m : State) (t c : ℕ) → m ≡ after_collect s t c
-    → step m (TotalAdd t) ≡ Some (record { state = after_total (after_collect s t c) t (total_at s.totals t + count_at s.counts c t - bias); reply = Done })
+    → narrow_step m (TotalAdd t) ≡ Some (record { state = after_total (after_collect s t c) t (total_at s.totals t + count_at s.counts c t - bias); reply = Done })
 adds s m t c is = rw (is, eq-eqb t t refl) refl
 
 pub added : (s n : State) (t c : ℕ) → at_rest s.due ≡ true → n ≡ after_total (after_collect s t c) t (total_at s.totals t + count_at s.counts c t - bias) → Gathers s n t
@@ -310,7 +310,7 @@ keeps_as_iface s t d on kept drained =
     ap is_iface_slot told.1.1 ∙ subst (λ (k : Option ℕ). keeps_rightly k told.1.0.rec.kind ≡ true) kept right
 
 pub gives_up : (s : State) (t d u : ℕ) → Holds s → kept_at s.keeps t ≡ Some d → slot_of s.slots d ≡ Some u → is_drained s t ≡ true
-    → step s (KeptSub t) ≡ Some (record { state = after_kept_sub s t u; reply = Done })
+    → narrow_step s (KeptSub t) ≡ Some (record { state = after_kept_sub s t u; reply = Done })
 gives_up s t d u on kept of drained = rw (kept, of, keeps_as_iface s t d on kept drained, drained) refl
 
 pub gave_up : (s n : State) (t d u : ℕ) → Holds s → kept_at s.keeps t ≡ Some d → slot_of s.slots d ≡ Some u → is_drained s t ≡ true → n ≡ after_kept_sub s t u → Empties s n t

@@ -14,7 +14,7 @@ use Rattle.passive_core.specs.Common.{with_attach_undone, words_before, all_seat
 use Rattle.registry_values.specs.Common.{attach_answer, next_entry, is_available, key_of_record, key_of, is_iface, is_taken, is_vacant, slot_of, slot_at, is_lawful, bias}
 use Rattle.registry_values.proofs.Answers as answers
 use Rattle.protocol.specs.Common.{with_biases, at_rest, State, kept_at, local_at, no_words, row_at, total_at, Outcome, after_count_store, after_keep, after_publish, after_row_store, after_seeing}
-use Rattle.protocol.specs.Common.{are_unused, entry_of, has_room, room_of, is_bias, is_driver_slot, is_prepared, keeps_rightly, may_keep, may_publish, may_write, number_standing, step, with_word}
+use Rattle.protocol.specs.Common.{are_unused, entry_of, has_room, room_of, is_bias, is_driver_slot, is_prepared, keeps_rightly, may_keep, may_publish, may_write, number_standing, narrow_step, with_word}
 use Rattle.protocol.specs.Common.{words_of, Holds, SeatsShow}
 use Rattle.registry_values.specs.Names.{are_name_words}
 use Rattle.protocol.proofs.keeps.CountKeeps.{keep_keeps}
@@ -43,7 +43,7 @@ row_next s now next t k v r at is =
 
 -- The count words.
 
-pub count_store_allowed : (s : State) (t c v : ℕ) → may_write s t ≡ true → c < s.settings.cpus → step s (StoreSlot t (5 + c) v) ≡ Some (record { state = after_count_store s t c v; reply = Done })
+pub count_store_allowed : (s : State) (t c v : ℕ) → may_write s t ≡ true → c < s.settings.cpus → narrow_step s (StoreSlot t (5 + c) v) ≡ Some (record { state = after_count_store s t c v; reply = Done })
 count_store_allowed s t c v write lt =
     let many : nat_lt (5 + c) 5 ≡ false = le-ltb (5 + c) 5 (omega arith) in
     let same : 5 + c - 5 ≡ c = omega arith in
@@ -80,11 +80,11 @@ count_places s t c on write lt =
     (low, omega (arith, on.shape.count_rows t low, lt, (ranges s.settings on.fit).cpus))
 
 pub counts_stored : (s now next : State) (r : Reply) (t c : ℕ) → Holds s → may_write s t ≡ true → c < s.settings.cpus → now ≡ with_counts s t c
-    → step now (StoreSlot t (5 + c) bias) ≡ Some (record { state = next; reply = r }) → next ≡ with_counts s t (c + 1)
+    → narrow_step now (StoreSlot t (5 + c) bias) ≡ Some (record { state = next; reply = r }) → next ≡ with_counts s t (c + 1)
 counts_stored s now next r t c on write lt at is =
     let places = count_places s t c on write lt in
     let made = count_store_allowed (with_counts s t c) t c bias write lt in
-    let here = subst (λ (x : State). step x (StoreSlot t (5 + c) bias) ≡ Some (record { state = next; reply = r })) at is in
+    let here = subst (λ (x : State). narrow_step x (StoreSlot t (5 + c) bias) ≡ Some (record { state = next; reply = r })) at is in
     let both : Some (record { state = next; reply = r }) ≡ Some (record { state = after_count_store (with_counts s t c) t c bias; reply = Done }) = sym here ∙ made in
     let same : next ≡ after_count_store (with_counts s t c) t c bias = ap state_or both in
     same ∙ counts_next s t c places.0 places.1
@@ -153,7 +153,7 @@ biases_stored cpus row =
 -- A prepared entry may be linked: s is the state before its words are stored.
 pub prepared_links : (s : State) (e : Entry) → Holds s → may_write s e.slot ≡ true → e.number ≡ length s.history + 1 → IsTrue (is_lawful e.rec.name)
     → is_taken (key_of e) s.slots ≡ false → has_room s ≡ true → keeps_rightly (kept_at s.keeps e.slot) e.rec.kind ≡ true
-    → step (with_prepared s e) (Publish e.slot) ≡ Some (record { state = after_publish (with_prepared s e) e.slot e; reply = Done })
+    → narrow_step (with_prepared s e) (Publish e.slot) ≡ Some (record { state = after_publish (with_prepared s e) e.slot e; reply = Done })
 prepared_links s e on write number lawful free room keeps =
     let told = may_write_tells s e.slot on.shape write in
     let row : row_at (with_prepared s e).rows e.slot ≡ words_of e = get_or-set_same s.rows e.slot (words_of e) no_words (omega (arith, told.1, on.shape.slots, on.shape.rows)) in
@@ -181,7 +181,7 @@ prepared_links s e on write number lawful free room keeps =
     (and_from (has_room s) (is_prepared (with_prepared s e) e.slot e.rec.kind) room ready))) in
     links_if (with_prepared s e) e.slot e entry may
   where
-    links_if : (s : State) (t : ℕ) (e : Entry) → entry_of t (row_at s.rows t) ≡ Some e → may_publish s t e ≡ true → step s (Publish t) ≡ Some (record { state = after_publish s t e; reply = Done })
+    links_if : (s : State) (t : ℕ) (e : Entry) → entry_of t (row_at s.rows t) ≡ Some e → may_publish s t e ≡ true → narrow_step s (Publish t) ≡ Some (record { state = after_publish s t e; reply = Done })
     links_if s t e entry may = rw (entry, may) refl
 
 -- What an attach puts back.
@@ -212,7 +212,7 @@ seated_keeps s on =
 -- an entry's words may be stored, and then it may be linked
 pub record MayLink (s : State) (e : Entry) : Type 0 where
   pub writes : may_write s e.slot ≡ true
-  pub links : step (with_prepared s e) (Publish e.slot) ≡ Some (record { state = after_publish (with_prepared s e) e.slot e; reply = Done })
+  pub links : narrow_step (with_prepared s e) (Publish e.slot) ≡ Some (record { state = after_publish (with_prepared s e) e.slot e; reply = Done })
 
 -- what a given entry is, in a state with the same history and slots
 may_link : (s : State) (rec : Record) (e : Entry) → Holds s → may_write s e.slot ≡ true → e ≡ next_entry (length s.history) rec e.slot → is_taken (key_of_record rec) s.slots ≡ false

@@ -12,7 +12,7 @@ use Rattle.passive_core.specs.Types.{Entry, CountAdd, SplitRef, JoinRef, CountDo
 use Rattle.passive_core.specs.Types.{Free, Standing, Lifted}
 use Rattle.protocol.specs.Common.{State, count_at, found_at, hand_at, local_at, mark_at, row_at, search_at, total_at, at_rest, is_empty, Outcome, after_collected, after_count, after_count_add}
 use Rattle.protocol.specs.Common.{after_count_down, after_hand, after_join_keeper, after_split, after_total, id_if, is_free, is_idle, least_id, load_local, may_join_keeper, split_ref, number_standing}
-use Rattle.protocol.specs.Common.{state_after, step, some_outcome, with_local, word, words_of, Holds, standing_of}
+use Rattle.protocol.specs.Common.{state_after, narrow_step, some_outcome, with_local, word, words_of, Holds, standing_of}
 use Rattle.registry_values.specs.Common.{bias, no_mark, is_collected, is_some_collected, slot_at, is_retired, slot_of}
 use Rattle.passive_core.specs.Common.{all_seated, may_act, count_in, free_added, is_counting, local_slot, slot_if, with_count_less, with_count_more, with_room}
 use Rattle.protocol.proofs.keeps.SectionKeeps.{empty_from}
@@ -147,22 +147,22 @@ count_cases s c n t on of low =
 
 -- The events of a release by the CPU's own count.
 
-joins : (s : State) (c id n : ℕ) → number_standing (local_at s.locals id) ≡ Some n → is_idle s c ≡ true → step s (JoinRef c id) ≡ some_outcome (after_hand s c (Giving n id) id (Lifted c)) Done
+joins : (s : State) (c id n : ℕ) → number_standing (local_at s.locals id) ≡ Some n → is_idle s c ≡ true → narrow_step s (JoinRef c id) ≡ some_outcome (after_hand s c (Giving n id) id (Lifted c)) Done
 joins s c id n live idle = rw (live, idle) refl
 
 -- the state once the reference is in the hand
 abbrev pub lifted : State → ℕ → ℕ → ℕ → State
 lifted s c n id = after_hand s c (Giving n id) id (Lifted c)
 
-pub lifts : (s v : State) (c n id : ℕ) (r : Reply) → number_standing (local_at s.locals id) ≡ Some n → is_idle s c ≡ true → step s (JoinRef c id) ≡ Some (record { state = v; reply = r })
+pub lifts : (s v : State) (c n id : ℕ) (r : Reply) → number_standing (local_at s.locals id) ≡ Some n → is_idle s c ≡ true → narrow_step s (JoinRef c id) ≡ Some (record { state = v; reply = r })
     → v ≡ lifted s c n id
-lifts s v c n id r live idle was = made s (step s (JoinRef c id)) _ v r (joins s c id n live idle) was
+lifts s v c n id r live idle was = made s (narrow_step s (JoinRef c id)) _ v r (joins s c id n live idle) was
 
 abbrev pub exchanged : State → ℕ → ℕ → ℕ → ℕ → Bool → Option Outcome
 exchanged s c n id t counts =
     if counts then some_outcome (after_count_down (lifted s c n id) c t id) (Word (count_at s.counts c t)) else some_outcome (after_collected (lifted s c n id) c n id) Collected
 
-downs : (s : State) (c n id t : ℕ) → Holds s → slot_of s.slots n ≡ Some t → c < s.settings.cpus → step (lifted s c n id) (CountDown c) ≡ exchanged s c n id t (nat_lt 0 (count_at s.counts c t))
+downs : (s : State) (c n id t : ℕ) → Holds s → slot_of s.slots n ≡ Some t → c < s.settings.cpus → narrow_step (lifted s c n id) (CountDown c) ≡ exchanged s c n id t (nat_lt 0 (count_at s.counts c t))
 downs s c n id t on of low =
     let hand : hand_at (lifted s c n id) c ≡ Giving n id = get_or-set_same s.hands c (Giving n id) Empty (omega (arith, low, on.shape.hands)) in
     either (count_cases s c n t on of low) (λ is. rw (hand, of, is.some, is.same) refl) (λ is. rw (hand, of, is.none, is.other) refl)
@@ -171,9 +171,9 @@ some_exchanged : (s : State) (c n id t : ℕ) (b : Bool) → IsSome (exchanged s
 some_exchanged s c n id t true = refl
 some_exchanged s c n id t false = refl
 
-pub down_allowed : (s v : State) (c n id t : ℕ) → Holds s → slot_of s.slots n ≡ Some t → c < s.settings.cpus → v ≡ lifted s c n id → IsSome (step v (CountDown c))
-down_allowed s v c n id t on of low is = subst (λ (x : State). IsSome (step x (CountDown c))) (sym is)
-    (is_some (step (lifted s c n id) (CountDown c)) (exchanged s c n id t (nat_lt 0 (count_at s.counts c t))) (downs s c n id t on of low)
+pub down_allowed : (s v : State) (c n id t : ℕ) → Holds s → slot_of s.slots n ≡ Some t → c < s.settings.cpus → v ≡ lifted s c n id → IsSome (narrow_step v (CountDown c))
+down_allowed s v c n id t on of low is = subst (λ (x : State). IsSome (narrow_step x (CountDown c))) (sym is)
+    (is_some (narrow_step (lifted s c n id) (CountDown c)) (exchanged s c n id t (nat_lt 0 (count_at s.counts c t))) (downs s c n id t on of low)
     (some_exchanged s c n id t (nat_lt 0 (count_at s.counts c t))))
 
 abbrev reply_of : Option Outcome → Reply
@@ -198,16 +198,16 @@ went s w c n id t r true was off = (refl, ap (state_after s) (sym was))
 went s w c n id t r false was off = absurd (off (sym (ap reply_of was)))
 
 pub down_fell : (s v w : State) (c n id t : ℕ) (r : Reply) → Holds s → slot_of s.slots n ≡ Some t → c < s.settings.cpus → v ≡ lifted s c n id
-    → step v (CountDown c) ≡ Some (record { state = w; reply = r }) → r ≡ Collected
+    → narrow_step v (CountDown c) ≡ Some (record { state = w; reply = r }) → r ≡ Collected
     → (nat_lt 0 (count_at s.counts c t) ≡ false) × (w ≡ after_collected (lifted s c n id) c n id)
 down_fell s v w c n id t r on of low is was =
-    fell s w c n id t r (nat_lt 0 (count_at s.counts c t)) (sym (downs s c n id t on of low) ∙ subst (λ (x : State). step x (CountDown c) ≡ Some (record { state = w; reply = r })) is was)
+    fell s w c n id t r (nat_lt 0 (count_at s.counts c t)) (sym (downs s c n id t on of low) ∙ subst (λ (x : State). narrow_step x (CountDown c) ≡ Some (record { state = w; reply = r })) is was)
 
 pub down_went : (s v w : State) (c n id t : ℕ) (r : Reply) → Holds s → slot_of s.slots n ≡ Some t → c < s.settings.cpus → v ≡ lifted s c n id
-    → step v (CountDown c) ≡ Some (record { state = w; reply = r }) → (r ≡ Collected → ⊥)
+    → narrow_step v (CountDown c) ≡ Some (record { state = w; reply = r }) → (r ≡ Collected → ⊥)
     → (nat_lt 0 (count_at s.counts c t) ≡ true) × (w ≡ after_count_down (lifted s c n id) c t id)
 down_went s v w c n id t r on of low is was =
-    went s w c n id t r (nat_lt 0 (count_at s.counts c t)) (sym (downs s c n id t on of low) ∙ subst (λ (x : State). step x (CountDown c) ≡ Some (record { state = w; reply = r })) is was)
+    went s w c n id t r (nat_lt 0 (count_at s.counts c t)) (sym (downs s c n id t on of low) ∙ subst (λ (x : State). narrow_step x (CountDown c) ≡ Some (record { state = w; reply = r })) is was)
 
 -- the count is one less, and the hand is empty again
 pub counted_down : (s : State) (c n id t : ℕ) → hand_at s c ≡ Empty → after_count_down (lifted s c n id) c t id ≡ with_count_less s c id (Some t)
@@ -217,7 +217,7 @@ counted_down s c n id t hand =
     ap (λ (h : List Hand). record (after_count s c t (count_at s.counts c t - 1) (count_at s.nets c t - 1) Empty) { hands = h; locals = set (set s.locals id (Lifted c)) id Free }) hands
     ∙ ap (λ (l : List LocalPlace). record (after_count s c t (count_at s.counts c t - 1) (count_at s.nets c t - 1) Empty) { hands = s.hands; locals = l }) locals
 
-backs : (s : State) (c n id : ℕ) → c < length s.hands → step (after_collected (lifted s c n id) c n id) (SplitBack c)
+backs : (s : State) (c n id : ℕ) → c < length s.hands → narrow_step (after_collected (lifted s c n id) c n id) (SplitBack c)
     ≡ some_outcome (after_hand (after_collected (lifted s c n id) c n id) c Empty id (Standing n)) (Ref id)
 backs s c n id low =
     let hand : hand_at (after_collected (lifted s c n id) c n id) c ≡ Back n id =
@@ -232,15 +232,15 @@ back_same s c n id hand at =
     ap (λ (h : List Hand). record s { hands = h; locals = set (set s.locals id (Lifted c)) id (Standing n) }) hands
     ∙ ap (λ (l : List LocalPlace). record s { locals = l }) locals
 
-pub back_allowed : (s w : State) (c n id : ℕ) → Holds s → c < s.settings.cpus → w ≡ after_collected (lifted s c n id) c n id → IsSome (step w (SplitBack c))
-back_allowed s w c n id on low is = subst (λ (x : State). IsSome (step x (SplitBack c))) (sym is)
-    (is_some (step (after_collected (lifted s c n id) c n id) (SplitBack c)) _ (backs s c n id (omega (arith, low, on.shape.hands))) refl)
+pub back_allowed : (s w : State) (c n id : ℕ) → Holds s → c < s.settings.cpus → w ≡ after_collected (lifted s c n id) c n id → IsSome (narrow_step w (SplitBack c))
+back_allowed s w c n id on low is = subst (λ (x : State). IsSome (narrow_step x (SplitBack c))) (sym is)
+    (is_some (narrow_step (after_collected (lifted s c n id) c n id) (SplitBack c)) _ (backs s c n id (omega (arith, low, on.shape.hands))) refl)
 
 pub gone_back : (s w x : State) (c n id : ℕ) (r : Reply) → Holds s → c < s.settings.cpus → hand_at s c ≡ Empty → local_at s.locals id ≡ Standing n → w ≡ after_collected (lifted s c n id) c n id
-    → step w (SplitBack c) ≡ Some (record { state = x; reply = r }) → x ≡ s
+    → narrow_step w (SplitBack c) ≡ Some (record { state = x; reply = r }) → x ≡ s
 gone_back s w x c n id r on low hand at is was =
-    made s (step (after_collected (lifted s c n id) c n id) (SplitBack c)) _ x r (backs s c n id (omega (arith, low, on.shape.hands)))
-    (subst (λ (y : State). step y (SplitBack c) ≡ Some (record { state = x; reply = r })) is was)
+    made s (narrow_step (after_collected (lifted s c n id) c n id) (SplitBack c)) _ x r (backs s c n id (omega (arith, low, on.shape.hands)))
+    (subst (λ (y : State). narrow_step y (SplitBack c) ≡ Some (record { state = x; reply = r })) is was)
     ∙ back_same s c n id hand at
 
 -- The events of a release under the interlock.
@@ -251,11 +251,11 @@ some_collected s c t on low tl done =
     any_within is_collected s.settings.cpus (get_or s.marks t []) no_mark c low (omega (arith, low, on.shape.mark_rows t tm, (ranges s.settings on.fit).cpus)) done
 
 keeper_joins : (s : State) (id n t : ℕ) → number_standing (local_at s.locals id) ≡ Some n → slot_of s.slots n ≡ Some t → may_join_keeper s t ≡ true
-    → step s (JoinKeeper id) ≡ some_outcome (after_join_keeper s id t) Done
+    → narrow_step s (JoinKeeper id) ≡ some_outcome (after_join_keeper s id t) Done
 keeper_joins s id n t live of may = rw (live, of, may) refl
 
 pub joined_keeper : (s : State) (c id n t : ℕ) → Holds s → c < s.settings.cpus → at_rest s.due ≡ true → number_standing (local_at s.locals id) ≡ Some n → slot_of s.slots n ≡ Some t
-    → is_counting s c (local_slot s id) ≡ false → step s (JoinKeeper id) ≡ some_outcome (after_join_keeper s id t) Done
+    → is_counting s c (local_slot s id) ≡ false → narrow_step s (JoinKeeper id) ≡ some_outcome (after_join_keeper s id t) Done
 joined_keeper s c id n t on low rest live of off =
     let none : nat_lt 0 (count_at s.counts c t) ≡ false = ap (is_counting s c) (sym (slot_is s id n t live of)) ∙ off in
     either (count_cases s c n t on of low)
@@ -264,11 +264,11 @@ joined_keeper s c id n t on low rest live of off =
     keeper_joins s id n t live of (both (is_retired (slot_at s.slots t)) (at_rest s.due && is_some_collected s.settings.cpus (get_or s.marks t [])) is.retired
     (both (at_rest s.due) (is_some_collected s.settings.cpus (get_or s.marks t [])) rest (some_collected s c t on low (slot_has s.slots n t of).0 is.collected))))
 
-totals_sub : (s : State) (id t : ℕ) → step (after_join_keeper s id t) (TotalSub t) ≡ some_outcome (after_total (after_join_keeper s id t) t (total_at s.totals t - 1)) Done
+totals_sub : (s : State) (id t : ℕ) → narrow_step (after_join_keeper s id t) (TotalSub t) ≡ some_outcome (after_total (after_join_keeper s id t) t (total_at s.totals t - 1)) Done
 totals_sub s id t = let same : nat_eq t t ≡ true = eq-eqb t t refl in rw same refl
 
-pub sub_allowed : (s v : State) (id t : ℕ) → v ≡ after_join_keeper s id t → IsSome (step v (TotalSub t))
-sub_allowed s v id t is = subst (λ (x : State). IsSome (step x (TotalSub t))) (sym is) (is_some (step (after_join_keeper s id t) (TotalSub t)) _ (totals_sub s id t) refl)
+pub sub_allowed : (s v : State) (id t : ℕ) → v ≡ after_join_keeper s id t → IsSome (narrow_step v (TotalSub t))
+sub_allowed s v id t is = subst (λ (x : State). IsSome (narrow_step x (TotalSub t))) (sym is) (is_some (narrow_step (after_join_keeper s id t) (TotalSub t)) _ (totals_sub s id t) refl)
 
 -- The events of an acquire.
 
@@ -282,7 +282,6 @@ local_shows s id n on live =
       entry = e;
       attached = (entry_attached s.history s.slots e t.0 on.slots has.1.1).0;
       numbered = has.1.2;
-      lawful = row.1;
       loads = λ k few. loads_at s id n t.0 k e live t.1 few row.0;
     }
   where
@@ -291,7 +290,7 @@ local_shows s id n on live =
     loads_at s id n t k e live of few row = rw (live, of, few, row) refl
 
 counts_up : (s : State) (c t : ℕ) (e : Entry) → found_at s c ≡ Some e → slot_of s.slots e.number ≡ Some t → is_idle s c ≡ true → nat_lt (count_at s.nets c t) (bias + s.settings.count_limit) ≡ true
-    → step s (CountAdd c) ≡ some_outcome (after_count_add s c e.number t) (Word (count_at s.counts c t))
+    → narrow_step s (CountAdd c) ≡ some_outcome (after_count_add s c e.number t) (Word (count_at s.counts c t))
 counts_up s c t e found of idle room = rw (found, of, idle, room) refl
 
 -- the state as the first event is made: there is a free place, and all CPUs have their seats
@@ -303,11 +302,11 @@ room_at : (s : State) (c n t : ℕ) → slot_of s.slots n ≡ Some t → nat_lt 
 room_at s c n t of room = subst (λ (o : Option ℕ). nat_lt (count_in s.nets c o) (bias + s.settings.count_limit) ≡ true) of room
 
 pub count_allowed : (s u : State) (c : ℕ) (e : Entry) → Holds s → found_at s c ≡ Some e → u ≡ prepared s → is_idle u c ≡ true
-    → nat_lt (count_in s.nets c (slot_of s.slots e.number)) (bias + s.settings.count_limit) ≡ true → IsSome (step u (CountAdd c))
+    → nat_lt (count_in s.nets c (slot_of s.slots e.number)) (bias + s.settings.count_limit) ≡ true → IsSome (narrow_step u (CountAdd c))
 count_allowed s u c e on found is idle room =
     let t = found_slot s c e on found in
-    subst (λ (x : State). IsSome (step x (CountAdd c))) (sym is)
-    (is_some (step (prepared s) (CountAdd c)) _ (counts_up (prepared s) c t.0 e found t.1 (subst (λ (x : State). is_idle x c ≡ true) is idle) (room_at s c e.number t.0 t.1 room)) refl)
+    subst (λ (x : State). IsSome (narrow_step x (CountAdd c))) (sym is)
+    (is_some (narrow_step (prepared s) (CountAdd c)) _ (counts_up (prepared s) c t.0 e found t.1 (subst (λ (x : State). is_idle x c ≡ true) is idle) (room_at s c e.number t.0 t.1 room)) refl)
 
 pub record Taken (s v : State) (c n t : ℕ) : Type 0 where
   pub slot : slot_of s.slots n ≡ Some t
@@ -317,11 +316,11 @@ pub record Taken (s v : State) (c n t : ℕ) : Type 0 where
 
 pub takes : (s u v : State) (c : ℕ) (e : Entry) (r : Reply) → Holds s → found_at s c ≡ Some e → c < s.settings.cpus → u ≡ prepared s → is_idle u c ≡ true
     → nat_lt (count_in s.nets c (slot_of s.slots e.number)) (bias + s.settings.count_limit) ≡ true
-    → step u (CountAdd c) ≡ Some (record { state = v; reply = r }) → (t : ℕ) × Taken s v c e.number t
+    → narrow_step u (CountAdd c) ≡ Some (record { state = v; reply = r }) → (t : ℕ) × Taken s v c e.number t
 takes s u v c e r on found low is idle room was =
     let t = found_slot s c e on found in
-    let state = made s (step (prepared s) (CountAdd c)) _ v r (counts_up (prepared s) c t.0 e found t.1 (subst (λ (x : State). is_idle x c ≡ true) is idle) (room_at s c e.number t.0 t.1 room))
-    (subst (λ (x : State). step x (CountAdd c) ≡ Some (record { state = v; reply = r })) is was) in (
+    let state = made s (narrow_step (prepared s) (CountAdd c)) _ v r (counts_up (prepared s) c t.0 e found t.1 (subst (λ (x : State). is_idle x c ≡ true) is idle) (room_at s c e.number t.0 t.1 room))
+    (subst (λ (x : State). narrow_step x (CountAdd c) ≡ Some (record { state = v; reply = r })) is was) in (
       t.0,
       assumption (
         ap (λ (x : State). hand_at x c) state ∙ get_or-set_same s.hands c (Taking e.number) Empty (omega (arith, low, on.shape.hands)),
@@ -330,7 +329,7 @@ takes s u v c e r on found low is idle room was =
     )
 
 -- the reference has its place, and the hand is empty again
-pub split : (s v w : State) (c n t id : ℕ) → hand_at s c ≡ Empty → Taken s v c n t → step v (SplitRef c) ≡ Some (record { state = w; reply = Ref id })
+pub split : (s v w : State) (c n t id : ℕ) → hand_at s c ≡ Empty → Taken s v c n t → narrow_step v (SplitRef c) ≡ Some (record { state = w; reply = Ref id })
     → (w ≡ with_count_more s c n (Some t)) × (id ≡ least_id s.locals)
 split s v w c n t id hand taken_ was =
     let is : split_ref v c (Taking n) ≡ Some (record { state = w; reply = Ref id }) = subst (λ (h : Hand). split_ref v c h ≡ Some (record { state = w; reply = Ref id })) taken_.hand was in
@@ -373,7 +372,7 @@ pub record Acquired (s w : State) (c n t id : ℕ) : Type 0 where
 
 pub acquires : (s u v w : State) (c id : ℕ) (e : Entry) (r : Reply) → Holds s → found_at s c ≡ Some e → c < s.settings.cpus → u ≡ prepared s → is_idle u c ≡ true
     → nat_lt (count_in s.nets c (slot_of s.slots e.number)) (bias + s.settings.count_limit) ≡ true
-    → step u (CountAdd c) ≡ Some (record { state = v; reply = r }) → step v (SplitRef c) ≡ Some (record { state = w; reply = Ref id }) → (t : ℕ) × Acquired s w c e.number t id
+    → narrow_step u (CountAdd c) ≡ Some (record { state = v; reply = r }) → narrow_step v (SplitRef c) ≡ Some (record { state = w; reply = Ref id }) → (t : ℕ) × Acquired s w c e.number t id
 acquires s u v w c id e r on found low is idle room first second =
     let took = takes s u v c e r on found low is idle room first in
     let rests = and_parts (nat_lt c s.settings.cpus) (is_none (search_at s c) && is_empty (hand_at s c)) (subst (λ (x : State). is_idle x c ≡ true) is idle) in

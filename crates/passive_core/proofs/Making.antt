@@ -8,7 +8,7 @@ use Rattle.std.proofs.lemmas.List.Elements.{All-append, All-cons, All-nil, All-p
 use Rattle.passive_core.specs.Types.{Slot, Stage, Grace, Passive, Local, Freed, Event, Seat, Seek, LoadRecord, Publish, Unpublish, Tell, Hear, CountAdd, SplitRef, JoinRef, CountDown, SplitBack}
 use Rattle.passive_core.specs.Types.{RecordOf, Reply, Done, Ref, Word, Entry, Settings, MOST_CPUS, Live, Snapshots, Hand, Empty, Taking, Key}
 use Rattle.registry_values.specs.Common.{retired_slot, bias, no_mark, slot_at, slot_before, slot_of}
-use Rattle.protocol.specs.Common.{after_count_add, after_count_store, after_publish, after_snapshot, after_split, after_unpublish, is_idle, least_id, load_record, may_write, some_outcome, step, Holds}
+use Rattle.protocol.specs.Common.{after_count_add, after_count_store, after_publish, after_snapshot, after_split, after_unpublish, is_idle, least_id, load_record, may_write, some_outcome, narrow_step, Holds}
 use Rattle.protocol.specs.Common.{IsLoadOf, State, at_rest, count_at, found_at, hand_at, is_empty, search_at, section_at}
 use Rattle.protocol.proofs.keeps.SectionKeeps.{empty_from}
 use Rattle.registry_values.proofs.Fit.{ranges}
@@ -21,10 +21,10 @@ use Rattle.passive_core.proofs.Locals.{set_back}
 use Rattle.passive_core.proofs.Advancing.{is_freed, slots_again}
 use Rattle.protocol.proofs.Either.{either}
 
-pub makes_one : (s n : State) (event : Event) (r : Reply) → step s event ≡ Some (record { state = n; reply = r }) → Makes s (event ∷ []) n
+pub makes_one : (s n : State) (event : Event) (r : Reply) → narrow_step s event ≡ Some (record { state = n; reply = r }) → Makes s (event ∷ []) n
 makes_one s n event r made = (record { state = n; reply = r }, made, refl)
 
-pub makes_first : (s m n : State) (event : Event) (r : Reply) (events : List Event) → step s event ≡ Some (record { state = m; reply = r }) → Makes m events n → Makes s (event ∷ events) n
+pub makes_first : (s m n : State) (event : Event) (r : Reply) (events : List Event) → narrow_step s event ≡ Some (record { state = m; reply = r }) → Makes m events n → Makes s (event ∷ events) n
 makes_first s m n event r events made more = (record { state = m; reply = r }, made, more)
 
 pub makes_more : (a b d : State) (es fs : List Event) → Makes a es b → Makes b fs d → Makes a (es ++ fs) d
@@ -41,7 +41,7 @@ makes_load s n of w events d loads same more = (record { state = s; reply = Word
 
 -- Seats
 
-seat_allowed : (s : State) (c : ℕ) → at_rest s.due ≡ true → c < s.settings.cpus → step (record s { seated = c }) (Seat c) ≡ Some (record { state = record s { seated = c + 1 }; reply = Done })
+seat_allowed : (s : State) (c : ℕ) → at_rest s.due ≡ true → c < s.settings.cpus → narrow_step (record s { seated = c }) (Seat c) ≡ Some (record { state = record s { seated = c + 1 }; reply = Done })
 seat_allowed s c rest lt = rw (rest, eq-eqb c c refl, lt-ltb c s.settings.cpus lt) refl
 
 seats_make : (s : State) (c n : ℕ) → at_rest s.due ≡ true → c + n ≡ s.settings.cpus → Makes (record s { seated = c }) (seats_from c n) (all_seated s)
@@ -60,7 +60,7 @@ seated_and s u n events on rest seated more =
 pub only_none : (P : Event → Type 0) (s : State) → MakesOnly P s s
 only_none P s = record { events = []; kind = All-nil P; made = refl }
 
-pub only_one : (P : Event → Type 0) (s n : State) (event : Event) (r : Reply) → P event → step s event ≡ Some (record { state = n; reply = r }) → MakesOnly P s n
+pub only_one : (P : Event → Type 0) (s n : State) (event : Event) (r : Reply) → P event → narrow_step s event ≡ Some (record { state = n; reply = r }) → MakesOnly P s n
 only_one P s n event r is made = record { events = event ∷ []; kind = All-cons P event [] is (All-nil P); made = makes_one s n event r made }
 
 pub only_after : (P : Event → Type 0) (a b d : State) → MakesOnly P a b → MakesOnly P b d → MakesOnly P a d
@@ -139,12 +139,12 @@ released_by_total s u v n c id on rest seated same counts first more =
 
 -- Lookups
 
-pub find_starts : (s u m : State) (c : ℕ) (key : Key) (r : Reply) → Holds s → at_rest s.due ≡ true → u ≡ all_seated s → step u (Seek c key.kind key.name) ≡ Some (record { state = m; reply = r })
+pub find_starts : (s u m : State) (c : ℕ) (key : Key) (r : Reply) → Holds s → at_rest s.due ≡ true → u ≡ all_seated s → narrow_step u (Seek c key.kind key.name) ≡ Some (record { state = m; reply = r })
     → FindMakes s m c key
 find_starts s u m c key r on rest seated made = ([], All-nil (IsLoadOf c), seated_and s u m (Seek c key.kind key.name ∷ []) on rest seated (makes_one u m (Seek c key.kind key.name) r made))
 
 -- one load more
-pub find_goes_on : (b s t : State) (c : ℕ) (key : Key) (r : Reply) → ((event : Event) × IsLoadOf c event × (step s event ≡ Some (record { state = t; reply = r }))) → FindMakes b s c key
+pub find_goes_on : (b s t : State) (c : ℕ) (key : Key) (r : Reply) → ((event : Event) × IsLoadOf c event × (narrow_step s event ≡ Some (record { state = t; reply = r }))) → FindMakes b s c key
     → FindMakes b t c key
 find_goes_on b s t c key r load makes = (
   makes.0 ++ load.0 ∷ [],
@@ -181,7 +181,7 @@ snapshots_make s t on due blank =
 
 pub detach_makes : (s u v w n : State) (e : Entry) (c : ℕ) (q r : Reply) → Holds s → at_rest s.due ≡ true → is_idle (all_seated s) c ≡ true → slot_at s.slots e.slot ≡ Live e
     → u ≡ after_unpublish (all_seated s) e.slot e
-    → Makes u (snapshots_from e.slot 0 u.settings.cpus) v → step v (Tell None) ≡ Some (record { state = w; reply = q }) → step w (Hear (Some c)) ≡ Some (record { state = n; reply = r })
+    → Makes u (snapshots_from e.slot 0 u.settings.cpus) v → narrow_step v (Tell None) ≡ Some (record { state = w; reply = q }) → narrow_step w (Hear (Some c)) ≡ Some (record { state = n; reply = r })
     → Makes s (seats_and s (detach_events s.settings.cpus c e.slot)) n
 detach_makes s u v w n e c q r on rest idle live is snaps tells hears =
     let cpus : u.settings.cpus ≡ s.settings.cpus = ap (λ (x : State). x.settings.cpus) is ∙ ap (λ (z : Settings). z.cpus) (settings_by (all_seated s) e.slot e (slot_before s.slots s.next e.slot)) in
@@ -215,12 +215,12 @@ counts_make s t on write =
 
 -- from the first store in e's slot on: b is the state before it, and `ready` has all words stored
 pub linking_makes : (b ready made now : State) (e : Entry) (c : ℕ) → Makes b (prepare_events b e) ready
-    → step ready (Publish e.slot) ≡ Some (record { state = after_publish ready e.slot e; reply = Done }) → made ≡ after_publish ready e.slot e
+    → narrow_step ready (Publish e.slot) ≡ Some (record { state = after_publish ready e.slot e; reply = Done }) → made ≡ after_publish ready e.slot e
     → Makes made (Tell None ∷ Hear (Some c) ∷ []) now → Makes b (linking_events b c e) now
 linking_makes b ready made now e c stores may links tells =
     makes_more b ready now (prepare_events b e) (Publish e.slot ∷ Tell None ∷ Hear (Some c) ∷ []) stores
     (makes_first ready made now (Publish e.slot) Done (Tell None ∷ Hear (Some c) ∷ [])
-    (subst (λ (x : State). step ready (Publish e.slot) ≡ Some (record { state = x; reply = Done })) (sym links) may) tells)
+    (subst (λ (x : State). narrow_step ready (Publish e.slot) ≡ Some (record { state = x; reply = Done })) (sym links) may) tells)
 
 -- the seats come first, and c tells the keeper of its pass
 pub begun_makes : (s room begun now : State) (c : ℕ) (events : List Event) → room ≡ s → Makes room (seats_and room (Tell (Some c) ∷ Hear None ∷ [])) begun → Makes begun events now

@@ -2,9 +2,8 @@
 use Rattle.std.proofs.Common.{◌≡◌, ℕ, ◌+◌, ◌-◌, ◌<◌, Option, Some, None, IsSome, Bool, true, false, not, ◌&&◌, ◌||◌, nat_lt, refl, sym, ap, subst, ◌∙◌, arith}
 use Rattle.std.proofs.lemmas.Bool.{or_cases, or_right, cases_lt, le-ltb}
 use Rattle.passive_core.specs.Types.{Entry, PassiveAdd, PassiveSub, Reply, Word}
-use Rattle.protocol.specs.Common.{State, found_at, passive_at, row_at, with_cell, IsAttached, Outcome, is_idle, is_number, after_add, after_sub, load_passive, state_after, step, some_outcome, word}
+use Rattle.protocol.specs.Common.{State, found_at, passive_at, row_at, with_cell, IsAttached, Outcome, is_idle, is_number, after_add, after_sub, load_passive, state_after, narrow_step, some_outcome, word}
 use Rattle.protocol.specs.Common.{words_of, Holds, passive_in, trying_at}
-use Rattle.registry_values.specs.Names.{are_name_words}
 use Rattle.registry_values.specs.Common.{slot_of}
 use Rattle.passive_core.specs.Common.{all_seated, may_act, IsOneLess, IsOneMore, passive_of, with_one_more, with_one_less}
 use Rattle.protocol.proofs.slots.Numbers.{entry_attached, occupied_slot}
@@ -55,7 +54,7 @@ counted_is s c n t of untried =
 
 adds : (s : State) (c n t : ℕ) → slot_of s.slots n ≡ Some t → is_idle s c ≡ true → (is_number n (found_at s c) || nat_lt 0 (passive_of s c n)) ≡ true
     → nat_lt (passive_of s c n) s.settings.passive_limit ≡ true
-    → step s (PassiveAdd c n) ≡ Some (record { state = after_add s c t; reply = Word (passive_at s.passive c t) })
+    → narrow_step s (PassiveAdd c n) ≡ Some (record { state = after_add s c t; reply = Word (passive_at s.passive c t) })
 adds s c n t of idle has room =
     let word = counted_is s c n t of (idle_untried s c t idle) in
     let has_at : (is_number n (found_at s c) || nat_lt 0 (passive_at s.passive c t)) ≡ true = subst (λ (k : ℕ). (is_number n (found_at s c) || nat_lt 0 k) ≡ true) word has in
@@ -63,7 +62,7 @@ adds s c n t of idle has room =
     rw (of, idle, has_at, room_at) refl
 
 subs : (s : State) (c n t : ℕ) → slot_of s.slots n ≡ Some t → is_idle s c ≡ true → nat_lt 0 (passive_of s c n) ≡ true
-    → step s (PassiveSub c n) ≡ Some (record { state = after_sub s c t; reply = Word (passive_at s.passive c t) })
+    → narrow_step s (PassiveSub c n) ≡ Some (record { state = after_sub s c t; reply = Word (passive_at s.passive c t) })
 subs s c n t of idle held =
     let held_at : nat_lt 0 (passive_at s.passive c t) ≡ true = subst (λ (k : ℕ). nat_lt 0 k ≡ true) (counted_is s c n t of (idle_untried s c t idle)) held in
     rw (of, idle, held_at) refl
@@ -76,33 +75,33 @@ is_some o p is some = subst IsSome (sym is) some
 
 -- the CPU may add, and holds then one more
 pub add_allowed : (s u : State) (c n : ℕ) → Holds s → u ≡ all_seated s → is_idle u c ≡ true → (is_number n (found_at s c) || nat_lt 0 (passive_of s c n)) ≡ true
-    → nat_lt (passive_of s c n) s.settings.passive_limit ≡ true → IsSome (step u (PassiveAdd c n))
+    → nat_lt (passive_of s c n) s.settings.passive_limit ≡ true → IsSome (narrow_step u (PassiveAdd c n))
 add_allowed s u c n on seated idle has room =
     let t = has_slot s c n on has in
-    subst (λ (x : State). IsSome (step x (PassiveAdd c n))) (sym seated)
-    (is_some (step (all_seated s) (PassiveAdd c n)) _ (adds (all_seated s) c n t.0 t.1 (subst (λ (x : State). is_idle x c ≡ true) seated idle) has room) refl)
+    subst (λ (x : State). IsSome (narrow_step x (PassiveAdd c n))) (sym seated)
+    (is_some (narrow_step (all_seated s) (PassiveAdd c n)) _ (adds (all_seated s) c n t.0 t.1 (subst (λ (x : State). is_idle x c ≡ true) seated idle) has room) refl)
 
 pub added : (s u v : State) (c n : ℕ) (r : Reply) → Holds s → u ≡ all_seated s → is_idle u c ≡ true → (is_number n (found_at s c) || nat_lt 0 (passive_of s c n)) ≡ true
     → nat_lt (passive_of s c n) s.settings.passive_limit ≡ true
-    → step u (PassiveAdd c n) ≡ Some (record { state = v; reply = r }) → v ≡ with_one_more s c (slot_of s.slots n)
+    → narrow_step u (PassiveAdd c n) ≡ Some (record { state = v; reply = r }) → v ≡ with_one_more s c (slot_of s.slots n)
 added s u v c n r on seated idle has room was =
     let t = has_slot s c n on has in
-    made s (step (all_seated s) (PassiveAdd c n)) _ v r (adds (all_seated s) c n t.0 t.1 (subst (λ (x : State). is_idle x c ≡ true) seated idle) has room)
-    (subst (λ (x : State). step x (PassiveAdd c n) ≡ Some (record { state = v; reply = r })) seated was)
+    made s (narrow_step (all_seated s) (PassiveAdd c n)) _ v r (adds (all_seated s) c n t.0 t.1 (subst (λ (x : State). is_idle x c ≡ true) seated idle) has room)
+    (subst (λ (x : State). narrow_step x (PassiveAdd c n) ≡ Some (record { state = v; reply = r })) seated was)
     ∙ ap (with_one_more s c) (sym t.1)
 
-pub sub_allowed : (s u : State) (c n : ℕ) → u ≡ all_seated s → is_idle u c ≡ true → nat_lt 0 (passive_of s c n) ≡ true → IsSome (step u (PassiveSub c n))
+pub sub_allowed : (s u : State) (c n : ℕ) → u ≡ all_seated s → is_idle u c ≡ true → nat_lt 0 (passive_of s c n) ≡ true → IsSome (narrow_step u (PassiveSub c n))
 sub_allowed s u c n seated idle held =
     let t = held_slot s.passive s.hands c (slot_of s.slots n) held in
-    subst (λ (x : State). IsSome (step x (PassiveSub c n))) (sym seated)
-    (is_some (step (all_seated s) (PassiveSub c n)) _ (subs (all_seated s) c n t.0 t.1 (subst (λ (x : State). is_idle x c ≡ true) seated idle) held) refl)
+    subst (λ (x : State). IsSome (narrow_step x (PassiveSub c n))) (sym seated)
+    (is_some (narrow_step (all_seated s) (PassiveSub c n)) _ (subs (all_seated s) c n t.0 t.1 (subst (λ (x : State). is_idle x c ≡ true) seated idle) held) refl)
 
 pub subbed : (s u v : State) (c n : ℕ) (r : Reply) → u ≡ all_seated s → is_idle u c ≡ true → nat_lt 0 (passive_of s c n) ≡ true
-    → step u (PassiveSub c n) ≡ Some (record { state = v; reply = r }) → v ≡ with_one_less s c (slot_of s.slots n)
+    → narrow_step u (PassiveSub c n) ≡ Some (record { state = v; reply = r }) → v ≡ with_one_less s c (slot_of s.slots n)
 subbed s u v c n r seated idle held was =
     let t = held_slot s.passive s.hands c (slot_of s.slots n) held in
-    made s (step (all_seated s) (PassiveSub c n)) _ v r (subs (all_seated s) c n t.0 t.1 (subst (λ (x : State). is_idle x c ≡ true) seated idle) held)
-    (subst (λ (x : State). step x (PassiveSub c n) ≡ Some (record { state = v; reply = r })) seated was)
+    made s (narrow_step (all_seated s) (PassiveSub c n)) _ v r (subs (all_seated s) c n t.0 t.1 (subst (λ (x : State). is_idle x c ≡ true) seated idle) held)
+    (subst (λ (x : State). narrow_step x (PassiveSub c n) ≡ Some (record { state = v; reply = r })) seated was)
     ∙ ap (with_one_less s c) (sym t.1)
 
 -- The multiset of the passive references after one more, or one less.
@@ -128,7 +127,6 @@ pub record ShowsRecord (s : State) (n : ℕ) (load : ℕ → Option Outcome) : T
   pub entry : Entry
   pub attached : IsAttached s.history entry
   pub numbered : entry.number ≡ n
-  pub lawful : are_name_words entry.rec.name.high entry.rec.name.low ≡ true
   pub loads : (k : ℕ) → nat_lt k 5 ≡ true → load k ≡ some_outcome s (Word (word (words_of entry) k))
 
 loads_at : (s : State) (c n t k : ℕ) (e : Entry) → slot_of s.slots n ≡ Some t → is_idle s c ≡ true → nat_lt 0 (passive_at s.passive c t) ≡ true → nat_lt k 5 ≡ true → row_at s.rows t ≡ words_of e
@@ -146,7 +144,6 @@ passive_shows s c n on idle held =
       entry = e;
       attached = (entry_attached s.history s.slots e t.0 on.slots has.1.1).0;
       numbered = has.1.2;
-      lawful = row.1;
       loads = λ k few. loads_at s c n t.0 k e t.1 idle some few row.0;
     }
 
@@ -169,8 +166,3 @@ load_ok s u n k load shows same few = subst (λ (x : State). (w : ℕ) × (load 
 pub word_is : (s u : State) (n k v : ℕ) (load : State → ℕ → Option Outcome) (shows : ShowsRecord s n (load s)) → u ≡ s → nat_lt k 5 ≡ true → load u k ≡ some_outcome u (Word v)
     → v ≡ word (words_of shows.entry) k
 word_is s u n k v load shows same few was = same_word s (load s k) v (word (words_of shows.entry) k) (subst (λ (x : State). load x k ≡ some_outcome x (Word v)) same was) (shows.loads k few)
-
--- a name of these words is lawful
-pub lawful_words : (s : State) (n high low : ℕ) (load : ℕ → Option Outcome) (shows : ShowsRecord s n load) → high ≡ shows.entry.rec.name.high → low ≡ shows.entry.rec.name.low
-    → are_name_words high low ≡ true
-lawful_words s n high low load shows h l = rw (h, l) shows.lawful

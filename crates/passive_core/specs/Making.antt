@@ -3,12 +3,12 @@ use Rattle.std.specs.Prelude.{◌≡◌, ℕ, zero, suc, ◌+◌, ◌-◌, ◌�
 use Rattle.passive_core.specs.Types.{Entry, Refusal, StillHeld, Stage, Grace, Passive, Local, Freed, Event, Seat, Seek, LoadRecord, StoreSlot, StoreNext, Publish, Unpublish, Tell, Hear, Snapshot}
 use Rattle.passive_core.specs.Types.{Look, PassiveLook, Collect, TotalAdd, Keep, KeptSub, Vacate, RecordOf, Key}
 use Rattle.registry_values.specs.Common.{bias, kind_word, retired_slot}
-use Rattle.protocol.specs.Common.{IsLoadOf, State, Outcome, step}
+use Rattle.protocol.specs.Common.{IsLoadOf, State, Outcome, narrow_step}
 
 -- Each event is allowed once those before it were made, and new is what they leave of old.
 abbrev pub Makes : State → List Event → State → Type 0
 Makes old [] new = new ≡ old
-Makes old (event ∷ events) new = (o : Outcome) × (step old event ≡ Some o) × Makes o.state events new
+Makes old (event ∷ events) new = (o : Outcome) × (narrow_step old event ≡ Some o) × Makes o.state events new
 
 -- Some events lead from old to new, and each is of one kind.
 pub record MakesOnly (P : Event → Type 0) (old new : State) : Type 0 where

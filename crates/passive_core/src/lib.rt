@@ -13,7 +13,7 @@ pub use machine::{Core, run_events};
 pub use protocol::{
     Counted, Due, Event, Hand, Loaded, LocalPlace, RecordOf, RecordWords, Reply, Search,
     SearchPlace, Short, StepFault, balance_at_rest, every_run_keeps, grace_law, headline,
-    invariant_suffices, lawful_answers, safe_reuse, worked_run,
+    invariant_suffices, lawful_answers, narrow_runs, safe_reuse, worked_run,
 };
 pub use psref::CorePsref;
 pub use registry_values::{

@@ -9,7 +9,7 @@ use Rattle.atomic_table.specs.Seated.{TableId}
 use Rattle.passive_list.specs.Types.{Change, Attach, Publish, Done, Entry, Kind, Iface, Driver, Record, Settings, Key, Slot, Vacant, Live, Retired, KeeperView, LogItem}
 use Rattle.protocol.specs.Common.{with_biases, no_words, kept_at, entry_if, entry_of, keeps_rightly, kind_of, words_of, after_change, one_if}
 use Rattle.protocol.specs.State.{row_at as words_at}
-use Rattle.registry_values.specs.Common.{key_of_record, key_of, is_live, is_live_as, is_taken, kind_word, live_count, same_key, slot_at, is_lawful}
+use Rattle.registry_values.specs.Common.{key_of_record, key_of, is_live, is_live_as, is_taken, kind_word, live_count, same_key, slot_at, is_key}
 use Rattle.protocol.proofs.slots.Cells.{slot_here, slot_other}
 use Rattle.registry_values.proofs.Fit.{ranges}
 use Rattle.protocol.proofs.history.History.{length-after_change}
@@ -93,7 +93,7 @@ count_on (x ∷ xs) (y ∷ ys) on =
 
 -- The entry by its words
 
-pub entry_is : (e : Entry) → IsTrue (is_lawful e.rec.name) → entry_of e.slot (words_of e) ≡ Some e
+pub entry_is : (e : Entry) → IsTrue (is_key e.rec.name) → entry_of e.slot (words_of e) ≡ Some e
 entry_is e lawful = by e.rec.kind
   where
     by : (x : Kind) → entry_if e.slot (record { number = e.number; kind = kind_word x; high = e.rec.name.high; low = e.rec.name.low; value = e.rec.value }) (kind_of (kind_word x))
@@ -219,7 +219,7 @@ published_keeper a k l rows n e v was asked change is_shown =
 -- what is asked of a caller, of the keeper's own view
 pub ask : {table : TableId} {log : List LogItem} (a : Settings) (k : KeeperView) (rows : List KeptSlot) (n t : ℕ) (rec : Record) (x : OnPlainKeeper) → IsOurKeeper a k rows n
     → on_keeper table a k rows log ≡ x
-    → (t < x.words.settings.slots) × (slot_at x.keeper.slots t ≡ Vacant) → IsTrue (keeps_rightly (kept_at x.keeper.view.keeps t) rec.kind) → IsTrue (is_lawful rec.name)
+    → (t < x.words.settings.slots) × (slot_at x.keeper.slots t ≡ Vacant) → IsTrue (keeps_rightly (kept_at x.keeper.view.keeps t) rec.kind) → IsTrue (is_key rec.name)
     → is_taken (key_of_record rec) x.keeper.slots ≡ false
     → length x.keeper.view.history + live_count x.keeper.slots + 2 ≤ x.words.settings.change_limit → MayAttach a k rows (record { number = n + 1; slot = t; rec = rec })
 ask a k rows n t rec x our is vacant keeps name free room = record {

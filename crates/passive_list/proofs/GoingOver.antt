@@ -12,7 +12,7 @@ use Rattle.std.proofs.lemmas.Bool.Decides.{Decides-eqb}
 use Rattle.std.specs.List.{AllPairs, Contains, list_any}
 use mathlib.Core.List.{IsPrefix}
 use Rattle.passive_list.specs.Types.{Entry, Kind, Iface, Name, Change, MOST_SLOTS, AtNext, AtNumber, AtKind, AtHigh, AtLow, On, Search, CpuView}
-use Rattle.registry_values.specs.Names.{are_name_words}
+use Rattle.registry_values.specs.Names.{are_key_words}
 use Rattle.registry_values.specs.Common.{are_words_of, kind_word}
 use Rattle.protocol.specs.Common.{StandsOn, loaded_at}
 use Rattle.protocol.proofs.history.History.{one_entry}
@@ -25,12 +25,12 @@ use Rattle.passive_list.proofs.Standing.{prefix_length, stands_later, live_befor
 
 -- One slot
 
--- no name has two words of 0
-pub no_zeros : are_name_words 0 0 ≡ true → ⊥
-unfolding are_name_words
+-- no entry's name is two words of 0
+pub no_zeros : are_key_words 0 0 ≡ true → ⊥
+unfolding are_key_words
 no_zeros e = absurd (true≢false (sym e))
 
-unnamed : (kind high low : ℕ) → are_name_words high low ≡ true → are_words_of nobody kind high low ≡ false
+unnamed : (kind high low : ℕ) → are_key_words high low ≡ true → are_words_of nobody kind high low ≡ false
 unnamed kind high low named = by_cases (are_words_of nobody kind high low) refl
   where
     by_cases : (b : Bool) → are_words_of nobody kind high low ≡ b → are_words_of nobody kind high low ≡ false
@@ -40,7 +40,7 @@ unnamed kind high low named = by_cases (are_words_of nobody kind high low) refl
         let both = and_parts (high == 0) (low == 0) name in
         let h : high ≡ 0 = eqb-true high 0 both.0 in
         let l : low ≡ 0 = eqb-true low 0 both.1 in
-        absurd (no_zeros (sym (λ i. are_name_words (h i) (l i)) ∙ named))
+        absurd (no_zeros (sym (λ i. are_key_words (h i) (l i)) ∙ named))
 
 -- the words that the search compares were loaded: they are those of an entry on which it may stand, and not those that it seeks
 pub record HasCompared (x : CpuView) (from t n k h l : ℕ) (y : CpuView) : Type 0 where
@@ -79,7 +79,7 @@ compared x y1 y2 y3 y4 from t n k h l had1 had2 had3 had4 at tells =
     let kind : kind_word e.rec.kind ≡ k = s2.words t 1 e (refl, refl) (subst (λ (p : List Change). StandsOn p from (length p) t e) (sym pass2) stands) in
     let high : e.rec.name.high ≡ h = s3.words t 2 e (refl, refl) (subst (λ (p : List Change). StandsOn p from (length p) t e) (sym pass3) stands) in
     let low : e.rec.name.low ≡ l = s4.words t 3 e (refl, refl) (subst (λ (p : List Change). StandsOn p from (length p) t e) (sym pass4) stands) in
-    let named : are_name_words h l ≡ true = sym (λ i. are_name_words (high i) (low i)) ∙ tells.named t e stands in
+    let named : are_key_words h l ≡ true = sym (λ i. are_key_words (high i) (low i)) ∙ tells.named t e stands in
     let none : are_words_of key k h l ≡ false = unnamed k h l named in
     record {
       is = is4 ∙ ap (λ v. cpu_with_search_at v key from q) (is3 ∙ ap (λ v. cpu_with_search_at v key from (AtLow t n k h)) (is2 ∙ ap (λ v. cpu_with_search_at v key from (AtHigh t n k)) is1))

@@ -3,7 +3,7 @@ use Rattle.std.proofs.Common.{◌≡◌, ℕ, ◌+◌, ◌<◌, ◌≤◌, false
 use Rattle.std.proofs.Math.Seq.{map-set_same}
 use Rattle.atomic_table.specs.Seated.{TableId}
 use Rattle.passive_list.specs.Types.{Change, Iface, Record, Settings, Slot, Vacant, KeeperView, LogItem, ReferenceView}
-use Rattle.registry_values.specs.Common.{key_of_record, is_taken, live_count, slot_at, is_lawful}
+use Rattle.registry_values.specs.Common.{key_of_record, is_taken, live_count, slot_at, is_key}
 use Rattle.protocol.specs.Common.{kept_at}
 use Rattle.cpu_words.specs.Common.{keeper_after_keep}
 use Rattle.passive_list.specs.Common.{KeptSlot, OnPlainKeeper, on_keeper, no_row, row_at, state_of, states_of, IsAtRest, RowsAgree, IsOurKeeper, MayAttach}
@@ -62,7 +62,7 @@ same_history k l t v at = sym (ap (λ (x : KeeperView). length x.history) at)
 -- what publishing asks of the keeper once the slot keeps the reference, from what is asked of a caller
 pub may_attach : {table : TableId} {log : List LogItem} (a : Settings) (k l : KeeperView) (rows : List KeptSlot) (c t n : ℕ) (rec : Record) (v : ReferenceView) (x : OnPlainKeeper)
     → IsOurKeeper a k rows c → on_keeper table a k rows log ≡ x
-    → l ≡ keeper_after_keep k t v → v.entry.number ≡ n → (t < x.words.settings.slots) × (slot_at x.keeper.slots t ≡ Vacant) → rec.kind ≡ Iface → IsTrue (is_lawful rec.name)
+    → l ≡ keeper_after_keep k t v → v.entry.number ≡ n → (t < x.words.settings.slots) × (slot_at x.keeper.slots t ≡ Vacant) → rec.kind ≡ Iface → IsTrue (is_key rec.name)
     → is_taken (key_of_record rec) x.keeper.slots ≡ false → length x.keeper.view.history + live_count x.keeper.slots + 2 ≤ x.words.settings.change_limit
     → MayAttach a l (rows_keeping rows t n) (record { number = c + 1; slot = t; rec = rec })
 may_attach a k l rows c t n rec v x our is at number vacant kind name free room =

@@ -7,7 +7,7 @@ pub use Rattle.passive_list.specs.declared.place.NumberedCount.{NumberedCount}
 pub use Rattle.passive_list.specs.Cpus.{AreNewRows, DepthAgrees, HoldsFound, IsKept, IsOurCpu, IsPlaceOf, NetAgree, OnCpu, OnPlainCpu, PassiveAgree, SectionAgrees, no_found, no_place, place_at}
 pub use Rattle.passive_list.specs.Draining.{AreHeld, HasAttachedKeeping, HasCollectedInto, HasFreed, HasGivenUp, keeper_after_collect, kept_slot}
 pub use Rattle.passive_list.specs.GoingOver.{AreStoodOn, GoesOnAt, HasGoneByFrom, HasGoneByOne, HasGoneOver, IsGoingOver, IsLiveSince, MayGoBy, view_at_link}
-pub use Rattle.passive_list.specs.Keepers.{AreRowsOfNew, AreSized, HasRows, IsAtRest, IsOurKeeper, MarksAgree, OnKeeper, OnPlainKeeper, RowAgrees, RowsAgree, no_row, on_keeper, row_at, state_of, states_of, total_or_bias}
+pub use Rattle.passive_list.specs.Keepers.{AreSized, HasRows, IsAtRest, IsOurKeeper, MarksAgree, OnKeeper, OnPlainKeeper, RowAgrees, RowsAgree, no_row, on_keeper, row_at, state_of, states_of, total_or_bias}
 pub use Rattle.passive_list.specs.Links.{link_to, newer_of, older_of, place_of}
 pub use Rattle.passive_list.specs.Logs.{GoesOnBy, HasOwnLog}
 pub use Rattle.passive_list.specs.Lookups.{HasFound, HasFoundFromOutside}

@@ -1,6 +1,6 @@
 -- What a CPU remembers of the entries that it has found: a row for each slot, and by hint of a name the two slots where one with that hint was found last. And by hint, a name that no entry had.
 use Rattle.std.specs.Prelude.{◌≡◌, ◌≢◌, ◌⊎◌, ℕ, ◌+◌, ◌*◌, ◌/◌, ◌%◌, ◌^◌, ◌==◌, ◌<◌, ◌≤◌, if◌then◌else◌, List, length, set, replicate, slice_index_or, Option, Some, None, IfSome}
-use Rattle.passive_list.specs.Types.{Change, Entry, Iface, Key, Name, MOST_SLOTS}
+use Rattle.passive_list.specs.Types.{Change, Entry, Iface, Key, Name}
 use Rattle.protocol.specs.Common.{IsAttached, IsLookup, entry_with}
 use Rattle.passive_list.specs.declared.lookup.Seen.{Seen}
 use Rattle.passive_list.specs.declared.memory.Hint.{Hint}

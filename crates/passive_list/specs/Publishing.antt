@@ -2,7 +2,7 @@
 use Rattle.std.specs.Prelude.{◌≡◌, ℕ, zero, suc, ◌+◌, ◌<◌, ◌≤◌, List, [], ◌++◌, length, slice_index_or, slice_set, IsTrue, false}
 use Rattle.passive_list.specs.Types.{Entry, Attach, StoreSlot, StoreNext, Publish, Show, Done, Settings, RecordWords, Vacant, Live, KeeperView, Keeper, LogItem}
 use Rattle.protocol.specs.Common.{with_biases, kept_at, keeps_rightly, words_of, after_change}
-use Rattle.registry_values.specs.Common.{bias, key_of, is_taken, live_count, slot_at, is_lawful}
+use Rattle.registry_values.specs.Common.{bias, key_of, is_taken, live_count, slot_at, is_key}
 use Rattle.cpu_words.specs.Common.{LeadsBelow, Makes, did, keeper_after_live}
 use Rattle.passive_list.specs.declared.keeper.KeptSlot.{KeptSlot}
 use Rattle.passive_list.specs.Keepers.{OnKeeper, IsAtRest, RowsAgree, states_of}
@@ -39,7 +39,7 @@ pub record MayAttach (a : Settings) (k : KeeperView) (rows : List KeptSlot) (e :
   pub slot : e.slot < a.slots
   pub vacant : slot_at (states_of rows) e.slot ≡ Vacant
   pub keeps : IsTrue (keeps_rightly (kept_at k.keeps e.slot) e.rec.kind)
-  pub name : IsTrue (is_lawful e.rec.name)
+  pub name : IsTrue (is_key e.rec.name)
   pub free : is_taken (key_of e) (states_of rows) ≡ false
   pub room : length k.history + live_count (states_of rows) + 2 ≤ a.change_limit
   pub number : e.number ≡ suc (length k.history)

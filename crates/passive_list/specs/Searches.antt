@@ -5,7 +5,7 @@ use Rattle.passive_list.specs.Types.{Iface, Entry, Key, Seek, LoadLink, LoadReco
 use Rattle.protocol.specs.declared.event.RecordOf.TheVariants.{Search as OfSearch}
 use Rattle.cpu_words.specs.Common.{did}
 
--- what no entry is looked up by: no name has two words of 0
+-- what no entry is looked up by: no entry's name is two words of 0
 abbrev pub nobody : Key
 nobody = record { kind = Iface; name = record { high = 0; low = 0 } }
 

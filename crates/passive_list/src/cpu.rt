@@ -40,8 +40,12 @@ impl<D: Domain> Model for Cpu<D> {
 
 impl<D: Domain> Cpu<D> {
     /// The CPU of a new seat: outside, with nothing found and nothing held. What its share has is what its calls have made.
-    /// Condition: the seat is of D's table, as `Words::new` gave it, `id` is its number, below how many CPUs the table has, the rows are for the
-    /// table's slots, and the share is one part of D's ledger.
+    /// Conditions:
+    ///
+    /// - the seat is of D's table, as `Words::new` gave it;
+    /// - `id` is its number, below how many CPUs the table has;
+    /// - the rows are for the table's slots;
+    /// - the share is one part of D's ledger.
     pub fn of_seat(seat: CpuSeat, id: u8, rows: CpuRows, share: Share<D>) -> Cpu<D>
         requires table { (seat.table ≡ D.table) × IsTrue (are_fit D.settings) × (id < D.settings.cpus) }
         requires new { seat.view ≡ new_cpu D.settings id }

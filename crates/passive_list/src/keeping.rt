@@ -2,7 +2,7 @@
 
 ghost use Rattle.std.specs.Prelude.{◌≡◌, ◌<◌, ◌≤◌, ◌+◌, ◌++◌, suc, IsTrue, false, length, None};
 ghost use Rattle.passive_list.specs.Types.{Iface, Driver, Keep, Done, Vacant};
-ghost use Rattle.registry_values.specs.Common.{key_of_record, is_taken, live_count, slot_at, is_lawful};
+ghost use Rattle.registry_values.specs.Common.{key_of_record, is_taken, live_count, slot_at, is_key};
 ghost use Rattle.protocol.specs.Common.{kept_at};
 ghost use Rattle.cpu_words.specs.Common.{AreWordsOf, did};
 ghost use Rattle.passive_list.specs.Draining.{HasAttachedKeeping};
@@ -19,7 +19,7 @@ use registry_values::{Entry, Record};
 /// Conditions:
 ///
 /// - the slot is one of the table's and vacant, and keeps nothing (`Keeper::keeps`);
-/// - the record's kind is Iface, its name is lawful, and no live entry has this kind and name;
+/// - the record's kind is Iface, its name's words aren't both 0, and no live entry has this kind and name;
 /// - the reference is to a driver, live or retired, with this number (`PlainRef` has both beside the seat);
 /// - words and seat are of the keeper's table;
 /// - the history has room for this change and for the detach of each live entry, the new one too.
@@ -38,7 +38,7 @@ pub fn publish_keeping(
     requires nothing { kept_at keeper.old.keeper.view.keeps slot ≡ None }
     requires kind { rec.kind ≡ Iface }
     requires driver { reference.view.entry.rec.kind ≡ Driver }
-    requires name { IsTrue (is_lawful rec.name) }
+    requires name { IsTrue (is_key rec.name) }
     requires free { is_taken (key_of_record rec) keeper.old.keeper.slots ≡ false }
     requires room { length keeper.old.keeper.view.history + live_count keeper.old.keeper.slots + 2 ≤ keeper.old.words.settings.change_limit }
     ensures entry { result ≡ record { number = suc (length keeper.old.keeper.view.history); slot = slot; rec = rec } }

@@ -2,7 +2,7 @@
 
 ghost use Rattle.std.specs.Prelude.{◌≡◌, ℕ, ◌<◌, ◌≤◌, ◌+◌, suc, Some, IsTrue, false, length};
 ghost use Rattle.passive_list.specs.Types.{Vacant};
-ghost use Rattle.registry_values.specs.Common.{key_of_record, is_taken, live_count, slot_at, is_lawful};
+ghost use Rattle.registry_values.specs.Common.{key_of_record, is_taken, live_count, slot_at, is_key};
 ghost use Rattle.protocol.specs.Common.{keeps_rightly, words_of, kept_at};
 ghost use Rattle.cpu_words.specs.Common.{IsAttachedKeeping, AreWordsOf, MayWrite};
 ghost use Rattle.passive_list.specs.Keepers.{AreSized};
@@ -19,13 +19,13 @@ use registry_values::{BIAS, Entry, MOST_CPUS, Record, kind_word};
 /// Conditions:
 ///
 /// - the slot is one of the table's and vacant, and keeps a reference exactly if the kind is Iface;
-/// - the name is lawful, and no live entry has this kind and name;
+/// - the name's words aren't both 0, and no live entry has this kind and name;
 /// - the history has room for this change and for the detach of each live entry, the new one too.
 pub fn publish(words: &Words, keeper: &mut Keeper, slot: u8, rec: Record) -> Entry
     requires words { AreWordsOf words.now keeper.old.words.table keeper.old.words.settings }
     requires vacant { (slot < keeper.old.words.settings.slots) × (slot_at keeper.old.keeper.slots slot ≡ Vacant) }
     requires keeps { IsTrue (keeps_rightly (kept_at keeper.old.keeper.view.keeps slot) rec.kind) }
-    requires name { IsTrue (is_lawful rec.name) }
+    requires name { IsTrue (is_key rec.name) }
     requires free { is_taken (key_of_record rec) keeper.old.keeper.slots ≡ false }
     requires room { length keeper.old.keeper.view.history + live_count keeper.old.keeper.slots + 2 ≤ keeper.old.words.settings.change_limit }
     ensures entry { result ≡ record { number = suc (length keeper.old.keeper.view.history); slot = slot; rec = rec } }

@@ -1,19 +1,14 @@
 -- The words of a record, loaded while the CPU's view stays as it was.
 use Rattle.std.proofs.Common.{◌≡◌, ◌++◌, ℕ, true, sym, ap, ◌∙◌, subst}
-use Rattle.registry_values.specs.Names.{are_name_words}
 use Rattle.passive_list.specs.Types.{Entry, LoadRecord, Passive, Word, CpuView}
 use Rattle.protocol.specs.Common.{word, words_of}
-use Rattle.cpu_words.specs.Common.{IsWordOf, IsNamed, did}
+use Rattle.cpu_words.specs.Common.{IsWordOf, did}
 use Rattle.passive_list.specs.Common.{OnCpu}
 use Rattle.passive_ref.specs.Psrefs.{HasLoaded, IsHeldAt, has_loaded}
 
 -- a word that was loaded is the entry's
 pub word_is : (x y : CpuView) (t n k m : ℕ) (held : IsHeldAt x t n) → y ≡ x → IsWordOf y t n k m → m ≡ word (words_of held.entry) k
 word_is x y t n k m held same loaded = subst (λ (v : CpuView). IsWordOf v t n k m) same loaded held.entry held.at held.held
-
--- its name is lawful, whichever way its words are written
-pub named : (x : OnCpu) (t n h l : ℕ) (held : IsHeldAt x.view t n) → IsNamed x.view t n → h ≡ held.entry.rec.name.high → l ≡ held.entry.rec.name.low → are_name_words h l ≡ true
-named x t n h l held lawful high low = (λ i. are_name_words (high i) (low i)) ∙ lawful held.entry held.at held.held
 
 -- the CPU as it has loaded the word k of e
 abbrev pub after_load : Entry → ℕ → OnCpu → OnCpu

@@ -3,7 +3,7 @@
 ghost use Rattle.std.specs.Prelude.{◌≡◌, ◌<◌, ◌++◌, IfErr};
 ghost use Rattle.registry_values.specs.Common.{Answers};
 ghost use Rattle.passive_list.specs.Types.{LoadRecord, Passive, Word};
-ghost use Rattle.cpu_words.specs.Common.{AreWordsOf, did, IsWordOf, IsNamed};
+ghost use Rattle.cpu_words.specs.Common.{AreWordsOf, did, IsWordOf};
 ghost use Rattle.passive_ref.specs.Psrefs.{IsHeldAt, IsRead, IsReadAs, why_unusable};
 
 use crate::holding::usable_slot;
@@ -68,7 +68,6 @@ fn load_word(words: &Words, cpu: &mut PlainCpu, slot: u8, number: u64, k: u8) ->
     requires held { IsHeldAt cpu.old.cpu.view slot number }
     requires place { k < 5 }
     ensures word { IsWordOf cpu.old.cpu.view slot number k result }
-    ensures name { IsNamed cpu.old.cpu.view slot number }
     ensures log { cpu.new ≡ record cpu.old { cpu = record cpu.old.cpu { log = cpu.old.cpu.log ++ did (LoadRecord (Passive cpu.old.cpu.view.id number k)) (Word result) } } }
 {
     steps::load_passive(words, &mut cpu.seat, cpu.id, slot, number, k)

@@ -4,6 +4,7 @@ pub mod Drivers
 pub mod Fresh
 pub mod Grace
 pub mod Headline
+pub mod Narrow
 pub mod Reuse
 pub mod Rows
 pub mod Runs

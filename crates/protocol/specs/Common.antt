@@ -26,7 +26,7 @@ pub use Rattle.protocol.specs.Events.{grows, guard, has_room, hear, id_if, is_bi
 pub use Rattle.protocol.specs.Events.{is_prepared, is_snapshot_due, keeps_rightly, kept_sub, kind_of, least_id, link_at, link_loaded, load_link, load_local, load_passive, load_record, load_searched}
 pub use Rattle.protocol.specs.Events.{look, may_add, may_collect, may_count, may_enter, may_examine, may_exit, may_glance, may_join, may_join_keeper, may_keep, may_look_passive, may_publish, may_seat}
 pub use Rattle.protocol.specs.Events.{may_seek, may_sub, may_vacate, may_write, number_standing, outcome_of, room_of, search_over, snapshot, snapshot_mark, some_outcome, split_back, split_ref}
-pub use Rattle.protocol.specs.Events.{state_after, step, store_slot, tell, total_add, total_sub, unpublish, with_link_past, with_local, with_retired, with_search_at, with_some, with_word, word}
+pub use Rattle.protocol.specs.Events.{names_lawfully, narrow_step, state_after, step, store_slot, tell, total_add, total_sub, unpublish, with_link_past, with_local, with_retired, with_search_at, with_some, with_word, word}
 pub use Rattle.protocol.specs.Events.{after_confirm, after_live_store, after_take_back, after_taking, after_tried, after_try, compared_slot, confirm, is_honest, has_live, may_confirm, may_hide, may_recall, may_try, show}
 pub use Rattle.protocol.specs.Events.{after_refind, may_recall_head, may_refind, refind, take_back, words_of}
 pub use Rattle.protocol.specs.History.{EndsAt, IsAttached, IsLawful, IsLegal, IsLiveAt, IsLookup, IsNewestAt, MayHold, after_change}
@@ -36,7 +36,7 @@ pub use Rattle.protocol.specs.Invariant.{IsSeenInHand, SnapshotsStand, StandsOn,
 pub use Rattle.protocol.specs.Invariant.{subtraction_due_at}
 pub use Rattle.protocol.specs.Laws.{AnswersLawfully, BalanceAtRest, BalancesAtRest, DriversOutlive, EndsByExit, EveryRunKeeps, GraceLaw, HasBegun, HasExit, HasMoved, Headline, InvariantSuffices}
 pub use Rattle.protocol.specs.Laws.{IsAllowed, IsAnswered, IsBalanced, IsLoadOf, IsSafe, LawfulAnswers, ObeysLaws, OutliveInterfaces, ReusesSafely, SafeReuse, after, after_event, answer_of}
-pub use Rattle.protocol.specs.Laws.{NewestRecalls, RecallsNewest}
+pub use Rattle.protocol.specs.Laws.{AreAlike, AreNamedLawfully, NarrowEvents, NarrowNames, NarrowRuns, NewestRecalls, RecallsNewest}
 pub use Rattle.protocol.specs.Laws.{AnswersFreshly, FreshAnswers, HasTry, IsFreshAnswer, IsNoSeek, IsTry, SeeksNone, SeesAll, RecallsLive, LiveRecalls, UntriedRuns, WholePasses, destroyed_slot, given_slot, held_of, occupant_of, seek_for}
 pub use Rattle.protocol.specs.Loaded.{SlotWithin, entry_with, loaded_at, loaded_of_name, row_of_place}
 pub use Rattle.protocol.specs.Marking.{AllClear, AllCollected, AllPassed, MarksGrow, SameElsewhere}
@@ -45,7 +45,7 @@ pub use Rattle.protocol.specs.Model.{Seeks, Sees, Stays, Takes, TakesNone, Uncou
 pub use Rattle.protocol.specs.Picture.{Confirms, EveryRunIsModelRun, HasConfirm, locals_of, lookup_of, number_in, passive_in, picture, subtractions_due}
 pub use Rattle.protocol.specs.Rows.{CollectRace, TryRace, FrozenLink, Gives, all_three, attaches, detaches, done_replies, first, has_found, loads, search_begins, search_case, search_goes_on, try_replies}
 pub use Rattle.protocol.specs.Rows.{two_cpus, unlinked_case, wm0, wm1, wm2}
-pub use Rattle.protocol.specs.Run.{Run, empty_run, run_of_events, run_with_event}
+pub use Rattle.protocol.specs.Run.{Run, empty_run, narrow_run_of_events, run_of_events, run_with_event, with_lawful_names}
 pub use Rattle.protocol.specs.State.{State, at_rest, begin_at, cell, count_at, depth_at, found_at, hand_at, is_empty, kept_at, live_at, local_at, mark_at, no_words, opening, passive_at, row_at, search_at}
 pub use Rattle.protocol.specs.State.{section_at, seen_at, total_at, trying_at, trying_of, with_biases, with_cell}
 pub use Rattle.protocol.specs.Taken.{Keeps, Steps, WantsMemory}

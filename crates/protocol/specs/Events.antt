@@ -27,7 +27,7 @@ use Rattle.protocol.specs.Loaded.{loaded_at, row_of_place}
 use Rattle.registry_values.specs.Answers as answers
 use Rattle.registry_values.specs.Common.{key_of, slot_at, kind_word, is_iface, is_driver, is_vacant, is_retired, is_taken, live_count, slot_of, slot_before, bias, no_mark, have_passed, are_clear}
 use Rattle.registry_values.specs.Common.{are_collected, is_some_collected, mark_after_passive_look, mark_after_collect, mark_after_look}
-use Rattle.registry_values.specs.Names.{are_name_words}
+use Rattle.registry_values.specs.Names.{are_key_words, are_name_words}
 use Rattle.protocol.specs.State.{State, with_cell, section_at, begin_at, depth_at, seen_at, search_at, found_at, hand_at, row_at, mark_at, passive_at, count_at, total_at, live_at, kept_at, local_at, is_empty}
 use Rattle.protocol.specs.State.{at_rest}
 
@@ -222,10 +222,10 @@ kind_of (suc zero) = Some Iface
 kind_of (suc (suc zero)) = Some Driver
 kind_of (suc (suc (suc n))) = None
 
--- the entry whose words these are
+-- the entry whose words these are: a kind's word, and a name that isn't both words 0
 abbrev pub entry_if : ℕ → RecordWords → Option Kind → Option Entry
 entry_if t r None = None
-entry_if t r (Some kind) = if are_name_words r.high r.low
+entry_if t r (Some kind) = if are_key_words r.high r.low
     then Some (record { number = r.number; slot = t; rec = record { kind = kind; name = record { high = r.high; low = r.low }; value = r.value } })
     else None
 
@@ -629,6 +629,15 @@ step s (Refind c t n) = refind s c t n (slot_at s.slots t)
 step s (Try c t n) = guard (may_try s c t n) (some_outcome (after_try s c t n) (Word (passive_at s.passive c t)))
 step s (Confirm c) = confirm s c (hand_at s c)
 step s (TakeBack c) = take_back s c (hand_at s c)
+
+-- every event but a Publish of a row whose name isn't lawful
+abbrev pub names_lawfully : State → Event → Bool
+names_lawfully s (Publish t) = are_name_words (row_at s.rows t).high (row_at s.rows t).low
+names_lawfully s _ = true
+
+-- The events of the pure machine: those of `step` but a Publish of a name that isn't lawful. The shared words make any event of `step`.
+abbrev pub narrow_step : State → Event → Option Outcome
+narrow_step s event = guard (names_lawfully s event) (step s event)
 
 -- the state after an event, which is as it was where the event isn't allowed
 abbrev pub state_after : State → Option Outcome → State

@@ -13,7 +13,7 @@ use Rattle.protocol.specs.declared.state.LocalPlace.TheVariants.{Free, Standing,
 use Rattle.protocol.specs.declared.state.Due.{Due}
 use Rattle.protocol.specs.declared.state.Due.TheVariants.{Rest, Snapshots, Adding, Subtracting}
 use Rattle.registry_values.specs.Common.{are_fit, key_of, slot_at, kind_word, live_count, bias}
-use Rattle.registry_values.specs.Names.{are_name_words}
+use Rattle.registry_values.specs.Names.{are_key_words}
 use Rattle.protocol.specs.History.{IsAttached, EndsAt, IsLiveAt, IsLegal, MayHold}
 use Rattle.protocol.specs.State.{State, row_at, mark_at, passive_at, trying_at, count_at, total_at, kept_at, local_at}
 use Rattle.protocol.specs.Events.{words_of, keeps_rightly}
@@ -59,9 +59,9 @@ pub record SlotsShow (h : List Change) (slots : List Slot) : Type 0 where
   pub placed : (e : Entry) → IsLiveAt h (length h) e → slot_at slots e.slot ≡ Live e
   pub retired : (t : ℕ) (e : Entry) → slot_at slots t ≡ Retired e → IsAttached h e × (e.slot ≡ t) × ((p : ℕ) × EndsAt h e.number p)
 
--- published: an occupied slot has its entry's words, and a lawful name
+-- published: an occupied slot has its entry's words, and a name that isn't both words 0
 abbrev pub RowsShow : List Slot → List RecordWords → Type 0
-RowsShow slots rows = (t : ℕ) (e : Entry) → IsIn e (slot_at slots t) → (row_at rows t ≡ words_of e) × (are_name_words e.rec.name.high e.rec.name.low ≡ true)
+RowsShow slots rows = (t : ℕ) (e : Entry) → IsIn e (slot_at slots t) → (row_at rows t ≡ words_of e) × (are_key_words e.rec.name.high e.rec.name.low ≡ true)
 
 -- the link x leads to the greatest number below n that was live after k changes, or to the end where there was none
 pub data Leads (h : List Change) (k n : ℕ) : ℕ → Type 0 where

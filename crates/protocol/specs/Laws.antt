@@ -9,12 +9,12 @@ use Rattle.protocol.specs.declared.event.Reply.{Reply}
 use Rattle.protocol.specs.declared.event.Reply.TheVariants.{Done, Word, Found, Missed, Ref, Collected}
 use Rattle.protocol.specs.declared.state.Hand.TheVariants.{Trying}
 use Rattle.protocol.specs.declared.state.Search.{Search}
-use Rattle.registry_values.specs.Common.{are_fit, bias, key_of, slot_at}
+use Rattle.registry_values.specs.Common.{are_fit, bias, is_lawful, key_of, slot_at}
 use Rattle.protocol.specs.History.{IsAttached, EndsAt, IsLiveAt, IsLawful, IsNewestAt}
 use Rattle.protocol.specs.State.{State, opening, section_at, begin_at, seen_at, search_at, found_at, hand_at, count_at, total_at, live_at, kept_at, trying_at, at_rest}
-use Rattle.protocol.specs.Events.{Outcome, step, state_after}
+use Rattle.protocol.specs.Events.{Outcome, narrow_step, step, state_after}
 use Rattle.protocol.specs.Invariant.{Holds, IsIn, IsCounting, kept_of, held_at, one_if_used, itself}
-use Rattle.protocol.specs.Run.{run_of_events, empty_run}
+use Rattle.protocol.specs.Run.{Run, narrow_run_of_events, run_of_events, empty_run, with_lawful_names}
 use Rattle.protocol.specs.Model.{IsUnheld, IsModelRun}
 use Rattle.protocol.specs.Picture.{HasConfirm, number_in, picture}
 
@@ -282,6 +282,31 @@ pub record IsSafe (s : State) : Type 0 where
 -- lookup is the registry's at some point of its one history, not before what the caller had seen.
 abbrev pub Headline : Type 0
 Headline = Always IsSafe
+
+-- The pure machine, which refuses a Publish of a name that isn't lawful
+
+-- each of its events is one of `step`, with what that leaves and replies
+abbrev pub NarrowEvents : Type 0
+NarrowEvents = (s : State) (event : Event) (o : Outcome) → narrow_step s event ≡ Some o → step s event ≡ Some o
+
+-- one run of the list of all events, and one of those that were kept of them: state and replies are the same, and the first run has refused the others as well
+pub record AreAlike (narrow wide : Run) (all kept : List Event) : Type 0 where
+  pub state : narrow.state ≡ wide.state
+  pub taken : narrow.counted.taken ≡ wide.counted.taken
+  pub last : narrow.counted.last ≡ wide.counted.last
+  pub refused : narrow.counted.refused + length kept ≡ wide.counted.refused + length all
+
+-- What a list of events does in the pure machine, from any state, `step` does by a list of its own: the one without each Publish of a name that isn't lawful. So each law over all lists holds of it.
+abbrev pub NarrowRuns : Type 0
+NarrowRuns = (s : State) (events : List Event) → AreAlike (narrow_run_of_events (empty_run s) events) (run_of_events (empty_run s) (with_lawful_names s events)) events (with_lawful_names s events)
+
+-- each entry that was ever attached has a lawful name
+abbrev pub AreNamedLawfully : List Change → Type 0
+AreNamedLawfully h = (e : Entry) → IsAttached h e → IsTrue (is_lawful e.rec.name)
+
+-- so it is in every state that the pure machine reaches
+abbrev pub NarrowNames : Type 0
+NarrowNames = (z : Settings) (events : List Event) → IsTrue (are_fit z) → AreNamedLawfully (narrow_run_of_events (empty_run (opening z)) events).state.history
 
 -- The laws of one state
 

@@ -77,7 +77,7 @@ pub enum Event {
     KeptSub(u8),
     /// A retired entry's slot is vacant.
     Vacate(u8),
-    /// The keeper stores the number of the slot's live entry in the slot's live word: CPUs that remember the entry may answer by it.
+    /// The keeper stores the number of the slot's live entry in the slot's live word: a CPU that remembers the entry takes it as the result of a lookup.
     Show(u8),
     /// The keeper stores 0 in the slot's live word.
     Hide(u8),

@@ -1,7 +1,7 @@
 //! The laws of the core, over every list of events and of every state with the core invariant: functions that do nothing, whose contracts are
 //! the laws.
 
-ghost use Rattle.protocol.specs.Laws.{BalanceAtRest, DriversOutlive, EveryRunKeeps, FreshAnswers, GraceLaw, Headline, InvariantSuffices, LawfulAnswers, LiveRecalls, NewestRecalls, SafeReuse, UntriedRuns, WholePasses};
+ghost use Rattle.protocol.specs.Laws.{BalanceAtRest, DriversOutlive, EveryRunKeeps, FreshAnswers, GraceLaw, Headline, InvariantSuffices, LawfulAnswers, LiveRecalls, NarrowEvents, NarrowNames, NarrowRuns, NewestRecalls, SafeReuse, UntriedRuns, WholePasses};
 ghost use Rattle.protocol.specs.Picture.{EveryRunIsModelRun};
 ghost use Rattle.protocol.specs.Rows.{CollectRace, FrozenLink, TryRace};
 
@@ -77,6 +77,18 @@ pub fn grace_law()
 /// A `Core` always has the invariant, also after a call whose events aren't told.
 pub fn invariant_suffices()
     ensures { InvariantSuffices }
+{}
+
+/// Theorem, no effect at run time: what all laws say of the pure machine, whose event `narrow_step` refuses a `Publish` of a name that isn't
+/// lawful (`Name::parse`), and is `step` else.
+///
+/// - `events`: each of its events is one of `step`.
+/// - `runs`: each of its lists is one of `step`, without what it alone refuses: same state, as many events made, same last reply.
+/// - `names`: each entry that it ever attaches has a lawful name.
+pub fn narrow_runs()
+    ensures events { NarrowEvents }
+    ensures runs { NarrowRuns }
+    ensures names { NarrowNames }
 {}
 
 /// Theorem, no effect at run time: three lists of events reply as written, so the definitions aren't vacuous.

@@ -21,6 +21,6 @@ mod state;
 pub use event::{Counted, Event, RecordOf, Reply, Short, StepFault};
 pub use laws::{
     balance_at_rest, every_run_keeps, fresh_answers, grace_law, headline, invariant_suffices,
-    lawful_answers, safe_reuse, worked_run,
+    lawful_answers, narrow_runs, safe_reuse, worked_run,
 };
 pub use state::{Due, Hand, Loaded, LocalPlace, RecordWords, Search, SearchPlace};

@@ -2,7 +2,7 @@
 //! where a turn is to meet that.
 
 ghost use Rattle.std.specs.Prelude.{◌≡◌, IsTrue};
-ghost use Rattle.registry_values.specs.Common.{is_lawful};
+ghost use Rattle.registry_values.specs.Common.{is_key};
 ghost use Rattle.name_registry.specs.Common.{IsBlankOf};
 
 use crate::failure::Failure;
@@ -50,7 +50,7 @@ struct Replaced {
 #[derive(Drop)]
 struct Changing {
     rec: Record,
-    ghost lawful: { IsTrue (is_lawful rec.name) },
+    ghost lawful: { IsTrue (is_key rec.name) },
 }
 
 /// What a run has: the registry, and the entries that don't stay. The first CPU makes every change.

@@ -1,7 +1,7 @@
 //! A registry to measure: its settings, and its entries, the drivers `d00`, `d01` and so on.
 
 ghost use Rattle.std.specs.Prelude.{IfOk, IsTrue};
-ghost use Rattle.registry_values.specs.Common.{is_lawful};
+ghost use Rattle.registry_values.specs.Common.{is_key};
 
 use crate::failure::Failure;
 use cpu_words::Domain;
@@ -25,7 +25,7 @@ pub fn settings_for(cpus: u8, slots: u8) -> Settings {
 
 /// The record of the entry with this place in the list, from 0: the place is its value.
 pub fn driver(place: u8) -> Result<Record, Failure>
-    ensures { IfOk result (λ rec. IsTrue (is_lawful rec.name)) }
+    ensures { IfOk result (λ rec. IsTrue (is_key rec.name)) }
 {
     let name = Name::parse(&[b'd', b'0' + place / 10, b'0' + place % 10])?;
     Ok(Record {

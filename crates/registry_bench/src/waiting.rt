@@ -1,7 +1,7 @@
 //! What a change costs: an entry is detached, destroyed and attached again, while other CPUs enter and leave sections.
 
 ghost use Rattle.std.specs.Prelude.{◌≡◌, IsTrue};
-ghost use Rattle.registry_values.specs.Common.{is_lawful};
+ghost use Rattle.registry_values.specs.Common.{is_key};
 ghost use Rattle.name_registry.specs.Common.{IsBlankOf};
 
 use crate::failure::Failure;
@@ -50,7 +50,7 @@ pub struct Bench<'a, D: Domain> {
     gate: Gate,
     /// 0 until the last replacement is made.
     over: AtomicU64,
-    ghost lawful: { IsTrue (is_lawful rec.name) },
+    ghost lawful: { IsTrue (is_key rec.name) },
 }
 
 /// Carries the plan out, on a registry of its own. Refused: `Wrong`, where an answer isn't as it should be.

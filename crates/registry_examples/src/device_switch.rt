@@ -2,7 +2,7 @@
 
 ghost use Rattle.std.specs.Prelude.{◌<◌, ◌≤◌, IsTrue};
 ghost use Rattle.std.specs.Thread.{IsSync};
-ghost use Rattle.registry_values.specs.Common.{is_lawful};
+ghost use Rattle.registry_values.specs.Common.{is_key};
 ghost use Rattle.name_registry.specs.Common.{IsBlankOf};
 
 use crate::failure::Failure;
@@ -48,7 +48,7 @@ struct Switch<'a, D: Domain> {
     registry: &'a Registry<D>,
     opens: &'a Opens<D>,
     driver: Record,
-    ghost lawful: { IsTrue (is_lawful driver.name) },
+    ghost lawful: { IsTrue (is_key driver.name) },
 }
 
 /// Runs the switch on a registry of its own: CPU 0 opens, CPU 1 closes, and CPU 2 pulls the driver out.

@@ -5,7 +5,7 @@
 ghost use Rattle.std.specs.Prelude.{◌≡◌, ◌≢◌, ◌<◌, IfOk, IsTrue, None};
 ghost use Rattle.std.specs.Thread.{IsSync};
 ghost use Rattle.cpu_words.specs.Common.{IsFreedFrom};
-ghost use Rattle.registry_values.specs.Common.{is_lawful};
+ghost use Rattle.registry_values.specs.Common.{is_key};
 ghost use Rattle.name_registry.specs.Common.{IsBlankOf};
 
 use crate::failure::Failure;
@@ -54,7 +54,7 @@ struct Bus<'a, D: Domain> {
     iface: Name,
     /// How many batches were carried. CPU 4 paces itself by it.
     carried: AtomicU64,
-    ghost lawful: { IsTrue (is_lawful driver) × IsTrue (is_lawful iface) },
+    ghost lawful: { IsTrue (is_key driver) × IsTrue (is_key iface) },
 }
 
 /// How many packets were carried for each value of the interface. Place 0 counts those without an interface.

@@ -2,7 +2,7 @@
 
 ghost use Rattle.std.specs.Prelude.{◌≡◌, ◌↔◌, ◌≤◌, IsTrue, [], ◌∷◌, Some, Ok};
 ghost use Rattle.registry_values.specs.declared.limits.TheConstants.{USUAL_CPUS};
-ghost use Rattle.registry_values.specs.Common.{is_lawful, name_of_bytes};
+ghost use Rattle.registry_values.specs.Common.{is_key, name_of_bytes};
 ghost use Rattle.registry_storm.specs.Judging.{driver_entry, driver_record, iface_record, IsIfaceOf};
 ghost use Rattle.registry_storm.specs.Storms.{settings_of};
 
@@ -29,7 +29,7 @@ pub struct Plan {
     pub iface: Name,
     ghost some: { (1 ≤ cpus) × (cpus ≤ USUAL_CPUS) × (1 ≤ turns) × (turns ≤ 100000) },
     ghost names: { (name_of_bytes (100 ∷ 114 ∷ 118 ∷ []) ≡ Ok driver) × (name_of_bytes (119 ∷ 109 ∷ 48 ∷ []) ≡ Ok iface) },
-    ghost lawful: { IsTrue (is_lawful driver) × IsTrue (is_lawful iface) },
+    ghost lawful: { IsTrue (is_key driver) × IsTrue (is_key iface) },
 }
 
 impl Plan {
@@ -52,7 +52,7 @@ impl Plan {
     /// The record of the driver.
     pub fn driver(&self) -> Record
         ensures value { result ≡ driver_record self.now.driver }
-        ensures lawful { IsTrue (is_lawful result.name) }
+        ensures lawful { IsTrue (is_key result.name) }
     {
         Record {
             kind: Kind::Driver,
@@ -64,7 +64,7 @@ impl Plan {
     /// The record of the interface that is attached in a turn.
     pub fn iface(&self, turn: u32) -> Record
         ensures value { result ≡ iface_record self.now.iface turn }
-        ensures lawful { IsTrue (is_lawful result.name) }
+        ensures lawful { IsTrue (is_key result.name) }
     {
         Record {
             kind: Kind::Iface,

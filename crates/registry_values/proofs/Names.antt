@@ -1,13 +1,13 @@
 -- How the bytes of a name and its two words hang together.
 use Rattle.std.proofs.Common.{◌≡◌, ℕ, ◌+◌, ◌-◌, ◌<◌, ◌==◌, zero, suc, Bool, true, false, ◌&&◌, List, [], ◌∷◌, ◌++◌, length, get_or, take, drop, replicate, Option, Some, None, is_none, if◌then◌else◌}
-use Rattle.std.proofs.Common.{nat_le, refl, ap, ap₂, sym, ◌∙◌, arith, ◌⊎◌, length-append, length-drop, length-take-le, take-append-drop, inl, inr}
+use Rattle.std.proofs.Common.{nat_le, not, refl, ap, ap₂, sym, ◌∙◌, arith, ◌⊎◌, ◌≤◌, length-append, length-drop, length-take-le, take-append-drop, inl, inr, true≢false, eqb-true}
 use Rattle.std.proofs.lemmas.Bool.{and_parts, and_from}
 use Rattle.std.proofs.lemmas.Bool.Decides.{nat_tests}
 use Rattle.std.proofs.lemmas.List.{length-replicate}
 use Rattle.std.proofs.lemmas.Nat.{be_bytes_8, from_be_bytes-to_be_bytes_8}
 use Rattle.std.specs.Int.{w64, from_be_bytes, to_be_bytes}
 use Rattle.registry_values.specs.Common.{Name, is_allowed, bad_place, is_name, padded_bytes, high_word, low_word, bytes_of, are_zeros, is_rest, is_padded, RoundTrip, IsWritten}
-use Rattle.registry_values.specs.Names.{are_name_words}
+use Rattle.registry_values.specs.Names.{NamesAreKeys, are_key_words, are_name_words}
 
 -- ---- one byte
 
@@ -154,6 +154,62 @@ lawful_words bytes h = ap is_padded (bytes_back bytes h) ∙ name_padded bytes h
 
 pub round_trip : RoundTrip
 round_trip bytes h = rw (lawful_words bytes h) refl
+
+-- ---- keys
+
+no_zeros : are_name_words 0 0 ≡ true → ⊥
+unfolding are_name_words
+no_zeros e = absurd (true≢false (sym e))
+
+-- words that aren't a key's are both 0
+key_or_zeros : (high low : ℕ) → (are_key_words high low ≡ true) ⊎ ((high ≡ 0) × (low ≡ 0))
+unfolding are_key_words
+key_or_zeros high low = by_cases (high == 0 && low == 0) refl
+  where
+    by_cases : (b : Bool) → (high == 0 && low == 0) ≡ b → (not (high == 0 && low == 0) ≡ true) ⊎ ((high ≡ 0) × (low ≡ 0))
+    by_cases false is = inl (ap not is)
+    by_cases true is =
+        let both = and_parts (high == 0) (low == 0) is in
+        inr (eqb-true high 0 both.0, eqb-true low 0 both.1)
+
+pub names_are_keys : NamesAreKeys
+names_are_keys name lawful =
+    elim (key_or_zeros name.high name.low) [
+      | inl key ↦ key
+      | inr zeros ↦ absurd (no_zeros (sym (λ i. are_name_words (zeros.0 i) (zeros.1 i)) ∙ lawful))
+    ]
+
+zeros_8 : (xs : List ℕ) → length xs ≡ 8 → from_be_bytes w64 xs ≡ 0 → are_zeros xs ≡ true
+zeros_8 (a ∷ b ∷ c ∷ d ∷ e ∷ f ∷ g ∷ h ∷ []) size none =
+    let z : (a ≡ 0) × (b ≡ 0) × (c ≡ 0) × (d ≡ 0) × (e ≡ 0) × (f ≡ 0) × (g ≡ 0) × (h ≡ 0) = omega (arith, none) in
+    rw (z.0, z.1, z.2, z.3, z.4, z.5, z.6, z.7) refl
+zeros_8 _ size none = absurd (omega (arith, size))
+
+zeros_end : (xs ys : List ℕ) → are_zeros xs ≡ true → are_zeros ys ≡ true → are_zeros (xs ++ ys) ≡ true
+zeros_end [] ys first rest = rest
+zeros_end (x ∷ xs) ys first rest =
+    let parts = and_parts (x == 0) (are_zeros xs) first in
+    and_from (x == 0) (are_zeros (xs ++ ys)) parts.0 (zeros_end xs ys parts.1 rest)
+
+zeros_begin : (xs ys : List ℕ) → are_zeros (xs ++ ys) ≡ true → are_zeros xs ≡ true
+zeros_begin [] ys all = refl
+zeros_begin (x ∷ xs) ys all =
+    let parts = and_parts (x == 0) (are_zeros (xs ++ ys)) all in
+    and_from (x == 0) (are_zeros xs) parts.0 (zeros_begin xs ys parts.1)
+
+-- bytes that aren't all 0 are a key's
+pub key_from : (bytes : List ℕ) → length bytes ≤ 16 → are_zeros bytes ≡ false → are_key_words (high_word bytes) (low_word bytes) ≡ true
+key_from bytes few some =
+    elim (key_or_zeros (high_word bytes) (low_word bytes)) [
+      | inl key ↦ key
+      | inr zeros ↦
+          let p = padded_bytes bytes in
+          let size : length p ≡ 16 = omega (arith, few, length-append bytes (replicate (16 - length bytes) 0), length-replicate {A = ℕ} (16 - length bytes) 0) in
+          let front = zeros_8 (take 8 p) (length-take-le 8 p (omega arith)) zeros.0 in
+          let back = zeros_8 (drop 8 p) (omega (arith, length-drop 8 p)) zeros.1 in
+          let all : are_zeros p ≡ true = ap are_zeros (sym (take-append-drop 8 p)) ∙ zeros_end (take 8 p) (drop 8 p) front back in
+          absurd (true≢false (sym (zeros_begin bytes (replicate (16 - length bytes) 0) all) ∙ some))
+    ]
 
 -- ---- from two words to the bytes of a name
 

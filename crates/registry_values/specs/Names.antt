@@ -73,6 +73,22 @@ are_name_words high low = is_padded (bytes_of high low)
 abbrev pub is_lawful : Name → Bool
 is_lawful name = are_name_words name.high name.low
 
+-- the two words aren't both 0; other crates see it closed
+unfoldable pub are_key_words : ℕ → ℕ → Bool
+are_key_words high low = not (high == 0 && low == 0)
+
+-- an entry may be attached by these words; a lawful name is a key
+abbrev pub is_key : Name → Bool
+is_key name = are_key_words name.high name.low
+
+-- the key that has these words, unless both are 0
+abbrev pub key_of_words : ℕ → ℕ → Option Name
+key_of_words high low = if are_key_words high low then Some (record { high = high; low = low }) else None
+
+-- the key that is these bytes and zero bytes up to 16: there are 1 to 16, and not all are 0
+abbrev pub key_of_bytes : List ℕ → Option Name
+key_of_bytes bytes = if nat_le (length bytes) 16 && not (are_zeros bytes) then Some (name_of bytes) else None
+
 -- the name that has these words, if one has
 abbrev pub name_of_words : ℕ → ℕ → Option Name
 name_of_words high low = if are_name_words high low then Some (record { high = high; low = low }) else None
@@ -80,6 +96,10 @@ name_of_words high low = if are_name_words high low then Some (record { high = h
 -- the words of a name give it back
 abbrev pub RoundTrip : Type 0
 RoundTrip = (bytes : List ℕ) → IsTrue (is_name bytes) → name_of_words (name_of bytes).high (name_of bytes).low ≡ Some (name_of bytes)
+
+-- a lawful name is a key
+abbrev pub NamesAreKeys : Type 0
+NamesAreKeys = (name : Name) → IsTrue (is_lawful name) → IsTrue (is_key name)
 
 -- a name that two words give is written by some bytes
 abbrev pub IsWritten : Type 0

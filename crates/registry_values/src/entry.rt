@@ -1,7 +1,6 @@
 //! What a registry keeps: records, entries, and the changes of its history.
 
-ghost use Rattle.std.specs.Prelude.{◌≡◌, true};
-ghost use Rattle.registry_values.specs.Names.{are_name_words};
+ghost use Rattle.std.specs.Prelude.{◌≡◌};
 ghost use Rattle.registry_values.specs.Slots.{is_iface, kind_word};
 ghost use Rattle.registry_values.specs.declared.entry.Record.{Record};
 
@@ -66,12 +65,9 @@ pub fn kind_word(kind: Kind) -> u64
 
 /// The record whose four words are these, as a slot has them: the kind's word (`kind_word`), the name's two, the value.
 pub fn record_from(kind: u64, high: u64, low: u64, value: u64) -> Record
-    requires { are_name_words high low ≡ true }
     ensures { (r : Record) → kind ≡ kind_word r.kind → high ≡ r.name.high → low ≡ r.name.low → value ≡ r.value → result ≡ r }
 {
     let kind = if kind == 1 { Kind::Iface } else { Kind::Driver };
-    match Name::from_words(high, low) {
-        Some(name) => Record { kind, name, value },
-        None => unreachable!(),
-    }
+    let name = Name::of_words(high, low);
+    Record { kind, name, value }
 }

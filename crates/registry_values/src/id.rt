@@ -1,7 +1,7 @@
 //! Ids as names: any number of 64 bits, such as an index, an address or a hash, has a name of 13 bytes.
 
 ghost use Rattle.std.specs.Prelude.{◌≡◌, ◌%◌, ◌≤◌, IsTrue, length};
-ghost use Rattle.registry_values.specs.Names.{is_lawful};
+ghost use Rattle.registry_values.specs.Names.{is_lawful, is_key};
 ghost use Rattle.registry_values.specs.Ids.{digit_byte, digit_value, id_bytes, id_of_bytes, value_of, said_by, name_of_id, id_of_name, IdsComeBack, NamesComeBack};
 
 use crate::name::{Name, bytes_of};
@@ -10,6 +10,7 @@ use crate::name::{Name, bytes_of};
 pub fn name_of_id(id: u64) -> Name
     ensures value { result ≡ name_of_id id }
     ensures lawful { IsTrue (is_lawful result) }
+    ensures key { IsTrue (is_key result) }
 {
     Name::from_bytes(&bytes_of_id(id))
 }

@@ -1,7 +1,7 @@
 //! The names of interfaces and drivers.
 
 ghost use Rattle.std.specs.Prelude.{◌≡◌, ◌≤◌, ◌<◌, IsTrue, IfOk, IfSome, length};
-ghost use Rattle.registry_values.specs.Names.{bad_place, is_allowed, name_of_bytes, name_of, is_name, padded_bytes, bytes_of, are_zeros, is_rest, is_padded, are_name_words, is_lawful, name_of_words, RoundTrip, IsWritten};
+ghost use Rattle.registry_values.specs.Names.{bad_place, is_allowed, name_of_bytes, name_of, is_name, padded_bytes, bytes_of, are_zeros, is_rest, is_padded, are_name_words, is_lawful, are_key_words, is_key, key_of_bytes, key_of_words, name_of_words, NamesAreKeys, RoundTrip, IsWritten};
 
 use thiserror::Error;
 
@@ -19,8 +19,8 @@ pub enum NameFault {
     BadByte(u8),
 }
 
-/// A name of 1 to 15 bytes: a lower-case ASCII letter, and then lower-case ASCII letters and digits.
-/// It is kept as its two words, so that a name is written, read and compared by two words.
+/// A name of 1 to 15 bytes: a lower-case ASCII letter, and then lower-case ASCII letters and digits (`parse`). Or any 16 bytes that aren't
+/// all 0 (`from_key_bytes`). It is kept as its two words, so that a name is written, read and compared by two words.
 #[derive(Clone, Copy, Debug, PartialEq, Eq)]
 pub struct Name {
     high: u64,
@@ -32,6 +32,7 @@ impl Name {
     pub fn parse(bytes: &[u8]) -> Result<Name, NameFault>
         ensures value { result ≡ name_of_bytes bytes.now }
         ensures lawful { IfOk result (λ name. IsTrue (is_lawful name)) }
+        ensures key { IfOk result (λ name. IsTrue (is_key name)) }
     {
         if bytes.is_empty() {
             return Err(NameFault::Empty);
@@ -43,6 +44,19 @@ impl Name {
             return Err(NameFault::BadByte(place as u8));
         }
         Ok(Name::from_bytes(bytes))
+    }
+
+    /// The name that is any 1 to 16 bytes but zero bytes alone, such as "eth0.100", an address or a number's bytes. Its words are these bytes,
+    /// followed by zero bytes up to 16, so bytes that differ in zero bytes at the end alone are one name. `None` for no byte, for more than
+    /// 16, and if all are 0.
+    pub fn from_key_bytes(bytes: &[u8]) -> Option<Name>
+        ensures value { result ≡ key_of_bytes bytes.now }
+        ensures key { IfSome result (λ name. IsTrue (is_key name)) }
+    {
+        if bytes.len() > 16 || are_zeros(bytes) {
+            return None;
+        }
+        Some(Name::padded(bytes))
     }
 
     /// The name's bytes, followed by zero bytes up to 16, as two numbers with the high bytes first.
@@ -64,7 +78,19 @@ impl Name {
         }
     }
 
-    /// These two words, whether or not a name has them. `from_words` is the test; to look up words that no name has finds nothing.
+    /// The name that has these words, which may be any but two of 0; `None` if both are 0.
+    pub fn from_key_words(high: u64, low: u64) -> Option<Name>
+        ensures value { result ≡ key_of_words high low }
+        ensures key { IfSome result (λ name. IsTrue (is_key name)) }
+    {
+        if are_key_words(high, low) {
+            Some(Name { high, low })
+        } else {
+            None
+        }
+    }
+
+    /// These two words, whether or not they are a key's. `from_key_words` is the test; to look up two words of 0 finds nothing.
     pub fn of_words(high: u64, low: u64) -> Name
         ensures { result ≡ record { high = high; low = low } }
     {
@@ -75,8 +101,17 @@ impl Name {
         requires { IsTrue (is_name text.now) }
         ensures value { result ≡ name_of text.now }
         ensures lawful { IsTrue (is_lawful result) }
+        ensures key { IsTrue (is_key result) }
     {
-        let b = padded(text);
+        Name::padded(text)
+    }
+
+    /// The bytes, and zero bytes up to 16, as a name's two words.
+    fn padded(bytes: &[u8]) -> Name
+        requires { length bytes.now ≤ 16 }
+        ensures { result ≡ name_of bytes.now }
+    {
+        let b = padded(bytes);
         let high = u64::from_be_bytes([b[0], b[1], b[2], b[3], b[4], b[5], b[6], b[7]]);
         let low = u64::from_be_bytes([b[8], b[9], b[10], b[11], b[12], b[13], b[14], b[15]]);
         Name { high, low }
@@ -85,9 +120,11 @@ impl Name {
 
 /// Theorem, no effect at run time: what the words of names mean.
 ///
+/// - `keys`: a lawful name is a key.
 /// - `round_trip`: a name's words give the name back.
 /// - `written`: what two words give is the name of some bytes, so there is `None` exactly where no name has them.
 pub fn name_laws()
+    ensures keys { NamesAreKeys }
     ensures round_trip { RoundTrip }
     ensures written { IsWritten }
 {}
@@ -130,6 +167,14 @@ fn are_name_words(high: u64, low: u64) -> bool
 {
     let bytes = bytes_of(high, low);
     is_padded(&bytes)
+}
+
+/// Whether the two words aren't both 0.
+#[tactic(auto, unfolding(crate::specs::Names::are_key_words))]
+fn are_key_words(high: u64, low: u64) -> bool
+    ensures { result ≡ are_key_words high low }
+{
+    !(high == 0 && low == 0)
 }
 
 /// Whether these are a letter, then letters and digits, and then zero bytes only, at least one.

@@ -1,7 +1,7 @@
 //! Waits and destroys from C. The contracts of `waiting` say what holds if the last turn of a wait tells no CPU; here it tells none.
 
 ghost use Rattle.std.specs.Prelude.{◌≡◌, IsTrue};
-ghost use Rattle.registry_values.specs.Common.{is_lawful};
+ghost use Rattle.registry_values.specs.Common.{is_key};
 
 use crate::waiting::{hand_over, leave, leave_alone, opened, waited};
 use c_calls::keeper_calls::{advance_for, attach, detach};
@@ -67,7 +67,7 @@ fn destroyed(
     rec: Record,
 ) -> Result<(Stage, Stage), Refusal>
     requires same { cpu.old.words ≡ keeper.old.words }
-    requires name { IsTrue (is_lawful rec.name) }
+    requires name { IsTrue (is_key rec.name) }
 {
     let entry = attach(keeper, cpu, rec)?;
     reader.enter()?;
@@ -80,7 +80,7 @@ fn destroyed(
 
 /// A driver to attach.
 pub(super) fn driver<R: Abort>(rt: &R) -> Record
-    ensures { IsTrue (is_lawful result.name) }
+    ensures { IsTrue (is_key result.name) }
 {
     match Name::parse(b"wm") {
         Ok(name) => Record {

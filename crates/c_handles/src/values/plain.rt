@@ -18,7 +18,7 @@ pub const EMPTY_HANDLE: u32 = 65;
 pub const FULL_HANDLE: u32 = 66;
 /// Neither an interface nor a driver.
 pub const BAD_KIND: u32 = 68;
-/// Two words that no name has, or the name of no id.
+/// Two words of 0, or the name of no id.
 pub const BAD_NAME: u32 = 69;
 /// A name has at least one byte.
 pub const NAME_EMPTY: u32 = 70;

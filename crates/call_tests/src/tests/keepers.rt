@@ -2,7 +2,7 @@
 
 ghost use Rattle.std.specs.Prelude.{◌≡◌, IsTrue};
 ghost use Rattle.std.specs.List.{list_any};
-ghost use Rattle.registry_values.specs.Common.{is_lawful, key_of_record, is_taken};
+ghost use Rattle.registry_values.specs.Common.{is_key, key_of_record, is_taken};
 ghost use Rattle.cpu_words.specs.Common.{AreWordsOf};
 ghost use Rattle.name_registry.specs.Common.{is_live_row};
 
@@ -57,7 +57,7 @@ pub(crate) fn by_keeper<R: Abort>(
 /// The keeper publishes a driver in slot 0, which is vacant and keeps nothing. No live entry has its name, and the history has room.
 pub(crate) fn published<R: Abort>(rt: &R, words: &Words, keeper: &mut Keeper, rec: Record) -> Entry
     requires words { AreWordsOf words.now keeper.old.words.table keeper.old.words.settings }
-    requires name { IsTrue (is_lawful rec.name) }
+    requires name { IsTrue (is_key rec.name) }
     ensures words { keeper.new.words ≡ keeper.old.words }
 {
     assert!(rt; rec.kind == Kind::Driver);

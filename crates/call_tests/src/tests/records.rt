@@ -1,7 +1,7 @@
 //! The drivers and interfaces that rows attach and look up.
 
 ghost use Rattle.std.specs.Prelude.{◌≡◌, IsTrue};
-ghost use Rattle.registry_values.specs.Common.{is_lawful};
+ghost use Rattle.registry_values.specs.Common.{is_key};
 
 use registry_values::{Kind, Name, Record};
 use std::process::Abort;
@@ -49,7 +49,7 @@ pub(crate) const DRIVER_WM1: Wanted = Wanted {
 /// The record, with its name parsed.
 pub(crate) fn record<R: Abort>(rt: &R, wanted: Wanted) -> Record
     ensures kind { result.kind ≡ wanted.kind }
-    ensures name { IsTrue (is_lawful result.name) }
+    ensures name { IsTrue (is_key result.name) }
 {
     match Name::parse(wanted.name.as_bytes()) {
         Ok(name) => Record {

@@ -1,7 +1,7 @@
 //! Tests on two threads: what one publishes, the other finds; and a local reference goes from one to the other.
 
 ghost use Rattle.std.specs.Prelude.{◌≡◌, IsTrue};
-ghost use Rattle.registry_values.specs.Common.{is_lawful};
+ghost use Rattle.registry_values.specs.Common.{is_key};
 ghost use Rattle.registry_values.specs.declared.limits.TheConstants.{MOST_CPUS};
 ghost use Rattle.cpu_words.specs.Common.{AreWordsOf};
 
@@ -60,7 +60,7 @@ fn one_lookup<D: Domain + Send, R: Threads + Abort + Sync>(
         { find_at_last(words, first, &driver.name, missed) },
         move || -> Option<u64>
             requires words { AreWordsOf words.now keeper.words.table keeper.words.settings }
-            requires driver { IsTrue (is_lawful driver.name) }
+            requires driver { IsTrue (is_key driver.name) }
         { publish_once_missed(rt, words, keeper, driver, missed) },
     );
     assert_eq!(rt; published, Some(1));
@@ -112,7 +112,7 @@ fn publish_once_missed<R: Abort>(
     missed: &AtomicBool,
 ) -> Option<u64>
     requires words { AreWordsOf words.now keeper.words.table keeper.words.settings }
-    requires driver { IsTrue (is_lawful driver.name) }
+    requires driver { IsTrue (is_key driver.name) }
 {
     if !was_set(missed) {
         return None;
@@ -159,7 +159,7 @@ fn told_twice<D: Domain + Send, R: Threads + Abort + Sync>(
         move || -> (u64, Note<D>)
             requires words { AreWordsOf words.now keeper.words.table keeper.words.settings }
             requires named { keeper.words.table ≡ D.table }
-            requires driver { IsTrue (is_lawful driver.name) }
+            requires driver { IsTrue (is_key driver.name) }
         { publish_and_tell(rt, words, keeper, driver) },
         || (),
     );
@@ -195,7 +195,7 @@ fn publish_and_tell<D: Domain, R: Abort>(
 ) -> (u64, Note<D>)
     requires words { AreWordsOf words.now keeper.words.table keeper.words.settings }
     requires named { keeper.words.table ≡ D.table }
-    requires driver { IsTrue (is_lawful driver.name) }
+    requires driver { IsTrue (is_key driver.name) }
 {
     let entry = published(rt, words, &mut keeper, driver);
     let seat = tell_keeper(words, &mut keeper);

@@ -1,7 +1,7 @@
 //! Walks over all entries of a full registry, and while another thread attaches and detaches.
 
 ghost use Rattle.std.specs.Prelude.{IsTrue};
-ghost use Rattle.registry_values.specs.Common.{is_lawful};
+ghost use Rattle.registry_values.specs.Common.{is_key};
 ghost use Rattle.cpu_words.specs.Common.{AreWordsOf};
 ghost use Rattle.name_registry.specs.Common.{IsBlankOf};
 
@@ -33,7 +33,7 @@ const CHANGES: u32 = 100_000;
 
 /// The record of the n-th driver: its name is two letters, and its value ten times its place.
 pub(crate) fn nth<R: Abort>(rt: &R, n: u8) -> Record
-    ensures { IsTrue (is_lawful result.name) }
+    ensures { IsTrue (is_key result.name) }
 {
     Record {
         kind: Kind::Driver,

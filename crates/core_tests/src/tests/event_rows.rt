@@ -3,7 +3,7 @@
 use super::bench::{Ask, Line, Rec, Row, Told, run, run_rows};
 use super::data::{A, ATTACH_WM, ENTER, EXIT, FIND_WM, USUAL, WM};
 use passive_core::{
-    Core, Counted, Event, Mark, RecordOf, Refusal, Reply, Settings, Stage, run_events,
+    BIAS, Core, Counted, Event, Mark, RecordOf, Refusal, Reply, Settings, Stage, run_events,
 };
 use std::test::Fail;
 
@@ -47,7 +47,7 @@ const OUTSIDE: Mark = Mark {
     ..INSIDE
 };
 
-const ROWS: [Row; 6] = [
+const ROWS: [Row; 7] = [
     // A search at an entry that is unlinked goes on over its link.
     Row {
         name: "frozen-link",
@@ -164,6 +164,29 @@ const ROWS: [Row; 6] = [
             (1, Ask::Step(Event::Enter(1)), Ok(Told::NotAllowed)),
             (1, Ask::Perform(1), Ok(Told::Done)),
             (1, Ask::Step(Event::Enter(1)), Ok(Told::Done)),
+        ],
+    },
+    // The name "eth0.100" isn't lawful, and "eth0" is.
+    Row {
+        name: "only lawful names are published",
+        settings: ONE,
+        lines: &[
+            (0, Ask::Step(Event::Seat(0)), Ok(Told::Done)),
+            (0, Ask::Step(Event::StoreSlot(0, 0, 1)), Ok(Told::Done)),
+            (0, Ask::Step(Event::StoreSlot(0, 1, 2)), Ok(Told::Done)),
+            (
+                0,
+                Ask::Step(Event::StoreSlot(0, 2, 0x6574_6830_2e31_3030)),
+                Ok(Told::Done),
+            ),
+            (0, Ask::Step(Event::StoreSlot(0, 5, BIAS)), Ok(Told::Done)),
+            (0, Ask::Step(Event::Publish(0)), Ok(Told::NotAllowed)),
+            (
+                0,
+                Ask::Step(Event::StoreSlot(0, 2, 0x6574_6830_0000_0000)),
+                Ok(Told::Done),
+            ),
+            (0, Ask::Step(Event::Publish(0)), Ok(Told::Done)),
         ],
     },
     // In a script a label stands only for a reference that its CPU holds.

@@ -3,7 +3,7 @@
 use passive_core::Core;
 use protocol::{
     balance_at_rest, every_run_keeps, grace_law, headline, invariant_suffices, lawful_answers,
-    safe_reuse, worked_run,
+    narrow_runs, safe_reuse, worked_run,
 };
 use registry_values::{
     Kind, MOST_CHANGES, MOST_COUNT, MOST_CPUS, MOST_SECTIONS, MOST_SLOTS, Name, NameFault, Record,
@@ -57,6 +57,26 @@ fn words_of_no_name(rt: HostRuntime) {
     for (high, low) in no_names {
         assert_eq!(rt; Name::from_words(high, low), None, "at {high}, {low}");
     }
+}
+
+#[test]
+fn names_of_any_bytes(rt: HostRuntime) {
+    let sixteen = Name::of_words(0x4142434445464748, 0x494a4b4c4d4e4f50);
+    let keys = [
+        (b"eth0.100".as_slice(), Name::of_words(0x657468302e313030, 0)),
+        (b"ABCDEFGHIJKLMNOP", sixteen),
+        (b"\0\0\0\0\0\0\0\0\x01", Name::of_words(0, 1 << 56)),
+    ];
+    for (bytes, name) in keys {
+        let (high, low) = name.words();
+        assert_eq!(rt; Name::from_key_bytes(bytes), Some(name));
+        assert_eq!(rt; Name::from_key_words(high, low), Some(name));
+        assert_eq!(rt; Name::from_words(high, low), None);
+    }
+    for bytes in [b"".as_slice(), b"\0\0", b"ABCDEFGHIJKLMNOPQ"] {
+        assert_eq!(rt; Name::from_key_bytes(bytes), None);
+    }
+    assert_eq!(rt; Name::from_key_words(0, 0), None);
 }
 
 #[test]
@@ -247,5 +267,6 @@ fn laws_end(_rt: HostRuntime) {
     balance_at_rest();
     grace_law();
     invariant_suffices();
+    narrow_runs();
     worked_run();
 }

@@ -7,7 +7,7 @@ use lib.ListN.{get_elem?}
 use Rattle.atomic_table.specs.Table.{State as Table, keeps, stepped}
 use Rattle.cpu_words.specs.Types.{Entry, Settings, Event, LoadRecord, Local, Reply, Word, RecordWords, LocalPlace, Standing}
 use Rattle.protocol.specs.Common.{State, row_at, local_at, number_standing, step, word, words_of, IsIn, Occupies}
-use Rattle.registry_values.specs.Common.{slot_at, slot_of, is_lawful}
+use Rattle.registry_values.specs.Common.{slot_at, slot_of, is_key}
 use Rattle.protocol.proofs.history.History.{one_entry}
 use Rattle.protocol.proofs.counts.HeldSums.{one_self}
 use Rattle.protocol.proofs.slots.Occupied.{attached_in, in_within}
@@ -23,9 +23,9 @@ use Rattle.cpu_words.proofs.shown.Showing.{shows_set, backed}
 pub row_word : (g : State) (e : Entry) (k : ℕ) → Good g → IsIn e (slot_at g.slots e.slot) → word (row_at g.rows e.slot) k ≡ word (words_of e) k
 row_word g e k good here = ap (λ (r : RecordWords). word r k) (good.holds.rows e.slot e here).0
 
--- the name of an entry with a slot is that of some bytes
-pub row_lawful : (g : State) (e : Entry) → Good g → IsIn e (slot_at g.slots e.slot) → IsTrue (is_lawful e.rec.name)
-row_lawful g e good here = (good.holds.rows e.slot e here).1
+-- the name of an entry with a slot isn't both words 0
+pub row_keyed : (g : State) (e : Entry) → Good g → IsIn e (slot_at g.slots e.slot) → IsTrue (is_key e.rec.name)
+row_keyed g e good here = (good.holds.rows e.slot e here).1
 
 -- a load that leaves the core and the view keeps the rule, and is its event
 pub keeps_view : (z : Settings) (s : Table ℕ View) (r : Ruled z s) (i : ℕ) (v : View) (p : Spot) (e : Event) (rep : Reply)
@@ -89,7 +89,7 @@ local_may z v t k slot few = subst (λ (u : ℕ). ReferenceMay z v (index z (rec
             let same : k ≡ j = cc in (
               (place.0, subst (λ (h : ℕ). Makes (LoadRecord (Local place.0 h)) (Word found) (Reference v) (Reference v)) same done.1),
               stands ∙ row_word g e k r.good here ∙ ap (word (words_of e)) same,
-              row_lawful g e r.good here,
+              row_keyed g e r.good here,
             ),
       ),
     ))

@@ -3,7 +3,7 @@
 ghost use Rattle.std.specs.Prelude.{◌≡◌, ◌<◌, ℕ, IsTrue};
 ghost use Rattle.cpu_words.specs.Types.{LoadRecord, Local, Word};
 ghost use Rattle.protocol.specs.Common.{word, words_of};
-ghost use Rattle.registry_values.specs.Common.{is_lawful};
+ghost use Rattle.registry_values.specs.Common.{is_key};
 ghost use Rattle.cpu_words.specs.declared.view.View.TheVariants.{Reference};
 ghost use Rattle.cpu_words.specs.Rule.{did};
 ghost use Rattle.cpu_words.specs.Steps.{Makes, SeatGoesOn};
@@ -17,7 +17,7 @@ use std::marker::Brand;
 
 /// Loads word `k` of the record of a local reference's entry, which is in slot `slot`: 0 is the number, 1 the kind, 2 and 3 the name's
 /// high and low words, 4 the value.
-/// The name is that of some bytes, as its entry was stored.
+/// The name's words aren't both 0, as its entry was stored.
 /// Condition: the slot is the entry's and one of the table's, and `k` is below 5.
 pub fn load_local(words: &Words, seat: &mut ReferenceSeat, slot: u8, k: u8) -> u64
     requires table { seat.old.table ≡ words.now.table }
@@ -27,7 +27,7 @@ pub fn load_local(words: &Words, seat: &mut ReferenceSeat, slot: u8, k: u8) -> u
     ensures same { seat.new.view ≡ seat.old.view }
     ensures event { (id : ℕ) × Makes (LoadRecord (Local id k)) (Word result) (Reference seat.old.view) (Reference seat.new.view) }
     ensures word { result ≡ word (words_of seat.old.view.entry) k }
-    ensures name { IsTrue (is_lawful seat.old.view.entry.rec.name) }
+    ensures name { IsTrue (is_key seat.old.view.entry.rec.name) }
 {
     let place = record_place(slot as usize, k);
     let event = Event::LoadRecord(RecordOf::Local(0, k));

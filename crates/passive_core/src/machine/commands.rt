@@ -17,7 +17,7 @@ mod sections;
 
 ghost use Rattle.std.specs.Prelude.{◌≡◌, ◌<◌, IsSome, Some, false, true};
 ghost use Rattle.passive_core.specs.Commands.{all_seated};
-ghost use Rattle.protocol.specs.Common.{step, grows, at_rest};
+ghost use Rattle.protocol.specs.Common.{narrow_step, grows, at_rest};
 
 use crate::machine::Core;
 use protocol::{Event, Reply};
@@ -25,9 +25,9 @@ use protocol::{Event, Reply};
 impl Core {
     /// Makes an event that is known to be allowed and grows nothing.
     pub(crate) fn make(&mut self, event: Event) -> Reply
-        requires allowed { IsSome (step self.old event) }
+        requires allowed { IsSome (narrow_step self.old event) }
         requires small { grows event ≡ false }
-        ensures { step self.old event ≡ Some (record { state = self.new; reply = result }) }
+        ensures { narrow_step self.old event ≡ Some (record { state = self.new; reply = result }) }
     {
         match self.step(event) {
             Ok(reply) => reply,

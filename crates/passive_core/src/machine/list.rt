@@ -2,11 +2,11 @@
 
 ghost use Rattle.std.specs.Prelude.{◌≡◌, ◌<◌, ◌≤◌, IsTrue, IfSome, length, take, position, true};
 ghost use Rattle.passive_core.specs.Types.{StoreSlot, StoreNext, Publish, Unpublish, Live};
-ghost use Rattle.protocol.specs.Common.{may_write, with_word, kind_of, entry_if, entry_of, is_bias, are_unused, room_of, keeps_rightly, is_prepared, may_publish, at_rest, row_at, Steps};
+ghost use Rattle.protocol.specs.Common.{may_write, with_word, kind_of, entry_if, entry_of, is_bias, are_unused, room_of, keeps_rightly, is_prepared, may_publish, names_lawfully, at_rest, row_at, Steps};
 ghost use Rattle.registry_values.specs.Common.{is_taken, is_live_as, is_live, live_count, slot_before, leads_to, slot_at};
 ghost use Rattle.std.specs.List.{list_all, zip};
 
-use crate::machine::{Core, grow};
+use crate::machine::{Core, NO_WORDS, grow};
 use protocol::{Due, RecordWords, Reply, StepFault};
 use registry_values::{
     BIAS, Change, Entry, Key, Kind, MOST_CPUS, NO_MARK, Name, Record, Room, Slot, has_room,
@@ -131,9 +131,24 @@ impl Core {
         }
     }
 
+    /// Whether the slot's words have a lawful name.
+    fn names_lawfully(&self, t: u8) -> bool
+        ensures { result ≡ names_lawfully self.now (Publish t) }
+    {
+        let row = if t < self.settings.slots {
+            self.rows[t as usize]
+        } else {
+            NO_WORDS
+        };
+        Name::from_words(row.high, row.low).is_some()
+    }
+
     pub(crate) fn step_publish(&mut self, t: u8) -> Result<Reply, StepFault>
         ensures { Steps self.old self.new (Publish t) result }
     {
+        if !self.names_lawfully(t) {
+            return Err(StepFault::NotAllowed);
+        }
         let Some(entry) = self.entry_at(t) else {
             return Err(StepFault::NotAllowed);
         };
@@ -212,12 +227,12 @@ fn kind_of(word: u64) -> Option<Kind>
     }
 }
 
-/// The entry whose words these are, if they have a lawful kind and name.
+/// The entry whose words these are, if they have a lawful kind, and a name that isn't both words 0.
 fn entry_of(t: u8, row: &RecordWords) -> Option<Entry>
     ensures { result ≡ entry_of t row.now }
 {
     let kind = kind_of(row.kind)?;
-    let name = Name::from_words(row.high, row.low)?;
+    let name = Name::from_key_words(row.high, row.low)?;
     Some(Entry {
         number: row.number,
         slot: t,

@@ -4,7 +4,7 @@ ghost use Rattle.std.specs.Prelude.{◌≡◌, ◌<◌, ◌≤◌, IfErr, IfSome
 ghost use Rattle.passive_core.specs.Types.{Ref, CountAdd, SplitRef, JoinRef, CountDown, SplitBack, LoadRecord, Taking, Giving, Back};
 ghost use Rattle.passive_core.specs.Locals.{with_room};
 ghost use Rattle.protocol.specs.declared.event.RecordOf.TheVariants.{Local as OfLocal};
-ghost use Rattle.protocol.specs.Common.{may_count, is_free, least_id, exchange, step, with_local, hand_at, Steps};
+ghost use Rattle.protocol.specs.Common.{may_count, is_free, least_id, exchange, narrow_step, with_local, hand_at, Steps};
 ghost use Rattle.registry_values.specs.Common.{slot_of};
 
 use crate::machine::reading::word;
@@ -94,7 +94,7 @@ impl Core {
     pub(crate) fn split_in_place(&mut self, c: u8, number: u64) -> u64
         requires hand { hand_at self.old c ≡ Taking number }
         requires room { least_id self.old.locals < length self.old.locals }
-        ensures { step self.old (SplitRef c) ≡ Some (record { state = self.new; reply = Ref result }) }
+        ensures { narrow_step self.old (SplitRef c) ≡ Some (record { state = self.new; reply = Ref result }) }
     {
         let id = self.least_id();
         self.locals[id as usize] = LocalPlace::Standing(number);

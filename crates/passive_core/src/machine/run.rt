@@ -1,14 +1,15 @@
 //! One event after the other.
 
 ghost use Rattle.std.specs.Prelude.{◌≡◌, ◌<◌, IfOk, IfErr, take, length, slice_index_or};
-ghost use Rattle.protocol.specs.Common.{Steps, WantsMemory, run_of_events, empty_run};
+ghost use Rattle.protocol.specs.Common.{Steps, WantsMemory, narrow_run_of_events, empty_run};
 ghost use Rattle.passive_core.specs.Types.{LoadRecord, Seat};
 
 use crate::machine::Core;
 use protocol::{Counted, Event, RecordOf, Reply, Short, StepFault};
 
 impl Core {
-    /// Makes one event. Refused, in this order: `NotAllowed` exactly where the event's condition fails; `NoMemory` where
+    /// Makes one event. Refused, in this order: `NotAllowed` exactly where the event's condition fails, or a `Publish` is of a name that isn't
+    /// lawful (`narrow_step`); `NoMemory` where
     /// a list would have to grow, so only from `Publish`, `Unpublish` and `SplitRef`. Both change nothing.
     pub fn step(&mut self, event: Event) -> Result<Reply, StepFault>
         ensures { Steps self.old self.new event result }
@@ -69,8 +70,8 @@ impl Core {
 /// Makes all events in order, and counts and skips those that aren't allowed.
 /// Refused: `Short` at the first event that needs memory and gets none; the state is that of the events before it.
 pub fn run_events(core: &mut Core, events: &[Event]) -> Result<Counted, Short>
-    ensures ok { IfOk result (λ counted. record { state = core.new; counted = counted } ≡ run_of_events (empty_run core.old) events.now) }
-    ensures short { IfErr result (λ short. (short.done < length events.now) × (core.new ≡ (run_of_events (empty_run core.old) (take short.done events.now)).state)) }
+    ensures ok { IfOk result (λ counted. record { state = core.new; counted = counted } ≡ narrow_run_of_events (empty_run core.old) events.now) }
+    ensures short { IfErr result (λ short. (short.done < length events.now) × (core.new ≡ (narrow_run_of_events (empty_run core.old) (take short.done events.now)).state)) }
     ensures wanted { IfErr result (λ short. WantsMemory core.new (slice_index_or events.now short.done (Seat 0))) }
 {
     let mut counted = Counted {

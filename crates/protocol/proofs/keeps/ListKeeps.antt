@@ -19,7 +19,7 @@ use Rattle.protocol.specs.Common.{may_write, with_retired, with_link_past, with_
 use Rattle.protocol.specs.Common.{ReferencesHold, RowsShow, SnapshotsStand, one_if, at_rest, State, kept_at, no_words, row_at, with_cell, Rest, RecordWords}
 use Rattle.protocol.specs.Types.{MOST_CPUS, Attach, Detach, Entry, Kind, Driver, Iface, Key, Slot, Live, Retired, Vacant}
 use Rattle.registry_values.specs.Common.{key_of, is_live, is_live_as, is_taken, is_vacant, kind_word, live_count, same_key, same_kind, same_name, slot_before, slot_at, bias, no_mark}
-use Rattle.registry_values.specs.Names.{are_name_words}
+use Rattle.registry_values.specs.Names.{are_key_words}
 use Rattle.protocol.proofs.slots.Occupied.{not_vacant, is_vacant_tells, at_rest_tells}
 use Rattle.protocol.proofs.Either.{either}
 
@@ -147,21 +147,21 @@ some_if true x y is = (refl, same_Some x y is)
 some_if false x y is = absurd (none-some y is)
 
 -- the words of a row are its entry's
-pub entry_shows : (t : ℕ) (r : RecordWords) (e : Entry) → entry_of t r ≡ Some e → (e.slot ≡ t) × (r ≡ words_of e) × (are_name_words e.rec.name.high e.rec.name.low ≡ true)
+pub entry_shows : (t : ℕ) (r : RecordWords) (e : Entry) → entry_of t r ≡ Some e → (e.slot ≡ t) × (r ≡ words_of e) × (are_key_words e.rec.name.high e.rec.name.low ≡ true)
 entry_shows t r e is = go (kind_of r.kind) refl is
   where
-    go : (o : Option Kind) → kind_of r.kind ≡ o → entry_if t r o ≡ Some e → (e.slot ≡ t) × (r ≡ words_of e) × (are_name_words e.rec.name.high e.rec.name.low ≡ true)
+    go : (o : Option Kind) → kind_of r.kind ≡ o → entry_if t r o ≡ Some e → (e.slot ≡ t) × (r ≡ words_of e) × (are_key_words e.rec.name.high e.rec.name.low ≡ true)
     go None kind same = absurd (none-some e same)
     go (Some k) kind same =
-        let told = some_if (are_name_words r.high r.low) (record { number = r.number; slot = t; rec = record { kind = k; name = record { high = r.high; low = r.low }; value = r.value } }) e same in
+        let told = some_if (are_key_words r.high r.low) (record { number = r.number; slot = t; rec = record { kind = k; name = record { high = r.high; low = r.low }; value = r.value } }) e same in
         let word : r.kind ≡ kind_word k = kind_from r.kind k kind in (
           ap (λ (f : Entry). f.slot) (sym told.1),
           ap (λ (w : ℕ). record { number = r.number; kind = w; high = r.high; low = r.low; value = r.value }) word ∙ ap words_of told.1,
-          subst (λ (f : Entry). are_name_words f.rec.name.high f.rec.name.low ≡ true) told.1 told.0,
+          subst (λ (f : Entry). are_key_words f.rec.name.high f.rec.name.low ≡ true) told.1 told.0,
         )
 
 -- an entry is published in its own slot
-publish_own : (s : State) (e : Entry) → Holds s → row_at s.rows e.slot ≡ words_of e → are_name_words e.rec.name.high e.rec.name.low ≡ true → may_publish s e.slot e ≡ true
+publish_own : (s : State) (e : Entry) → Holds s → row_at s.rows e.slot ≡ words_of e → are_key_words e.rec.name.high e.rec.name.low ≡ true → may_publish s e.slot e ≡ true
     → CountsOf (after_publish s e.slot e) → ReferencesOf (after_publish s e.slot e) → DriversOf (after_publish s e.slot e) → Holds (after_publish s e.slot e)
 publish_own s e on row name may counts references drivers =
     let told = may_publish_tells s e.slot e on.shape may in

@@ -7,7 +7,7 @@ use Rattle.protocol.specs.Common.{words_of, EndsAt, IsLegal, IsLiveAt, after_cha
 use Rattle.protocol.specs.Common.{row_at, Due, RecordWords}
 use Rattle.protocol.specs.History.{change_at}
 use Rattle.registry_values.specs.Common.{key_of, slot_at}
-use Rattle.registry_values.specs.Names.{are_name_words}
+use Rattle.registry_values.specs.Names.{are_key_words}
 use Rattle.protocol.specs.Types.{Change, Attach, Detach, Entry, Mark, Slot, Live, Retired, Vacant}
 use Rattle.protocol.proofs.slots.Occupied.{slot_cases, in_other, not_vacant, live_one}
 use Rattle.protocol.proofs.Either.{either}
@@ -94,12 +94,12 @@ slots_attach h slots e legal lt vacant number show =
           (attached_old h (Attach e) f was.0, was.1, (was.2.0, ends_old h (Attach e) f.number was.2.0 was.2.1)));
     }
 
-pub rows_attach : (slots : List Slot) (rows : List RecordWords) (e : Entry) → e.slot < length slots → row_at rows e.slot ≡ words_of e → are_name_words e.rec.name.high e.rec.name.low ≡ true
+pub rows_attach : (slots : List Slot) (rows : List RecordWords) (e : Entry) → e.slot < length slots → row_at rows e.slot ≡ words_of e → are_key_words e.rec.name.high e.rec.name.low ≡ true
     → RowsShow slots rows → RowsShow (set slots e.slot (Live e)) rows
 rows_attach slots rows e lt row name show u f is = either (slot_cases slots e.slot (Live e) u lt)
     (λ same.
     let one : f ≡ e = live_one f e (slot_at (set slots e.slot (Live e)) u) same.1 is in
-    (ap (row_at rows) same.0 ∙ (row ∙ ap words_of (sym one)), ap (λ (g : Entry). are_name_words g.rec.name.high g.rec.name.low) one ∙ name))
+    (ap (row_at rows) same.0 ∙ (row ∙ ap words_of (sym one)), ap (λ (g : Entry). are_key_words g.rec.name.high g.rec.name.low) one ∙ name))
     (λ off. show u f (subst (IsIn f) off.1 is))
 
 pub list_attach : (h : List Change) (slots : List Slot) (head : ℕ) (next : List ℕ) (e : Entry) → IsLegal h → e.slot < length slots → e.number ≡ suc (length h) → get_or next e.slot 0 ≡ head

@@ -2,10 +2,10 @@
 use Rattle.std.proofs.Common.{refl, ◌++◌, ◌∷◌, [], Some}
 use Rattle.protocol.specs.Common.{Found, opening, FrozenLink, CollectRace, TryRace, Gives, two_cpus, attaches, done_replies, loads, try_replies, first, all_three, search_begins, wm0, wm1, wm2, search_case}
 use Rattle.protocol.specs.Common.{detaches, unlinked_case, search_goes_on, has_found}
-use Rattle.registry_values.specs.Names.{are_name_words}
+use Rattle.registry_values.specs.Names.{are_key_words}
 
 attached : Gives (opening two_cpus) attaches (done_replies 35) all_three
-unfolding are_name_words
+unfolding are_key_words
 attached = (refl, refl)
 
 begun : Gives all_three search_begins (done_replies 2 ++ loads 3 ++ loads 3 ++ loads 2 ++ loads wm2.high ++ loads 0 ++ loads 2 ++ loads 2 ++ loads 2) search_case
@@ -21,9 +21,9 @@ pub frozen_link : FrozenLink
 frozen_link = record { attached = attached; begun = begun; detached = detached; gone_on = gone_on; is_freed = refl; are_vacant = refl }
 
 pub collect_race : CollectRace
-unfolding are_name_words
+unfolding are_key_words
 collect_race = record { detached = refl; race = refl; counted = refl }
 
 pub try_race : TryRace
-unfolding are_name_words
+unfolding are_key_words
 try_race = record { tries = refl; tried = refl; confirmed = refl; detached = refl; headed = refl; refound = refl; unhidden = refl; freed = refl; given = refl }

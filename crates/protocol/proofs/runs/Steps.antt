@@ -251,7 +251,7 @@ step_sort s (TakeBack c) on = take_back_sort s c (hand_at s c)
 -- Runs
 
 -- the counts of a run don't matter to its state
-turned_state : (r : Run) (o : Option Outcome) → (run_with_event r o).state ≡ state_after r.state o
+pub turned_state : (r : Run) (o : Option Outcome) → (run_with_event r o).state ≡ state_after r.state o
 turned_state r None = refl
 turned_state r (Some o) = refl
 

@@ -1,4 +1,4 @@
--- An attach under a lawful name.
+-- An attach by a name that isn't both words 0.
 use Rattle.std.proofs.Common.{◌≡◌, Ok, Err, refl, sym, ap, subst, ◌∙◌}
 use Rattle.std.specs.Prelude.{Result}
 use Rattle.c_calls.specs.Types.{Entry, Driver, Name, Refusal}
@@ -16,7 +16,7 @@ returns-in-Ok-clause-call c =
     let l = c.attach.new.keeper in
     let y = c.attach.new.cpu in
     let e = c.attach.ensures in
-    let named = sym c.from_words.ensures ∙ c.in-Some.is in
+    let named = sym c.from_key_words.ensures.value ∙ c.in-Some.is in
     let made : Attaches (record_of Driver c.in-Some.name c.args.value) k x l y c.attach.result = record { answer = e.answer; ok = e.ok; refused = e.refused; words = e.words } in
     record {
       bad = λ none. absurd (no_name _ _ named none);
@@ -36,7 +36,7 @@ returns-in-Err-clause-call c =
     let l = c.attach.new.keeper in
     let y = c.attach.new.cpu in
     let e = c.attach.ensures in
-    let named = sym c.from_words.ensures ∙ c.in-Some.is in
+    let named = sym c.from_key_words.ensures.value ∙ c.in-Some.is in
     let made : Attaches (record_of Driver c.in-Some.name c.args.value) k x l y c.attach.result = record { answer = e.answer; ok = e.ok; refused = e.refused; words = e.words } in
     record {
       bad = λ none. absurd (no_name _ _ named none);

@@ -1,4 +1,4 @@
--- An attach under a lawful name.
+-- An attach by a name that isn't both words 0.
 use Rattle.std.proofs.Common.{None, Some, Ok, Err, refl, sym, ap, subst, ◌∙◌}
 use Rattle.std.specs.Prelude.{Result}
 use Rattle.c_calls.specs.Types.{Entry, Iface, Name, Refusal}
@@ -17,7 +17,7 @@ returns-in-Ok-clause-call c =
     let l = c.attach_iface.new.keeper in
     let y = c.attach_iface.new.cpu in
     let e = c.attach_iface.ensures in
-    let named = sym c.from_words.ensures ∙ c.in-Some.is in
+    let named = sym c.from_key_words.ensures.value ∙ c.in-Some.is in
     let made : AttachesIface (record_of Iface c.in-Some.name c.args.value) v k x l y c.attach_iface.result = record { answer = e.answer; ok = e.ok; refused = e.refused; words = e.words } in
     record {
       bad = λ none. absurd (no_name _ _ named none);
@@ -37,7 +37,7 @@ returns-in-Err-clause-call c =
     let l = c.attach_iface.new.keeper in
     let y = c.attach_iface.new.cpu in
     let e = c.attach_iface.ensures in
-    let named = sym c.from_words.ensures ∙ c.in-Some.is in
+    let named = sym c.from_key_words.ensures.value ∙ c.in-Some.is in
     let made : AttachesIface (record_of Iface c.in-Some.name c.args.value) v k x l y c.attach_iface.result = record { answer = e.answer; ok = e.ok; refused = e.refused; words = e.words } in
     record {
       bad = λ none. absurd (no_name _ _ named none);

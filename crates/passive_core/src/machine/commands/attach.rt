@@ -6,7 +6,7 @@ ghost use Rattle.passive_core.specs.Types.{Hear, Keep, Publish, StoreSlot, Tell,
 ghost use Rattle.passive_core.specs.Attaching.{IsAnswer, after_attach, after_attach_iface, attach_answer, attach_iface_answer, with_reference_given_back, given_entry, is_to_driver, with_reference_kept, first_fit, with_prepared, with_attach_undone, words_before};
 ghost use Rattle.passive_core.specs.Making.{AttachMakes, Makes, attach_events, attach_iface_events, count_stores_from, prepare_events, record_stores, seats_and};
 ghost use Rattle.registry_values.specs.Common.{is_available, is_iface, is_lawful};
-ghost use Rattle.protocol.specs.Common.{with_biases, at_rest, kept_at, local_at, after_publish, after_row_store, after_seeing, is_idle, may_write, number_standing, step, words_of, Holds};
+ghost use Rattle.protocol.specs.Common.{with_biases, at_rest, kept_at, local_at, after_publish, after_row_store, after_seeing, is_idle, may_write, number_standing, narrow_step, words_of, Holds};
 ghost use Rattle.passive_core.specs.Commands.{all_seated, may_act};
 
 use crate::machine::drain::is_driver_slot;
@@ -289,7 +289,7 @@ impl Core {
 
     /// Links the entry, whose slot is prepared. Refused: `NoMemory`; nothing has changed then.
     fn link(&mut self, entry: &Entry) -> Result<(), Refusal>
-        requires { step self.old (Publish entry.now.slot) ≡ Some (record { state = after_publish self.old entry.now.slot entry.now; reply = Done }) }
+        requires { narrow_step self.old (Publish entry.now.slot) ≡ Some (record { state = after_publish self.old entry.now.slot entry.now; reply = Done }) }
         ensures ok { OnOk result (self.new ≡ after_publish self.old entry.now.slot entry.now) }
         ensures err { OnErr result (self.new ≡ self.old) }
     {

@@ -4,7 +4,7 @@ ghost use Rattle.std.specs.Prelude.{◌≡◌, ◌<◌, ℕ, IsSome, Some, lengt
 ghost use Rattle.passive_core.specs.Commands.{all_seated, may_act};
 ghost use Rattle.passive_core.specs.Making.{FindMakes};
 ghost use Rattle.protocol.specs.declared.event.Event.{Event as AnEvent};
-ghost use Rattle.protocol.specs.Common.{is_inside, step, IsLoadOf, IsLookup, Holds, at_rest, search_at};
+ghost use Rattle.protocol.specs.Common.{is_inside, narrow_step, IsLoadOf, IsLookup, Holds, at_rest, search_at};
 ghost use Rattle.passive_core.specs.Finding.{after_find, next_load};
 
 use crate::machine::Core;
@@ -43,7 +43,7 @@ impl Core {
         requires { IsSome (search_at self.old c) }
         ensures made { next_load self.old c (search_at self.old c) ≡ Some (record { state = self.new; reply = result }) }
         ensures holds { Holds self.old }
-        ensures event { (event : AnEvent) × IsLoadOf c event × (step self.old event ≡ Some (record { state = self.new; reply = result })) }
+        ensures event { (event : AnEvent) × IsLoadOf c event × (narrow_step self.old event ≡ Some (record { state = self.new; reply = result })) }
     {
         let _ = &self.due;
         match self.search_at(c) {

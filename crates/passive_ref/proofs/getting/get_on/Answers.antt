@@ -1,11 +1,11 @@
 -- The data agree with the view, whether the CPU has its reference or not.
-use Rattle.std.proofs.Common.{◌<◌, ◌≤◌, ◌∙◌, arith, inl, inr, rules, refl, sym, ap, subst}
+use Rattle.std.proofs.Common.{◌<◌, ◌∙◌, arith, inr, rules, refl, sym, ap, subst}
 use Rattle.passive_list.specs.Types.{Settings}
 use Rattle.passive_list.specs.declared.place.NumberedCount.{NumberedCount}
 use Rattle.passive_list.specs.Common.{OnPlainCpu}
 use Rattle.passive_list.proofs.Agreeing.{place_is}
-use Rattle.passive_ref.specs.Gets.{HasSeen, HasTriedOnSeat, IsFullAt, counted_for}
-use Rattle.passive_ref.proofs.Gets.{full_at, given_on, got_on, may_try, taken_agrees, vain_agrees}
+use Rattle.passive_ref.specs.Gets.{HasSeen, HasTriedOnSeat, counted_for}
+use Rattle.passive_ref.proofs.Gets.{given_on, got_on, may_try, taken_agrees, vain_agrees}
 use Rattle.passive_ref.proofs.getting.get_on.Goals as goal
 
 pub try_on_seat-done-requires-clause-may : goal.try_on_seat-done-requires-clause-may

@@ -1,18 +1,8 @@
 -- Four loads give the record of the entry that the CPU refers to.
 use Rattle.std.proofs.Common.{◌∙◌, ap, refl}
 use Rattle.passive_list.specs.Common.{OnPlainCpu}
-use Rattle.passive_ref.proofs.Records.{after_word, all_loaded, named, word_is}
+use Rattle.passive_ref.proofs.Records.{after_word, all_loaded, word_is}
 use Rattle.passive_ref.proofs.reading.load_record.Goals as goal
-
-pub record_from-requires : goal.record_from-requires
-record_from-requires c =
-    let a = c.args.cpu.now.cpu in
-    let held = c.requires.held in
-    let first = ap (λ (o : OnPlainCpu). o.cpu.view) c.load_word-kind.ensures.log in
-    let second = ap (λ (o : OnPlainCpu). o.cpu.view) c.load_word-high.ensures.log ∙ first in
-    named a c.args.slot c.args.number c.load_word-high.result c.load_word-low.result held c.load_word-kind.ensures.name
-    (word_is a.view c.load_word-kind.new.cpu.cpu.view c.args.slot c.args.number 2 c.load_word-high.result held first c.load_word-high.ensures.word)
-    (word_is a.view c.load_word-high.new.cpu.cpu.view c.args.slot c.args.number 3 c.load_word-low.result held second c.load_word-low.ensures.word)
 
 pub returns-clause-record : goal.returns-clause-record
 returns-clause-record c =

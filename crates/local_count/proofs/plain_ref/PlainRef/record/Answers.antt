@@ -1,7 +1,6 @@
 -- The four words are the record.
 use Rattle.std.proofs.Common.{◌≡◌, ◌<◌, ◌∙◌, ap, arith}
 use Rattle.protocol.specs.Common.{word, words_of}
-use Rattle.registry_values.specs.Names.{are_name_words}
 use Rattle.passive_list.specs.Types.{ReferenceView}
 use Rattle.local_count.specs.References.{OnPlainRef}
 use Rattle.local_count.proofs.plain_ref.PlainRef.record.Goals as goal
@@ -17,15 +16,6 @@ load_local-low-requires-clause-place c = (omega (arith, c.requires.words.1, c.se
 
 pub load_local-value-requires-clause-place : goal.load_local-value-requires-clause-place
 load_local-value-requires-clause-place c = (omega (arith, c.requires.words.1, c.self.invariant.slot, ap (λ (o : OnPlainRef). o.reference.entry.slot) c.self.view_is), omega arith)
-
-pub record_from-requires : goal.record_from-requires
-record_from-requires c =
-    let first = c.load_local-kind.ensures.same in
-    let second = c.load_local-high.ensures.same ∙ first in
-    let name = c.self.inside.seat.view.entry.rec.name in
-    let high : c.load_local-high.result ≡ name.high = c.load_local-high.ensures.word ∙ ap (λ (v : ReferenceView). word (words_of v.entry) 2) first in
-    let low : c.load_local-low.result ≡ name.low = c.load_local-low.ensures.word ∙ ap (λ (v : ReferenceView). word (words_of v.entry) 3) second in
-    (λ i. are_name_words (high i) (low i)) ∙ c.load_local-kind.ensures.name
 
 pub returns-clause-value : goal.returns-clause-value
 returns-clause-value c =

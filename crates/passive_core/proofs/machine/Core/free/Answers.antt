@@ -1,7 +1,7 @@
 -- `Core::free`: its clauses `after` and `made`; what `make` requires.
 use Rattle.std.proofs.Common.{◌≡◌, inl, inr, refl, sym, subst, ◌∙◌, Some, None}
 use Rattle.passive_core.specs.Types.{Done, KeptSub, Vacate}
-use Rattle.protocol.specs.Common.{after_kept_sub, after_vacate, may_vacate, step, Holds, kept_at}
+use Rattle.protocol.specs.Common.{after_kept_sub, after_vacate, may_vacate, narrow_step, Holds, kept_at}
 use Rattle.passive_core.proofs.Advancing.{allowed, gave_up, gives_up, guard_some, kept_slot, left_by, vacated, vacates}
 use Rattle.registry_values.proofs.Least.{none_is}
 use Rattle.passive_core.proofs.Acting.{made_is}
@@ -17,7 +17,7 @@ make-requires-clause-allowed c =
     let d = some_from c.kept_at.result (sym c.is_some.ensures ∙ c.if-is_some.true) in
     let kept : kept_at s.keeps c.args.t ≡ Some d.0 = sym c.kept_at.ensures.value ∙ d.1 in
     let u = kept_slot s c.args.t d.0 on kept in
-    allowed (step s (KeptSub c.args.t)) _ (gives_up s c.args.t d.0 u.0 on kept u.1 c.requires.drained)
+    allowed (narrow_step s (KeptSub c.args.t)) _ (gives_up s c.args.t d.0 u.0 on kept u.1 c.requires.drained)
 
 pub returns-then-is_some-clause-after : goal.returns-then-is_some-clause-after
 returns-then-is_some-clause-after c =
@@ -27,7 +27,7 @@ returns-then-is_some-clause-after c =
     let kept : kept_at s.keeps c.args.t ≡ Some d.0 = sym c.kept_at.ensures.value ∙ d.1 in
     let u = kept_slot s c.args.t d.0 on kept in
     gave_up s c.make.new.self c.args.t d.0 u.0 on kept u.1 c.requires.drained
-    (left_by (step s (KeptSub c.args.t)) (after_kept_sub s c.args.t u.0) c.make.new.self Done c.make.result (gives_up s c.args.t d.0 u.0 on kept u.1 c.requires.drained) c.make.ensures)
+    (left_by (narrow_step s (KeptSub c.args.t)) (after_kept_sub s c.args.t u.0) c.make.new.self Done c.make.result (gives_up s c.args.t d.0 u.0 on kept u.1 c.requires.drained) c.make.ensures)
 
 pub make-requires-2-clause-allowed : goal.make-requires-2-clause-allowed
 make-requires-2-clause-allowed c =

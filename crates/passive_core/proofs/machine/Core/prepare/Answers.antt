@@ -1,6 +1,6 @@
 -- `Core::prepare`: its clause `made`.
 use Rattle.std.proofs.Common.{◌≡◌, ℕ, [], ◌∷◌, ◌++◌, Some, ap, subst, ◌∙◌}
-use Rattle.protocol.specs.Common.{State, step}
+use Rattle.protocol.specs.Common.{State, narrow_step}
 use Rattle.passive_core.specs.Types.{StoreNext}
 use Rattle.passive_core.specs.Common.{Makes, count_stores_from, record_stores}
 use Rattle.passive_core.proofs.Making.{makes_more, makes_one}
@@ -16,7 +16,7 @@ returns-clause-made c =
     let counts : Makes m (count_stores_from e.slot 0 s.settings.cpus) v =
     subst (λ (x : State). Makes m (count_stores_from e.slot 0 x.settings.cpus) v) c.store_record_words.ensures.after c.store_counts.ensures.made in
     let head : c.self.inside.head ≡ s.head = ap (λ (x : State). x.head) (c.self.view_is ∙ c.store_counts.ensures.after) ∙ ap (λ (x : State). x.head) c.store_record_words.ensures.after in
-    let links = subst (λ (w : ℕ). step v (StoreNext e.slot w) ≡ Some (record { state = n; reply = c.make.result })) head c.make.ensures in
+    let links = subst (λ (w : ℕ). narrow_step v (StoreNext e.slot w) ≡ Some (record { state = n; reply = c.make.result })) head c.make.ensures in
     makes_more s m n (record_stores e) (count_stores_from e.slot 0 s.settings.cpus ++ StoreNext e.slot s.head ∷ []) c.store_record_words.ensures.made
     (makes_more m v n (count_stores_from e.slot 0 s.settings.cpus) (StoreNext e.slot s.head ∷ []) counts
     (makes_one v n (StoreNext e.slot s.head) c.make.result links))

@@ -1,8 +1,8 @@
--- `Core::record_by_local`: its clauses `record` and `made`; what `load_word` and `record_from` require.
+-- `Core::record_by_local`: its clauses `record` and `made`; what `load_word` requires.
 use Rattle.std.proofs.Common.{◌≡◌, ◌∙◌, ℕ, Option, Some, refl, subst, sym}
 use Rattle.protocol.specs.Common.{State, load_local, Holds}
 use Rattle.passive_core.proofs.Locals.{local_shows}
-use Rattle.passive_core.proofs.Passives.{ShowsRecord, load_ok, lawful_words, word_is}
+use Rattle.passive_core.proofs.Passives.{ShowsRecord, load_ok, word_is}
 use Rattle.std.proofs.Common.{[], ◌∷◌}
 use Rattle.passive_core.specs.Types.{LoadRecord}
 use Rattle.protocol.specs.declared.event.RecordOf.TheVariants.{Local as OfLocal}
@@ -29,15 +29,6 @@ load_word-low-requires c = load_ok c.args.self.now c.load_word-high.new.self c.n
 pub load_word-value-requires : goal.load_word-value-requires
 load_word-value-requires c = load_ok c.args.self.now c.load_word-low.new.self c.number-number.result 4 (λ (x : State) (k : ℕ). load_local x c.args.id k)
     (shown (goal.at.load_word-value-requires c).After-number-number) (c.load_word-low.ensures.same ∙ (c.load_word-high.ensures.same ∙ c.load_word-kind.ensures.same)) refl
-
-pub record_from-requires : goal.record_from-requires
-record_from-requires c =
-    let s = c.args.self.now in
-    let load = λ (x : State) (k : ℕ). load_local x c.args.id k in
-    let shows = shown (goal.at.record_from-requires c).After-number-number in
-    lawful_words s c.number-number.result c.load_word-high.result c.load_word-low.result (load s) shows
-    (word_is s c.load_word-kind.new.self c.number-number.result 2 c.load_word-high.result load shows c.load_word-kind.ensures.same refl c.load_word-high.ensures.word)
-    (word_is s c.load_word-high.new.self c.number-number.result 3 c.load_word-low.result load shows (c.load_word-high.ensures.same ∙ c.load_word-kind.ensures.same) refl c.load_word-low.ensures.word)
 
 pub returns-clause-record : goal.returns-clause-record
 returns-clause-record c = λ n live.

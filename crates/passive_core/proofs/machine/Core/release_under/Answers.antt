@@ -1,6 +1,6 @@
 -- `Core::release_under`: its clause `made`; what `make` requires; that what is unreachable isn't reached.
 use Rattle.std.proofs.Common.{ℕ, [], ◌∷◌, Option, ◌∙◌, refl, subst, sym}
-use Rattle.protocol.specs.Common.{Holds, step}
+use Rattle.protocol.specs.Common.{Holds, narrow_step}
 use Rattle.passive_core.specs.Types.{JoinKeeper, TotalSub}
 use Rattle.passive_core.proofs.Locals.{joined_keeper, live_slot, slot_is, sub_allowed}
 use Rattle.passive_core.proofs.Passives.{is_some, made}
@@ -17,7 +17,7 @@ pub make-requires-clause-allowed : goal.make-requires-clause-allowed
 make-requires-clause-allowed c =
     let s = c.args.self.now in
     let of = sym c.in-Some.ensures.value in
-    is_some (step s (JoinKeeper c.args.id)) _ (joined_keeper s c.args.c c.args.id c.number-number.result c.in-Some.t
+    is_some (narrow_step s (JoinKeeper c.args.id)) _ (joined_keeper s c.args.c c.args.id c.number-number.result c.in-Some.t
     (subst Holds c.self.view_is c.self.invariant) c.requires.known c.requires.rest c.number-number.ensures of c.requires.collected) refl
 
 pub make-requires-2-clause-allowed : goal.make-requires-2-clause-allowed
@@ -26,7 +26,7 @@ make-requires-2-clause-allowed c =
     let of = sym c.in-Some.ensures.value in
     let joined = joined_keeper s c.args.c c.args.id c.number-number.result c.in-Some.t
     (subst Holds c.self.view_is c.self.invariant) c.requires.known c.requires.rest c.number-number.ensures of c.requires.collected in
-    sub_allowed s c.make.new.self c.args.id c.in-Some.t (made s (step s (JoinKeeper c.args.id)) _ c.make.new.self _ joined c.make.ensures)
+    sub_allowed s c.make.new.self c.args.id c.in-Some.t (made s (narrow_step s (JoinKeeper c.args.id)) _ c.make.new.self _ joined c.make.ensures)
 
 pub returns-clause-made : goal.returns-clause-made
 returns-clause-made c =

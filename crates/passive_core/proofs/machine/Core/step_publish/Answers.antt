@@ -14,5 +14,6 @@ invariant_of-self-2 c =
 
 pub returns : goal.returns
 returns c =
+    let name = sym c.names_lawfully.ensures ∙ c.if-not-names_lawfully.false in
     let test = sym c.may_publish.ensures.value ∙ c.if-not-may_publish.false in
-    rw (sym c.in-Some.ensures, test, ← c.self.view_is, c.in_ok-grow.ensures.ok) refl
+    rw (name, sym c.in-Some.ensures, test, ← c.self.view_is, c.in_ok-grow.ensures.ok) refl

@@ -1,0 +1,115 @@
+-- The pure machine: its lists of events are lists of `step`, and what it attaches has a lawful name.
+use Rattle.std.proofs.Common.{◌≡◌, ℕ, suc, ◌+◌, List, [], ◌∷◌, length, Option, Some, None, Bool, true, false, if◌then◌else◌, refl, sym, ap, subst, ◌∙◌, arith}
+use Rattle.std.specs.Prelude.{IsTrue}
+use Rattle.std.proofs.lemmas.Option.{none-some}
+use Rattle.protocol.specs.Types.{Entry, Change, Attach, Detach, Settings}
+use Rattle.registry_values.specs.Common.{is_lawful}
+use Rattle.registry_values.specs.Names.{are_name_words}
+use Rattle.protocol.specs.Common.{Event, Publish, Outcome, Reply, RecordWords, State, guard, names_lawfully, narrow_step, opening, row_at, state_after, step, words_of, Run, empty_run, narrow_run_of_events}
+use Rattle.protocol.specs.Common.{run_of_events, run_with_event, with_lawful_names, after_change, entry_of, Holds, IsAttached, AreAlike, AreNamedLawfully, NarrowEvents, NarrowNames, NarrowRuns}
+use Rattle.protocol.specs.History.{change_at}
+use Rattle.protocol.proofs.Either.{either}
+use Rattle.protocol.proofs.history.History.{at_cases, at_empty}
+use Rattle.protocol.proofs.keeps.Keeping.{after_keeps, opening_holds, step_keeps}
+use Rattle.protocol.proofs.keeps.ListKeeps.{entry_shows}
+use Rattle.protocol.proofs.runs.Steps.{Sort, Refused, Left, Entered, Exited, Sought, Heard, Recalled, Searched, Published, Unpublished, Kept, Gave_up, Vacated, step_sort, turned_state}
+
+pub guard_tells : (b : Bool) (o : Option Outcome) (x : Outcome) → guard b o ≡ Some x → (b ≡ true) × (o ≡ Some x)
+guard_tells true o x is = (refl, is)
+guard_tells false o x is = absurd (none-some x is)
+
+pub narrow_events : NarrowEvents
+narrow_events s event o is = (guard_tells (names_lawfully s event) (step s event) o is).1
+
+-- Lists
+
+-- what both runs have in common
+abbrev made : State → ℕ → ℕ → Option Reply → Run
+made s taken refused last = record { state = s; counted = record { taken = taken; refused = refused; last = last } }
+
+-- the runs of all events and of those kept, after runs that refused m and n events
+record Alike (x y : Run) (all kept : List Event) (m n : ℕ) : Type 0 where
+  state : x.state ≡ y.state
+  taken : x.counted.taken ≡ y.counted.taken
+  last : x.counted.last ≡ y.counted.last
+  refused : x.counted.refused + length kept + n ≡ y.counted.refused + length all + m
+
+abbrev AllAlike : List Event → Type 0
+AllAlike es = (s : State) (k m n : ℕ) (l : Option Reply)
+    → Alike (narrow_run_of_events (made s k m l) es) (run_of_events (made s k n l) (with_lawful_names s es)) es (with_lawful_names s es) m n
+
+alike_step : (s : State) (es : List Event) (k m n : ℕ) (l : Option Reply) (o : Option Outcome) → AllAlike es
+    → Alike (narrow_run_of_events (run_with_event (made s k m l) o) es) (run_of_events (run_with_event (made s k n l) o) (with_lawful_names (state_after s o) es)) es (with_lawful_names (state_after s o) es) m n
+alike_step s es k m n l None all =
+    let a = all s k (m + 1) (n + 1) l in
+    record { state = a.state; taken = a.taken; last = a.last; refused = omega (arith, a.refused) }
+alike_step s es k m n l (Some o) all = all o.state (k + 1) m n (Some o.reply)
+
+-- by the name that the first event publishes, if it does
+alike_name : (s : State) (e : Event) (es : List Event) (k m n : ℕ) (l : Option Reply) (b : Bool) → AllAlike es
+    → Alike (narrow_run_of_events (run_with_event (made s k m l) (guard b (step s e))) es)
+        (run_of_events (made s k n l) (if b then e ∷ with_lawful_names (state_after s (step s e)) es else with_lawful_names s es)) (e ∷ es)
+        (if b then e ∷ with_lawful_names (state_after s (step s e)) es else with_lawful_names s es) m n
+alike_name s e es k m n l true all =
+    let a = alike_step s es k m n l (step s e) all in
+    record { state = a.state; taken = a.taken; last = a.last; refused = omega (arith, a.refused) }
+alike_name s e es k m n l false all =
+    let a = all s k (m + 1) n l in
+    record { state = a.state; taken = a.taken; last = a.last; refused = omega (arith, a.refused) }
+
+alike : (es : List Event) (s : State) (k m n : ℕ) (l : Option Reply)
+    → Alike (narrow_run_of_events (made s k m l) es) (run_of_events (made s k n l) (with_lawful_names s es)) es (with_lawful_names s es) m n
+alike [] s k m n l = record { state = refl; taken = refl; last = refl; refused = omega arith }
+alike (e ∷ es) s k m n l = alike_name s e es k m n l (names_lawfully s e) (alike es)
+
+pub narrow_runs : NarrowRuns
+narrow_runs s events =
+    let a = alike events s 0 0 0 None in
+    record { state = a.state; taken = a.taken; last = a.last; refused = omega (arith, a.refused) }
+
+-- Names
+
+named_attach : (h : List Change) (e : Entry) → IsTrue (is_lawful e.rec.name) → AreNamedLawfully h → AreNamedLawfully (after_change h (Attach e))
+named_attach h e lawful named f att = either (at_cases h (Attach e) f.number (Attach f) att)
+    (λ old. named f old.was)
+    (λ new. subst (λ (g : Entry). IsTrue (is_lawful g.rec.name)) (same f e new.is) lawful)
+  where
+    same : (f e : Entry) → ◌≡◌ {A = Change} (Attach f) (Attach e) → e ≡ f
+    same f e is = cc
+
+named_detach : (h : List Change) (n : ℕ) → AreNamedLawfully h → AreNamedLawfully (after_change h (Detach n))
+named_detach h n named f att = either (at_cases h (Detach n) f.number (Attach f) att) (λ old. named f old.was) (λ new. absurd (let q : ◌≡◌ {A = Change} (Attach f) (Detach n) = new.is in cc))
+
+same_history : (h k : List Change) → k ≡ h → AreNamedLawfully h → AreNamedLawfully k
+same_history h k same named = subst AreNamedLawfully (sym same) named
+
+-- the name of a row that the pure machine publishes
+name_of_row : (s : State) (t : ℕ) (e : Entry) → entry_of t (row_at s.rows t) ≡ Some e → names_lawfully s (Publish t) ≡ true → IsTrue (is_lawful e.rec.name)
+name_of_row s t e is lawful = subst (λ (r : RecordWords). are_name_words r.high r.low ≡ true) (entry_shows t (row_at s.rows t) e is).1 lawful
+
+sort_named : (s : State) (event : Event) (o : Option Outcome) → Sort s event o → names_lawfully s event ≡ true → AreNamedLawfully s.history → AreNamedLawfully (state_after s o).history
+sort_named s _ _ (Refused e) lawful named = named
+sort_named s _ _ (Left e o leaves) lawful named = same_history s.history o.state.history leaves.history named
+sort_named s _ _ (Searched e c q o of is loads answers) lawful named = same_history s.history o.state.history loads.history named
+sort_named s _ _ (Published t e is may) lawful named = named_attach s.history e (name_of_row s t e is lawful) named
+sort_named s _ _ (Unpublished t e n is retires) lawful named = same_history (after_change s.history (Detach e.number)) n.history retires.history (named_detach s.history e.number named)
+sort_named s _ _ _ lawful named = named
+
+named_if : (s : State) (event : Event) (b : Bool) → names_lawfully s event ≡ b → Holds s → AreNamedLawfully s.history → AreNamedLawfully (state_after s (guard b (step s event))).history
+named_if s event true is on named = sort_named s event (step s event) (step_sort s event on) is named
+named_if s event false is on named = named
+
+holds_if : (s : State) (event : Event) (b : Bool) → Holds s → Holds (state_after s (guard b (step s event)))
+holds_if s event true on = after_keeps s (step s event) on (step_keeps s event on)
+holds_if s event false on = on
+
+ran_named : (r : Run) (es : List Event) → Holds r.state → AreNamedLawfully r.state.history → AreNamedLawfully (narrow_run_of_events r es).state.history
+ran_named r [] on named = named
+ran_named r (e ∷ es) on named =
+    let turned = turned_state r (narrow_step r.state e) in
+    ran_named (run_with_event r (narrow_step r.state e)) es
+    (subst Holds (sym turned) (holds_if r.state e (names_lawfully r.state e) on))
+    (subst (λ (s : State). AreNamedLawfully s.history) (sym turned) (named_if r.state e (names_lawfully r.state e) refl on named))
+
+pub narrow_names : NarrowNames
+narrow_names z events fit = ran_named (empty_run (opening z)) events (opening_holds z fit) (λ e att. absurd (at_empty e.number (Attach e) att))
