@@ -15,10 +15,11 @@ use Rattle.registry_values.specs.Common.{attach_answer, next_entry, is_available
 use Rattle.registry_values.proofs.Answers as answers
 use Rattle.protocol.specs.Common.{with_biases, at_rest, State, kept_at, local_at, no_words, row_at, total_at, Outcome, after_count_store, after_keep, after_publish, after_row_store, after_seeing}
 use Rattle.protocol.specs.Common.{are_unused, entry_of, has_room, room_of, is_bias, is_driver_slot, is_prepared, keeps_rightly, may_keep, may_publish, may_write, number_standing, narrow_step, with_word}
-use Rattle.protocol.specs.Common.{words_of, Holds, SeatsShow}
-use Rattle.registry_values.specs.Names.{are_name_words}
+use Rattle.protocol.specs.Common.{names_lawfully, words_of, Holds, SeatsShow}
+use Rattle.registry_values.specs.Names.{are_key_words, are_name_words}
 use Rattle.protocol.proofs.keeps.CountKeeps.{keep_keeps}
 use Rattle.registry_values.proofs.Fit.{ranges}
+use Rattle.registry_values.proofs.Names.{names_are_keys}
 use Rattle.protocol.proofs.keeps.ListKeeps.{may_write_tells}
 use Rattle.protocol.proofs.keeps.SectionKeeps.{none_from}
 use Rattle.protocol.proofs.Either.{either}
@@ -132,11 +133,11 @@ answer_refused inside unfit x y given g f caller fit same is = subst (λ (r : Re
 
 -- Linking.
 
-words_read : (number slot high low value : ℕ) (kind : Kind) → are_name_words high low ≡ true
+words_read : (number slot high low value : ℕ) (kind : Kind) → are_key_words high low ≡ true
     → entry_of slot (words_of (record { number = number; slot = slot; rec = record { kind = kind; name = record { high = high; low = low }; value = value } }))
     ≡ Some (record { number = number; slot = slot; rec = record { kind = kind; name = record { high = high; low = low }; value = value } })
-words_read number slot high low value Iface lawful = rw lawful refl
-words_read number slot high low value Driver lawful = rw lawful refl
+words_read number slot high low value Iface key = rw key refl
+words_read number slot high low value Driver key = rw key refl
 
 all_biases : (n : ℕ) → list_all is_bias (replicate n bias) ≡ true
 all_biases zero = refl
@@ -158,7 +159,8 @@ prepared_links s e on write number lawful free room keeps =
     let told = may_write_tells s e.slot on.shape write in
     let row : row_at (with_prepared s e).rows e.slot ≡ words_of e = get_or-set_same s.rows e.slot (words_of e) no_words (omega (arith, told.1, on.shape.slots, on.shape.rows)) in
     let entry : entry_of e.slot (row_at (with_prepared s e).rows e.slot) ≡ Some e =
-    ap (entry_of e.slot) row ∙ words_read e.number e.slot e.rec.name.high e.rec.name.low e.rec.value e.rec.kind lawful in
+    ap (entry_of e.slot) row ∙ words_read e.number e.slot e.rec.name.high e.rec.name.low e.rec.value e.rec.kind (names_are_keys e.rec.name lawful) in
+    let named : names_lawfully (with_prepared s e) (Publish e.slot) ≡ true = ap (λ (r : RecordWords). are_name_words r.high r.low) row ∙ lawful in
     let numbered : (e.number == length s.history + 1) ≡ true = eq-eqb e.number (length s.history + 1) number in
     let counts : get_or (with_prepared s e).counts e.slot [] ≡ with_biases s.settings.cpus (get_or s.counts e.slot []) =
     get_or-set_same s.counts e.slot (with_biases s.settings.cpus (get_or s.counts e.slot [])) [] (omega (arith, told.1, on.shape.slots, on.shape.counts)) in
@@ -179,10 +181,10 @@ prepared_links s e on write number lawful free room keeps =
     (and_from (e.number == length s.history + 1) (not (is_taken (key_of e) s.slots) && fit) numbered
     (and_from (not (is_taken (key_of e) s.slots)) fit name
     (and_from (has_room s) (is_prepared (with_prepared s e) e.slot e.rec.kind) room ready))) in
-    links_if (with_prepared s e) e.slot e entry may
+    links_if (with_prepared s e) e.slot e named entry may
   where
-    links_if : (s : State) (t : ℕ) (e : Entry) → entry_of t (row_at s.rows t) ≡ Some e → may_publish s t e ≡ true → narrow_step s (Publish t) ≡ Some (record { state = after_publish s t e; reply = Done })
-    links_if s t e entry may = rw (entry, may) refl
+    links_if : (s : State) (t : ℕ) (e : Entry) → names_lawfully s (Publish t) ≡ true → entry_of t (row_at s.rows t) ≡ Some e → may_publish s t e ≡ true → narrow_step s (Publish t) ≡ Some (record { state = after_publish s t e; reply = Done })
+    links_if s t e named entry may = rw (named, entry, may) refl
 
 -- What an attach puts back.
 

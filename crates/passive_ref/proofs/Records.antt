@@ -1,5 +1,5 @@
 -- The words of a record, loaded while the CPU's view stays as it was.
-use Rattle.std.proofs.Common.{◌≡◌, ◌++◌, ℕ, true, sym, ap, ◌∙◌, subst}
+use Rattle.std.proofs.Common.{◌≡◌, ◌++◌, ℕ, sym, ap, ◌∙◌, subst}
 use Rattle.passive_list.specs.Types.{Entry, LoadRecord, Passive, Word, CpuView}
 use Rattle.protocol.specs.Common.{word, words_of}
 use Rattle.cpu_words.specs.Common.{IsWordOf, did}

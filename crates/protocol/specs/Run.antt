@@ -1,5 +1,5 @@
 -- What a list of events does: the state, and how many events were made.
-use Rattle.std.specs.Prelude.{◌≡◌, ◌+◌, List, [], ◌∷◌, length, Option, Some, None, if◌then◌else◌}
+use Rattle.std.specs.Prelude.{◌+◌, List, [], ◌∷◌, Option, Some, None, if◌then◌else◌}
 use Rattle.protocol.specs.declared.event.Event.{Event}
 use Rattle.protocol.specs.declared.event.Counted.{Counted}
 use Rattle.protocol.specs.State.{State}

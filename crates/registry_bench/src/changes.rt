@@ -50,7 +50,7 @@ struct Replaced {
 #[derive(Drop)]
 struct Changing {
     rec: Record,
-    ghost lawful: { IsTrue (is_key rec.name) },
+    ghost keys: { IsTrue (is_key rec.name) },
 }
 
 /// What a run has: the registry, and the entries that don't stay. The first CPU makes every change.

@@ -50,7 +50,7 @@ pub struct Bench<'a, D: Domain> {
     gate: Gate,
     /// 0 until the last replacement is made.
     over: AtomicU64,
-    ghost lawful: { IsTrue (is_key rec.name) },
+    ghost keys: { IsTrue (is_key rec.name) },
 }
 
 /// Carries the plan out, on a registry of its own. Refused: `Wrong`, where an answer isn't as it should be.

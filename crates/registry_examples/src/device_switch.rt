@@ -48,7 +48,7 @@ struct Switch<'a, D: Domain> {
     registry: &'a Registry<D>,
     opens: &'a Opens<D>,
     driver: Record,
-    ghost lawful: { IsTrue (is_key driver.name) },
+    ghost keys: { IsTrue (is_key driver.name) },
 }
 
 /// Runs the switch on a registry of its own: CPU 0 opens, CPU 1 closes, and CPU 2 pulls the driver out.

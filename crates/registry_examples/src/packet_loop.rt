@@ -54,7 +54,7 @@ struct Bus<'a, D: Domain> {
     iface: Name,
     /// How many batches were carried. CPU 4 paces itself by it.
     carried: AtomicU64,
-    ghost lawful: { IsTrue (is_key driver) × IsTrue (is_key iface) },
+    ghost keys: { IsTrue (is_key driver) × IsTrue (is_key iface) },
 }
 
 /// How many packets were carried for each value of the interface. Place 0 counts those without an interface.

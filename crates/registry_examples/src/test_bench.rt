@@ -68,7 +68,7 @@ struct Bench {
     reused: bool,
     ghost quiet: { IsQuiet core },
     ghost cpus: { core.settings.cpus ≡ 2 },
-    ghost lawful: { IsTrue (is_key driver) × IsTrue (is_key other) },
+    ghost keys: { IsTrue (is_key driver) × IsTrue (is_key other) },
 }
 
 /// Drives the machine through every order.

@@ -4,7 +4,7 @@ ghost use Rattle.std.specs.Prelude.{◌≡◌, ◌≢◌, ◌↔◌, ◌<◌, If
 ghost use Rattle.cpu_words.specs.Common.{AreWordsOf, key_with, references_to};
 ghost use Rattle.local_count.specs.References.{HasAcquired, why_not_acquired_local};
 ghost use Rattle.name_registry.specs.Common.{HasLearned, HasSeenAttach, IsLetGo};
-ghost use Rattle.registry_values.specs.Common.{is_lawful, is_iface};
+ghost use Rattle.registry_values.specs.Common.{is_key, is_iface};
 ghost use Rattle.name_registry.specs.Types.{Record};
 ghost use Rattle.passive_list.specs.Common.{HasFound, HasExitedOn};
 ghost use Rattle.passive_ref.specs.Psrefs.{HasOneLess, IsAcquired, IsCopied, IsRead, why_not_acquired, why_not_copied, why_unusable};
@@ -234,7 +234,7 @@ pub fn plug_in<D: Domain, R: Wait>(
     rec: Record,
     place: &mut Option<LocalRef<D>>,
 ) -> Result<Entry, Hitch>
-    requires lawful { IsTrue (is_lawful rec.name) }
+    requires key { IsTrue (is_key rec.name) }
     requires iface { is_iface rec.kind ≡ true }
     ensures ok { IfOk result (λ e. Has place.old (λ v. is_iface v.entry.rec.kind ≡ false) × (e.rec ≡ rec) × HasLearned cpu.old cpu.new × HasSeenAttach cpu.old cpu.new e) }
     ensures free { IfOk result (λ _. place.new ≡ None) }

@@ -198,6 +198,7 @@ impl<'a, D: Domain, R: Wait> Session for LiveSession<'a, D, R> {
 
     ghost performs = { λ s c turns answer t. OnOne s.cpus.now c (PerformsBy D.settings turns answer) t.cpus.now };
 
+    #[tactic(auto, using(registry_values::proofs::Names::names_are_keys))]
     fn attach(&mut self, cpu: u8, rec: Record) -> Result<Entry, Hitch> {
         let (rt, registry) = (self.rt, self.registry);
         let cpus = &mut *self.cpus;
@@ -205,6 +206,7 @@ impl<'a, D: Domain, R: Wait> Session for LiveSession<'a, D, R> {
         as_answer(registry.attach(rt, cpu, rec))
     }
 
+    #[tactic(auto, using(registry_values::proofs::Names::names_are_keys))]
     fn plug(&mut self, cpu: u8, rec: Record, label: Label) -> Result<Entry, Hitch> {
         let (rt, registry) = (self.rt, self.registry);
         let cpus = &mut *self.cpus;

@@ -29,7 +29,7 @@ pub struct Plan {
     pub iface: Name,
     ghost some: { (1 ≤ cpus) × (cpus ≤ USUAL_CPUS) × (1 ≤ turns) × (turns ≤ 100000) },
     ghost names: { (name_of_bytes (100 ∷ 114 ∷ 118 ∷ []) ≡ Ok driver) × (name_of_bytes (119 ∷ 109 ∷ 48 ∷ []) ≡ Ok iface) },
-    ghost lawful: { IsTrue (is_key driver) × IsTrue (is_key iface) },
+    ghost keys: { IsTrue (is_key driver) × IsTrue (is_key iface) },
 }
 
 impl Plan {
@@ -52,7 +52,7 @@ impl Plan {
     /// The record of the driver.
     pub fn driver(&self) -> Record
         ensures value { result ≡ driver_record self.now.driver }
-        ensures lawful { IsTrue (is_key result.name) }
+        ensures key { IsTrue (is_key result.name) }
     {
         Record {
             kind: Kind::Driver,
@@ -64,7 +64,7 @@ impl Plan {
     /// The record of the interface that is attached in a turn.
     pub fn iface(&self, turn: u32) -> Record
         ensures value { result ≡ iface_record self.now.iface turn }
-        ensures lawful { IsTrue (is_key result.name) }
+        ensures key { IsTrue (is_key result.name) }
     {
         Record {
             kind: Kind::Iface,

@@ -1,20 +1,19 @@
 -- The pure machine: its lists of events are lists of `step`, and what it attaches has a lawful name.
-use Rattle.std.proofs.Common.{◌≡◌, ℕ, suc, ◌+◌, List, [], ◌∷◌, length, Option, Some, None, Bool, true, false, if◌then◌else◌, refl, sym, ap, subst, ◌∙◌, arith}
+use Rattle.std.proofs.Common.{◌≡◌, ℕ, ◌+◌, List, [], ◌∷◌, length, Option, Some, None, Bool, true, false, if◌then◌else◌, refl, sym, subst, arith}
 use Rattle.std.specs.Prelude.{IsTrue}
 use Rattle.std.proofs.lemmas.Option.{none-some}
-use Rattle.protocol.specs.Types.{Entry, Change, Attach, Detach, Settings}
+use Rattle.protocol.specs.Types.{Entry, Change, Attach, Detach}
 use Rattle.registry_values.specs.Common.{is_lawful}
 use Rattle.registry_values.specs.Names.{are_name_words}
-use Rattle.protocol.specs.Common.{Event, Publish, Outcome, Reply, RecordWords, State, guard, names_lawfully, narrow_step, opening, row_at, state_after, step, words_of, Run, empty_run, narrow_run_of_events}
-use Rattle.protocol.specs.Common.{run_of_events, run_with_event, with_lawful_names, after_change, entry_of, Holds, IsAttached, AreAlike, AreNamedLawfully, NarrowEvents, NarrowNames, NarrowRuns}
-use Rattle.protocol.specs.History.{change_at}
+use Rattle.protocol.specs.Common.{Event, Publish, Outcome, Reply, RecordWords, State, guard, names_lawfully, narrow_step, opening, row_at, state_after, step, Run, empty_run, narrow_run_of_events}
+use Rattle.protocol.specs.Common.{run_of_events, run_with_event, with_lawful_names, after_change, entry_of, Holds, AreNamedLawfully, NarrowEvents, NarrowNames, NarrowRuns}
 use Rattle.protocol.proofs.Either.{either}
 use Rattle.protocol.proofs.history.History.{at_cases, at_empty}
 use Rattle.protocol.proofs.keeps.Keeping.{after_keeps, opening_holds, step_keeps}
 use Rattle.protocol.proofs.keeps.ListKeeps.{entry_shows}
-use Rattle.protocol.proofs.runs.Steps.{Sort, Refused, Left, Entered, Exited, Sought, Heard, Recalled, Searched, Published, Unpublished, Kept, Gave_up, Vacated, step_sort, turned_state}
+use Rattle.protocol.proofs.runs.Steps.{Sort, Refused, Left, Searched, Published, Unpublished, step_sort, turned_state}
 
-pub guard_tells : (b : Bool) (o : Option Outcome) (x : Outcome) → guard b o ≡ Some x → (b ≡ true) × (o ≡ Some x)
+guard_tells : (b : Bool) (o : Option Outcome) (x : Outcome) → guard b o ≡ Some x → (b ≡ true) × (o ≡ Some x)
 guard_tells true o x is = (refl, is)
 guard_tells false o x is = absurd (none-some x is)
 
@@ -48,8 +47,8 @@ alike_step s es k m n l (Some o) all = all o.state (k + 1) m n (Some o.reply)
 -- by the name that the first event publishes, if it does
 alike_name : (s : State) (e : Event) (es : List Event) (k m n : ℕ) (l : Option Reply) (b : Bool) → AllAlike es
     → Alike (narrow_run_of_events (run_with_event (made s k m l) (guard b (step s e))) es)
-        (run_of_events (made s k n l) (if b then e ∷ with_lawful_names (state_after s (step s e)) es else with_lawful_names s es)) (e ∷ es)
-        (if b then e ∷ with_lawful_names (state_after s (step s e)) es else with_lawful_names s es) m n
+    (run_of_events (made s k n l) (if b then e ∷ with_lawful_names (state_after s (step s e)) es else with_lawful_names s es)) (e ∷ es)
+    (if b then e ∷ with_lawful_names (state_after s (step s e)) es else with_lawful_names s es) m n
 alike_name s e es k m n l true all =
     let a = alike_step s es k m n l (step s e) all in
     record { state = a.state; taken = a.taken; last = a.last; refused = omega (arith, a.refused) }
