@@ -139,6 +139,7 @@ def unwind_tables():
         Fault("two functions in a section", "isn't at the head of its section", ((code, '.section .text.turns,"ax",@progbits\n', ""),)),
         Fault("a push that isn't counted", "a return at", ((depth, "return depth + 8, saved", "return depth, saved"), (depth, "return depth - 8, saved", "return depth, saved"))),
         Fault("a register that isn't told", "> rsp+16 c-16 c-8", ((depth, "saved = {**saved, operands: depth + 8}", "pass"),)),
+        Fault("assertions that aren't made", "unset PYTHONOPTIMIZE", command=["env", "PYTHONOPTIMIZE=1", "./look"]),
         Fault("a register that isn't restored", "a return at", ((depth, "if saved.get(operands) == depth:", "if False:"),)),
     )
     return Case("unwind-tables", ["unwind-tables.py"], {"code.s": CODE, "rows": ROWS, "look": UNWOUND}, ["./look"], faults, counts=False)
@@ -204,7 +205,8 @@ def frames():
         Fault("what a call jumps to above it", "above 512: registry_jumps", (("library.c", "int registry_enter", JUMPS),)),
         Fault("a call through a pointer", "registry_enter calls through a pointer", (("library.c", call, "int (*volatile f)(volatile char *) = fill; return f(at) + 1;"),)),
         Fault("a call that comes back to itself", "registry_enter comes back to itself", (("library.c", call, "return at[1] ? registry_enter(at + 1) + fill(at) : 1;"),)),
-        Fault("no exports", "", (("library.c", "int registry_enter", "int enter"), ("library.c", "int registry_exit", "int exit_"))),
+        Fault("a stack pointer that moves otherwise", "registry_enter moves the stack pointer by: and", (("library.c", call, "char room[64] __attribute__((aligned(64))); room[at[0] & 7] = 1; return fill(room);"),)),
+        Fault("no exports", "library.a has no export", (("library.c", "int registry_enter", "int enter"), ("library.c", "int registry_exit", "int exit_"))),
     )
     exempt = (Fault("another call than the one that may", "above 100: registry_enter", command=["./built", "100", "registry_exit"]),)
     yield Case("frames", ["frames.py"], {"library.c": LIBRARY}, ["./built", "512"], faults, counts=False, prepare=archive)

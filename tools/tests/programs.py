@@ -193,9 +193,12 @@ EDITS, TESTED = "crates/one/edits/gate.edits", "crates/one/edits/tests.edits"
 # It lays out no file of a crate, except one that has a blank at the end of a line; and it refuses to compile what says y.
 RT = """#!/bin/sh
 case $1 in
-    fmt) grep -q ' $' src/lib.rt && echo 'rt: formatted src/lib.rt' ;;
-    check) grep -q y src/lib.rt && echo 'src/lib.rt:1:1: error: there is no y' ;;
+    fmt) grep -q '?' src/lib.rt && echo 'src/lib.rt: it does not parse' && exit 1
+        grep -q ' $' src/lib.rt && echo 'rt: formatted src/lib.rt' ;;
+    check) grep -q '+ 3' src/lib.rt && echo 'rt: killed' && exit 1
+        grep -q y src/lib.rt && echo 'src/lib.rt:1:1: error: there is no y' ;;
 esac
+exit 0
 """
 
 
@@ -205,6 +208,8 @@ def before_gate():
             TESTED: f"edit: less\n# It takes one.\nfile: {SOURCE}\nold: x + 1\nnew: x - 1\n", "bin/rt": RT, "look": look}
     faults = (
         Fault("a file that isn't laid out", "one: formatted src/lib.rt", ((SOURCE, "x + 1", "x + 1 "),)),
+        Fault("a file that can't be read", "one: src/lib.rt: it does not parse", ((SOURCE, "x + 1", "x + 1?"),)),
+        Fault("an edit whose look is killed", "one/more: status 1: ['rt: killed']", ((EDITS, "new: x", "new: x + 3"),), ["./look", "compile", "one"]),
         Fault("an edit that doesn't fit", "one/more: stands 0 times in crates/one/src/lib.rt", ((EDITS, "old: x + 1", "old: x + 2"),)),
         Fault("an edit for the tests that doesn't fit", "one/less: stands 2 times in crates/one/src/lib.rt", ((SOURCE, "x + 1", "x + 1, x + 1"), (EDITS, "x + 1", "x + 1, x + 1"))),
         Fault("an edit of a file that is gone", "one/less: there is no crates/one/src/gone.rt", ((TESTED, "lib.rt", "gone.rt"),)),

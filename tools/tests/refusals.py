@@ -112,7 +112,7 @@ TREE = {
     "bin/rt": RT,
     "kit/KIT-ID": "kit\n",
     "kit/bin/rattle": RATTLE,
-    "try": f'#!/bin/sh\nexport XDG_CACHE_HOME=$PWD/kept PATH=$PWD/bin:$PATH LOW=$PWD/{LOW}\nexec tools/try-edits.py gate "$@"\n',
+    "try": f'#!/bin/sh\nexport XDG_CACHE_HOME=$PWD/kept PATH=$PWD/bin:$PATH TOP=$PWD LOW=$PWD/{LOW}\nexec tools/try-edits.py gate "$@"\n',
 }
 
 HAND = "crates/one/edits/by-hand.edits"
@@ -147,9 +147,9 @@ def over_holes(name, state):
     return Fault(name, "what its edits change isn't proved as it stands", (("kit/bin/rattle", line, f"        echo 'fn one::most: {state}'\n"),))
 
 
-def after_a_run(name, said, *lines, kind=""):
+def after_a_run(name, said, *lines, kind="", before=":"):
     """What is changed after a run that kept its refusals, and is found by the next one."""
-    return Fault(name, said, command=["sh", "-c", "\n".join([f"./try {kind} >/dev/null || exit 0", *lines, f"exec ./try {kind}"])])
+    return Fault(name, said, command=["sh", "-c", "\n".join([before, f"./try {kind} >/dev/null || exit 0", *lines, f"exec ./try {kind}"])])
 
 
 def by_hand():
@@ -172,6 +172,8 @@ def by_tests():
 def by_prover():
     faults = (
         Fault("a wrong body that is proved", "NOT REFUSED: more still proved", ((EDITS, "new:     x\n", "new:     x + 1 + 0\n"),)),
+        Fault("a wrong body that was proved before", "NOT REFUSED: more still proved", ((EDITS, "new:     x\n", "new:     x + 1 + 0\n"),),
+              ["sh", "-c", "./try >/dev/null; exec ./try"]),
         Fault("a right body that is tried beside a wrong one", "NOT REFUSED: less still proved", ((EDITS, "new:     x - 2", "new:     x - 1 - 0"),)),
         Fault("an edit that doesn't fit", "stands 0 times in", ((EDITS, "old:     x + 1\nnew:     x\n", "old:     y\nnew:     x\n"),)),
         Fault("an edit of no function", "it changes no function", ((EDITS, "old:     x + 1\nnew:     x\n", "old: //! One more.\nnew: //! None.\n"),)),
@@ -192,6 +194,8 @@ def by_prover():
         Fault("no edits", "0 passed, 1 failed", ((EDITS, "file:", None),)),
         after_a_run("a refusal over another library", "NOT REFUSED", f"echo strong >{LOW}"),
         after_a_run("a refusal by another kit", "NOT REFUSED", "printf '#!/bin/sh\\necho only=1\\n' >kit/bin/rattle; echo other >kit/KIT-ID"),
+        after_a_run("a refusal of a tree that was changed meanwhile", "NOT REFUSED", "rm crates/one/specs/More.antt", "printf '#!/bin/sh\\necho only=1\\n' >kit/bin/rattle",
+                    before="mkdir crates/one/specs; sed -i '2i >$TOP/crates/one/specs/More.antt' kit/bin/rattle"),
         after_a_run("a refusal of another body", "NOT REFUSED", f"sed -i 's/^new:     x$/new:     x + 1 + 0/' {EDITS}"),
         after_a_run("a refusal of an edit that is no longer applied", "NOT REFUSED", "sed -i 's/path.write_text(text.replace(old, new))/pass/' tools/edits.py"),
     )

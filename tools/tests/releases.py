@@ -20,7 +20,7 @@ RECORDS = ("proof-record.py", "limits.py", "kit.py")
 SOURCES = {
     "crates.txt": "registry_values: std\nlow: registry_values std\nregistry_c staticlib: low std\n",
     **real("crates/registry_values/src/limits.rt", "crates/registry_values/specs/Limits.antt"),
-    "crates/low/src/lib.rt": "low\n",
+    **{f"crates/low/{path}": "low\n" for path in ("src/lib.rt", "specs/Lib.antt", "proofs/Lib.antt")},
     "crates/registry_c/src/lib.rt": "face\n",
     "crates/registry_c/include/registry.h":
         "#define REGISTRY_VERSION_MAJOR\t0\n#define REGISTRY_VERSION_MINOR\t1\nuint32_t registry_enter(struct registry_cpu *cpu);\n",
@@ -102,6 +102,11 @@ def prepare(tree):
         subprocess.run(["git", *words], cwd=tree, check=True, env=who)
 
 
+COMMIT = "git -c user.name=a -c user.email=a@b commit -qam more"
+# Each kind of file that an archive is made from.
+RECORDED = ("crates.txt", "crates/low/src/lib.rt", "crates/low/specs/Lib.antt", "crates/low/proofs/Lib.antt", "crates/registry_c/include/registry.h", "c/src/heap.c")
+
+
 def shell(*lines):
     """A command that spoils the tree and then tries it."""
     return ["sh", "-c", "\n".join([*lines, 'exec ./try "$@"']), "sh"]
@@ -123,8 +128,8 @@ def making():
         Fault("a record with limits that are none", "--cpus may be 8 to 128", command=shell("sed -i 's/--cpus 64/--cpus 800/' out/libregistry.proved")),
         Fault("another archive", "isn't the archive that", command=shell("echo other >registry.o; ar r out/libregistry.a registry.o; rm registry.o")),
         Fault("no archive of objects", "has no object registry.o", command=shell("echo none >out/libregistry.a")),
-        Fault("other sources", "was made from other sources", command=shell("echo more >>crates/low/src/lib.rt; git -c user.name=a -c user.email=a@b commit -qam more")),
-        Fault("other C in the archive", "was made from other sources", command=shell("echo >>c/src/heap.c; git -c user.name=a -c user.email=a@b commit -qam more")),
+        *(Fault(f"another {path}", "was made from other sources", command=shell(f"echo '#' >>{path}; {COMMIT}")) for path in RECORDED),
+        Fault("an object more in the archive", "or another one beside it", command=shell("echo >more.o; ar rb registry.o out/libregistry.a more.o; rm more.o")),
         Fault("no program", "tools/prove-program.sh proves and builds it", command=shell("rm program")),
         Fault("changes that are in no commit", "git commit takes them in", command=shell("echo more >>packaging/INSTALL.md")),
         Fault("no repository", "a release is made in a clone of the repository", command=shell("rm -rf .git")),
@@ -207,7 +212,11 @@ BAD_LIMITS = {
 
 def building():
     faults = [
-        Fault("a proof that fails", "has no line that begins 'logic=proved'", (("bin/rt", "echo logic=proved functions=1", "echo logic=not-proved"),)),
+        *(Fault(f"a proof that fails{more}", "has no last line that begins 'logic=proved'", (("bin/rt", "echo logic=proved functions=1", f"{said}echo logic=not-proved"),))
+          for more, said in (("", ""), (", above one that doesn't", "echo logic=proved functions=1; "))),
+        Fault("a source that is changed while it is proved", "began with other sources", (("bin/rt", "mkdir -p out", "echo less >../low/specs/Lib.antt; mkdir -p out"),)),
+        Fault("a library that was proved of other sources", "began with other sources",
+              command=["sh", "-c", "./try; rm out/*; mv crates/registry_c/out/libregistry_c.a library; (echo proved: 0; cat said) >log; exec ./try library log"]),
         Fault("a library without a log", "it takes nothing", command=["./try", "crates.txt"]),
         Fault("a library that isn't there", "there is no library none", command=["./try", "none", "crates.txt"]),
         Fault("a log that isn't there", "there is no log none", command=["./try", "crates.txt", "none"]),
@@ -224,7 +233,7 @@ def building():
 def building_other():
     source = "crates/registry_values/src/limits.rt"
     faults = (
-        Fault("a proof that fails", "has no line that begins 'logic=proved'", (("bin/rt", "echo logic=proved functions=1", "echo logic=not-proved"),)),
+        Fault("a proof that fails", "has no last line that begins 'logic=proved'", (("bin/rt", "echo logic=proved functions=1", "echo logic=not-proved"),)),
         Fault("a file of limits without one", "says no MOST_CPUS", ((source, "pub const MOST_CPUS", "const MOST_CPUS"),)),
         Fault("a range that isn't said", "says no range of MOST_CPUS", (("crates/registry_values/specs/Limits.antt", "(USUAL_CPUS ≤ MOST_CPUS) ×", ""),)),
         Fault("other sources since", "was made from other sources", command=["./try-other", "sh", "-c", "echo more >>crates/low/src/lib.rt"]),
