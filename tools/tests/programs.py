@@ -9,7 +9,7 @@ PROVED = ROOT / "crates/registry_run/out/registry_run"
 VERBS = "domain,limits,attach,detach,enter,exit,find,ref,copy,held,read,drop,advance"
 # It replaces the program of the repository, too: whoever writes a kit asks that for its reports.
 FOREIGN = "#!/bin/sh\nexec tools/other_registry.py\n"
-KIT = ["conformance.py", "other_registry.py", "parts.py"]
+KIT = ["conformance.py", "engines.py", "other_registry.py", "parts.py"]
 TREE = {"program": FOREIGN, "crates/registry_run/out/registry_run": FOREIGN}
 
 
@@ -31,33 +31,11 @@ def conformance_run():
     faults = (
         other("a program that stops in the middle of a report", "0000.txt: line 21 is '(the end)'", "tools/other_registry.py | head -n 20"),
         other("one that prints a line more", "is 'more' and not '(the end)'", "tools/other_registry.py; echo more"),
-        other("one that ends without the end of a line", "0000.txt: another end of line", 'printf %s "$(tools/other_registry.py)"'),
-        other("one with another line", "is 'Outside' and not 'outside'", "tools/other_registry.py | sed s/outside/Outside/"),
         other("one with a wrong status", "0000.txt: status 3", "tools/other_registry.py; exit 3"),
         Fault("a script without its report", "0002.report", (("kit/0002.report", "", None),)),
         Fault("an empty folder", "0 passed, 1 failed", command=["tools/conformance.py", "run", "empty", "./program"]),
     )
     return Case("conformance run", KIT, TREE, [*command, "./program"], faults, prepare=write_kit)
-
-
-# It says which commands the scripts have, and that there are as many as were asked for.
-WRITTEN = """#!/bin/sh
-tools/conformance.py write kit --scripts 12 --lines 30 --only "$1" || exit 1
-[ "$(ls kit/*.txt | wc -l)" = 12 ] && [ "$(ls kit/*.report | wc -l)" = 12 ] || exit 1
-found=$(cut -d' ' -f1 kit/*.txt | sort -u | paste -sd,)
-[ "$found" = "$2" ] || { echo "the scripts have $found"; exit 1; }
-"""
-
-
-def conformance_write():
-    tool = "tools/conformance.py"
-    faults = (
-        Fault("an ignored --only", "the scripts have", ((tool, 'options.only.split(",") if options.only', f'"{VERBS}".split(",") if options.only'),)),
-        Fault("a writer that has other commands", "not in the list: find found", ((tool, "if line.split()[0] in self.allowed", ""),)),
-        Fault("a command that there isn't", "no commands: fly", command=["./written", "attach,fly", ""]),
-    )
-    command = ["./written", "attach,detach,enter,exit", "attach,detach,domain,enter,exit"]
-    return Case("conformance write", KIT, {**TREE, "written": WRITTEN}, command, faults, counts=False)
 
 
 def wrapped(name, said, line):
@@ -223,4 +201,4 @@ def before_gate():
 
 def cases():
     program = [test_program(PROVED)] if PROVED.is_file() else []
-    return [conformance_run(), conformance_write(), *program, lines(), names(), points(), *tables(), before_gate()]
+    return [conformance_run(), *program, lines(), names(), points(), *tables(), before_gate()]
