@@ -1,9 +1,9 @@
 #!/usr/bin/env python3
 """Prints what stack each export of the static library takes at most, with all that it calls in the library, in bytes, the deepest first.
 
-  tools/frames.py ARCHIVE [LIMIT [EXPORT..]]
+  tools/frames.py ARCHIVE [LIMIT]
 
-With a LIMIT it says which exports are above it, but for those named, and ends with status 1 if there are any. The frames are read from the
+With a LIMIT it says which exports are above it, and ends with status 1 if there are any. The frames are read from the
 machine code: what a function pushes, and what it takes off the stack pointer, on whatever path; one that moves it otherwise is a fault. What the C library takes in `malloc` and its
 like isn't counted. A call through a pointer, and one that comes back to itself, is a fault; a jump through a pointer is that of a table.
 """
@@ -126,7 +126,7 @@ def deepest(name, functions, processor, above=()):
     return functions[name].frame + max(below, default=processor.red_zone)
 
 
-def main(archive, limit=None, *exempt):
+def main(archive, limit=None):
     processor = processor_of(archive)
     functions = read(processor, archive)
     depths = sorted(((deepest(it, functions, processor), it) for it in functions if EXPORT.match(it)), reverse=True)
@@ -134,7 +134,7 @@ def main(archive, limit=None, *exempt):
         raise Fault(f"{archive} has no export")
     for depth, name in depths:
         print(f"{depth:6} {name}")
-    over = [name for depth, name in depths if limit and depth > int(limit) and name not in exempt]
+    over = [name for depth, name in depths if limit and depth > int(limit)]
     for name in over:
         print(f"above {limit}: {name}", file=sys.stderr)
     return int(bool(over))

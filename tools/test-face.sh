@@ -49,16 +49,6 @@ build_archive() {
     tools/build-archive.sh
 }
 
-# Other objects see each call of the header in the archive, and no other name.
-archive_names() {
-    diff <(packaging/calls-of.sh "${header%.h}"{,_limits}.h) <(nm -g --defined-only "$out/libregistry.a" 2>/dev/null | awk 'NF == 3 { print $3 }' | sort)
-}
-
-# No call takes more stack than the page says.
-stack_within() {
-    tools/frames.py "$out/libregistry.a" 4096
-}
-
 # warned WARNING STATEMENT: the compiler warns of a statement with a CPU, as it does of none that is right.
 warned() {
     local call='#include "registry.h"\nvoid f(struct registry_cpu *cpu, struct registry_entry *entry);\nvoid f(struct registry_cpu *cpu, struct registry_entry *entry) { %s }\n'
@@ -210,8 +200,8 @@ test_heap() {
 
 # All that the parts below run, except the crate's programs, which cargo builds when they are wanted.
 test_build() {
-    check "the archive has the header's calls" archive_names
-    check "no call takes more stack than the page says" stack_within
+    check "the archive has the header's calls" archive_names "$out"
+    check "no call takes more stack than the page says" stack_within "$out"
     check "the clients in C are built, no warning" make all
     check "C: all of them are built with sanitizers" make sanitized
     check "C: heap_stress is built nine times" make stresses

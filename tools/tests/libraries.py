@@ -208,10 +208,7 @@ def frames():
         Fault("a stack pointer that moves otherwise", "registry_enter moves the stack pointer by: and", (("library.c", call, "char room[64] __attribute__((aligned(64))); room[at[0] & 7] = 1; return fill(room);"),)),
         Fault("no exports", "library.a has no export", (("library.c", "int registry_enter", "int enter"), ("library.c", "int registry_exit", "int exit_"))),
     )
-    exempt = (Fault("another call than the one that may", "above 100: registry_enter", command=["./built", "100", "registry_exit"]),)
-    yield Case("frames", ["frames.py"], {"library.c": LIBRARY}, ["./built", "512"], faults, counts=False, prepare=archive)
-    yield Case("frames, one that may take more", ["frames.py"], {"library.c": LIBRARY}, ["./built", "100", "registry_enter", "registry_exit"], exempt, counts=False,
-               prepare=archive)
+    return Case("frames", ["frames.py"], {"library.c": LIBRARY}, ["./built", "512"], faults, counts=False, prepare=archive)
 
 
 # An archive's function as objdump shows it, and a program that has it elsewhere, with the places from where it came to a table.
@@ -244,12 +241,8 @@ def atomics():
         Fault("a step that no program met", "met by no program: ldar in enter+0xc", (("program.sites", "40010c\n", ""),)),
         Fault("no steps at all", "ldar 0", (("archive.code", "ldaxr", "nop"), ("archive.code", "stlxr", "nop"), ("archive.code", "ldar", "nop"))),
     )
-    return [Case("atomics", ["atomics.py"], tree, ["./look"], faults, counts=False)]
-
-
-def stack():
-    return [*frames(), *atomics()]
+    return Case("atomics", ["atomics.py"], tree, ["./look"], faults, counts=False)
 
 
 def cases():
-    return [symbols(), pages(), unwind_tables(), replace_part(), *stack()]
+    return [symbols(), pages(), unwind_tables(), replace_part(), frames(), atomics()]
