@@ -1,5 +1,5 @@
-"""Faults of libraries, of the archive for C and of the layer's pages: packaging/symbols.sh, netbsd/pages.py, tools/unwind-tables.py, tools/frames.py,
-tools/atomics.py and tools/replace-part.sh."""
+"""Faults of libraries, of the archive for C and of the layer's pages: packaging/symbols.sh, netbsd/pages.py, tools/unwind-tables.py, tools/frames.py and
+tools/atomics.py."""
 from .trees import Case, Fault, real
 
 # A library is a text here: what nm says of it.
@@ -145,30 +145,6 @@ def unwind_tables():
     return Case("unwind-tables", ["unwind-tables.py"], {"code.s": CODE, "rows": ROWS, "look": UNWOUND}, ["./look"], faults, counts=False)
 
 
-# An archive of one object, in which one function is seen from outside and calls another one.
-JOINED = """#!/bin/sh
-mkdir -p crates/registry_c/include
-for part in part rest; do gcc -O1 -fPIC -c c/src/$part.c -o $part.o || exit 9; done
-ld -r -o whole.o part.o rest.o && objcopy --keep-global-symbol=registry_rest whole.o registry.o && ar rcsD old.a registry.o || exit 9
-sed -i 's/return 1;/return 2;/' c/src/part.c
-tools/replace-part.sh "${1-part}" old.a new/new.a || exit
-for archive in old new/new; do gcc use.c $archive.a -o used && ./used; done >said
-diff said wanted
-"""
-
-
-def replace_part():
-    tool = "tools/replace-part.sh"
-    tree = {"c/src/part.c": "int part(void) { return 1; }\n", "c/src/rest.c": "int part(void);\nint registry_rest(void) { return part() + 10; }\n",
-            "use.c": '#include <stdio.h>\nint registry_rest(void);\nint main(void) { printf("%d\\n", registry_rest()); }\n', "wanted": "11\n12\n", "join": JOINED}
-    faults = (
-        Fault("an archive as it was", "< 11\n", ((tool, "$room/part.o\" \"$room/rest.o", "$room/rest.o"),)),
-        Fault("two functions of a name", "multiple definition", ((tool, '--weaken-symbols="$room/names"', ""),)),
-        Fault("functions that aren't seen", "< 11\n", ((tool, '--globalize-symbols="$room/names"', ""),)),
-    )
-    return Case("replace-part", ["replace-part.sh"], tree, ["./join"], faults, counts=False)
-
-
 LIBRARY = """
 #include <stdlib.h>
 #define OWN __attribute__((noinline))
@@ -245,4 +221,4 @@ def atomics():
 
 
 def cases():
-    return [symbols(), pages(), unwind_tables(), replace_part(), frames(), atomics()]
+    return [symbols(), pages(), unwind_tables(), frames(), atomics()]

@@ -165,6 +165,7 @@ def by_hand():
 def by_tests():
     return (
         Fault("a wrong body that no test refuses", "NOT REFUSED: all tests pass", ((TESTED, "new:     x + x", "new:     x + 1 + 0"),)),
+        Fault("a run of the tests that is cut off", "NOT TRIED: no test failed: run=no-answer", (("bin/rt", 'echo "test more FAILED"', 'echo "run=no-answer"'),)),
         Fault("an edit for the tests that doesn't fit", "stands 0 times in", ((TESTED, "old:     x + 1", "old:     y"),)),
     )
 
