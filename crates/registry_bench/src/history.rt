@@ -33,9 +33,9 @@ const PAIRS: u64 = 24;
 /// So many times an entry is looked up at once. All lookups but the first go by memory.
 const LOOKS: u32 = 8;
 
-/// A CPU begins at most so many sections in a turn: for the first lookup of each entry of a pair, for one that finds nothing, for one that a
-/// detach meets, and one to spare. There is room for no more, so lookups that all begin sections are refused soon.
-const SECTIONS: u64 = 5;
+/// A CPU begins at most so many sections in a turn: for the first lookup of each entry of a pair, for one that finds nothing, and one that a
+/// detach meets. There is room for no more, so lookups that all begin sections are refused soon.
+const SECTIONS: u64 = 4;
 
 /// An audit comes after so many turns.
 const AUDITED: u32 = 1_000;
