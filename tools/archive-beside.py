@@ -30,6 +30,7 @@ import time
 sys.dont_write_bytecode = True
 
 from kit import below, kit, over_libraries
+from limits import LIMITS
 from parts import GIGABYTE, LAST_LINE, ROOT, ended, free_memory, guard, minutes, running, say, stop_running
 
 LIBRARY = "registry_c"
@@ -74,6 +75,7 @@ class Proof(threading.Thread):
     def __init__(self, room):
         super().__init__(daemon=True)
         self.room, self.status, self.seconds = room, {}, {}
+        self.began = subprocess.run(["tools/proof-record.py", "begin", LIMITS], cwd=ROOT, stdout=subprocess.PIPE, check=True).stdout
 
     def log(self, processor):
         return self.room / f"{processor}.log"
@@ -113,7 +115,8 @@ class Proof(threading.Thread):
         self.made(processor).parent.mkdir(exist_ok=True)
         words = ["nice", "-n", str(NICENESS), kit() / "bin/rattle", "build", *over_libraries(LIBRARY, self.room), "--jobs", "1"]
         words += [*PROCESSORS[processor], "--incremental", KEPT, "--toolchain", kit() / "toolchain", "--backend", "llvm", "-o", self.made(processor)]
-        with open(self.log(processor), "w") as log:
+        with open(self.log(processor), "wb", buffering=0) as log:
+            log.write(self.began)
             ran = subprocess.Popen(words, cwd=self.room / LIBRARY, stdin=subprocess.DEVNULL, stdout=log, stderr=log, start_new_session=True)
             running.add(ran.pid)
             # Where memory runs out, this is what ends, and no check of rt ci.

@@ -23,12 +23,13 @@ CRATES = sorted(it.name for it in (ROOT / "crates").iterdir() if it.is_dir())
 
 def rt(tree, crate, *words):
     ran = subprocess.run(["rt", *words], cwd=tree / "crates" / crate, stdout=subprocess.PIPE, stderr=subprocess.STDOUT, text=True)
-    return ran.stdout.splitlines()
+    return ran.returncode, ran.stdout.splitlines()
 
 
 def format_faults(tree, crate):
-    """What isn't as rt fmt writes it."""
-    return [line.removeprefix("rt: ") for line in rt(tree, crate, "fmt") if line.startswith("rt: formatted ")]
+    """What isn't as rt fmt writes it, or can't be read."""
+    status, lines = rt(tree, crate, "fmt")
+    return lines if status else [line.removeprefix("rt: ") for line in lines if line.startswith("rt: formatted ")]
 
 
 def edits(crate, *kinds):
@@ -45,9 +46,10 @@ def misfit(tree, edit):
 def compile_fault(tree, crate, edit):
     """What the quick pass over the edited sources says, if it finds a fault."""
     before, why = apply(edit, tree)
-    lines = [] if why else rt(tree, crate, "check", "--only", "")
+    status, lines = (0, []) if why else rt(tree, crate, "check", "--only", "")
     restore(before)
-    return why or next((line for line in lines if ": error" in line and "/proofs/" not in line), "")
+    errors = [line for line in lines if ": error" in line] or [f"status {status}: {lines[-1:]}"] * (status != 0)
+    return why or next((line for line in errors if "/proofs/" not in line), "")
 
 
 def looks(tree):

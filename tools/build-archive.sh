@@ -67,7 +67,8 @@ prove() {
         tree=$room/tree
     fi
     log=$room/log library=$tree/crates/registry_c/out/libregistry_c.a
-    (cd "$tree/crates/registry_c" && rt lib "${target[@]}") 2>&1 | tee "$log"
+    tools/proof-record.py begin "$room/limits.rt" >"$log"
+    (cd "$tree/crates/registry_c" && rt lib "${target[@]}") 2>&1 | tee -a "$log"
 }
 
 # The headers that a client of this archive includes, in one folder.

@@ -83,6 +83,16 @@ counted() {
     fi
 }
 
+# archive_names FOLDER [PREFIX]: other objects see each call of the headers in the archive there, and no other name.
+archive_names() {
+    diff <(packaging/calls-of.sh crates/registry_c/include/registry{,_limits}.h) <("${2-}nm" -g --defined-only "$1/libregistry.a" 2>/dev/null | awk 'NF == 3 { print $3 }' | sort)
+}
+
+# stack_within FOLDER: no call of the archive there takes more stack than the page says.
+stack_within() {
+    tools/frames.py "$1/libregistry.a" 4096
+}
+
 # header_alone HEADER WORD..: C takes the header alone, without a warning, and so does C++ where it is there.
 header_alone() {
     local text="#include <$1>"$'\nint one_thing;' words=(-Wall -Wextra -Wpedantic -Werror "${@:2}" -fsyntax-only) standard

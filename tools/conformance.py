@@ -13,20 +13,16 @@ M failed'. The program is crates/registry_run/out/registry_run where it stands, 
 import argparse
 import pathlib
 import random
-import re
-import subprocess
 import sys
 import tempfile
 
 sys.dont_write_bytecode = True
 
-from parts import ended
+from engines import ROOT, ran, said_when_tried
 from other_registry import FAULTS, report_of
+from parts import ended
 
-ROOT = pathlib.Path(__file__).resolve().parent.parent
 PROGRAM = ROOT / "crates/registry_run/out/registry_run"
-# After so many seconds a program that is run is taken to wait for ever.
-MOST_SECONDS = 1200
 
 # What each command may answer. NotHeld isn't among it: a label stands only for a reference that its CPU holds.
 ATTACHES = "attached Inside NeedsDriver NameTaken NoSlot HistoryFull"
@@ -132,36 +128,14 @@ class Writer:
         return "\n".join(text) + "\n"
 
 
-def said_by(command, script):
-    ended = subprocess.run(command, input=script.encode(), stdout=subprocess.PIPE, stderr=subprocess.PIPE, timeout=MOST_SECONDS)
-    return ended.returncode, ended.stdout.decode(), ended.stderr.decode()
-
-
-def said_when_tried(scripts):
-    """What the engine `core` says of each script by `rt try`, which prints a heading before each output."""
-    with tempfile.TemporaryDirectory() as folder:
-        for place, script in enumerate(scripts):
-            pathlib.Path(folder, f"s{place}").write_text(script)
-        command = ["rt", "try", "--cases", folder, "--", "core"]
-        streams = {"stdout": subprocess.PIPE, "stderr": subprocess.PIPE}
-        ended = subprocess.run(command, cwd=ROOT / "crates/registry_run", timeout=MOST_SECONDS, **streams)
-    printed = re.split(r"^== s(\d+)\n", ended.stdout.decode(), flags=re.M)
-    outputs = dict(zip(map(int, printed[1::2]), printed[2::2]))
-    if len(outputs) != len(scripts):
-        sys.exit(f"rt try says nothing of some scripts\n{ended.stderr.decode()}")
-    return [(0, outputs[place], "") for place in range(len(scripts))]
-
-
 def reports_of(scripts):
     """What the engine `core` prints of each script."""
-    if not PROGRAM.exists():
-        said = said_when_tried(scripts)
-    else:
-        said = [said_by([PROGRAM, "core"], script) for script in scripts]
-    for place, (status, _, error) in enumerate(said):
+    is_built = PROGRAM.exists()
+    said = (ran([PROGRAM, "core"], it) for it in scripts) if is_built else said_when_tried("core", {f"s{place}": it for place, it in enumerate(scripts)})
+    for place, (status, report, error) in enumerate(said):
         if status != 0:
             sys.exit(f"script {place}: status {status}: {error}")
-    return [report for _, report, _ in said]
+        yield report
 
 
 def answer_of(line):
@@ -193,7 +167,7 @@ def write_kit(folder, options, verbs):
     folder.mkdir(parents=True, exist_ok=True)
     seeds = range(options.seed, options.seed + options.scripts)
     scripts = [Writer(random.Random(seed), verbs).script(options.lines) for seed in seeds]
-    reports = reports_of(scripts)
+    reports = list(reports_of(scripts))
     for place, (script, report) in enumerate(zip(scripts, reports)):
         (folder / f"{place:04}.txt").write_text(script)
         (folder / f"{place:04}.report").write_text(report)
@@ -230,7 +204,7 @@ def failures_of(folder, program):
     """Each script of which a program doesn't print the report, and where it parts from it."""
     for path in sorted(folder.glob("*.txt")):
         report = path.with_suffix(".report").read_text()
-        status, found, _ = said_by(program, path.read_text())
+        status, found, _ = ran(program, path.read_text())
         if status != 0:
             yield f"{path.name}: status {status}"
         elif found != report:

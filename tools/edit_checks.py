@@ -370,8 +370,8 @@ def place_of(edit):
 
 
 def keep(edit, result):
-    """Keeps a refusal for later runs."""
-    if result.is_refused:
+    """Keeps a refusal for later runs, unless what decided it was changed meanwhile."""
+    if result.is_refused and sum_of.__wrapped__(edit.crate) == sum_of(edit.crate):
         STORE.mkdir(parents=True, exist_ok=True)
         with tempfile.NamedTemporaryFile("w", dir=STORE, delete=False) as new:
             new.write(result.said)

@@ -1,10 +1,10 @@
 #!/usr/bin/env python3
 """Prints what stack each export of the static library takes at most, with all that it calls in the library, in bytes, the deepest first.
 
-  tools/frames.py ARCHIVE [LIMIT [EXPORT..]]
+  tools/frames.py ARCHIVE [LIMIT]
 
-With a LIMIT it says which exports are above it, but for those named, and ends with status 1 if there are any. The frames are read from the
-machine code: what a function pushes, and what it takes off the stack pointer, on whatever path. What the C library takes in `malloc` and its
+With a LIMIT it says which exports are above it, and ends with status 1 if there are any. The frames are read from the
+machine code: what a function pushes, and what it takes off the stack pointer, on whatever path; one that moves it otherwise is a fault. What the C library takes in `malloc` and its
 like isn't counted. A call through a pointer, and one that comes back to itself, is a fault; a jump through a pointer is that of a table.
 """
 import re
@@ -26,6 +26,8 @@ class X86:
     # What a call takes, and what a function that calls none may use beneath the stack pointer.
     return_address, red_zone = 8, 128
     takes = re.compile(r"\tsub\s+\$0x(?P<size>[0-9a-f]+),%(?P<to>rsp|r11)(?P<pages>)$|\t(?P<push>push)\s")
+    # What moves the stack pointer otherwise, and not up.
+    moves = re.compile(r"\t(?!cmp|test|add\s+\$0x[0-9a-f]{1,8},)(?P<by>\w+)\s+\S+,%rsp$")
     calls = re.compile(r"\t(?P<by>call|jmp|j[a-z]+)\s+(?:[0-9a-f]+ <(?P<to>.*?)(?:\+0x[0-9a-f]+)?>|(?P<pointer>\*.*))$")
     call, refers = ("call",), re.compile(r"R_X86_64_(?:PLT32|PC32|GOTPCREL\w*)\s+(\S+?)([-+]0x[0-9a-f]+)?$")
 
@@ -40,6 +42,7 @@ class Aarch64:
     objdump, bound = "aarch64-linux-gnu-objdump", "x9"
     return_address, red_zone = 0, 0
     takes = re.compile(r"\tsub\t(?P<to>sp|x9), sp, #0x(?P<size>[0-9a-f]+)(?P<pages>, lsl #12)?$|\[sp, #-(?P<push>\d+)\]!$")
+    moves = re.compile(r"\t(?!cmp|cmn|add\tsp, sp, #)(?P<by>\w+)\tsp, ")
     calls = re.compile(r"\t(?P<by>blr?|br|b\.\w+|cbn?z|tbn?z)\t(?:.*, )?(?:[0-9a-f]+ <(?P<to>.*?)(?:\+0x[0-9a-f]+)?>|(?P<pointer>x\d+))(?:\s+//.*)?$")
     call, refers = ("bl", "blr"), re.compile(r"R_AARCH64_(?:CALL26|JUMP26)\s+(\S+?)([-+]0x[0-9a-f]+)?$")
 
@@ -87,6 +90,8 @@ class Function:
         self.last = None
         if found := self.processor.takes.search(line):
             self.take(found)
+        elif found := self.processor.moves.search(line):
+            raise Fault(f"{self.name} moves the stack pointer by: {found['by']}")
         elif found := self.processor.calls.search(line):
             self.call(found)
 
@@ -121,16 +126,18 @@ def deepest(name, functions, processor, above=()):
     return functions[name].frame + max(below, default=processor.red_zone)
 
 
-def main(archive, limit=None, *exempt):
+def main(archive, limit=None):
     processor = processor_of(archive)
     functions = read(processor, archive)
     depths = sorted(((deepest(it, functions, processor), it) for it in functions if EXPORT.match(it)), reverse=True)
+    if not depths:
+        raise Fault(f"{archive} has no export")
     for depth, name in depths:
         print(f"{depth:6} {name}")
-    over = [name for depth, name in depths if limit and depth > int(limit) and name not in exempt]
+    over = [name for depth, name in depths if limit and depth > int(limit)]
     for name in over:
         print(f"above {limit}: {name}", file=sys.stderr)
-    return 1 if over or not depths else 0
+    return int(bool(over))
 
 
 if __name__ == "__main__":

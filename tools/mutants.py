@@ -1,7 +1,7 @@
 #!/usr/bin/env python3
 """Makes small wrong bodies of the code that nothing proves, and says which of them every test accepts.
 
-    tools/mutants.py [--only FILE[:LINE]].. [--sample N] [--seed N] [--jobs N] [--least N] [--list]
+    tools/mutants.py [--only FILE[:LINE]].. [--sample N] [--seed N] [--jobs N] [--least N]
 
 The code is c/src/waiting.c, what is C of the archive, netbsd/src/*.c and rust/src/*.rs. Each wrong body is built
 in a copy of the tree, and the tests of the file's own library run until one fails. A body that the compiler makes the same code of isn't run. Those tests
@@ -12,7 +12,7 @@ as `busy`. It hangs if it takes five times as long as on the tree as it stands,
 and --least seconds (5).
 
 `--only` takes the wrong bodies of a file, or of one line of it. `--sample` takes N of them by the seed (1 where none is given): the same share of
-each file. `--jobs` tries so many at a time (2). `--list` only says what the wrong bodies are. Where one survives, the status is 1: either a test is
+each file. `--jobs` tries so many at a time (2). Where one survives, the status is 1: either a test is
 missing, or the body harms nobody, as one that costs time alone.
 """
 import argparse
@@ -570,12 +570,8 @@ def main():
     parser.add_argument("--only", action="append", default=[])
     for name, default in (("sample", None), ("seed", 1), ("jobs", 2), ("least", 5)):
         parser.add_argument(f"--{name}", type=int, default=default)
-    parser.add_argument("--list", action="store_true")
     given = parser.parse_args()
     bodies = chosen(given.only, given.sample, given.seed)
-    if given.list:
-        print("".join(f"{it.file}:{it.line}: {it.rule}: {it.old} -> {it.new}\n" for it in bodies), end="")
-        return 0
     guard()
     tried = Tried(bodies, given.least)
     with tempfile.TemporaryDirectory() as room:

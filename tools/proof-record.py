@@ -1,11 +1,12 @@
 #!/usr/bin/env python3
 """The record of an archive's proof, which lies beside the archive as libregistry.proved.
 
+    tools/proof-record.py begin LIMITS                                  prints the first line of a LOG, before a proof begins: the sum of what is to be proved
     tools/proof-record.py write PROCESSOR LIMITS LOG COMPILED OBJECT    prints the record of an archive that was just made
     tools/proof-record.py check ARCHIVE                                 whether the archive is the recorded one, made from the sources as they stand
     tools/proof-record.py parts                                         the names of the C files in c/src that are joined with the proved object
 
-LIMITS is the limits.rt that was proved, LOG what the proof said, COMPILED the object as the compiler wrote it, OBJECT the one that is in the archive. Each
+LIMITS is the limits.rt that is proved, LOG what the proof said, COMPILED the object as the compiler wrote it, OBJECT the one that is in the archive. Each
 line of a record is `NAME: TEXT`; its limits are as tools/build-archive.sh takes them. `check` prints one line and ends with status 2 where something differs.
 """
 import hashlib
@@ -13,7 +14,6 @@ import pathlib
 import re
 import subprocess
 import sys
-import tempfile
 
 sys.dont_write_bytecode = True
 
@@ -22,7 +22,8 @@ from kit import ROOT, below
 
 LIBRARY = "registry_c"
 PARTS = ("heap", "composed", "strings", "limits")
-VERDICT = re.compile(r"^logic=proved .*$", re.M)
+VERDICT = re.compile(r"^logic=.*$", re.M)
+BEGAN = "proved: "
 NAMES = ("processor", "limits", "kit", "verdict", "sources", "commit", "compiled", "object")
 MAKE = "tools/build-archive.sh{} proves and builds it"
 
@@ -45,19 +46,27 @@ def sum_of_bytes(of):
     return hashlib.sha256(of).hexdigest()
 
 
-def sources():
-    """The files that the archive is proved from, and those in C that are joined with it."""
-    headers = sorted((ROOT / "crates" / LIBRARY / "include").glob("*.h"))
-    files = [ROOT / "crates.txt", *headers, *(ROOT / f"c/src/{part}.c" for part in PARTS)]
+def proved():
+    """The files that the archive is proved from."""
+    files = [ROOT / "crates.txt"]
     for crate in sorted([LIBRARY, *below(LIBRARY)]):
         files += [it for part in ("src", "specs", "proofs") for it in sorted((ROOT / "crates" / crate / part).rglob("*")) if it.is_file()]
     return files
 
 
+def joined():
+    """The headers, and the files in C that are joined with what is proved."""
+    return [*sorted((ROOT / "crates" / LIBRARY / "include").glob("*.h")), *(ROOT / f"c/src/{part}.c" for part in PARTS)]
+
+
 def sum_of_sources(limits):
-    """The sum of all sources, where the file of limits has this text."""
+    return sum_of_files([*proved(), *joined()], limits)
+
+
+def sum_of_files(files, limits):
+    """The sum of these, where the file of limits has this text."""
     whole = hashlib.sha256()
-    for path in sources():
+    for path in files:
         name = str(path.relative_to(ROOT))
         whole.update(f"{name} {sum_of_bytes(limits.encode()) if name == chosen.LIMITS else sum_of(path)}\n".encode())
     return whole.hexdigest()
@@ -72,11 +81,18 @@ def commit():
         return "none"
 
 
+def begin(limits):
+    print(BEGAN + sum_of_files(proved(), pathlib.Path(limits).read_text()))
+
+
 def write(processor, limits, log, compiled, built):
-    verdicts = VERDICT.findall(pathlib.Path(log).read_text(errors="replace"))
-    if not verdicts:
-        raise Fault(f"{log} has no line that begins 'logic=proved': what was built isn't proved")
+    lines = pathlib.Path(log).read_text(errors="replace")
+    verdicts = VERDICT.findall(lines)
+    if not verdicts or not verdicts[-1].startswith("logic=proved "):
+        raise Fault(f"{log} has no last line that begins 'logic=proved': what was built isn't proved")
     of, text = " ".join(chosen.words_of(chosen.said(limits))), pathlib.Path(limits).read_text()
+    if not lines.startswith(f"{BEGAN}{sum_of_files(proved(), text)}\n"):
+        raise Fault(f"{log} is of a proof that began with other sources than those that stand")
     texts = (processor, of, said("rt", "version"), verdicts[-1], sum_of_sources(text), commit(), sum_of(compiled), sum_of(built))
     for name, text in zip(NAMES, texts):
         print(f"{name}: {text}")
@@ -92,12 +108,11 @@ def read(path):
 
 
 def sum_in(archive):
-    """The sum of the object that the archive has."""
-    with tempfile.TemporaryDirectory() as room:
-        ran = subprocess.run(["ar", "x", str(archive.resolve()), "registry.o"], cwd=room, capture_output=True, text=True)
-        if ran.returncode != 0 or not pathlib.Path(room, "registry.o").is_file():
-            raise Fault(f"{archive} has no object registry.o")
-        return sum_of(pathlib.Path(room, "registry.o"))
+    """The sum of the one object that the archive has."""
+    listed, whole = (subprocess.run(["ar", *words], capture_output=True) for words in (("t", archive), ("p", archive, "registry.o")))
+    if listed.stdout.split() != [b"registry.o"] or whole.returncode != 0:
+        raise Fault(f"{archive} has no object registry.o, or another one beside it")
+    return sum_of_bytes(whole.stdout)
 
 
 def flags(archive):
@@ -133,9 +148,9 @@ def parts():
 
 
 def main(words):
-    uses = {"write": (write, 5), "check": (check, 1), "parts": (parts, 0)}
+    uses = {"begin": (begin, 1), "write": (write, 5), "check": (check, 1), "parts": (parts, 0)}
     if not words or words[0] not in uses or len(words) != 1 + uses[words[0]][1]:
-        print("usage: proof-record.py write PROCESSOR LIMITS LOG COMPILED OBJECT | check ARCHIVE | parts", file=sys.stderr)
+        print("usage: proof-record.py begin LIMITS | write PROCESSOR LIMITS LOG COMPILED OBJECT | check ARCHIVE | parts", file=sys.stderr)
         return 2
     try:
         uses[words[0]][0](*words[1:])

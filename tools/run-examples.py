@@ -5,7 +5,7 @@ An example is a fenced block `script`, and the next fenced block after it: `repo
 error and status 0; or `fault`, what it must say on standard error, with nothing printed and status 2. A block `session` has both, a command and
 after two spaces its line of the report. A file NAME.txt is one example, with its report as comments below `# It prints:`. Without file names the examples are those
 of README.md, docs/ and examples/. The program is
-./registry_run, or the one that --program names; with --engine it runs one engine alone. It must be the proved one (tools/prove-program.sh),
+./registry_run, or the one that --program names. It must be the proved one (tools/prove-program.sh),
 since without it ./registry_run says on standard error that nothing is proved. With --try nothing is proved either: `rt try` compiles the
 program anew for each engine. The last line counts the runs.
 
@@ -16,20 +16,16 @@ in that file alone, whatever the language.
 import argparse
 import pathlib
 import re
-import subprocess
 import sys
-import tempfile
 
 sys.dont_write_bytecode = True
 
+from engines import ROOT, ran, said_when_tried
 from parts import ended
 
-ROOT = pathlib.Path(__file__).resolve().parent.parent
 ENGINES = ("core", "live")
 # What is above the report in a file of its script.
 REPORT = "\n# It prints:\n"
-# After so many seconds a program that is run is taken to wait for ever.
-MOST_SECONDS = 1200
 WANTED = {"report": lambda text: (0, text, ""), "fault": lambda text: (2, "", text)}
 SOURCES = {
     "rust": [*sorted((ROOT / "crates/registry_examples/src").glob("*.rt")), *sorted((ROOT / "rust/examples").glob("*.rs"))],
@@ -92,38 +88,10 @@ def strayed():
                     yield f"{page.name}:{line}", part
 
 
-def said(program, engine, found):
-    """What the program says of each example: status, standard output and standard error."""
-    for _, script, _, _ in found:
-        command = [program, engine]
-        ended = subprocess.run(command, input=script.encode(), stdout=subprocess.PIPE, stderr=subprocess.PIPE, timeout=MOST_SECONDS)
-        yield ended.returncode, ended.stdout.decode(), ended.stderr.decode()
-
-
-def said_when_tried(engine, found):
-    """The same by `rt try`, which prints a heading before each output, and a line after what stands on standard error."""
-    with tempfile.TemporaryDirectory() as folder:
-        for place, script, _, _ in found:
-            pathlib.Path(folder, place).write_bytes(script.encode())
-        command = ["rt", "try", "--cases", folder, "--", engine]
-        streams = {"stdout": subprocess.PIPE, "stderr": subprocess.PIPE}
-        ended = subprocess.run(command, cwd=ROOT / "crates/registry_run", timeout=MOST_SECONDS, **streams)
-    printed = re.split(r"^== (\S+)\n", ended.stdout.decode(), flags=re.M)
-    outputs = dict(zip(printed[1::2], printed[2::2]))
-    complained = re.split(r"^case=(\S+) run=ended status=(\d+) .*\n", ended.stderr.decode(), flags=re.M)
-    errors = {place: (int(status), text) for text, place, status in zip(complained[::3], complained[1::3], complained[2::3])}
-    for place, _, _, _ in found:
-        if place not in outputs or place not in errors:
-            sys.exit(f"{place}: rt try says nothing of it\n{ended.stderr.decode()}")
-        status, error = errors[place]
-        yield status, outputs[place], error
-
-
 def main():
     parser = argparse.ArgumentParser(description=__doc__.split("\n")[0])
     parser.add_argument("--program", default=ROOT / "registry_run", type=pathlib.Path, help="the program that is run")
     parser.add_argument("--try", dest="tried", action="store_true", help="compile by rt try, without proofs")
-    parser.add_argument("--engine", choices=ENGINES, help="the only engine that is run")
     parser.add_argument("files", nargs="*", type=pathlib.Path, default=FILES)
     options = parser.parse_args()
     program = options.program.resolve()
@@ -132,8 +100,9 @@ def main():
     for place, part in strayed():
         failed += 1
         print(f"{place}: no example has this code\n{part}")
-    for engine in [options.engine] if options.engine else ENGINES:
-        answers = said_when_tried(engine, found) if options.tried else said(program, engine, found)
+    for engine in ENGINES:
+        scripts = {place: script for place, script, _, _ in found}
+        answers = said_when_tried(engine, scripts) if options.tried else (ran([program, engine], script) for _, script, _, _ in found)
         for (place, _, word, text), answer in zip(found, answers):
             if answer == WANTED[word](text):
                 passed += 1

@@ -50,16 +50,6 @@ build_archive() {
     fi
 }
 
-# The archive has each call of the header, and no other name is seen.
-archive_names() {
-    diff <(packaging/calls-of.sh crates/registry_c/include/registry{,_limits}.h) <("${cross}nm" --defined-only "$out/libregistry.a" | awk '$2 ~ /^[A-TV-Z]$/ { print $3 }' | sort)
-}
-
-# No call takes more stack than the page says.
-stack_within() {
-    tools/frames.py "$out/libregistry.a" 4096
-}
-
 # make_for FOLDER TARGET..: built for the processor, so that the emulator needs no library of it.
 make_for() {
     make -s -C "$1" CC="${cross}gcc" LDFLAGS=-static "${@:2}"
@@ -190,8 +180,8 @@ check "the archive for $processor, $([ -n "$is_built" ] || echo 'proved and ')bu
 if [ ! -e "$out/libregistry.a" ]; then
     finish
 fi
-check "it has the header's calls" archive_names
-check "no call takes more stack than the page says" stack_within
+check "it has the header's calls" archive_names "$out" "$cross"
+check "no call takes more stack than the page says" stack_within "$out"
 test_clients
 test_netbsd
 test_order

@@ -49,35 +49,6 @@ build_archive() {
     tools/build-archive.sh
 }
 
-# Other objects see each call of the header in the archive, and no other name.
-archive_names() {
-    diff <(packaging/calls-of.sh "${header%.h}"{,_limits}.h) <(nm -g --defined-only "$out/libregistry.a" 2>/dev/null | awk 'NF == 3 { print $3 }' | sort)
-}
-
-# No call takes more stack than the page says.
-stack_within() {
-    tools/frames.py "$out/libregistry.a" 4096
-}
-
-# C takes the header alone, without a warning, and so does C++ where it is there.
-face_alone() {
-    local standard
-    for standard in c99 c11 c17 gnu17; do
-        text_compiles gcc c "-std=$standard" || return 1
-    done
-    if command -v g++ >/dev/null; then
-        text_compiles g++ c++ -std=c++11
-    fi
-}
-
-# text_compiles COMPILER LANGUAGE STANDARD: the header is taken without a warning, and so are strings where it has text.
-text_compiles() {
-    printf '#include "registry.h"\n%s\n%s\n' \
-        'static struct registry_name name;' \
-        'registry_answer parse(void); registry_answer parse(void) { return registry_name_parse("wm", 2, &name, NULL); }' |
-        "$1" "$3" "${warnings[@]}" -Icrates/registry_c/include -fsyntax-only -x"$2" -
-}
-
 # warned WARNING STATEMENT: the compiler warns of a statement with a CPU, as it does of none that is right.
 warned() {
     local call='#include "registry.h"\nvoid f(struct registry_cpu *cpu, struct registry_entry *entry);\nvoid f(struct registry_cpu *cpu, struct registry_entry *entry) { %s }\n'
@@ -160,7 +131,7 @@ test_page() {
     check "the page names the header's calls" names "$header" "$page"
     check "the page of the waits names their calls" names c/include/waiting.h man/registry_waiting.3
     check "no line of the headers has more than 100 columns" header_is_narrow
-    check "the header alone, in four C standards" face_alone
+    check "the header alone, in four C standards" header_alone registry.h "${warnings[@]}" -Icrates/registry_c/include
     check "an answer that has to be looked at, and isn't, is warned of" warned unused-result '(void)entry; registry_enter(cpu);'
     check "a reference that isn't looked at is warned of" warned unused-result 'registry_acquire_entry(cpu, entry);'
     check "a handle that is NULL is warned of" warned nonnull '(void)cpu; (void)entry; registry_exit(NULL);'
@@ -229,8 +200,8 @@ test_heap() {
 
 # All that the parts below run, except the crate's programs, which cargo builds when they are wanted.
 test_build() {
-    check "the archive has the header's calls" archive_names
-    check "no call takes more stack than the page says" stack_within
+    check "the archive has the header's calls" archive_names "$out"
+    check "no call takes more stack than the page says" stack_within "$out"
     check "the clients in C are built, no warning" make all
     check "C: all of them are built with sanitizers" make sanitized
     check "C: heap_stress is built nine times" make stresses

@@ -329,27 +329,22 @@ check "the change log names the version" grep -q "^## $(version)\$" "$stage$pref
 check "uninstall" made uninstall
 check "uninstall leaves nothing" leaves_nothing
 
-prefix=/usr libdir=/usr/lib/x86_64-linux-gnu stage=$room/debian
-check "a folder of Debian's: install" made install
-check "a folder of Debian's: each file" holds_files "$(version)"
-check "a folder of Debian's: each manual page" holds_pages
-counted "a folder of Debian's: programs" made installcheck
-check "a folder of Debian's: uninstall" made uninstall
-check "a folder of Debian's: uninstall leaves nothing" leaves_nothing
+# comes_and_goes NAME: it is installed there, found and used, and uninstalled. pkg-config takes no root with a blank, but a package may be made in one.
+comes_and_goes() {
+    check "$1: install" made install
+    check "$1: each file" holds_files "$(version)"
+    check "$1: each manual page" holds_pages
+    [[ $stage = *\ * ]] || counted "$1: programs" made installcheck
+    check "$1: uninstall" made uninstall
+    check "$1: uninstall leaves nothing" leaves_nothing
+}
 
+prefix=/usr libdir=/usr/lib/x86_64-linux-gnu stage=$room/debian
+comes_and_goes "a folder of Debian's"
 prefix="/usr/a place" libdir="/usr/a place/lib" stage=$room/blanks
-check "a path with blanks: install" made install
-check "a path with blanks: each file" holds_files "$(version)"
-check "a path with blanks: each manual page" holds_pages
-counted "a path with blanks: programs" made installcheck
-check "a path with blanks: uninstall" made uninstall
-check "a path with blanks: uninstall leaves nothing" leaves_nothing
-# pkg-config takes no such root, but a package may be made in one.
+comes_and_goes "a path with blanks"
 prefix=/usr libdir=/usr/lib stage="$room/a root"
-check "a root with blanks: install" made install
-check "a root with blanks: each file" holds_files "$(version)"
-check "a root with blanks: uninstall" made uninstall
-check "a root with blanks: uninstall leaves nothing" leaves_nothing
+comes_and_goes "a root with blanks"
 
 prefix=/usr libdir=/usr/lib stage=$room/later
 older=$(version)

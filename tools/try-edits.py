@@ -57,7 +57,7 @@ def failures(tree, crate):
     if ran.returncode == 0:
         return False, "NOT REFUSED: all tests pass"
     failed = [line.split()[1] for line in lines if line.startswith("test ") and line.endswith(" FAILED")]
-    return True, "refused by " + (", ".join(failed) or lines[-1])
+    return (True, "refused by " + ", ".join(failed)) if failed else (False, f"NOT TRIED: no test failed: {lines[-1]}")
 
 
 @contextlib.contextmanager

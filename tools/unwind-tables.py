@@ -361,4 +361,6 @@ def main(path):
 
 
 if __name__ == "__main__":
+    if not __debug__:
+        sys.exit("unwind-tables: what it refuses, it refuses by assertions: unset PYTHONOPTIMIZE")
     main(sys.argv[1])

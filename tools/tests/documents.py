@@ -132,7 +132,7 @@ def run_examples():
         Fault("code that its file doesn't have", "README.md:32: no example has this code", (("crates/low/specs/Walks.antt", "there = so", "there = no"),)),
         Fault("no examples", "0 passed, 1 failed", command=["tools/run-examples.py", "--program", "program", "docs/page.md"]),
     )
-    return Case("run-examples", ["run-examples.py", "parts.py"], PAGES, ["tools/run-examples.py", "--program", "program"], faults)
+    return Case("run-examples", ["run-examples.py", "engines.py", "parts.py"], PAGES, ["tools/run-examples.py", "--program", "program"], faults)
 
 
 HEADER = """/*

@@ -1,6 +1,8 @@
 """Faults that the gate itself is to see: how parts and shell tests are counted, and the archive beside `rt ci`."""
 import os
 
+from limits import LIMITS
+
 from .trees import Case, Fault
 
 GATE = """#!/usr/bin/env python3
@@ -60,6 +62,31 @@ finish
 """
 
 
+# What is said of a gate of 160 minutes by the clock, and of so many of processors, on each number of processors.
+BOUNDS = """#!/usr/bin/env python3
+import sys
+
+sys.path.insert(0, "tools")
+
+import parts
+
+for count, most in {6: 50, 4: 50, 3: 90, 2: 90, 1: 150}.items():
+    parts.processors = lambda: count
+    said = [*parts.above_bound(60 * most + 6, 9060), *parts.above_bound(60 * most, 9000)]
+    if len(said) != 2 or f" at most {most} on " not in said[0] or "151.0 processor minutes" not in said[1]:
+        sys.exit(f"on {count} processors it says {said}")
+"""
+
+
+def bounds():
+    faults = (
+        Fault("a bound for four processors alone", "on 6 processors", (("tools/parts.py", "it <= processors()", "it in (1, processors())"),)),
+        Fault("no bound for one processor", "on 1 processors", (("tools/parts.py", ", 1: 150}", ", 1: 151}"),)),
+        Fault("processor minutes without a bound", "on 6 processors", (("tools/parts.py", "if processor > 60 *", "if processor > 61 *"),)),
+    )
+    return Case("bounds", ["parts.py"], {"bounds": BOUNDS}, ["./bounds"], faults, counts=False)
+
+
 def shell():
     check, counted = 'check "true is" test 1 = 1\n', 'counted "counts" ./one\n'
     faults = (
@@ -76,6 +103,8 @@ def shell():
 BESIDE = {
     "crates.txt": "low: std\nregistry_c staticlib: low std\n",
     "crates/low/src/lib.rt": "low\n",
+    "crates/low/specs/Lib.antt": "contract\n",
+    "crates/low/proofs/Lib.antt": "proof\n",
     "crates/low/edits/gate.edits": "edit: one\n",
     "crates/low/out/rlib/low.rlib/format": "low\n",
     "crates/registry_c/src/lib.rt": "face\n",
@@ -89,7 +118,8 @@ BESIDE = {
     # It proves over the library beside it, and writes what -o names.
     "kit/bin/rattle": '#!/bin/sh\n[ "$(cat src/lib.rt ../low.rlib/format)" = "face\nlow" ] || exit 7\nfor made; do :; done\necho proved >"$made"\n',
     "tools/try-edits.py": '#!/bin/sh\nshift\necho "$*, on $(nproc)" >out/tried\n',
-    "tools/build-archive.sh": '#!/bin/sh\n[ $# = 2 ] && [ -f "$2" ] && cp "$1" out/libregistry.a\n',
+    "tools/proof-record.py": '#!/bin/sh\necho "$1 $2"\n',
+    "tools/build-archive.sh": f'#!/bin/sh\n[ $# = 2 ] && grep -qx "begin {LIMITS}" "$2" && cp "$1" out/libregistry.a\n',
     # The archive is what was proved, or there is none: else nothing else is said, and the fault goes untold.
     "beside": """#!/bin/sh
 PATH=$PWD/bin:$PATH tools/archive-beside.py ./ci
@@ -122,22 +152,26 @@ def on_all_processors():
         yield Fault("edits that wait for rt ci", "edits that weren't tried", (("tools/archive-beside.py", "            edits.take(stands[1])", "            pass"),))
 
 
+TOUCHED = ("crates.txt", "crates/low/src/lib.rt", "crates/low/specs/Lib.antt", "crates/low/proofs/Lib.antt", "crates/registry_c/specs/Lib.antt")
+
+
 def archive():
     ci, rattle, made = "ci", "kit/bin/rattle", 'echo proved >"$made"'
     faults = (
         Fault("a library beneath that isn't proved", "the archive is not built", ((ci, "low proved", "low NOT PROVED"),)),
-        Fault("a proof that fails", "the archive is not proved, status 1:\nnot proved", ((rattle, made, "echo not proved; exit 1"),)),
+        Fault("a proof that fails", f"the archive is not proved, status 1:\nbegin {LIMITS}\nnot proved", ((rattle, made, "echo not proved; exit 1"),)),
         Fault("a library that isn't there", "No such file or directory", (("crates/low/out/rlib/low.rlib/format", "low", None), (ci, "sleep", "rmdir crates/low/out/rlib/low.rlib; sleep"))),
-        Fault("a source that is touched meanwhile", "a file that it is proved from was touched", ((ci, "sleep", "touch crates/low/src/lib.rt; sleep"),)),
+        *(Fault(f"{path} is touched meanwhile", "a file that it is proved from was touched", ((ci, "sleep", f"touch {path}; sleep"),)) for path in TOUCHED),
+        Fault("a log without the sources that the proof began with", "6 passed, 1 failed", (("tools/archive-beside.py", "            log.write(self.began)\n", ""),)),
         Fault("a proof that is killed", "its proof was killed", ((rattle, made, "kill -KILL $$"),)),
-        Fault("a proof for aarch64 that fails", "the library for aarch64 is not proved, status 1:\nnot there", ((rattle, made, f'case "$*" in *aarch64*) echo not there; exit 1;; esac; {made}'),)),
+        Fault("a proof for aarch64 that fails", f"the library for aarch64 is not proved, status 1:\nbegin {LIMITS}\nnot there", ((rattle, made, f'case "$*" in *aarch64*) echo not there; exit 1;; esac; {made}'),)),
         Fault("a failure of rt ci", "6 passed, 2 failed", ((ci, "5 passed, 0", "4 passed, 2"),)),
         Fault("another status of rt ci", "7 passed, 1 failed", ((ci, "0 failed\n", "0 failed\nexit 2\n"),)),
         Fault("rt ci without its count", "nothing", ((ci, "echo 5 passed, 0 failed", "echo nothing"),)),
         *on_all_processors(),
     )
-    return Case("archive-beside", ["archive-beside.py", "kit.py", "parts.py"], BESIDE, ["./beside"], faults)
+    return Case("archive-beside", ["archive-beside.py", "kit.py", "limits.py", "parts.py"], BESIDE, ["./beside"], faults)
 
 
 def cases():
-    return [parts(), ending(), shell(), archive()]
+    return [parts(), ending(), bounds(), shell(), archive()]

@@ -1,5 +1,5 @@
-"""Faults of libraries, of the archive for C and of the layer's pages: packaging/symbols.sh, netbsd/pages.py, tools/unwind-tables.py, tools/frames.py,
-tools/atomics.py and tools/replace-part.sh."""
+"""Faults of libraries, of the archive for C and of the layer's pages: packaging/symbols.sh, netbsd/pages.py, tools/unwind-tables.py, tools/frames.py and
+tools/atomics.py."""
 from .trees import Case, Fault, real
 
 # A library is a text here: what nm says of it.
@@ -139,33 +139,10 @@ def unwind_tables():
         Fault("two functions in a section", "isn't at the head of its section", ((code, '.section .text.turns,"ax",@progbits\n', ""),)),
         Fault("a push that isn't counted", "a return at", ((depth, "return depth + 8, saved", "return depth, saved"), (depth, "return depth - 8, saved", "return depth, saved"))),
         Fault("a register that isn't told", "> rsp+16 c-16 c-8", ((depth, "saved = {**saved, operands: depth + 8}", "pass"),)),
+        Fault("assertions that aren't made", "unset PYTHONOPTIMIZE", command=["env", "PYTHONOPTIMIZE=1", "./look"]),
         Fault("a register that isn't restored", "a return at", ((depth, "if saved.get(operands) == depth:", "if False:"),)),
     )
     return Case("unwind-tables", ["unwind-tables.py"], {"code.s": CODE, "rows": ROWS, "look": UNWOUND}, ["./look"], faults, counts=False)
-
-
-# An archive of one object, in which one function is seen from outside and calls another one.
-JOINED = """#!/bin/sh
-mkdir -p crates/registry_c/include
-for part in part rest; do gcc -O1 -fPIC -c c/src/$part.c -o $part.o || exit 9; done
-ld -r -o whole.o part.o rest.o && objcopy --keep-global-symbol=registry_rest whole.o registry.o && ar rcsD old.a registry.o || exit 9
-sed -i 's/return 1;/return 2;/' c/src/part.c
-tools/replace-part.sh "${1-part}" old.a new/new.a || exit
-for archive in old new/new; do gcc use.c $archive.a -o used && ./used; done >said
-diff said wanted
-"""
-
-
-def replace_part():
-    tool = "tools/replace-part.sh"
-    tree = {"c/src/part.c": "int part(void) { return 1; }\n", "c/src/rest.c": "int part(void);\nint registry_rest(void) { return part() + 10; }\n",
-            "use.c": '#include <stdio.h>\nint registry_rest(void);\nint main(void) { printf("%d\\n", registry_rest()); }\n', "wanted": "11\n12\n", "join": JOINED}
-    faults = (
-        Fault("an archive as it was", "< 11\n", ((tool, "$room/part.o\" \"$room/rest.o", "$room/rest.o"),)),
-        Fault("two functions of a name", "multiple definition", ((tool, '--weaken-symbols="$room/names"', ""),)),
-        Fault("functions that aren't seen", "< 11\n", ((tool, '--globalize-symbols="$room/names"', ""),)),
-    )
-    return Case("replace-part", ["replace-part.sh"], tree, ["./join"], faults, counts=False)
 
 
 LIBRARY = """
@@ -204,12 +181,10 @@ def frames():
         Fault("what a call jumps to above it", "above 512: registry_jumps", (("library.c", "int registry_enter", JUMPS),)),
         Fault("a call through a pointer", "registry_enter calls through a pointer", (("library.c", call, "int (*volatile f)(volatile char *) = fill; return f(at) + 1;"),)),
         Fault("a call that comes back to itself", "registry_enter comes back to itself", (("library.c", call, "return at[1] ? registry_enter(at + 1) + fill(at) : 1;"),)),
-        Fault("no exports", "", (("library.c", "int registry_enter", "int enter"), ("library.c", "int registry_exit", "int exit_"))),
+        Fault("a stack pointer that moves otherwise", "registry_enter moves the stack pointer by: and", (("library.c", call, "char room[64] __attribute__((aligned(64))); room[at[0] & 7] = 1; return fill(room);"),)),
+        Fault("no exports", "library.a has no export", (("library.c", "int registry_enter", "int enter"), ("library.c", "int registry_exit", "int exit_"))),
     )
-    exempt = (Fault("another call than the one that may", "above 100: registry_enter", command=["./built", "100", "registry_exit"]),)
-    yield Case("frames", ["frames.py"], {"library.c": LIBRARY}, ["./built", "512"], faults, counts=False, prepare=archive)
-    yield Case("frames, one that may take more", ["frames.py"], {"library.c": LIBRARY}, ["./built", "100", "registry_enter", "registry_exit"], exempt, counts=False,
-               prepare=archive)
+    return Case("frames", ["frames.py"], {"library.c": LIBRARY}, ["./built", "512"], faults, counts=False, prepare=archive)
 
 
 # An archive's function as objdump shows it, and a program that has it elsewhere, with the places from where it came to a table.
@@ -242,12 +217,8 @@ def atomics():
         Fault("a step that no program met", "met by no program: ldar in enter+0xc", (("program.sites", "40010c\n", ""),)),
         Fault("no steps at all", "ldar 0", (("archive.code", "ldaxr", "nop"), ("archive.code", "stlxr", "nop"), ("archive.code", "ldar", "nop"))),
     )
-    return [Case("atomics", ["atomics.py"], tree, ["./look"], faults, counts=False)]
-
-
-def stack():
-    return [*frames(), *atomics()]
+    return Case("atomics", ["atomics.py"], tree, ["./look"], faults, counts=False)
 
 
 def cases():
-    return [symbols(), pages(), unwind_tables(), replace_part(), *stack()]
+    return [symbols(), pages(), unwind_tables(), frames(), atomics()]

@@ -9,7 +9,7 @@ PROVED = ROOT / "crates/registry_run/out/registry_run"
 VERBS = "domain,limits,attach,detach,enter,exit,find,ref,copy,held,read,drop,advance"
 # It replaces the program of the repository, too: whoever writes a kit asks that for its reports.
 FOREIGN = "#!/bin/sh\nexec tools/other_registry.py\n"
-KIT = ["conformance.py", "other_registry.py", "parts.py"]
+KIT = ["conformance.py", "engines.py", "other_registry.py", "parts.py"]
 TREE = {"program": FOREIGN, "crates/registry_run/out/registry_run": FOREIGN}
 
 
@@ -31,33 +31,11 @@ def conformance_run():
     faults = (
         other("a program that stops in the middle of a report", "0000.txt: line 21 is '(the end)'", "tools/other_registry.py | head -n 20"),
         other("one that prints a line more", "is 'more' and not '(the end)'", "tools/other_registry.py; echo more"),
-        other("one that ends without the end of a line", "0000.txt: another end of line", 'printf %s "$(tools/other_registry.py)"'),
-        other("one with another line", "is 'Outside' and not 'outside'", "tools/other_registry.py | sed s/outside/Outside/"),
         other("one with a wrong status", "0000.txt: status 3", "tools/other_registry.py; exit 3"),
         Fault("a script without its report", "0002.report", (("kit/0002.report", "", None),)),
         Fault("an empty folder", "0 passed, 1 failed", command=["tools/conformance.py", "run", "empty", "./program"]),
     )
     return Case("conformance run", KIT, TREE, [*command, "./program"], faults, prepare=write_kit)
-
-
-# It says which commands the scripts have, and that there are as many as were asked for.
-WRITTEN = """#!/bin/sh
-tools/conformance.py write kit --scripts 12 --lines 30 --only "$1" || exit 1
-[ "$(ls kit/*.txt | wc -l)" = 12 ] && [ "$(ls kit/*.report | wc -l)" = 12 ] || exit 1
-found=$(cut -d' ' -f1 kit/*.txt | sort -u | paste -sd,)
-[ "$found" = "$2" ] || { echo "the scripts have $found"; exit 1; }
-"""
-
-
-def conformance_write():
-    tool = "tools/conformance.py"
-    faults = (
-        Fault("an ignored --only", "the scripts have", ((tool, 'options.only.split(",") if options.only', f'"{VERBS}".split(",") if options.only'),)),
-        Fault("a writer that has other commands", "not in the list: find found", ((tool, "if line.split()[0] in self.allowed", ""),)),
-        Fault("a command that there isn't", "no commands: fly", command=["./written", "attach,fly", ""]),
-    )
-    command = ["./written", "attach,detach,enter,exit", "attach,detach,domain,enter,exit"]
-    return Case("conformance write", KIT, {**TREE, "written": WRITTEN}, command, faults, counts=False)
 
 
 def wrapped(name, said, line):
@@ -193,9 +171,12 @@ EDITS, TESTED = "crates/one/edits/gate.edits", "crates/one/edits/tests.edits"
 # It lays out no file of a crate, except one that has a blank at the end of a line; and it refuses to compile what says y.
 RT = """#!/bin/sh
 case $1 in
-    fmt) grep -q ' $' src/lib.rt && echo 'rt: formatted src/lib.rt' ;;
-    check) grep -q y src/lib.rt && echo 'src/lib.rt:1:1: error: there is no y' ;;
+    fmt) grep -q '?' src/lib.rt && echo 'src/lib.rt: it does not parse' && exit 1
+        grep -q ' $' src/lib.rt && echo 'rt: formatted src/lib.rt' ;;
+    check) grep -q '+ 3' src/lib.rt && echo 'rt: killed' && exit 1
+        grep -q y src/lib.rt && echo 'src/lib.rt:1:1: error: there is no y' ;;
 esac
+exit 0
 """
 
 
@@ -205,6 +186,8 @@ def before_gate():
             TESTED: f"edit: less\n# It takes one.\nfile: {SOURCE}\nold: x + 1\nnew: x - 1\n", "bin/rt": RT, "look": look}
     faults = (
         Fault("a file that isn't laid out", "one: formatted src/lib.rt", ((SOURCE, "x + 1", "x + 1 "),)),
+        Fault("a file that can't be read", "one: src/lib.rt: it does not parse", ((SOURCE, "x + 1", "x + 1?"),)),
+        Fault("an edit whose look is killed", "one/more: status 1: ['rt: killed']", ((EDITS, "new: x", "new: x + 3"),), ["./look", "compile", "one"]),
         Fault("an edit that doesn't fit", "one/more: stands 0 times in crates/one/src/lib.rt", ((EDITS, "old: x + 1", "old: x + 2"),)),
         Fault("an edit for the tests that doesn't fit", "one/less: stands 2 times in crates/one/src/lib.rt", ((SOURCE, "x + 1", "x + 1, x + 1"), (EDITS, "x + 1", "x + 1, x + 1"))),
         Fault("an edit of a file that is gone", "one/less: there is no crates/one/src/gone.rt", ((TESTED, "lib.rt", "gone.rt"),)),
@@ -218,4 +201,4 @@ def before_gate():
 
 def cases():
     program = [test_program(PROVED)] if PROVED.is_file() else []
-    return [conformance_run(), conformance_write(), *program, lines(), names(), points(), *tables(), before_gate()]
+    return [conformance_run(), *program, lines(), names(), points(), *tables(), before_gate()]

@@ -112,7 +112,7 @@ TREE = {
     "bin/rt": RT,
     "kit/KIT-ID": "kit\n",
     "kit/bin/rattle": RATTLE,
-    "try": f'#!/bin/sh\nexport XDG_CACHE_HOME=$PWD/kept PATH=$PWD/bin:$PATH LOW=$PWD/{LOW}\nexec tools/try-edits.py gate "$@"\n',
+    "try": f'#!/bin/sh\nexport XDG_CACHE_HOME=$PWD/kept PATH=$PWD/bin:$PATH TOP=$PWD LOW=$PWD/{LOW}\nexec tools/try-edits.py gate "$@"\n',
 }
 
 HAND = "crates/one/edits/by-hand.edits"
@@ -147,9 +147,9 @@ def over_holes(name, state):
     return Fault(name, "what its edits change isn't proved as it stands", (("kit/bin/rattle", line, f"        echo 'fn one::most: {state}'\n"),))
 
 
-def after_a_run(name, said, *lines, kind=""):
+def after_a_run(name, said, *lines, kind="", before=":"):
     """What is changed after a run that kept its refusals, and is found by the next one."""
-    return Fault(name, said, command=["sh", "-c", "\n".join([f"./try {kind} >/dev/null || exit 0", *lines, f"exec ./try {kind}"])])
+    return Fault(name, said, command=["sh", "-c", "\n".join([before, f"./try {kind} >/dev/null || exit 0", *lines, f"exec ./try {kind}"])])
 
 
 def by_hand():
@@ -165,6 +165,7 @@ def by_hand():
 def by_tests():
     return (
         Fault("a wrong body that no test refuses", "NOT REFUSED: all tests pass", ((TESTED, "new:     x + x", "new:     x + 1 + 0"),)),
+        Fault("a run of the tests that is cut off", "NOT TRIED: no test failed: run=no-answer", (("bin/rt", 'echo "test more FAILED"', 'echo "run=no-answer"'),)),
         Fault("an edit for the tests that doesn't fit", "stands 0 times in", ((TESTED, "old:     x + 1", "old:     y"),)),
     )
 
@@ -172,6 +173,8 @@ def by_tests():
 def by_prover():
     faults = (
         Fault("a wrong body that is proved", "NOT REFUSED: more still proved", ((EDITS, "new:     x\n", "new:     x + 1 + 0\n"),)),
+        Fault("a wrong body that was proved before", "NOT REFUSED: more still proved", ((EDITS, "new:     x\n", "new:     x + 1 + 0\n"),),
+              ["sh", "-c", "./try >/dev/null; exec ./try"]),
         Fault("a right body that is tried beside a wrong one", "NOT REFUSED: less still proved", ((EDITS, "new:     x - 2", "new:     x - 1 - 0"),)),
         Fault("an edit that doesn't fit", "stands 0 times in", ((EDITS, "old:     x + 1\nnew:     x\n", "old:     y\nnew:     x\n"),)),
         Fault("an edit of no function", "it changes no function", ((EDITS, "old:     x + 1\nnew:     x\n", "old: //! One more.\nnew: //! None.\n"),)),
@@ -192,6 +195,8 @@ def by_prover():
         Fault("no edits", "0 passed, 1 failed", ((EDITS, "file:", None),)),
         after_a_run("a refusal over another library", "NOT REFUSED", f"echo strong >{LOW}"),
         after_a_run("a refusal by another kit", "NOT REFUSED", "printf '#!/bin/sh\\necho only=1\\n' >kit/bin/rattle; echo other >kit/KIT-ID"),
+        after_a_run("a refusal of a tree that was changed meanwhile", "NOT REFUSED", "rm crates/one/specs/More.antt", "printf '#!/bin/sh\\necho only=1\\n' >kit/bin/rattle",
+                    before="mkdir crates/one/specs; sed -i '2i >$TOP/crates/one/specs/More.antt' kit/bin/rattle"),
         after_a_run("a refusal of another body", "NOT REFUSED", f"sed -i 's/^new:     x$/new:     x + 1 + 0/' {EDITS}"),
         after_a_run("a refusal of an edit that is no longer applied", "NOT REFUSED", "sed -i 's/path.write_text(text.replace(old, new))/pass/' tools/edits.py"),
     )
@@ -233,41 +238,6 @@ def told(file, *said):
     return f"#!/bin/sh\ntools/mutants.py --least 1 --only {file} >said 2>&1\nstatus=$?\ncat said\n[ $status = 1 ] || exit 3\n{tests}"
 
 
-# A crate, whose tests see all but what either answer is right for.
-CRATE = """pub fn most(a: u32, b: u32) -> u32 {
-    return if a < b { b } else { a };
-}
-
-pub fn rest(a: u32) -> u32 {
-    return a % 8;
-}
-
-#[cfg(test)]
-mod tests {
-    #[test]
-    fn a_rest() {
-        assert_eq!(super::rest(21), 5);
-    }
-}
-"""
-GREATER = """#[test]
-fn the_greater_one() {
-    assert_eq!((small::most(1, 2), small::most(4, 3)), (2, 4));
-}
-"""
-MANIFEST = '[package]\nname = "small"\nversion = "0.1.0"\nedition = "2021"\n'
-LIB = "rust/src/lib.rs"
-TAKEN = ["mutants.py", "parts.py"]
-
-
-def of_crate():
-    said = "a >= b { b } else { a };: killed by the crate's", "<= b { b } else { a };: survived", "return a % 9;: killed by the crate's own"
-    tree = {LIB: CRATE, "rust/tests/greater.rs": GREATER, "rust/Cargo.toml": MANIFEST, "good": told(LIB, *said)}
-    seen = "(small::most(1, 2), small::most(4, 3)), (2, 4)"
-    fault = Fault("a test of the crate that sees nothing", "it does not say: a >= b", (("rust/tests/greater.rs", seen, "2, 2"),))
-    return Case("mutants of a crate", TAKEN, tree, ["./good"], [fault], counts=False)
-
-
 def of_c():
     programs = {f"c/tests/{it}.c": QUIET for it in ("deferred", "waits")}
     survivor = f"survived: {ONLY}:3, comparison: return a < b ? b : a; -> return a <= b ? b : a;"
@@ -277,12 +247,10 @@ def of_c():
         Fault("a test that sees nothing", "return a >= b ? b : a;: survived", (("c/tests/turns.c", "most(1, 2) != 2 || most(4, 3) != 4 || ", ""),), run),
         Fault("a test that fails at first", "turns fails on the tree as it stands", (("c/tests/turns.c", "most(4, 3) != 4", "most(4, 3) == 4"),), run),
         Fault("a test that isn't built", "deferred fails on the tree as it stands", (("c/tests/deferred.c", "return 0;", "return gone();"),), run),
-        Fault("a file that isn't changed", "mutants: no code that is changed: c/tests/turns.c", command=["tools/mutants.py", "--only", "c/tests/turns.c"]),
-        Fault("a line without a wrong body", "mutants: no wrong body there", command=["tools/mutants.py", "--only", f"{ONLY}:2"]),
     )
     tree = {"c/src/waiting.c": WAITING, "c/tests/turns.c": SEES, "Makefile": MAKEFILE, "good": good, **programs}
-    return Case("mutants", TAKEN, tree, ["./good"], faults, counts=False)
+    return Case("mutants", ["mutants.py", "parts.py"], tree, ["./good"], faults, counts=False)
 
 
 def cases():
-    return [*by_prover(), of_c(), of_crate()]
+    return [*by_prover(), of_c()]

@@ -55,6 +55,25 @@ impl Blank {
         })
     }
 
+    /// The same for any settings within the capacity, as those of a registry of C.
+    /// Refused: `BadSettings` if `Settings::check_fit` refuses them, and `NoMemory`.
+    pub fn fit(alloc: Global, settings: Settings) -> Result<Blank, Refusal>
+        ensures ok { IfOk result (λ blank. blank.settings ≡ settings) }
+        ensures bad { IsErrOf result Refusal.BadSettings ↔ are_fit settings ≡ false }
+        ensures err { IfErr result IsRefusalOfNew }
+    {
+        settings.check_fit()?;
+        let Ok((words, keeper, cpus)) = Words::opening(alloc, settings) else {
+            return Err(Refusal::NoMemory);
+        };
+        Ok(Blank {
+            words,
+            keeper,
+            cpus,
+            changes: ledger::Blank::new(MOST_CPUS as u64),
+        })
+    }
+
     /// The registry, and its CPUs, CPU 0 first. Condition: D names the blank's table, settings and ledger.
     /// Refused: `NoMemory`. The blank comes back then, as it was.
     pub fn open<D: Domain>(

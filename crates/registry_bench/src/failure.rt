@@ -8,7 +8,7 @@ use thiserror::Error;
 /// Why the program ends with another status than 0; its text is the line on standard error.
 #[derive(Clone, Copy, Debug, PartialEq, Eq, Error)]
 pub enum Failure {
-    #[error("usage: registry_bench [check | run THREADS ENTRIES OPERATIONS | wait CPUS READERS SLOTS HELD COUNT | changes COUNT]")]
+    #[error("usage: registry_bench [check | run THREADS ENTRIES OPERATIONS | wait CPUS READERS SLOTS HELD COUNT | changes COUNT | history TURNS]")]
     Usage,
     #[error("no time could be read, or no line be written")]
     System,

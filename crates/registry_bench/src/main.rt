@@ -5,6 +5,7 @@
 mod changes;
 mod failure;
 mod gate;
+mod history;
 mod loops;
 mod measure;
 mod opening;
@@ -14,9 +15,10 @@ mod waiting;
 
 use changes::{Changes, measure_changes};
 use failure::Failure;
+use history::make_history;
 use measure::measure;
 use parts::Parts;
-use plan::{MOST_ENTRIES, MOST_THREADS, Operation, RunPlan, WaitPlan, changes_of};
+use plan::{MOST_ENTRIES, MOST_THREADS, Operation, RunPlan, WaitPlan, changes_of, turns_of};
 use std::alloc::Global;
 use std::env;
 use std::process::ExitCode;
@@ -42,6 +44,8 @@ enum Task {
     Wait(WaitPlan),
     /// One line, of each call behind the interlock, made so many times.
     Changes(u32),
+    /// So many turns beside a plain model.
+    History(u32),
     /// What was done, and no time.
     Check,
 }
@@ -52,6 +56,7 @@ fn main(rt: HostRuntime) -> ExitCode {
         Ok(Task::One(plan)) => run_one(&rt, plan),
         Ok(Task::Wait(plan)) => run_waiting(&rt, plan),
         Ok(Task::Changes(count)) => run_changes(&rt, count),
+        Ok(Task::History(turns)) => run_history(&rt, turns),
         Ok(Task::Check) => check(&rt),
         Err(failure) => Err(failure),
     };
@@ -75,6 +80,7 @@ fn chosen(rt: &(impl Env + Alloc<A = Global>)) -> Result<Task, Failure> {
         "check" => Task::Check,
         "run" => Task::One(RunPlan::parse(words.next(), words.next(), words.next())?),
         "changes" => Task::Changes(changes_of(words.next())?),
+        "history" => Task::History(turns_of(words.next())?),
         "wait" => Task::Wait(WaitPlan::parse([
             words.next(),
             words.next(),
@@ -181,6 +187,13 @@ fn run_changes<R: Print + Alloc<A = Global> + Wait + Clock>(
     Ok(())
 }
 
+/// Prints how many changes were made in so many turns.
+fn run_history<R: Print + Alloc<A = Global> + Wait>(rt: &R, turns: u32) -> Result<(), Failure> {
+    let changes = make_history(rt, rt.alloc(), turns)?;
+    println!(rt; "history {turns} changes {changes}")?;
+    Ok(())
+}
+
 /// Prints how many operations of each kind went as they should, and no time.
 fn check<R: Print + Alloc<A = Global> + Threads + Wait + Clock + Sync>(
     rt: &R,
@@ -226,5 +239,5 @@ fn check_waiting<R: Print + Alloc<A = Global> + Threads + Wait + Clock + Sync>(
     }
     measure_changes(rt, rt.alloc(), 20)?;
     println!(rt; "changes 20")?;
-    Ok(())
+    run_history(rt, 200)
 }

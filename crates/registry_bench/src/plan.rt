@@ -99,6 +99,11 @@ pub fn changes_of(word: Option<String>) -> Result<u32, Failure> {
     number(word, 1, MOST_ROUNDS)
 }
 
+/// How many turns a history has, by a word: from 1. Refused: `Usage`, where it is no number, or is missing.
+pub fn turns_of(word: Option<String>) -> Result<u32, Failure> {
+    number(word, 1, u32::MAX)
+}
+
 /// A number from `least` to `most`.
 fn number(word: Option<String>, least: u32, most: u32) -> Result<u32, Failure>
     ensures { IfOk result (λ n. n ≤ most) }
