@@ -13,7 +13,7 @@ impl<D: Domain> Registry<D> {
     /// Ends the registry, and returns its last words. Whoever calls this has the registry back from all threads, so the run is over. The
     /// keeper hears at last what the CPU knows.
     ///
-    /// The contract is the main theorem of a whole run: a list of events leads from the opening to these words, on any schedule,
+    /// The contract is the theorem of a finished run: a list of events leads from the opening to these words, on any schedule,
     /// and all laws of the protocol hold of it. It has all that the CPU knows: an entry that was destroyed for it is gone (`gone`).
     pub fn close(self, cpu: Cpu<D>) -> LastWords
         ensures settings { result.settings ≡ D.settings }
