@@ -36,7 +36,12 @@ static bool do_clash(const struct access *one, const struct access *other)
 	return one->address == other->address && (one->cpu == other->cpu || one->cpu == ANY || other->cpu == ANY);
 }
 
-/* How a step is to a later one: they commute; they never change places; it does nothing to the later one but enable it; or they conflict otherwise. */
+/*
+ * How a step is to a later one: they commute; they never change places; it does nothing to the later one but enable it; or they conflict otherwise
+ *
+ * A step that enables another one is no race with it: a step ACQUIRES only what its thread waits for before it does anything, and so the two can't change
+ * places. Who asks the thread of xcall(9) for a second call enables it anew, and changes nothing of the first.
+ */
 enum relation { COMMUTE, ORDERED, ENABLES, CONFLICTS };
 
 static enum relation relation_of_accesses(const struct access *first, const struct access *second)
@@ -114,8 +119,7 @@ static uint32_t initials(unsigned earlier, unsigned later)
 		if (at < later && comes_after(step->clock, earlier))
 			continue;
 		uint32_t thread = UINT32_C(1) << step->chosen;
-		bool leads = at == later || comes_after(search->steps[later].clock, at);
-		if ((seen & thread) == 0 && leads && !has_earlier(list, count, at))
+		if ((seen & thread) == 0 && !has_earlier(list, count, at))
 			found |= thread;
 		seen |= thread;
 		list[count++] = at;
@@ -137,16 +141,13 @@ static void add_backtrack_point(unsigned earlier, unsigned later)
 	step->backtrack |= (can & own) != 0 ? own : can & (~can + 1);
 }
 
-/* What is known of an earlier step, where a later one is looked back from. */
-enum then { WAS_DISABLED, WAS_ENABLED, WAS_ELSEWHERE };
-
 /* Whether the thread of a step, which its step before has left at its guard, was enabled at an earlier step of another thread. */
-static enum then thread_then(unsigned earlier, unsigned later, int before)
+static bool was_enabled(unsigned earlier, unsigned later, int before)
 {
 	const struct step *step = &search->steps[later];
 	if ((int)earlier <= before)
-		return step->guarded ? WAS_ELSEWHERE : WAS_ENABLED;
-	return (search->steps[earlier].enabled >> step->chosen & 1) != 0 ? WAS_ENABLED : WAS_DISABLED;
+		return !step->guarded;
+	return (search->steps[earlier].enabled >> step->chosen & 1) != 0;
 }
 
 /*
@@ -172,12 +173,11 @@ static unsigned order_step(unsigned at, unsigned upto, unsigned *races)
 		enum relation relation = relation_of(&found->set, &step->set);
 		if (relation == COMMUTE || (relation == ORDERED && at == search->length))
 			continue;
-		enum then then = thread_then((unsigned)other, at, before);
 		join(step->clock, found->clock);
-		if (relation == ORDERED || comes_after(covered, (unsigned)other) || (relation == ENABLES && then != WAS_ENABLED))
+		if (relation != CONFLICTS || comes_after(covered, (unsigned)other))
 			continue;
 		races[count++] = (unsigned)other;
-		if (then == WAS_ENABLED)
+		if (was_enabled((unsigned)other, at, before))
 			join(covered, found->clock);
 	}
 	step->clock[step->chosen] = at + 1;

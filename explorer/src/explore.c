@@ -454,7 +454,6 @@ static void make_search(void)
 
 int bench_explore(void (*setup)(void), const struct bench_options *given)
 {
-	static struct bench_found found;
 	if (run.current != NULL)
 		refuse("bench_explore inside of a run");
 	fill_options(given);
@@ -463,21 +462,23 @@ int bench_explore(void (*setup)(void), const struct bench_options *given)
 		refuse("there is no setup");
 	prepare = setup;
 	make_search();
+	struct bench_found *found = &search->told;
 	if (options.replay != NULL)
-		replay(&found);
+		replay(found);
 	else
-		explore(&found);
+		explore(found);
 	if (!options.quiet)
-		show(stdout, &found);
-	if (options.picture != NULL && found.first != 0 && !draw(options.picture, &found))
+		show(stdout, found);
+	if (options.picture != NULL && found->first != 0 && !draw(options.picture, found))
 		refuse("%s can't be written", options.picture);
 	if (options.found != NULL)
-		*options.found = found;
+		*options.found = *found;
+	bool wrong = found->first != 0;
 	munmap(search, sizeof(*search));
 	release_stacks();
 	release_heap();
 	release_failures();
-	return found.first != 0;
+	return wrong;
 }
 
 /* ---- What a test calls. ---- */

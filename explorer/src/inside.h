@@ -195,7 +195,7 @@ struct search {
 	unsigned priorities[THREADS], lowest, changes[3];
 	uint64_t seed;
 	uint64_t runs;
-	struct bench_found found;
+	struct bench_found found, told;	/* by the child; and what the parent makes of it */
 	char names[THREADS][32];
 	uint32_t ended;		/* a bit for each thread that has */
 	bool stuck;		/* the others can't go on */

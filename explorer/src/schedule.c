@@ -124,10 +124,14 @@ static unsigned next_after(unsigned number, uint32_t mask)
 	return lowest(above != 0 ? above : mask);
 }
 
-/* Those of another step that sleep here, too: what they would do commutes with what was done. */
+/*
+ * Those of another step that sleep here, too: what they would do commutes with what was done
+ *
+ * The clock never sleeps: where no thread is enabled it doesn't hurry, which is another step. To let fewer threads sleep tries more, and leaves nothing out.
+ */
 static void inherit_sleep_set(const struct step *before, struct step *step)
 {
-	uint32_t candidates = (before->sleeping | before->explored) & ~bit(before->chosen);
+	uint32_t candidates = (before->sleeping | before->explored) & ~bit(before->chosen) & ~bit(CLOCK);
 	step->sleeping = 0;
 	for (; candidates != 0; candidates &= candidates - 1) {
 		unsigned number = lowest(candidates);
@@ -137,9 +141,6 @@ static void inherit_sleep_set(const struct step *before, struct step *step)
 		step->sleeping |= bit(number);
 		step->sleep_sets[number] = set;
 	}
-	/* Where no thread is enabled the clock doesn't hurry: that is another step than the one that sleeps. */
-	if (step->enabled == bit(CLOCK))
-		step->sleeping = 0;
 }
 
 static unsigned highest_priority(uint32_t mask)

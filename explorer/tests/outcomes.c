@@ -44,7 +44,7 @@ static struct psref_class *things;
 static struct psref_target target;
 static struct localcount local;
 static bool drained;
-static void *softint, *plain_softint, *own_softints[MOST];
+static void *softint, *plain_softint, *locking_softint, *own_softints[MOST];
 static unsigned *blocks[MOST];
 static callout_t callout;
 static char seen[MOST][LONGEST + 1];
@@ -76,6 +76,7 @@ static void store_both(unsigned value)
 
 HANDLER(count_plainly, plains[0]++)
 HANDLER(handle, atomic_store_relaxed(&words[1], 26))
+HANDLER(lock_and_store, atomic_store_relaxed(&words[0], 23); mutex_enter(&locks[0]); atomic_store_relaxed(&words[1], 22); mutex_exit(&locks[0]))
 HANDLER(ring, atomic_store_relaxed(&words[0], 25))
 
 UNSEEN static void change_block(void *arg)
@@ -244,6 +245,9 @@ UNSEEN static void act(unsigned thread, char letter, unsigned value)
 	case 'O': (void)callout_halt(&callout, NULL); break;
 	case 'c': kupaldiz_bind(0); break;
 	case 'k': (void)kpause("outcomes", false, 1, NULL); break;
+	case 'K': (void)kpause("outcomes", false, 2, NULL); break;
+	case 'd': delay(10000); break;
+	case 'm': softint_schedule(locking_softint); break;
 	case 'v': see(thread, (unsigned)getticks()); break;
 	case 'T': wait_for_a_tick(thread); break;
 	case 'S': cv_signal(&cv); break;
@@ -276,7 +280,7 @@ UNSEEN static void run_text(void *arg)
 		act(thread, text[at], thread * 8 + at + 1);
 }
 
-#define WITH_LOCKS	"()[]twsTSqQ"
+#define WITH_LOCKS	"()[]twsTSqQm"
 #define WITH_CV		"wsTSqQ"
 #define WITH_SECTIONS	"<>PgDqQ"
 #define PLAINLY		"xyXYz#p"
@@ -289,7 +293,7 @@ static void begin(void)
 {
 	static const char *const names[] = {"one", "two", "three", "four"};
 	for (unsigned at = 0; at < 2 && does(WITH_LOCKS); at++)
-		mutex_init(&locks[at], MUTEX_DEFAULT, IPL_NONE);
+		mutex_init(&locks[at], MUTEX_DEFAULT, IPL_SOFTNET);
 	if (does("rW"))
 		rw_init(&rw);
 	if (does(WITH_CV))
@@ -301,13 +305,15 @@ static void begin(void)
 		psref_target_init(&target, things);
 	}
 	if (does("{}"))
-		mutex_init(&spin, MUTEX_DEFAULT, IPL_SOFTNET);
+		mutex_init(&spin, MUTEX_SPIN, IPL_SOFTNET);
 	if (does("ih"))
 		softint = softint_establish(SOFTINT_NET | SOFTINT_MPSAFE, handle, NULL);
 	if (does("h"))
 		schedule_early();
 	if (does("p"))
 		plain_softint = softint_establish(SOFTINT_NET | SOFTINT_MPSAFE, count_plainly, NULL);
+	if (does("m"))
+		locking_softint = softint_establish(SOFTINT_NET | SOFTINT_MPSAFE, lock_and_store, NULL);
 	if (does("oO"))
 		callout_init(&callout, 0);
 	if (does("qQ"))
@@ -353,7 +359,7 @@ static void finish(void)
 	for (unsigned at = 0; at < MOST; at++)
 		end_softint(at, false);
 	/* A soft interrupt of real threads may run later. */
-	if (!prints || !does("iohj"))
+	if (!prints || !does("iohjm"))
 		bench_outcome("%u %u %u %u", words[0], words[1], plains[0], plains[1]);
 	if (does("oO")) {
 		(void)callout_halt(&callout, NULL);
@@ -363,6 +369,8 @@ static void finish(void)
 		softint_disestablish(softint);
 	if (does("p"))
 		softint_disestablish(plain_softint);
+	if (does("m"))
+		softint_disestablish(locking_softint);
 	end_references();
 	end_locks();
 }
@@ -388,20 +396,19 @@ static void show(const struct bench_found *found, const char *which)
 		printf("    %s\n", found->outcome[at].text);
 }
 
-static bool are_same(const struct bench_found *whole, const struct bench_found *reduced)
+/* Whether the reduced search has found a fault where the other one has, else each outcome of that one; and nothing more, if that one has tried all. */
+static bool agree(const struct bench_found *whole, const struct bench_found *reduced)
 {
-	if ((whole->first != 0) != (reduced->first != 0))
-		return false;
-	if (whole->first != 0)
-		return true;
+	if (whole->first != 0 || reduced->first != 0)
+		return reduced->first != 0 && (whole->first != 0 || !whole->exhausted);
 	for (unsigned at = 0; at < whole->outcomes; at++)
 		if (!has_outcome(reduced, whole->outcome[at].text))
 			return false;
-	return whole->outcomes == reduced->outcomes;
+	return reduced->exhausted && (!whole->exhausted || whole->outcomes == reduced->outcomes);
 }
 
 static unsigned long long wholes, reduceds;
-static unsigned compared, faults, skipped;
+static unsigned compared, faults, begun, skipped;
 
 static void print_outcomes(void)
 {
@@ -420,17 +427,17 @@ static void compare(void)
 		print_outcomes();
 	if (prints)
 		return;
-	struct bench_found whole = explore(true);
-	if ((!whole.exhausted && whole.first == 0) || whole.others > 0) {
+	struct bench_found whole = explore(true), reduced = explore(false);
+	bool all = whole.exhausted || whole.first != 0;
+	if (whole.others > 0 || (!all && !reduced.exhausted && reduced.first == 0)) {
 		skipped++;
 		return;
 	}
-	struct bench_found reduced = explore(false);
-	compared++;
+	*(all ? &compared : &begun) += 1;
 	faults += whole.first != 0;
 	wholes += whole.schedules;
 	reduceds += reduced.schedules + reduced.cut;
-	if (are_same(&whole, &reduced) && (whole.first != 0 || reduced.exhausted))
+	if (agree(&whole, &reduced))
 		return;
 	printf("different%s: %s | %s | %s | %s\n", racy ? ", racy" : "", texts[0], texts[1], texts[2], texts[3]);
 	show(&whole, "whole");
@@ -476,7 +483,7 @@ static void make_text(char *text, unsigned parts)
 {
 	static const char *const pieces[] = {"a", "b", "A", "B", "+", "(a)", "[A]", "([B])", "t", "<a>", "<ab>", "P", "(A)", "r", "W", "AB", "ba", "s", "w", "g", "i",
 	    "k", "o", "oO", "<iab>", "<iA>", "<ib>", "T", "TS", "S", "j", "je", "jAe", "jf", "lAL", "lAjL", "q",
-	    "q", "(S)", "kA", "x", "X", "xy", "Y", "z", "(x)", "(X)", "[Y]", "#", "({#})", "{x}", "<y>", "lXL", "lpyL", "p", "n", "B(t)", "v", "vS"};
+	    "q", "(S)", "kA", "x", "X", "xy", "Y", "z", "(x)", "(X)", "[Y]", "#", "({#})", "{x}", "<y>", "lXL", "lpyL", "p", "n", "B(t)", "v", "vS", "K", "d", "kv", "m", "(m)"};
 	for (unsigned at = 0; at < parts; at++)
 		add(text, pieces[pick(sizeof(pieces) / sizeof(pieces[0]))]);
 }
@@ -486,7 +493,7 @@ static unsigned points_of(const char *text)
 {
 	unsigned points = 0;
 	for (; *text != '\0'; text++)
-		points += strchr("gqDQ", *text) != NULL ? 6 : strchr("twsTjfeoOrWnph", *text) != NULL ? 3 : *text != 'c';
+		points += strchr("gqDQ", *text) != NULL ? 6 : strchr("twsTjfeoOrWnphm", *text) != NULL ? 3 : *text != 'c';
 	return points;
 }
 
@@ -498,7 +505,7 @@ static bool is_short(unsigned threads)
 	for (unsigned thread = 0; thread < threads; thread++)
 		for (unsigned own = 1, all = points_of(texts[thread]); own <= all; own++)
 			orders = orders * ++points / own;
-	return orders < 4 * (double)most_schedules;
+	return 4 * orders < (double)most_schedules;
 }
 
 static void try_random(uint64_t of)
@@ -580,6 +587,12 @@ static void try_written(void)
 	try("t", "[A](a)", "");
 	try("hc<b>", "", "");
 	try("T", "oaS", "");
+	try("cai", "cb<A>", "");
+	try("kv", "kv", "");
+	try("hc<bb>", "B", "");
+	try("cm", "()", "c<ab>");
+	try("K", "dv", "k");
+	try("ckj", "cj", "");
 }
 
 static time_t now(void)
@@ -589,15 +602,21 @@ static time_t now(void)
 	return time.tv_sec;
 }
 
+static void print_counts(void)
+{
+	printf("%u programs have the same outcomes by %llu schedules as by %llu; %u of them a fault; of %u others a part was compared; %u were too long\n",
+	    compared, reduceds, wholes, faults, begun, skipped);
+}
+
 static int try_for_a_while(uint64_t first)
 {
-	most_schedules = 400;
+	most_schedules = 150;
 	try_written();
 	for (time_t end = now() + seconds; now() < end; first++)
 		try_random(first);
 	EXPECT(2 * faults < compared);
-	printf("%u programs in %u seconds: the same outcomes by %llu schedules as by %llu; %u of them with a fault; %u others were too long\n", compared,
-	    seconds, reduceds, wholes, faults, skipped);
+	printf("in %u seconds ", seconds);
+	print_counts();
 	return 0;
 }
 
@@ -615,7 +634,6 @@ int main(int count_of_words, char **given)
 		try_random(first + at);
 	EXPECT(prints || 2 * faults < compared);
 	if (!prints)
-		printf("%u programs: the same outcomes by %llu schedules as by %llu; %u of them with a fault; %u were too long\n", compared, reduceds, wholes,
-		    faults, skipped);
+		print_counts();
 	return 0;
 }
