@@ -122,7 +122,7 @@ ANSWERED(int, cv_timedwait_sig, (kcondvar_t *cv, kmutex_t *mutex, int ticks), (c
 static void at_wake(const char *call, kcondvar_t *cv)
 {
 	at_thing(call, ON_CV, cv, sizeof(*cv), WRITES);
-	track_wake(call, run.current->place, cv, bucket_has(NULL, cv));
+	track_wake(call, run.current->place, cv, sleepq_has_waiter(NULL, cv));
 }
 
 WRAPPED(void, cv_signal, (kcondvar_t *cv), (cv), at_wake(__func__, cv))

@@ -21,18 +21,18 @@
 
 #include "inside.h"
 
-static bool do_overlap(const struct access *one, const struct access *other)
+static bool overlap(const struct access *one, const struct access *other)
 {
 	return one->address < other->address + other->size && other->address < one->address + one->size;
 }
 
 /* Whether two accesses are of the same thing, and one of them writes it. */
-static bool do_clash(const struct access *one, const struct access *other)
+static bool clash(const struct access *one, const struct access *other)
 {
 	if (one->kind != other->kind || ((one->how | other->how) & WRITES) == 0)
 		return false;
 	if (one->kind == ON_MEMORY)
-		return do_overlap(one, other);
+		return overlap(one, other);
 	return one->address == other->address && (one->cpu == other->cpu || one->cpu == ANY || other->cpu == ANY);
 }
 
@@ -46,7 +46,7 @@ enum relation { COMMUTE, ORDERED, ENABLES, CONFLICTS };
 
 static enum relation relation_of_accesses(const struct access *first, const struct access *second)
 {
-	if (!do_clash(first, second))
+	if (!clash(first, second))
 		return COMMUTE;
 	if (((first->how | second->how) & ORDERS) != 0)
 		return ORDERED;
@@ -75,7 +75,7 @@ static enum relation relation_of(const struct set *first, const struct set *seco
 	return found;
 }
 
-bool do_conflict(const struct set *one, const struct set *other)
+bool are_dependent(const struct set *one, const struct set *other)
 {
 	return relation_of(one, other) != COMMUTE;
 }

@@ -331,7 +331,7 @@ static void keep_schedule(struct bench_found *found)
 	found->changes = search->length == 0 ? 0 : last->switches;
 	write_schedule(found->schedule, sizeof(found->schedule));
 	write_failures(found->schedule, sizeof(found->schedule));
-	snprintf(found->failed, sizeof(found->failed), "%s", told_failure());
+	snprintf(found->failed, sizeof(found->failed), "%s", failure_text());
 }
 
 /* Runs the schedule of the fault once more, so that the steps are its own. */

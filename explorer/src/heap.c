@@ -121,7 +121,7 @@ static bool is_within(const struct block *block, const volatile void *at, size_t
 	return block->live && (const volatile unsigned char *)at + size <= block->at + block->size;
 }
 
-static _Noreturn void tell_use(const char *what, const char *place, const struct block *block)
+static _Noreturn void report_use(const char *what, const char *place, const struct block *block)
 {
 	char where[256], freed[256];
 	if (block->live)
@@ -138,7 +138,7 @@ void check_live(const char *call, const volatile void *at, size_t size)
 		return;
 	touch_memory(at, size, 0);
 	if (!is_within(block, at, size))
-		tell_use(call, run.current->pc != NULL ? place_of(run.current->place, run.current->pc) : run.current->place, block);
+		report_use(call, run.current->pc != NULL ? place_of(run.current->place, run.current->pc) : run.current->place, block);
 }
 
 /* The same of a plain access, which must come after the call that took the memory, too. */
@@ -148,7 +148,7 @@ void check_usable(const struct routine *me, const volatile void *at, size_t size
 	if (block == NULL)
 		return;
 	if (!is_within(block, at, size))
-		tell_use(use->writes ? "plain write" : "plain read", place_of(use->place, use->pc), block);
+		report_use(use->writes ? "plain write" : "plain read", place_of(use->place, use->pc), block);
 	if (me->clock[block->by] < block->made_at)
 		fail("data race: thread \"%s\" takes memory by %s at %s, and thread \"%s\" %s it at %s", run.routines[block->by].name, block->call,
 		    place_of(block->place, NULL), me->name, use->verb, place_of(use->place, use->pc));

@@ -335,7 +335,7 @@ bool next_failure(void);
 bool has_all_failures(void);
 bool ends_early(const struct routine *routine);
 void note_ending(struct routine *me, bool early);
-const char *told_failure(void);
+const char *failure_text(void);
 void write_failures(char *text, size_t room);
 bool read_failures(const char *text);
 void forget_failures(void);
@@ -347,7 +347,7 @@ void track_ended(const void *lock);
 void check_none_made(const char *call, const void *from, size_t size);
 void check_none_left(void);
 void track_wake(const char *call, const char *place, const void *cv, bool waited);
-const struct missed *missed_by(const void *cv);
+const struct missed *lost_wakeup_at(const void *cv);
 
 /* ---- What guards are: locks.c. ---- */
 
@@ -359,7 +359,7 @@ bool was_released(const struct routine *me);
 bool has_ended_handler(const struct routine *me);
 bool has_ended(const struct routine *me);
 bool can_begin(const struct routine *me);
-bool is_made(const struct routine *me);
+bool is_xcall_complete(const struct routine *me);
 const struct routine *xcaller(void);
 uint64_t *releases_of(const void *target);
 void sleep_until(int64_t time);
@@ -367,7 +367,7 @@ void end_self(void);
 
 /* ---- commute.c ---- */
 
-bool do_conflict(const struct set *one, const struct set *other);
+bool are_dependent(const struct set *one, const struct set *other);
 void find_races_of_step(unsigned at);
 void find_races_of_disabled(unsigned thread, const struct set *set, unsigned upto);
 

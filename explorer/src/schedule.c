@@ -136,7 +136,7 @@ static void inherit_sleep_set(const struct step *before, struct step *step)
 	for (; candidates != 0; candidates &= candidates - 1) {
 		unsigned number = lowest(candidates);
 		const struct set *set = (before->sleeping & bit(number)) != 0 ? before->sleep_sets[number] : &before->explored_sets[number];
-		if (do_conflict(set, &before->set))
+		if (are_dependent(set, &before->set))
 			continue;
 		step->sleeping |= bit(number);
 		step->sleep_sets[number] = set;

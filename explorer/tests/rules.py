@@ -23,7 +23,7 @@ class Rule(NamedTuple):
 
 RULES = [
     Rule("commute", "a write conflicts with a read", "((one->how | other->how) & WRITES) == 0", "((one->how & other->how) & WRITES) == 0"),
-    Rule("commute", "memory conflicts by its bytes", "return do_overlap(one, other);", "return one->address == other->address && one->size == other->size;"),
+    Rule("commute", "memory conflicts by its bytes", "return overlap(one, other);", "return one->address == other->address && one->size == other->size;"),
     Rule("commute", "what touches any CPU touches each", " || one->cpu == ANY || other->cpu == ANY", ""),
     Rule("commute", "an initial comes after no other step", " && !has_earlier(list, count, at)", ""),
     Rule("commute", "each race has an initial of its own among the backtrack points",
@@ -31,7 +31,7 @@ RULES = [
     Rule("commute", "a step that acquires and releases enables nobody alone", "(first->how & (ACQUIRES | RELEASES)) == RELEASES", "(first->how & RELEASES) != 0"),
     Rule("commute", "a guard may have been false before its thread waited", "return !step->guarded;", "return true;"),
     Rule("commute", "a thread that was disabled is looked for further back", "return (search->steps[earlier].enabled >> step->chosen & 1) != 0;", "return true;"),
-    Rule("schedule", "a conflict wakes what sleeps", "if (do_conflict(set, &before->set))", "if (false && do_conflict(set, &before->set))"),
+    Rule("schedule", "a conflict wakes what sleeps", "if (are_dependent(set, &before->set))", "if (false && are_dependent(set, &before->set))"),
     Rule("schedule", "a soft interrupt comes before or after each step of a thread with the CPU", "		touch(ON_LOCK, &me->self->cpu->hold, 0, 0);\n", "		;\n"),
     Rule("schedule", "a tick conflicts with deadlines", "	touch_deadlines(ANY, 0);\n", ""),
     Rule("schedule", "threads that are disabled at the end race", "	find_races_of_all_disabled(run.finish + 1);", "	;"),

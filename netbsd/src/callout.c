@@ -133,7 +133,7 @@ static void begin(void)
 	pthread_detach(thread);
 }
 
-static void want_callout(const struct thread *me, const callout_t *callout)
+static void require_callout(const struct thread *me, const callout_t *callout)
 {
 	if (callout->c_made == ENDED)
 		stop(me, "the callout was destroyed");
@@ -161,7 +161,7 @@ static unsigned runs_on(const struct thread *me, const callout_t *callout)
 void callout_destroy(callout_t *callout)
 {
 	struct thread *me = begin_call(__func__);
-	want_callout(me, callout);
+	require_callout(me, callout);
 	pthread_mutex_lock(&lock);
 	if ((callout->c_state & PENDING) != 0)
 		stop(me, "the callout is pending");
@@ -174,7 +174,7 @@ void callout_destroy(callout_t *callout)
 void callout_setfunc(callout_t *callout, void (*body)(void *), void *arg)
 {
 	struct thread *me = begin_plain(__func__);
-	want_callout(me, callout);
+	require_callout(me, callout);
 	pthread_mutex_lock(&lock);
 	callout->c_body = body;
 	callout->c_arg = arg;
@@ -199,7 +199,7 @@ static void make_pending(struct thread *me, callout_t *callout, int ticks)
 void callout_reset(callout_t *callout, int ticks, void (*body)(void *), void *arg)
 {
 	struct thread *me = begin_plain(__func__);
-	want_callout(me, callout);
+	require_callout(me, callout);
 	pthread_mutex_lock(&lock);
 	callout->c_body = body;
 	callout->c_arg = arg;
@@ -210,7 +210,7 @@ void callout_reset(callout_t *callout, int ticks, void (*body)(void *), void *ar
 void callout_schedule(callout_t *callout, int ticks)
 {
 	struct thread *me = begin_plain(__func__);
-	want_callout(me, callout);
+	require_callout(me, callout);
 	pthread_mutex_lock(&lock);
 	make_pending(me, callout, ticks);
 	pthread_mutex_unlock(&lock);
@@ -219,7 +219,7 @@ void callout_schedule(callout_t *callout, int ticks)
 bool callout_stop(callout_t *callout)
 {
 	struct thread *me = begin_plain(__func__);
-	want_callout(me, callout);
+	require_callout(me, callout);
 	pthread_mutex_lock(&lock);
 	bool expired = cancel(callout);
 	pthread_mutex_unlock(&lock);
@@ -246,7 +246,7 @@ static void await_end(struct thread *me, const callout_t *callout)
 		if (told)
 			pthread_cond_wait(&changed, &lock);
 		else if (pthread_cond_timedwait(&changed, &lock, &tells) != 0 && (told = true))
-			say(me, "waits for CPU %u, which runs it", cpu);
+			report(me, "waits for CPU %u, which runs it", cpu);
 	}
 	end_wait(waits);
 }
@@ -254,29 +254,29 @@ static void await_end(struct thread *me, const callout_t *callout)
 bool callout_halt(callout_t *callout, void *interlock)
 {
 	struct thread *me = begin_call(__func__);
-	want_callout(me, callout);
+	require_callout(me, callout);
 	if (interlock != NULL && !has_mutex(me, interlock))
 		stop(me, "the thread does not have the lock");
 	pthread_mutex_lock(&lock);
 	bool expired = cancel(callout), runs = runs_on(me, callout) < KUPALDIZ_CPUS;
 	if (runs) {
 		if (interlock != NULL)
-			give_mutex(me, interlock);
-		want_sleepable(me);
+			release_mutex(me, interlock);
+		require_sleepable(me);
 		await_end(me, callout);
 		/* It may have been set since its body ended. */
 		cancel(callout);
 	}
 	pthread_mutex_unlock(&lock);
 	if (runs && interlock != NULL)
-		take_mutex(me, interlock);
+		acquire_mutex(me, interlock);
 	return expired;
 }
 
 /* Whether one of these holds of it. */
 static bool is(const char *call, callout_t *callout, uint32_t states)
 {
-	want_callout(begin_plain(call), callout);
+	require_callout(begin_plain(call), callout);
 	pthread_mutex_lock(&lock);
 	bool holds = (callout->c_state & states) != 0;
 	pthread_mutex_unlock(&lock);
@@ -305,7 +305,7 @@ bool callout_invoking(callout_t *callout)
 
 void callout_ack(callout_t *callout)
 {
-	want_callout(begin_plain(__func__), callout);
+	require_callout(begin_plain(__func__), callout);
 	pthread_mutex_lock(&lock);
 	callout->c_state &= ~(uint32_t)INVOKING;
 	pthread_mutex_unlock(&lock);

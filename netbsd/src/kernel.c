@@ -40,7 +40,7 @@ void kupaldiz_failed_with(const char *place, const char *text, const char *forma
 
 void kupaldiz_assert_sleepable(void)
 {
-	want_sleepable(begin_call("ASSERT_SLEEPABLE"));
+	require_sleepable(begin_call("ASSERT_SLEEPABLE"));
 }
 
 /* ---- Time. ---- */
@@ -71,8 +71,8 @@ int kpause(const char *name, bool interruptible, int ticks, kmutex_t *mutex)
 	struct timespec left = {ticks * (long)TICK / 1000000000, ticks * (long)TICK % 1000000000};
 	(void)name;
 	if (mutex != NULL)
-		give_mutex(me, mutex);
-	want_sleepable(me);
+		release_mutex(me, mutex);
+	require_sleepable(me);
 	if (ticks <= 0)
 		stop(me, "no time to sleep for");
 	bool ended = interruptible && FAILS();
@@ -83,7 +83,7 @@ int kpause(const char *name, bool interruptible, int ticks, kmutex_t *mutex)
 		;	/* a signal has come to the process, which isn't the thread's */
 	end_wait(waits);
 	if (mutex != NULL)
-		take_mutex(me, mutex);
+		acquire_mutex(me, mutex);
 	return ended ? EINTR : EWOULDBLOCK;
 }
 
@@ -148,7 +148,7 @@ static int start(struct kthread *kthread, lwp_t **made)
 int kthread_create(pri_t priority, int flags, struct cpu_info *cpu, void (*body)(void *), void *arg, lwp_t **made, const char *format, ...)
 {
 	struct thread *me = begin_plain(__func__);
-	want_sleepable(me);
+	require_sleepable(me);
 	if (FAILS())
 		return ENOMEM;
 	struct kthread *kthread = memory(me, sizeof(*kthread));
@@ -187,7 +187,7 @@ void await_thread(struct thread *me, pthread_t id, const struct thread *thread)
 	int waits = begin_wait();
 	while (pthread_tryjoin_np(id, NULL) == EBUSY)
 		if (pause_longer(&pauses, NULL))
-			say(me, "waits for thread \"%s\" to end", name_of(thread, name, sizeof(name)));
+			report(me, "waits for thread \"%s\" to end", name_of(thread, name, sizeof(name)));
 	end_wait(waits);
 }
 
@@ -195,7 +195,7 @@ int kthread_join(lwp_t *thread)
 {
 	struct thread *me = begin_call(__func__);
 	struct kthread *found = NULL;
-	want_sleepable(me);
+	require_sleepable(me);
 	pthread_mutex_lock(&kthreads_lock);
 	for (struct kthread **at = &kthreads; *at != NULL; at = &(*at)->next) {
 		if (&(*at)->thread->lwp == thread) {
@@ -223,7 +223,7 @@ static bool is_mapped(const void *user)
 
 static int copy(struct thread *me, const void *from, void *to, const void *user, size_t length)
 {
-	want_sleepable(me);
+	require_sleepable(me);
 	if (length > 0 && !is_mapped(user))
 		return EFAULT;
 	if (length > 0)
@@ -243,7 +243,7 @@ int copyout(const void *kernel, void *user, size_t length)
 
 static int copy_text(struct thread *me, const char *from, char *to, const void *user, size_t length, size_t *copied)
 {
-	want_sleepable(me);
+	require_sleepable(me);
 	if (!is_mapped(user))
 		return EFAULT;
 	size_t all = strnlen(from, length);

@@ -65,7 +65,7 @@ static void *take_block(struct thread *me, size_t size, bool sleeps, const struc
 	if (size == 0)
 		stop(me, "a block of no bytes");
 	if (sleeps)
-		want_sleepable(me);
+		require_sleepable(me);
 	else if (FAILS())
 		return NULL;
 	struct head *head = take_memory(size, alignment_of(size, pool));
@@ -111,7 +111,7 @@ static void give_block(struct thread *me, void *block, size_t size)
 }
 
 /* kmem_alloc and kmem_free aren't for interrupts. */
-static void want_no_interrupt(const struct thread *me)
+static void require_no_interrupt(const struct thread *me)
 {
 	if (me->softint)
 		stop(me, "in a soft interrupt");
@@ -127,21 +127,21 @@ static bool sleeps(const struct thread *me, km_flag_t flags)
 void *kmem_alloc(size_t size, km_flag_t flags)
 {
 	struct thread *me = begin_call(__func__);
-	want_no_interrupt(me);
+	require_no_interrupt(me);
 	return take_block(me, size, sleeps(me, flags), NULL);
 }
 
 void *kmem_zalloc(size_t size, km_flag_t flags)
 {
 	struct thread *me = begin_call(__func__);
-	want_no_interrupt(me);
+	require_no_interrupt(me);
 	return zeroed(take_block(me, size, sleeps(me, flags), NULL), size);
 }
 
 void kmem_free(void *block, size_t size)
 {
 	struct thread *me = begin_call(__func__);
-	want_no_interrupt(me);
+	require_no_interrupt(me);
 	give_block(me, block, size);
 }
 
@@ -191,7 +191,7 @@ void pool_init(struct pool *pool, size_t size, unsigned align, unsigned offset, 
 	*pool = (struct pool){.pr_name = name, .pr_size = size, .pr_align = align, .pr_level = level, .pr_flags = flags};
 }
 
-static void want_unused(struct thread *me, struct pool *pool)
+static void require_unused(struct thread *me, struct pool *pool)
 {
 	size_t out = __atomic_load_n(&pool->pr_out, __ATOMIC_ACQUIRE);
 	if (out != 0)
@@ -215,7 +215,7 @@ static void put(struct thread *me, struct pool *pool, void *object)
 
 void pool_destroy(struct pool *pool)
 {
-	want_unused(begin_call(__func__), pool);
+	require_unused(begin_call(__func__), pool);
 }
 
 void *pool_get(struct pool *pool, int flags)
@@ -234,7 +234,7 @@ pool_cache_t pool_cache_init(size_t size, unsigned align, unsigned offset, unsig
     int level, int (*make)(void *, void *, int), void (*end)(void *, void *), void *arg)
 {
 	struct thread *me = begin_plain(__func__);
-	want_sleepable(me);
+	require_sleepable(me);
 	struct pool_cache *cache = memory(me, sizeof(*cache));
 	pool_init(&cache->pool, size, align, offset, (int)flags, name, from, level);
 	cache->make = make;
@@ -267,9 +267,9 @@ void pool_cache_destroy(pool_cache_t cache)
 {
 	struct thread *me = begin_call(__func__);
 	struct head *head;
-	want_unused(me, &cache->pool);
+	require_unused(me, &cache->pool);
 	if (is_looked_at(cache)) {
-		want_sleepable(me);
+		require_sleepable(me);
 		perform_all(me);
 	}
 	while ((head = take_constructed(cache)) != NULL) {
@@ -295,7 +295,7 @@ void *pool_cache_get(pool_cache_t cache, int flags)
 {
 	struct thread *me = begin_call(__func__);
 	if ((flags & PR_WAITOK) != 0)
-		want_sleepable(me);
+		require_sleepable(me);
 	struct head *head = take_constructed(cache);
 	if (head == NULL)
 		return construct(me, cache, flags);
@@ -328,7 +328,7 @@ static void *own_of(const struct percpu *percpu, unsigned cpu)
 
 static percpu_t *create(struct thread *me, size_t size, percpu_callback_t make, percpu_callback_t end, void *arg)
 {
-	want_sleepable(me);
+	require_sleepable(me);
 	if (size > SIZE_MAX / KUPALDIZ_CPUS - LINE)
 		stop(me, "out of memory");
 	struct percpu *percpu = memory(me, sizeof(*percpu));
@@ -355,7 +355,7 @@ percpu_t *percpu_alloc(size_t size)
 void percpu_free(percpu_t *percpu, size_t size)
 {
 	struct thread *me = begin_call(__func__);
-	want_sleepable(me);
+	require_sleepable(me);
 	if (percpu->size != size)
 		stop(me, "%zu bytes are given back of %zu", size, percpu->size);
 	for (unsigned cpu = 0; cpu < KUPALDIZ_CPUS && percpu->end != NULL; cpu++)
@@ -405,7 +405,7 @@ static void visit(void *of, void *arg)
 void percpu_foreach_xcall(percpu_t *percpu, unsigned flags, percpu_callback_t look, void *arg)
 {
 	struct visit each = {percpu, look};
-	want_sleepable(begin_plain(__func__));
+	require_sleepable(begin_plain(__func__));
 	/* xc_broadcast takes a place: not that of a call which this one is an argument of. */
 	kupaldiz_at(NULL);
 	xc_wait(xc_broadcast(flags, visit, &each, arg));
