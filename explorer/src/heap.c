@@ -47,7 +47,7 @@ static void allow(const void *at, size_t size)
 		__asan_unpoison_memory_region(at, size);
 }
 
-static const char *called(const struct thread *self)
+static const char *call_of(const struct thread *self)
 {
 	return self == NULL || self->call == NULL ? "setup" : self->call;
 }
@@ -78,7 +78,7 @@ void *allocate(size_t size, size_t align, bool judged)
 	memset(at + size, BEHIND, FENCE);
 	forbid(at + size, FENCE);
 	*(struct block *)new_row(BLOCKS) = (struct block){.at = at, .size = size, .live = true, .judged = judged, .by = number,
-	    .made_at = run.routines[number].clock[number], .call = called(self), .place = self == NULL ? NULL : self->place};
+	    .made_at = run.routines[number].clock[number], .call = call_of(self), .place = self == NULL ? NULL : self->place};
 	for (size_t from = 0; from < size + FENCE; from += SMALLEST)
 		*owner_of(at + from) = (uint32_t)run.rows[BLOCKS];
 	return at;
@@ -182,7 +182,7 @@ static void end_block(struct block *block)
 	const struct thread *self = kupaldiz_self;
 	block->live = false;
 	block->freed_by = run.current->number;
-	block->freed_call = called(self);
+	block->freed_call = call_of(self);
 	block->freed_place = self == NULL ? NULL : self->place;
 }
 
@@ -192,7 +192,7 @@ void release(void *address)
 	if (address == NULL)
 		return;
 	if (block == NULL || block->at != address)
-		fail("%s: no block of memory", called(kupaldiz_self));
+		fail("%s: no block of memory", call_of(kupaldiz_self));
 	check_block(block);
 	end_block(block);
 	memset(block->at, FREED, block->size);

@@ -53,7 +53,7 @@ static unsigned count[MOST];
 /* What a program's own books say is no access of it. */
 #define UNSEEN	__attribute__((no_sanitize("thread")))
 
-UNSEEN static void see(unsigned thread, unsigned value)
+UNSEEN static void observe(unsigned thread, unsigned value)
 {
 	if (count[thread] < LONGEST)
 		seen[thread][count[thread]++] = (char)(value == 0 ? '-' : 'a' + (value - 1) % 26);
@@ -86,7 +86,7 @@ UNSEEN static void change_block(void *arg)
 }
 
 /* Whether the program does one of these things: what it doesn't need isn't made. */
-static bool does(const char *letters)
+static bool uses(const char *letters)
 {
 	for (unsigned at = 0; at < MOST; at++)
 		if (strpbrk(texts[at], letters) != NULL)
@@ -97,7 +97,7 @@ static bool does(const char *letters)
 static void try_lock(unsigned thread)
 {
 	int taken = mutex_tryenter(&locks[0]);
-	see(thread, (unsigned)taken);
+	observe(thread, (unsigned)taken);
 	if (taken)
 		mutex_exit(&locks[0]);
 }
@@ -115,7 +115,7 @@ static void wait_for_a_tick(unsigned thread)
 {
 	mutex_enter(&locks[0]);
 	if (!flag)
-		see(thread, cv_timedwait(&cv, &locks[0], 1) == 0 ? 1 : 2);
+		observe(thread, cv_timedwait(&cv, &locks[0], 1) == 0 ? 1 : 2);
 	mutex_exit(&locks[0]);
 }
 
@@ -146,9 +146,9 @@ static void count_in(unsigned thread)
 	if (found)
 		localcount_acquire(&local);
 	pserialize_read_exit(s);
-	see(thread, found);
+	observe(thread, found);
 	if (found) {
-		see(thread, atomic_load_relaxed(&words[1]));
+		observe(thread, atomic_load_relaxed(&words[1]));
 		localcount_release(&local, &cv, &locks[1]);
 	}
 }
@@ -172,7 +172,7 @@ static void set_flag(void)
 }
 
 /* Acquires a reference where the target isn't gone, and looks at a word while it has it. */
-static void refer(unsigned thread)
+static void use_target(unsigned thread)
 {
 	struct psref psref;
 	int bound = curlwp_bind(), s = pserialize_read_enter();
@@ -180,9 +180,9 @@ static void refer(unsigned thread)
 	if (found)
 		psref_acquire(&psref, &target, things);
 	pserialize_read_exit(s);
-	see(thread, found);
+	observe(thread, found);
 	if (found) {
-		see(thread, atomic_load_relaxed(&words[0]));
+		observe(thread, atomic_load_relaxed(&words[0]));
 		psref_release(&psref, &target, things);
 	}
 	curlwp_bindx(bound);
@@ -202,7 +202,7 @@ static void make_thread(unsigned thread)
 {
 	lwp_t *made;
 	EXPECT(kthread_create(PRI_NONE, KTHREAD_MUSTJOIN, NULL, store_and_exit, NULL, &made, "worker") == 0);
-	see(thread, atomic_load_relaxed(&words[0]));
+	observe(thread, atomic_load_relaxed(&words[0]));
 	kthread_join(made);
 }
 
@@ -212,19 +212,19 @@ static void lock_words(unsigned thread, krw_t how, unsigned value)
 	if (how == RW_WRITER)
 		atomic_store_relaxed(&words[0], value);
 	else
-		see(thread, atomic_load_relaxed(&words[0]));
+		observe(thread, atomic_load_relaxed(&words[0]));
 	rw_exit(&rw);
 }
 
 /* Does what a letter says. */
-UNSEEN static void act(unsigned thread, char letter, unsigned value)
+UNSEEN static void execute(unsigned thread, char letter, unsigned value)
 {
 	switch (letter) {
-	case 'a': see(thread, atomic_load_relaxed(&words[0])); break;
-	case 'b': see(thread, atomic_load_relaxed(&words[1])); break;
+	case 'a': observe(thread, atomic_load_relaxed(&words[0])); break;
+	case 'b': observe(thread, atomic_load_relaxed(&words[1])); break;
 	case 'A': atomic_store_relaxed(&words[0], value); break;
 	case 'B': atomic_store_relaxed(&words[1], value); break;
-	case '+': see(thread, atomic_inc_uint_nv(&words[0])); break;
+	case '+': observe(thread, atomic_inc_uint_nv(&words[0])); break;
 	case '(': mutex_enter(&locks[0]); break;
 	case ')': mutex_exit(&locks[0]); break;
 	case '[': mutex_enter(&locks[1]); break;
@@ -237,7 +237,7 @@ UNSEEN static void act(unsigned thread, char letter, unsigned value)
 	case 's': set_flag(); break;
 	case 'r': lock_words(thread, RW_READER, value); break;
 	case 'W': lock_words(thread, RW_WRITER, value); break;
-	case 'g': refer(thread); break;
+	case 'g': use_target(thread); break;
 	case 'D': end_target(); break;
 	case 'h': break;
 	case 'i': softint_schedule(softint); break;
@@ -248,7 +248,7 @@ UNSEEN static void act(unsigned thread, char letter, unsigned value)
 	case 'K': (void)kpause("outcomes", false, 2, NULL); break;
 	case 'd': delay(10000); break;
 	case 'm': softint_schedule(locking_softint); break;
-	case 'v': see(thread, (unsigned)getticks()); break;
+	case 'v': observe(thread, (unsigned)getticks()); break;
 	case 'T': wait_for_a_tick(thread); break;
 	case 'S': cv_signal(&cv); break;
 	case 'j': schedule_own(thread); break;
@@ -256,8 +256,8 @@ UNSEEN static void act(unsigned thread, char letter, unsigned value)
 	case 'f': end_softint(thread, true); break;
 	case 'l': (void)splnet(); break;
 	case 'L': splx(IPL_NONE); break;
-	case 'x': see(thread, load(0)); break;
-	case 'y': see(thread, load(1)); break;
+	case 'x': observe(thread, load(0)); break;
+	case 'y': observe(thread, load(1)); break;
 	case 'X': store(0, value); break;
 	case 'Y': store(1, value); break;
 	case '#': count_plainly(NULL); break;
@@ -277,7 +277,7 @@ UNSEEN static void run_text(void *arg)
 	const char *text = arg;
 	unsigned thread = (unsigned)((char(*)[LONGEST])arg - texts);
 	for (unsigned at = 0; text[at] != '\0'; at++)
-		act(thread, text[at], thread * 8 + at + 1);
+		execute(thread, text[at], thread * 8 + at + 1);
 }
 
 #define WITH_LOCKS	"()[]twsTSqQm"
@@ -292,31 +292,31 @@ static void schedule_early(void) { kupaldiz_bind(0); softint_schedule(softint); 
 static void begin(void)
 {
 	static const char *const names[] = {"one", "two", "three", "four"};
-	for (unsigned at = 0; at < 2 && does(WITH_LOCKS); at++)
+	for (unsigned at = 0; at < 2 && uses(WITH_LOCKS); at++)
 		mutex_init(&locks[at], MUTEX_DEFAULT, IPL_SOFTNET);
-	if (does("rW"))
+	if (uses("rW"))
 		rw_init(&rw);
-	if (does(WITH_CV))
+	if (uses(WITH_CV))
 		cv_init(&cv, "flag");
-	if (does(WITH_SECTIONS))
+	if (uses(WITH_SECTIONS))
 		psz = pserialize_create();
-	if (does("gD")) {
+	if (uses("gD")) {
 		things = psref_class_create("thing", IPL_SOFTNET);
 		psref_target_init(&target, things);
 	}
-	if (does("{}"))
+	if (uses("{}"))
 		mutex_init(&spin, MUTEX_SPIN, IPL_SOFTNET);
-	if (does("ih"))
+	if (uses("ih"))
 		softint = softint_establish(SOFTINT_NET | SOFTINT_MPSAFE, handle, NULL);
-	if (does("h"))
+	if (uses("h"))
 		schedule_early();
-	if (does("p"))
+	if (uses("p"))
 		plain_softint = softint_establish(SOFTINT_NET | SOFTINT_MPSAFE, count_plainly, NULL);
-	if (does("m"))
+	if (uses("m"))
 		locking_softint = softint_establish(SOFTINT_NET | SOFTINT_MPSAFE, lock_and_store, NULL);
-	if (does("oO"))
+	if (uses("oO"))
 		callout_init(&callout, 0);
-	if (does("qQ"))
+	if (uses("qQ"))
 		localcount_init(&local);
 	for (unsigned at = 0; at < MOST; at++) {
 		if (strpbrk(texts[at], "jef") != NULL) {
@@ -330,25 +330,25 @@ static void begin(void)
 
 static void end_references(void)
 {
-	if (does("qQ") && !drained)
+	if (uses("qQ") && !drained)
 		drain();
-	if (does("gD") && !gone)
+	if (uses("gD") && !gone)
 		psref_target_destroy(&target, things);
-	if (does("gD"))
+	if (uses("gD"))
 		psref_class_destroy(things);
-	if (does(WITH_SECTIONS))
+	if (uses(WITH_SECTIONS))
 		pserialize_destroy(psz);
 }
 
 static void end_locks(void)
 {
-	for (unsigned at = 0; at < 2 && does(WITH_LOCKS); at++)
+	for (unsigned at = 0; at < 2 && uses(WITH_LOCKS); at++)
 		mutex_destroy(&locks[at]);
-	if (does("rW"))
+	if (uses("rW"))
 		rw_destroy(&rw);
-	if (does("{}"))
+	if (uses("{}"))
 		mutex_destroy(&spin);
-	if (does(WITH_CV))
+	if (uses(WITH_CV))
 		cv_destroy(&cv);
 }
 
@@ -359,17 +359,17 @@ static void finish(void)
 	for (unsigned at = 0; at < MOST; at++)
 		end_softint(at, false);
 	/* A soft interrupt of real threads may run later. */
-	if (!prints || !does("iohjm"))
+	if (!prints || !uses("iohjm"))
 		bench_outcome("%u %u %u %u", words[0], words[1], plains[0], plains[1]);
-	if (does("oO")) {
+	if (uses("oO")) {
 		(void)callout_halt(&callout, NULL);
 		callout_destroy(&callout);
 	}
-	if (does("ih"))
+	if (uses("ih"))
 		softint_disestablish(softint);
-	if (does("p"))
+	if (uses("p"))
 		softint_disestablish(plain_softint);
-	if (does("m"))
+	if (uses("m"))
 		softint_disestablish(locking_softint);
 	end_references();
 	end_locks();
@@ -423,7 +423,7 @@ static void print_outcomes(void)
 /* Compares the two ways of the search for the program that is written. */
 static void compare(void)
 {
-	if (prints && !does(NOT_BESIDE))
+	if (prints && !uses(NOT_BESIDE))
 		print_outcomes();
 	if (prints)
 		return;
@@ -450,14 +450,14 @@ static void write_text(unsigned thread, const char *text)
 	snprintf(texts[thread], LONGEST, "%s", text);
 }
 
-static void try(const char *first, const char *second, const char *third)
+static void compare_texts(const char *first, const char *second, const char *third)
 {
 	write_text(0, first);
 	write_text(1, second);
 	write_text(2, third);
 	racy = false;
 	compare();
-	racy = does(PLAINLY);
+	racy = uses(PLAINLY);
 	if (racy)
 		compare();
 }
@@ -529,70 +529,70 @@ static void try_random(uint64_t of)
 /* The programs that are written here. */
 static void try_written(void)
 {
-	try("Ab", "Ba", "");
-	try("A", "A", "a");
-	try("(a)(A)", "(a)(A)", "");
-	try("([A])", "[(A)]", "");
-	try("<ab>", "APB", "");
-	try("<a><b>", "AP", "BP");
-	try("w", "s", "");
-	try("w", "w", "s");
-	try("w", "a", "b");
-	try("(t)", "(a)", "");
-	try("ia", "b", "A");
-	try("<iab>", "A", "");
-	try("<iB>b", "b", "");
-	try("g", "D", "");
-	try("gA", "D", "");
-	try("g", "g", "D");
-	try("r", "W", "r");
-	try("ka", "A", "");
-	try("kA", "ka", "");
-	try("oa", "a", "");
-	try("o", "<a>O", "");
-	try("oOa", "A", "");
-	try("c<a>A", "c<aA>", "");
-	try("c<ab>i", "cA", "B");
-	try("c(a)", "c<A>", "(a)");
-	try("T", "s", "");
-	try("T", "S", "s");
-	try("T", "T", "S");
-	try("T", "vS", "");
-	try("je", "a", "");
-	try("jf", "a", "");
-	try("jAe", "ab", "");
-	try("cjlAALe", "a", "");
-	try("cjlALb", "cA", "oO");
-	try("q", "Q", "");
-	try("q", "q", "Q");
-	try("T", "jS", "k");
-	try("ba", "je", "");
-	try("TST", "S(A)", "AB");
-	try("s", "TS", "T");
-	try("lAjL", "jf", "");
-	try("#", "#", "");
-	try("xY", "yX", "");
-	try("(X)", "[x]", "");
-	try("(#)", "(#)", "(x)");
-	try("X(A)", "(a)x", "");
-	try("X{a}", "{A}Y", "y");
-	try("{#}", "c{p}", "");
-	try("clpxL", "x", "");
-	try("n", "Ba", "");
-	try("nx", "Xb", "");
-	try("A(a)", "ko", "");
-	try("o", "", "");
-	try("z", "y", "");
-	try("Ab", "aB", "ab");
-	try("t", "[A](a)", "");
-	try("hc<b>", "", "");
-	try("T", "oaS", "");
-	try("cai", "cb<A>", "");
-	try("kv", "kv", "");
-	try("hc<bb>", "B", "");
-	try("cm", "()", "c<ab>");
-	try("K", "dv", "k");
-	try("ckj", "cj", "");
+	compare_texts("Ab", "Ba", "");
+	compare_texts("A", "A", "a");
+	compare_texts("(a)(A)", "(a)(A)", "");
+	compare_texts("([A])", "[(A)]", "");
+	compare_texts("<ab>", "APB", "");
+	compare_texts("<a><b>", "AP", "BP");
+	compare_texts("w", "s", "");
+	compare_texts("w", "w", "s");
+	compare_texts("w", "a", "b");
+	compare_texts("(t)", "(a)", "");
+	compare_texts("ia", "b", "A");
+	compare_texts("<iab>", "A", "");
+	compare_texts("<iB>b", "b", "");
+	compare_texts("g", "D", "");
+	compare_texts("gA", "D", "");
+	compare_texts("g", "g", "D");
+	compare_texts("r", "W", "r");
+	compare_texts("ka", "A", "");
+	compare_texts("kA", "ka", "");
+	compare_texts("oa", "a", "");
+	compare_texts("o", "<a>O", "");
+	compare_texts("oOa", "A", "");
+	compare_texts("c<a>A", "c<aA>", "");
+	compare_texts("c<ab>i", "cA", "B");
+	compare_texts("c(a)", "c<A>", "(a)");
+	compare_texts("T", "s", "");
+	compare_texts("T", "S", "s");
+	compare_texts("T", "T", "S");
+	compare_texts("T", "vS", "");
+	compare_texts("je", "a", "");
+	compare_texts("jf", "a", "");
+	compare_texts("jAe", "ab", "");
+	compare_texts("cjlAALe", "a", "");
+	compare_texts("cjlALb", "cA", "oO");
+	compare_texts("q", "Q", "");
+	compare_texts("q", "q", "Q");
+	compare_texts("T", "jS", "k");
+	compare_texts("ba", "je", "");
+	compare_texts("TST", "S(A)", "AB");
+	compare_texts("s", "TS", "T");
+	compare_texts("lAjL", "jf", "");
+	compare_texts("#", "#", "");
+	compare_texts("xY", "yX", "");
+	compare_texts("(X)", "[x]", "");
+	compare_texts("(#)", "(#)", "(x)");
+	compare_texts("X(A)", "(a)x", "");
+	compare_texts("X{a}", "{A}Y", "y");
+	compare_texts("{#}", "c{p}", "");
+	compare_texts("clpxL", "x", "");
+	compare_texts("n", "Ba", "");
+	compare_texts("nx", "Xb", "");
+	compare_texts("A(a)", "ko", "");
+	compare_texts("o", "", "");
+	compare_texts("z", "y", "");
+	compare_texts("Ab", "aB", "ab");
+	compare_texts("t", "[A](a)", "");
+	compare_texts("hc<b>", "", "");
+	compare_texts("T", "oaS", "");
+	compare_texts("cai", "cb<A>", "");
+	compare_texts("kv", "kv", "");
+	compare_texts("hc<bb>", "B", "");
+	compare_texts("cm", "()", "c<ab>");
+	compare_texts("K", "dv", "k");
+	compare_texts("ckj", "cj", "");
 }
 
 static time_t now(void)

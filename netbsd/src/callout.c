@@ -87,7 +87,7 @@ static void run_due(void *arg)
 }
 
 /* Tells the CPUs of those that are due, once each. When the next one is. The caller has the lock. */
-static int64_t tell_cpus(struct thread *me)
+static int64_t raise_due_softints(struct thread *me)
 {
 	int64_t next = INT64_MAX, time = now();
 	for (callout_t *at = callouts; at != NULL; at = at->c_next) {
@@ -109,7 +109,7 @@ static _Noreturn void *run_clock(void *arg)
 	(void)arg;
 	pthread_mutex_lock(&lock);
 	for (;;) {
-		int64_t next = tell_cpus(me);
+		int64_t next = raise_due_softints(me);
 		const struct timespec until = {next / 1000000000, (long)(next % 1000000000)};
 		if (next == INT64_MAX)
 			pthread_cond_wait(&changed, &lock);
@@ -119,7 +119,7 @@ static _Noreturn void *run_clock(void *arg)
 }
 
 /* The soft interrupt and the clock's thread, at the first callout. */
-static void begin(void)
+static void start_clock(void)
 {
 	pthread_t thread;
 	pthread_condattr_t monotonic;
@@ -145,12 +145,12 @@ void callout_init(callout_t *callout, unsigned flags)
 {
 	(void)flags;
 	(void)begin_plain(__func__);
-	pthread_once(&begun, begin);
+	pthread_once(&begun, start_clock);
 	*callout = (callout_t){.c_made = A_CALLOUT};
 }
 
 /* The first CPU that runs it on another thread than this one; KUPALDIZ_CPUS where none does. The caller has the lock. */
-static unsigned runs_on(const struct thread *me, const callout_t *callout)
+static unsigned running_cpu(const struct thread *me, const callout_t *callout)
 {
 	unsigned cpu = 0;
 	while (cpu < KUPALDIZ_CPUS && (running[cpu] != callout || runners[cpu] == me))
@@ -165,7 +165,7 @@ void callout_destroy(callout_t *callout)
 	pthread_mutex_lock(&lock);
 	if ((callout->c_state & PENDING) != 0)
 		stop(me, "the callout is pending");
-	if (runs_on(me, callout) < KUPALDIZ_CPUS)
+	if (running_cpu(me, callout) < KUPALDIZ_CPUS)
 		stop(me, "the callout runs");
 	callout->c_made = ENDED;
 	pthread_mutex_unlock(&lock);
@@ -241,7 +241,7 @@ static void await_end(struct thread *me, const callout_t *callout)
 	bool told = false;
 	int waits = begin_wait();
 	unsigned cpu;
-	while ((cpu = runs_on(me, callout)) < KUPALDIZ_CPUS) {
+	while ((cpu = running_cpu(me, callout)) < KUPALDIZ_CPUS) {
 		note_halt(callout);
 		if (told)
 			pthread_cond_wait(&changed, &lock);
@@ -258,7 +258,7 @@ bool callout_halt(callout_t *callout, void *interlock)
 	if (interlock != NULL && !has_mutex(me, interlock))
 		stop(me, "the thread does not have the lock");
 	pthread_mutex_lock(&lock);
-	bool expired = cancel(callout), runs = runs_on(me, callout) < KUPALDIZ_CPUS;
+	bool expired = cancel(callout), runs = running_cpu(me, callout) < KUPALDIZ_CPUS;
 	if (runs) {
 		if (interlock != NULL)
 			release_mutex(me, interlock);
@@ -274,7 +274,7 @@ bool callout_halt(callout_t *callout, void *interlock)
 }
 
 /* Whether one of these holds of it. */
-static bool is(const char *call, callout_t *callout, uint32_t states)
+static bool has_state(const char *call, callout_t *callout, uint32_t states)
 {
 	require_callout(begin_plain(call), callout);
 	pthread_mutex_lock(&lock);
@@ -285,22 +285,22 @@ static bool is(const char *call, callout_t *callout, uint32_t states)
 
 bool callout_pending(callout_t *callout)
 {
-	return is(__func__, callout, PENDING);
+	return has_state(__func__, callout, PENDING);
 }
 
 bool callout_expired(callout_t *callout)
 {
-	return is(__func__, callout, FIRED);
+	return has_state(__func__, callout, FIRED);
 }
 
 bool callout_active(callout_t *callout)
 {
-	return is(__func__, callout, PENDING | FIRED);
+	return has_state(__func__, callout, PENDING | FIRED);
 }
 
 bool callout_invoking(callout_t *callout)
 {
-	return is(__func__, callout, INVOKING);
+	return has_state(__func__, callout, INVOKING);
 }
 
 void callout_ack(callout_t *callout)

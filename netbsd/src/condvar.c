@@ -75,7 +75,7 @@ void wake_cv(struct thread *me, kcondvar_t *cv, bool all)
 }
 
 /* A wait of the code's own. 0 ticks are for ever. Below 0 the time is over already. */
-static int timed(struct thread *me, kcondvar_t *cv, kmutex_t *mutex, int ticks, bool signals)
+static int timedwait(struct thread *me, kcondvar_t *cv, kmutex_t *mutex, int ticks, bool signals)
 {
 	int64_t nanoseconds = ticks == 0 ? -1 : ticks < 0 ? 0 : (int64_t)ticks * TICK;
 	MAY_END_EARLY(signals);
@@ -92,22 +92,22 @@ static int timed(struct thread *me, kcondvar_t *cv, kmutex_t *mutex, int ticks, 
 
 void cv_wait(kcondvar_t *cv, kmutex_t *mutex)
 {
-	(void)timed(begin_call(__func__), cv, mutex, 0, false);
+	(void)timedwait(begin_call(__func__), cv, mutex, 0, false);
 }
 
 int cv_wait_sig(kcondvar_t *cv, kmutex_t *mutex)
 {
-	return timed(begin_call(__func__), cv, mutex, 0, true);
+	return timedwait(begin_call(__func__), cv, mutex, 0, true);
 }
 
 int cv_timedwait(kcondvar_t *cv, kmutex_t *mutex, int ticks)
 {
-	return timed(begin_call(__func__), cv, mutex, ticks, false);
+	return timedwait(begin_call(__func__), cv, mutex, ticks, false);
 }
 
 int cv_timedwait_sig(kcondvar_t *cv, kmutex_t *mutex, int ticks)
 {
-	return timed(begin_call(__func__), cv, mutex, ticks, true);
+	return timedwait(begin_call(__func__), cv, mutex, ticks, true);
 }
 
 void cv_signal(kcondvar_t *cv)

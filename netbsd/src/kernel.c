@@ -1,4 +1,4 @@
-/* kernel.c - assertions, panic(9), kpause(9), kthread(9) and copy(9) */
+/* kernel.c - assertions, panic(9), kpause(9), kthread(9) and copy_user(9) */
 #ifndef _GNU_SOURCE
 #define _GNU_SOURCE
 #endif
@@ -125,7 +125,7 @@ static void *run_kthread(void *of)
 }
 
 /* Starts it, and waits until it has begun. Once it is in the list, another thread may join and free it. 0 or an errno. */
-static int start(struct kthread *kthread, lwp_t **made)
+static int start_kthread(struct kthread *kthread, lwp_t **made)
 {
 	int answer = pthread_create(&kthread->id, NULL, run_kthread, kthread);
 	if (answer != 0)
@@ -163,7 +163,7 @@ int kthread_create(pri_t priority, int flags, struct cpu_info *cpu, void (*body)
 	kthread->arg = arg;
 	kthread->joined = joined;
 	int waits = begin_wait();
-	int answer = start(kthread, made);
+	int answer = start_kthread(kthread, made);
 	end_wait(waits);
 	if (answer != 0 || !joined)
 		free(kthread);
@@ -213,7 +213,7 @@ int kthread_join(lwp_t *thread)
 	return 0;
 }
 
-/* ---- copy(9) ---- */
+/* ---- copy_user(9) ---- */
 
 /* Whether an address may be the user's. */
 static bool is_mapped(const void *user)
@@ -221,7 +221,7 @@ static bool is_mapped(const void *user)
 	return (uintptr_t)user >= 4096;
 }
 
-static int copy(struct thread *me, const void *from, void *to, const void *user, size_t length)
+static int copy_user(struct thread *me, const void *from, void *to, const void *user, size_t length)
 {
 	require_sleepable(me);
 	if (length > 0 && !is_mapped(user))
@@ -233,12 +233,12 @@ static int copy(struct thread *me, const void *from, void *to, const void *user,
 
 int copyin(const void *user, void *kernel, size_t length)
 {
-	return copy(begin_call(__func__), user, kernel, user, length);
+	return copy_user(begin_call(__func__), user, kernel, user, length);
 }
 
 int copyout(const void *kernel, void *user, size_t length)
 {
-	return copy(begin_call(__func__), kernel, user, user, length);
+	return copy_user(begin_call(__func__), kernel, user, user, length);
 }
 
 static int copy_text(struct thread *me, const char *from, char *to, const void *user, size_t length, size_t *copied)

@@ -115,7 +115,7 @@ void localcount_acquire(struct localcount *lc)
 
 /* Gives up a reference that a drain waits for, and wakes the drain, which goes on once the caller's lock is free. A soft interrupt takes that lock, too,
  * at any level: as in the kernel it sleeps if it must. */
-static void give_up(struct thread *me, struct bank *bank, struct registry_local *reference, kcondvar_t *cv, kmutex_t *interlock)
+static void release_collected(struct thread *me, struct bank *bank, struct registry_local *reference, kcondvar_t *cv, kmutex_t *interlock)
 {
 	acquire_mutex(me, interlock);
 	enter_interlock();
@@ -138,7 +138,7 @@ void localcount_release(struct localcount *lc, kcondvar_t *cv, kmutex_t *interlo
 	uint32_t answer = registry_local_release(handle_of(me, at.bank), &reference);
 	unhold_cpu(me);
 	if (answer == REGISTRY_COLLECTED)
-		give_up(me, at.bank, &reference, cv, interlock);
+		release_collected(me, at.bank, &reference, cv, interlock);
 	else
 		must_succeed(me, answer);
 	end_call(me);

@@ -188,7 +188,7 @@ void lock_acquire(uintptr_t *word, struct thread *me, report_fn *reporter)
 }
 
 /* Makes another thread the owner, whether it waits already or will. The caller has the sleep queue's lock. */
-static void pass(struct sleepq *sleepq, uintptr_t *word, struct thread *to)
+static void hand_over(struct sleepq *sleepq, uintptr_t *word, struct thread *to)
 {
 	if (to->waits_for == word) {
 		leave_queue(sleepq, to);
@@ -208,7 +208,7 @@ void lock_release(uintptr_t *word, struct thread *me)
 	sleepq_lock(sleepq);
 	struct thread *first = first_for(sleepq, word);
 	if (first != NULL && first->tries >= PATIENT_TRIES) {
-		pass(sleepq, word, first);
+		hand_over(sleepq, word, first);
 	} else {
 		__atomic_store_n(word, 0, __ATOMIC_RELEASE);
 		sleepq_wake(sleepq, word);
@@ -221,7 +221,7 @@ void lock_hand_over(uintptr_t *word, struct thread *to)
 {
 	struct sleepq *sleepq = &lock_sleepqs[place_of(word)];
 	sleepq_lock(sleepq);
-	pass(sleepq, word, to);
+	hand_over(sleepq, word, to);
 	sleepq_unlock(sleepq);
 }
 

@@ -64,7 +64,7 @@ static void report_wait(struct thread *me, const uintptr_t *word)
 
 _Static_assert(offsetof(kmutex_t, mtx_word) == 0, "a lock's word is at its head");
 
-static void note_taken(struct thread *me, kmutex_t *mutex)
+static void note_acquired(struct thread *me, kmutex_t *mutex)
 {
 	if (!mutex->mtx_spins)
 		me->locks++;
@@ -82,7 +82,7 @@ static int level_of(const kmutex_t *mutex)
 }
 
 /* Raises the CPU's level to that of a spin lock, which this thread takes then. */
-static void raise_for(struct thread *me, const kmutex_t *mutex)
+static void raise_to_level_of(struct thread *me, const kmutex_t *mutex)
 {
 	int before = raise_level(me, level_of(mutex));
 	me->spins_at[level_of(mutex)]++;
@@ -91,7 +91,7 @@ static void raise_for(struct thread *me, const kmutex_t *mutex)
 }
 
 /* The level before, once the last spin lock is given back. */
-static void lower_again(struct thread *me, int level)
+static void restore_level(struct thread *me, int level)
 {
 	me->spins_at[level]--;
 	if (--me->spins == 0)
@@ -119,12 +119,12 @@ void acquire_mutex(struct thread *me, kmutex_t *mutex)
 	if (has_mutex(me, mutex))
 		stop(me, "the thread has the lock already, taken%s", at_place(mutex->mtx_place, where, sizeof(where)));
 	if (mutex->mtx_spins) {
-		raise_for(me, mutex);
+		raise_to_level_of(me, mutex);
 		lock_acquire(&mutex->mtx_word, me, report_wait);
 	} else {
 		acquire_slowly(me, mutex);
 	}
-	note_taken(me, mutex);
+	note_acquired(me, mutex);
 }
 
 void release_mutex(struct thread *me, kmutex_t *mutex)
@@ -135,7 +135,7 @@ void release_mutex(struct thread *me, kmutex_t *mutex)
 	int level = level_of(mutex);
 	lock_release(&mutex->mtx_word, me);
 	if (level > IPL_NONE)
-		lower_again(me, level);
+		restore_level(me, level);
 	else
 		me->locks--;
 }
@@ -175,13 +175,13 @@ int mutex_tryenter(kmutex_t *mutex)
 	struct thread *me = begin_call(__func__);
 	require_mutex(me, mutex);
 	if (mutex->mtx_spins)
-		raise_for(me, mutex);
+		raise_to_level_of(me, mutex);
 	if (lock_tryacquire(&mutex->mtx_word, me)) {
-		note_taken(me, mutex);
+		note_acquired(me, mutex);
 		return 1;
 	}
 	if (mutex->mtx_spins)
-		lower_again(me, level_of(mutex));
+		restore_level(me, level_of(mutex));
 	return 0;
 }
 

@@ -76,7 +76,7 @@ static void require_unheld(const struct thread *me, const struct psref *psref)
 }
 
 /* Memory for a row that this one goes on with. */
-static void *longer(struct thread *me, void *row, size_t size)
+static void *grow_row(struct thread *me, void *row, size_t size)
 {
 	row = realloc(row, size);
 	if (row == NULL)
@@ -96,8 +96,8 @@ static void extend(struct thread *me)
 {
 	struct cpu *cpu = me->cpu;
 	uint32_t before = cpu->room, room = before == 0 ? FIRST_ROOM : before * 2;
-	cpu->references = longer(me, cpu->references, room * sizeof(*cpu->references));
-	cpu->chains = longer(me, cpu->chains, room * sizeof(*cpu->chains));
+	cpu->references = grow_row(me, cpu->references, room * sizeof(*cpu->references));
+	cpu->chains = grow_row(me, cpu->chains, room * sizeof(*cpu->chains));
 	cpu->room = room;
 	memset(cpu->chains, 0xff, room * sizeof(*cpu->chains));
 	for (uint32_t place = 0; place < before; place++)
@@ -124,7 +124,7 @@ static void note_reference(struct thread *me, struct psref *psref, const struct 
 }
 
 /* The reference that lies there, which is this thread's; stops where there is none. */
-static struct reference *judge_reference(const struct thread *me, const struct psref *psref)
+static struct reference *own_reference(const struct thread *me, const struct psref *psref)
 {
 	char text[64], where[256];
 	if (psref->psref_target == NULL || psref->psref_cpu >= KUPALDIZ_CPUS)
@@ -247,7 +247,7 @@ void psref_release(struct psref *psref, const struct psref_target *target, struc
 {
 	struct thread *me = begin_call(__func__);
 	hold_cpu(me);
-	struct reference *reference = judge_reference(me, psref);
+	struct reference *reference = own_reference(me, psref);
 	if (psref->psref_target != target)
 		stop(me, "the reference is to another target");
 	struct found_row at = target_row(me, target, psref_class);
@@ -265,7 +265,7 @@ void psref_copy(struct psref *to, const struct psref *from, struct psref_class *
 {
 	struct thread *me = begin_call(__func__);
 	hold_cpu(me);
-	struct reference *reference = judge_reference(me, from);
+	struct reference *reference = own_reference(me, from);
 	require_unheld(me, to);
 	struct found_row at = target_row(me, from->psref_target, psref_class);
 	note_reference(me, to, from->psref_target, copy(me, at, reference->via));
@@ -368,7 +368,7 @@ static void describe(const struct cpu *cpu, const struct psref_target *target, c
 }
 
 /* Takes a CPU for a look at it, if it is free before long. */
-static bool take_for_a_look(struct thread *me, struct cpu *cpu)
+static bool try_hold_cpu(struct thread *me, struct cpu *cpu)
 {
 	const struct timespec moment = {0, 1000000};
 	for (unsigned turn = 0; turn < 100; turn++) {
@@ -385,7 +385,7 @@ void report_reference_wait(struct thread *me, uint64_t of, const struct psref_ta
 	char text[400] = ", which holds a reference";
 	unsigned first = of == WRITERS ? 0 : (unsigned)of, last = of == WRITERS ? KUPALDIZ_CPUS - 1 : (unsigned)of;
 	for (unsigned cpu = first; cpu <= last; cpu++) {
-		if (!take_for_a_look(me, &cpus[cpu]))
+		if (!try_hold_cpu(me, &cpus[cpu]))
 			continue;
 		bool found = find_reference(&cpus[cpu], target, NULL) != NULL;
 		describe(&cpus[cpu], target, text, sizeof(text));

@@ -27,7 +27,7 @@ void rw_destroy(krwlock_t *rw)
 }
 
 /* Takes it where it is free for this. */
-static bool try(struct thread *me, krwlock_t *rw, krw_t how)
+static bool rw_tryacquire(struct thread *me, krwlock_t *rw, krw_t how)
 {
 	if (rw->rw_writer != 0 || (how == RW_WRITER ? rw->rw_readers != 0 : rw->rw_wanted != 0))
 		return false;
@@ -61,14 +61,14 @@ static struct timespec patience(void)
 }
 
 /* Waits until it has the lock. The caller has the sleep queue's lock. */
-static void take(struct thread *me, krwlock_t *rw, krw_t how)
+static void rw_acquire(struct thread *me, krwlock_t *rw, krw_t how)
 {
 	struct timespec tells = patience();
 	bool told = false;
 	rw->rw_wanted += how == RW_WRITER;
 	for (;;) {
 		rw->rw_wanted -= how == RW_WRITER;
-		if (try(me, rw, how))
+		if (rw_tryacquire(me, rw, how))
 			return;
 		rw->rw_wanted += how == RW_WRITER;
 		if (sleepq_wait(sleepq_of(rw), rw, me, told ? NULL : &tells) || told)
@@ -92,7 +92,7 @@ void rw_enter(krwlock_t *rw, const krw_t how)
 	require_rw(me, rw);
 	sleepq_lock(sleepq_of(rw));
 	require_free_of(me, rw);
-	if (try(me, rw, how)) {
+	if (rw_tryacquire(me, rw, how)) {
 		sleepq_unlock(sleepq_of(rw));
 		return;
 	}
@@ -100,7 +100,7 @@ void rw_enter(krwlock_t *rw, const krw_t how)
 	if (steps)
 		yield_cpu(me);
 	int waits = begin_wait();
-	take(me, rw, how);
+	rw_acquire(me, rw, how);
 	end_wait(waits);
 	sleepq_unlock(sleepq_of(rw));
 	if (steps)
@@ -112,7 +112,7 @@ int rw_tryenter(krwlock_t *rw, const krw_t how)
 	struct thread *me = begin_call(__func__);
 	require_rw(me, rw);
 	sleepq_lock(sleepq_of(rw));
-	bool taken = try(me, rw, how);
+	bool taken = rw_tryacquire(me, rw, how);
 	sleepq_unlock(sleepq_of(rw));
 	return taken;
 }

@@ -30,7 +30,7 @@ static int highest(const struct cpu *cpu)
 }
 
 /* Gives the CPU back to whoever lent it, else to all. */
-static void give_cpu(struct thread *me)
+static void return_cpu(struct thread *me)
 {
 	struct thread *lender = me->lender;
 	me->lender = NULL;
@@ -66,7 +66,7 @@ static void run_level(struct thread *me, int level)
 		;
 	me->holds = 0;
 	me->level = IPL_NONE;
-	give_cpu(me);
+	return_cpu(me);
 	/* Lower levels go on. */
 	pthread_mutex_lock(&pending_list);
 	pthread_cond_broadcast(&pending_changed);
@@ -145,7 +145,7 @@ void yield_cpu(struct thread *me)
 	pthread_mutex_lock(&pending_list);
 	note_waits(me->cpu, me->cpu->blocked | bit_of(me->level), me->cpu->goes_on);
 	pthread_mutex_unlock(&pending_list);
-	give_cpu(me);
+	return_cpu(me);
 }
 
 /* It has the lock, and goes on once it has the CPU again. */

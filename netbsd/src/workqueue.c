@@ -45,7 +45,7 @@ static struct work *dequeue(struct queue *queue)
 }
 
 /* Does the first work. The caller has the lock, which is free meanwhile. */
-static void do_first(struct thread *me, struct queue *queue)
+static void run_first_work(struct thread *me, struct queue *queue)
 {
 	struct work *work = dequeue(queue);
 	queue->current = work;
@@ -74,7 +74,7 @@ static void *run_queue(void *of)
 			wait_for(me, &queue->changed, &queue->lock, -1);
 		if (queue->first == NULL)
 			break;
-		do_first(me, queue);
+		run_first_work(me, queue);
 	}
 	release_mutex(me, &queue->lock);
 	return NULL;
