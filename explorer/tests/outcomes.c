@@ -445,23 +445,6 @@ static void compare(void)
 	exit(1);
 }
 
-static void write_text(unsigned thread, const char *text)
-{
-	snprintf(texts[thread], LONGEST, "%s", text);
-}
-
-static void compare_texts(const char *first, const char *second, const char *third)
-{
-	write_text(0, first);
-	write_text(1, second);
-	write_text(2, third);
-	racy = false;
-	compare();
-	racy = uses(PLAINLY);
-	if (racy)
-		compare();
-}
-
 /* ---- Random programs: balanced in their locks and sections. ---- */
 
 static uint64_t seed;
@@ -508,7 +491,7 @@ static bool is_short(unsigned threads)
 	return 4 * orders < (double)most_schedules;
 }
 
-static void try_random(uint64_t of)
+static void compare_random(uint64_t of)
 {
 	seed = of * 2654435761u + 7;
 	memset(texts, 0, sizeof(texts));
@@ -526,73 +509,29 @@ static void try_random(uint64_t of)
 		compare();
 }
 
-/* The programs that are written here. */
-static void try_written(void)
+/* The programs that are written here: the texts of up to three threads. */
+static const char *const written[][3] = {
+	{"Ab", "Ba"}, {"A", "A", "a"}, {"(a)(A)", "(a)(A)"}, {"([A])", "[(A)]"}, {"<ab>", "APB"}, {"<a><b>", "AP", "BP"}, {"w", "s"}, {"w", "w", "s"},
+	{"w", "a", "b"}, {"(t)", "(a)"}, {"ia", "b", "A"}, {"<iab>", "A"}, {"<iB>b", "b"}, {"g", "D"}, {"gA", "D"}, {"g", "g", "D"}, {"r", "W", "r"},
+	{"ka", "A"}, {"kA", "ka"}, {"oa", "a"}, {"o", "<a>O"}, {"oOa", "A"}, {"c<a>A", "c<aA>"}, {"c<ab>i", "cA", "B"}, {"c(a)", "c<A>", "(a)"}, {"T", "s"},
+	{"T", "S", "s"}, {"T", "T", "S"}, {"T", "vS"}, {"je", "a"}, {"jf", "a"}, {"jAe", "ab"}, {"cjlAALe", "a"}, {"cjlALb", "cA", "oO"}, {"q", "Q"},
+	{"q", "q", "Q"}, {"T", "jS", "k"}, {"ba", "je"}, {"TST", "S(A)", "AB"}, {"s", "TS", "T"}, {"lAjL", "jf"}, {"#", "#"}, {"xY", "yX"}, {"(X)", "[x]"},
+	{"(#)", "(#)", "(x)"}, {"X(A)", "(a)x"}, {"X{a}", "{A}Y", "y"}, {"{#}", "c{p}"}, {"clpxL", "x"}, {"n", "Ba"}, {"nx", "Xb"}, {"A(a)", "ko"}, {"o"},
+	{"z", "y"}, {"Ab", "aB", "ab"}, {"t", "[A](a)"}, {"hc<b>"}, {"T", "oaS"}, {"cai", "cb<A>"}, {"kv", "kv"}, {"hc<bb>", "B"}, {"cm", "()", "c<ab>"},
+	{"K", "dv", "k"}, {"ckj", "cj"},
+};
+
+static void compare_written(void)
 {
-	compare_texts("Ab", "Ba", "");
-	compare_texts("A", "A", "a");
-	compare_texts("(a)(A)", "(a)(A)", "");
-	compare_texts("([A])", "[(A)]", "");
-	compare_texts("<ab>", "APB", "");
-	compare_texts("<a><b>", "AP", "BP");
-	compare_texts("w", "s", "");
-	compare_texts("w", "w", "s");
-	compare_texts("w", "a", "b");
-	compare_texts("(t)", "(a)", "");
-	compare_texts("ia", "b", "A");
-	compare_texts("<iab>", "A", "");
-	compare_texts("<iB>b", "b", "");
-	compare_texts("g", "D", "");
-	compare_texts("gA", "D", "");
-	compare_texts("g", "g", "D");
-	compare_texts("r", "W", "r");
-	compare_texts("ka", "A", "");
-	compare_texts("kA", "ka", "");
-	compare_texts("oa", "a", "");
-	compare_texts("o", "<a>O", "");
-	compare_texts("oOa", "A", "");
-	compare_texts("c<a>A", "c<aA>", "");
-	compare_texts("c<ab>i", "cA", "B");
-	compare_texts("c(a)", "c<A>", "(a)");
-	compare_texts("T", "s", "");
-	compare_texts("T", "S", "s");
-	compare_texts("T", "T", "S");
-	compare_texts("T", "vS", "");
-	compare_texts("je", "a", "");
-	compare_texts("jf", "a", "");
-	compare_texts("jAe", "ab", "");
-	compare_texts("cjlAALe", "a", "");
-	compare_texts("cjlALb", "cA", "oO");
-	compare_texts("q", "Q", "");
-	compare_texts("q", "q", "Q");
-	compare_texts("T", "jS", "k");
-	compare_texts("ba", "je", "");
-	compare_texts("TST", "S(A)", "AB");
-	compare_texts("s", "TS", "T");
-	compare_texts("lAjL", "jf", "");
-	compare_texts("#", "#", "");
-	compare_texts("xY", "yX", "");
-	compare_texts("(X)", "[x]", "");
-	compare_texts("(#)", "(#)", "(x)");
-	compare_texts("X(A)", "(a)x", "");
-	compare_texts("X{a}", "{A}Y", "y");
-	compare_texts("{#}", "c{p}", "");
-	compare_texts("clpxL", "x", "");
-	compare_texts("n", "Ba", "");
-	compare_texts("nx", "Xb", "");
-	compare_texts("A(a)", "ko", "");
-	compare_texts("o", "", "");
-	compare_texts("z", "y", "");
-	compare_texts("Ab", "aB", "ab");
-	compare_texts("t", "[A](a)", "");
-	compare_texts("hc<b>", "", "");
-	compare_texts("T", "oaS", "");
-	compare_texts("cai", "cb<A>", "");
-	compare_texts("kv", "kv", "");
-	compare_texts("hc<bb>", "B", "");
-	compare_texts("cm", "()", "c<ab>");
-	compare_texts("K", "dv", "k");
-	compare_texts("ckj", "cj", "");
+	for (unsigned row = 0; row < sizeof(written) / sizeof(written[0]); row++) {
+		for (unsigned thread = 0; thread < 3; thread++)
+			snprintf(texts[thread], LONGEST, "%s", written[row][thread] == NULL ? "" : written[row][thread]);
+		racy = false;
+		compare();
+		racy = uses(PLAINLY);
+		if (racy)
+			compare();
+	}
 }
 
 static time_t now(void)
@@ -608,12 +547,12 @@ static void print_counts(void)
 	    compared, reduceds, wholes, faults, begun, skipped);
 }
 
-static int try_for_a_while(uint64_t first)
+static int compare_for_a_while(uint64_t first)
 {
 	most_schedules = 150;
-	try_written();
+	compare_written();
 	for (time_t end = now() + seconds; now() < end; first++)
-		try_random(first);
+		compare_random(first);
 	EXPECT(2 * faults < compared);
 	printf("in %u seconds ", seconds);
 	print_counts();
@@ -624,14 +563,14 @@ int main(int count_of_words, char **given)
 {
 	if (count_of_words == 4 && strcmp(given[1], "for") == 0) {
 		seconds = (unsigned)atoi(given[2]);
-		return try_for_a_while(strtoull(given[3], NULL, 10));
+		return compare_for_a_while(strtoull(given[3], NULL, 10));
 	}
 	prints = count_of_words == 4 && strcmp(given[1], "print") == 0;
 	unsigned first = count_of_words >= 3 ? (unsigned)atoi(given[count_of_words - 2]) : 1;
 	unsigned number = count_of_words >= 3 ? (unsigned)atoi(given[count_of_words - 1]) : 60;
-	try_written();
+	compare_written();
 	for (unsigned at = 0; at < number; at++)
-		try_random(first + at);
+		compare_random(first + at);
 	EXPECT(prints || 2 * faults < compared);
 	if (!prints)
 		print_counts();
