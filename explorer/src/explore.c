@@ -88,7 +88,7 @@ static void keep_names(void)
 		snprintf(search->names[number], sizeof(search->names[number]), "%s", name);
 		search->ended |= (uint32_t)at->ended << number;
 	}
-	snprintf(search->names[THREADS - 1], sizeof(search->names[0]), "clock");
+	snprintf(search->names[CLOCK], sizeof(search->names[0]), "clock");
 }
 
 static void keep_outcome(void)
@@ -384,7 +384,7 @@ static void read_schedule(const char *text)
 	unsigned count = 0;
 	const char *failures = strchr(text, '!');
 	for (const char *at = text; *at != '\0' && at != failures;) {
-		unsigned thread = *at == '.' ? THREADS - 1 : (unsigned)(*at - 'a');
+		unsigned thread = *at == '.' ? CLOCK : (unsigned)(*at - 'a');
 		char *end = (char *)at + 1;
 		unsigned long turns = at[1] >= '0' && at[1] <= '9' ? strtoul(at + 1, &end, 10) : 1;
 		if (thread >= THREADS || turns == 0)

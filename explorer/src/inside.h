@@ -10,6 +10,7 @@
 
 enum { THREADS = BENCH_THREADS, POINTS = BENCH_POINTS, ACCESSES = 12, ANY = 0xffff, NOBODY = 0xff };
 
+enum { CLOCK = THREADS - 1 };	/* the explorer's own thread, which lets time go on */
 enum { STACK = 64 * 4096 };	/* of a routine */
 #define NEVER	INT64_MAX
 

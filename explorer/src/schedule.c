@@ -12,7 +12,6 @@ static uint32_t bit(unsigned number)
 }
 
 enum {
-	CLOCK = THREADS - 1,	/* the explorer's own, which lets time go on */
 	PATIENCE = 200		/* a thread that goes on for so many points may spin for another one: it doesn't go on before that */
 };
 

@@ -20,7 +20,7 @@ void write_schedule(char *text, size_t room)
 	for (unsigned at = 0, turns; at < search->length && length + 8 < room; at += turns) {
 		unsigned thread = search->steps[at].chosen;
 		turns = turns_from(at);
-		char letter = thread == THREADS - 1 ? '.' : (char)('a' + thread);
+		char letter = thread == CLOCK ? '.' : (char)('a' + thread);
 		length += (size_t)snprintf(text + length, room - length, turns == 1 ? "%c" : "%c%u", letter, turns);
 	}
 	text[length] = '\0';

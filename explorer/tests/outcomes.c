@@ -377,13 +377,14 @@ static void finish(void)
 
 /* A program that has more schedules without the reduction is too long. */
 static uint64_t most_schedules = 15000;
+static unsigned ticks = 1;	/* how often the clock may jump */
 
 static struct bench_found explore(bool whole)
 {
 	struct bench_found found;
 	/* A real thread may be late by several ticks on a busy machine. */
 	const struct bench_options options = {.quiet = true, .whole = whole, .reliable = true, .schedules = most_schedules, .finish = finish, .found = &found, .bounded = 1,
-	    .preemptions = 1, .random = 1, .racy = racy, .ticks = prints ? 3 : 1};
+	    .preemptions = 1, .random = 1, .racy = racy, .ticks = prints ? 3 : ticks};
 	bench_explore(begin, &options);
 	return found;
 }
@@ -439,7 +440,7 @@ static void compare(void)
 	reduceds += reduced.schedules + reduced.cut;
 	if (agree(&whole, &reduced))
 		return;
-	printf("different%s: %s | %s | %s | %s\n", racy ? ", racy" : "", texts[0], texts[1], texts[2], texts[3]);
+	printf("different%s, ticks %u: %s | %s | %s | %s\n", racy ? ", racy" : "", ticks, texts[0], texts[1], texts[2], texts[3]);
 	show(&whole, "whole");
 	show(&reduced, "reduced");
 	exit(1);
@@ -505,6 +506,7 @@ static void compare_random(uint64_t of)
 	if (pick(4) == 0)
 		add(texts[threads - 1], pick(2) == 0 ? "D" : "Q");
 	racy = pick(4) > 0;
+	ticks = 1 + pick(4) / 3;
 	if (seconds == 0 || is_short(threads))
 		compare();
 }
