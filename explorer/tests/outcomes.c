@@ -44,7 +44,7 @@ static struct psref_class *things;
 static struct psref_target target;
 static struct localcount local;
 static bool drained;
-static void *softint, *plain_softint, *locking_softint, *own_softints[MOST];
+static void *own_softints[MOST];
 static unsigned *blocks[MOST];
 static callout_t callout;
 static char seen[MOST][LONGEST + 1];
@@ -78,6 +78,14 @@ HANDLER(count_plainly, plains[0]++)
 HANDLER(handle, atomic_store_relaxed(&words[1], 26))
 HANDLER(lock_and_store, atomic_store_relaxed(&words[0], 23); mutex_enter(&locks[0]); atomic_store_relaxed(&words[1], 22); mutex_exit(&locks[0]))
 HANDLER(ring, atomic_store_relaxed(&words[0], 25))
+
+/* Soft interrupts that any thread schedules. */
+enum { STORES, COUNTS, LOCKS, SOFTINTS };
+static struct {
+	const char *letters;
+	void (*handler)(void *);
+	void *cookie;
+} softints[SOFTINTS] = {[STORES] = {"ih", handle}, [COUNTS] = {"p", count_plainly}, [LOCKS] = {"m", lock_and_store}};
 
 UNSEEN static void change_block(void *arg)
 {
@@ -240,14 +248,14 @@ UNSEEN static void execute(unsigned thread, char letter, unsigned value)
 	case 'g': use_target(thread); break;
 	case 'D': end_target(); break;
 	case 'h': break;
-	case 'i': softint_schedule(softint); break;
+	case 'i': softint_schedule(softints[STORES].cookie); break;
 	case 'o': callout_reset(&callout, 1, ring, NULL); break;
 	case 'O': (void)callout_halt(&callout, NULL); break;
 	case 'c': kupaldiz_bind(0); break;
 	case 'k': (void)kpause("outcomes", false, 1, NULL); break;
 	case 'K': (void)kpause("outcomes", false, 2, NULL); break;
 	case 'd': delay(10000); break;
-	case 'm': softint_schedule(locking_softint); break;
+	case 'm': softint_schedule(softints[LOCKS].cookie); break;
 	case 'v': observe(thread, (unsigned)getticks()); break;
 	case 'T': wait_for_a_tick(thread); break;
 	case 'S': cv_signal(&cv); break;
@@ -262,7 +270,7 @@ UNSEEN static void execute(unsigned thread, char letter, unsigned value)
 	case 'Y': store(1, value); break;
 	case '#': count_plainly(NULL); break;
 	case 'z': store_both(value); break;
-	case 'p': softint_schedule(plain_softint); break;
+	case 'p': softint_schedule(softints[COUNTS].cookie); break;
 	case '{': mutex_enter(&spin); break;
 	case '}': mutex_exit(&spin); break;
 	case 'n': make_thread(thread); break;
@@ -287,7 +295,7 @@ UNSEEN static void run_text(void *arg)
 #define NOT_BESIDE	PLAINLY "v"	/* a processor reorders plain accesses; real time is another one */
 
 /* A soft interrupt waits on CPU 0 from the beginning, and its thread is made before the others. */
-static void schedule_early(void) { kupaldiz_bind(0); softint_schedule(softint); kupaldiz_unbind(); }
+static void schedule_early(void) { kupaldiz_bind(0); softint_schedule(softints[STORES].cookie); kupaldiz_unbind(); }
 
 static void begin(void)
 {
@@ -306,14 +314,11 @@ static void begin(void)
 	}
 	if (uses("{}"))
 		mutex_init(&spin, MUTEX_SPIN, IPL_SOFTNET);
-	if (uses("ih"))
-		softint = softint_establish(SOFTINT_NET | SOFTINT_MPSAFE, handle, NULL);
+	for (unsigned at = 0; at < SOFTINTS; at++)
+		if (uses(softints[at].letters))
+			softints[at].cookie = softint_establish(SOFTINT_NET | SOFTINT_MPSAFE, softints[at].handler, NULL);
 	if (uses("h"))
 		schedule_early();
-	if (uses("p"))
-		plain_softint = softint_establish(SOFTINT_NET | SOFTINT_MPSAFE, count_plainly, NULL);
-	if (uses("m"))
-		locking_softint = softint_establish(SOFTINT_NET | SOFTINT_MPSAFE, lock_and_store, NULL);
 	if (uses("oO"))
 		callout_init(&callout, 0);
 	if (uses("qQ"))
@@ -365,12 +370,9 @@ static void finish(void)
 		(void)callout_halt(&callout, NULL);
 		callout_destroy(&callout);
 	}
-	if (uses("ih"))
-		softint_disestablish(softint);
-	if (uses("p"))
-		softint_disestablish(plain_softint);
-	if (uses("m"))
-		softint_disestablish(locking_softint);
+	for (unsigned at = 0; at < SOFTINTS; at++)
+		if (uses(softints[at].letters))
+			softint_disestablish(softints[at].cookie);
 	end_references();
 	end_locks();
 }
