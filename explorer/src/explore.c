@@ -442,13 +442,17 @@ static void fill_options(const struct bench_options *given)
 		refuse("at most %d failures in a run", BENCH_FAILURES);
 }
 
+/* Its memory stays, with each step as the last search left it. */
 static void make_search(void)
 {
-	search = map_pages(sizeof(*search), MAP_SHARED);
+	if (search == NULL) {
+		search = map_pages(sizeof(*search), MAP_SHARED);
+		map_stacks();
+		map_heap();
+	}
+	memset(search, 0, offsetof(struct search, steps));
 	search->found.bound = -1;
 	search->seed = options.seed * 0x9e3779b97f4a7c15;
-	prepare_stacks();
-	prepare_heap();
 	prepare_failures();
 }
 
@@ -473,12 +477,7 @@ int bench_explore(void (*setup)(void), const struct bench_options *given)
 		refuse("%s can't be written", options.picture);
 	if (options.found != NULL)
 		*options.found = *found;
-	bool wrong = found->first != 0;
-	munmap(search, sizeof(*search));
-	release_stacks();
-	release_heap();
-	release_failures();
-	return wrong;
+	return found->first != 0;
 }
 
 /* ---- What a test calls. ---- */

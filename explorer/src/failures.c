@@ -41,13 +41,12 @@ static struct {
 
 void prepare_failures(void)
 {
-	plans = map_pages(sizeof(*plans), MAP_SHARED);
+	if (plans == NULL)
+		plans = map_pages(sizeof(*plans), MAP_SHARED);
+	*plans->of = (struct plan){0};
+	plans->now = 0;
 	plans->count = 1;
-}
-
-void release_failures(void)
-{
-	munmap(plans, sizeof(*plans));
+	plans->left_out = false;
 }
 
 /* A run begins. */

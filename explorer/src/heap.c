@@ -21,18 +21,11 @@ static unsigned char *parts;
 static uint32_t *owners;	/* of each sixteen bytes of the parts: the row of their block, counted from 1 */
 struct scratch *scratch;
 
-void prepare_heap(void)
+void map_heap(void)
 {
 	parts = map_pages((size_t)THREADS * PART, MAP_PRIVATE);
 	owners = map_pages((size_t)THREADS * PART / SMALLEST * sizeof(*owners), MAP_PRIVATE);
 	scratch = map_pages(sizeof(*scratch), MAP_PRIVATE);
-}
-
-void release_heap(void)
-{
-	munmap(parts, (size_t)THREADS * PART);
-	munmap(owners, (size_t)THREADS * PART / SMALLEST * sizeof(*owners));
-	munmap(scratch, sizeof(*scratch));
 }
 
 static void forbid(const void *at, size_t size)

@@ -261,8 +261,7 @@ extern struct scratch *scratch;
 
 /* ---- routine.c ---- */
 
-void prepare_stacks(void);
-void release_stacks(void);
+void map_stacks(void);
 bool is_on_stack(const struct routine *routine, const volatile void *at);
 struct routine *make_routine(const char *name, void (*body)(void *), void *arg, bool daemon);
 void switch_to(struct routine *routine);
@@ -331,7 +330,6 @@ void leaving_cpu(const char *call);
 /* ---- failures.c: calls that fail, and waits that end early. ---- */
 
 void prepare_failures(void);
-void release_failures(void);
 bool next_failure(void);
 bool has_all_failures(void);
 bool ends_early(const struct routine *routine);
@@ -406,8 +404,7 @@ void *row_for(enum table table, uintptr_t key);
 
 /* ---- heap.c ---- */
 
-void prepare_heap(void);
-void release_heap(void);
+void map_heap(void);
 bool is_live(const void *at);
 size_t size_of_block(const void *at);
 void *resize(void *block, size_t size);
