@@ -442,7 +442,6 @@ static void fill_options(const struct bench_options *given)
 		refuse("at most %d failures in a run", BENCH_FAILURES);
 }
 
-/* Its memory stays, with each step as the last search left it. */
 static void make_search(void)
 {
 	if (search == NULL) {

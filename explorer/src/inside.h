@@ -200,9 +200,10 @@ struct search {
 	char names[THREADS][32];
 	uint32_t ended;		/* a bit for each thread that has */
 	bool stuck;		/* the others can't go on */
+	/* A later search finds these as they are. */
+	struct step steps[POINTS + 1];
 	struct spot spots[SPOTS];	/* those that were asked for last */
 	unsigned spot_count;
-	struct step steps[POINTS + 1];
 };
 
 extern struct search *search;
