@@ -46,6 +46,7 @@ RULES = [
     Rule("more_calls", "an end of a soft interrupt conflicts with its queues", "	touch(ON_PENDING, NULL, ANY, WRITES);\n", ""),
 ]
 
+
 def plant(rule, folder):
     """Writes the file with the fault in it. Its name."""
     text = (SOURCES / f"{rule.file}.c").read_text()
