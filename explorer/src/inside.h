@@ -323,7 +323,6 @@ struct cpu *cpu_here(const struct routine *me);
 void at_call(const char *call);
 void at_thing(const char *call, enum kind kind, const void *thing, size_t size, unsigned how);
 void at_cpu(const char *call, unsigned how);
-void leaving_cpu(const char *call);
 
 /* A call that touches one thing, whose size is known. */
 #define AT(kind, thing, how)	at_thing(__func__, kind, thing, sizeof(*(thing)), how)
