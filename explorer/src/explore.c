@@ -275,7 +275,7 @@ static void search_all(void)
 	while (!is_wrong() && next_failure())
 		search->found.complete &= search_orders();
 	search->found.complete &= has_all_failures();
-	search->found.exhausted = search->found.complete && search->found.throttled == 0;
+	search->found.exhausted = search->found.complete && search->found.throttled == 0 && search->found.hurried == 0;
 }
 
 /* Goes on until a run goes wrong by the line that is wanted. */

@@ -172,6 +172,13 @@ static void throttle(struct step *step, const struct step *before)
 	search->found.throttled += step->throttled != 0;
 }
 
+/* Where a deadline stands, and time has gone on early as often as it may, an order is left out. */
+static void count_hurried(uint32_t enabled)
+{
+	bool waits = run.ticks == options.ticks && run.phase == RUNNING && next_time() != NEVER;
+	search->found.hurried += waits && (enabled & bit(CLOCK)) == 0;
+}
+
 /* ---- Steps that are never made. ---- */
 
 static const struct set ticking = {.count = 2, .of = {{.size = 1, .kind = ON_TIME, .how = WRITES}, {.size = 1, .kind = ON_DEADLINE, .cpu = ANY}}};
@@ -211,6 +218,7 @@ static unsigned choose_new(struct step *step, const struct step *before)
 	step->sleeping = 0;
 	step->backtrack = 0;
 	throttle(step, before);
+	count_hurried(enabled);
 	if (search->mode == RANDOM && step->throttled != 0)
 		search->priorities[before->chosen] = --search->lowest;
 	if (search->mode == RANDOM)

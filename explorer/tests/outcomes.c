@@ -394,7 +394,7 @@ static struct bench_found explore(bool whole)
 static void show(const struct bench_found *found, const char *which)
 {
 	printf("%s: %llu schedules, %u outcomes, %s%s\n", which, (unsigned long long)found->schedules, found->outcomes, found->line,
-	    found->exhausted ? "" : " (not exhausted)");
+	    is_tried(found) ? "" : " (not tried)");
 	for (unsigned at = 0; at < found->outcomes; at++)
 		printf("    %s\n", found->outcome[at].text);
 }
@@ -403,11 +403,11 @@ static void show(const struct bench_found *found, const char *which)
 static bool agree(const struct bench_found *whole, const struct bench_found *reduced)
 {
 	if (whole->first != 0 || reduced->first != 0)
-		return reduced->first != 0 && (whole->first != 0 || !whole->exhausted);
+		return reduced->first != 0 && (whole->first != 0 || !is_tried(whole));
 	for (unsigned at = 0; at < whole->outcomes; at++)
 		if (!has_outcome(reduced, whole->outcome[at].text))
 			return false;
-	return reduced->exhausted && (!whole->exhausted || whole->outcomes == reduced->outcomes);
+	return is_tried(reduced) && (!is_tried(whole) || whole->outcomes == reduced->outcomes);
 }
 
 static unsigned long long wholes, reduceds;
@@ -416,7 +416,7 @@ static unsigned compared, faults, begun, skipped;
 static void print_outcomes(void)
 {
 	struct bench_found found = explore(false);
-	bool whole = found.first == 0 && (found.exhausted || found.states == 0);
+	bool whole = found.first == 0 && (is_tried(&found) || found.states == 0);
 	for (unsigned at = 0; at < found.outcomes && whole; at++)
 		printf("%s|%s|%s: %s\n", texts[0], texts[1], texts[2], found.outcome[at].text);
 	if (!whole)
@@ -431,8 +431,8 @@ static void compare(void)
 	if (prints)
 		return;
 	struct bench_found whole = explore(true), reduced = explore(false);
-	bool all = whole.exhausted || whole.first != 0;
-	if (whole.others > 0 || (!all && !reduced.exhausted && reduced.first == 0)) {
+	bool all = is_tried(&whole) || whole.first != 0;
+	if (whole.others > 0 || (!all && !is_tried(&reduced) && reduced.first == 0)) {
 		skipped++;
 		return;
 	}
