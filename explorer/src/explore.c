@@ -444,7 +444,11 @@ static void fill_options(const struct bench_options *given)
 
 static void make_search(void)
 {
-	if (search == NULL) {
+	/* A process that was forked doesn't search in its parent's memory. */
+	static pid_t mapped_by;
+	bool maps = mapped_by != getpid();
+	if (maps) {
+		mapped_by = getpid();
 		search = map_pages(sizeof(*search), MAP_SHARED);
 		map_stacks();
 		map_heap();
@@ -452,7 +456,7 @@ static void make_search(void)
 	memset(search, 0, offsetof(struct search, steps));
 	search->found.bound = -1;
 	search->seed = options.seed * 0x9e3779b97f4a7c15;
-	prepare_failures();
+	prepare_failures(maps);
 }
 
 int bench_explore(void (*setup)(void), const struct bench_options *given)

@@ -39,9 +39,9 @@ static struct {
 	enum ending as, ending;	/* how that may end, and how the last one did */
 } threads[THREADS];
 
-void prepare_failures(void)
+void prepare_failures(bool maps)
 {
-	if (plans == NULL)
+	if (maps)
 		plans = map_pages(sizeof(*plans), MAP_SHARED);
 	*plans->of = (struct plan){0};
 	plans->now = 0;

@@ -329,7 +329,7 @@ void at_cpu(const char *call, unsigned how);
 
 /* ---- failures.c: calls that fail, and waits that end early. ---- */
 
-void prepare_failures(void);
+void prepare_failures(bool maps);
 bool next_failure(void);
 bool has_all_failures(void);
 bool ends_early(const struct routine *routine);
