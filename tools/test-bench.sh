@@ -112,6 +112,7 @@ counted "the seven drivers in every order, as the README says" drivers_as_told
 check "what it prints" prints_what_was_tried
 check "outcomes with the reduction and without" "$out/plain/outcomes" 1 40
 check "the same of short programs, for a minute" "$out/plain/outcomes" for 60 1
+tail -n 1 "$log"
 check "the same with sanitizers" "$out/sanitized/outcomes" 61 4
 counted "faults in the reduction's rules are told by programs that are written there" make -s -C $folder rules EACH=1
 check "the outcomes of real threads are among the bench's" make -s -C $folder beside

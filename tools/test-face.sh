@@ -219,6 +219,7 @@ test_netbsd() {
 
 test_bench() {
     counted "C: a driver's threads in every order" tools/test-bench.sh
+    grep '^in 60 seconds' "$log"
 }
 
 # A program over the crate that is compiled for other limits than the archive's opens nothing.

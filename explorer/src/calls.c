@@ -41,15 +41,6 @@ void at_cpu(const char *call, unsigned how)
 		touch(ON_LOCK, &cpu_here(me)->hold, 0, WRITES | ACQUIRES | how);
 }
 
-/* A call that may give the CPU back. */
-void leaving_cpu(const char *call)
-{
-	struct routine *me = here(call);
-	at_call(call);
-	if (me->self->holds == 1)
-		touch(ON_LOCK, &cpu_here(me)->hold, 0, WRITES | RELEASES);
-}
-
 /* ---- mutex(9). ---- */
 
 static bool is_mutex(const kmutex_t *mutex)
@@ -96,14 +87,12 @@ WRAPPED(bool, mutex_obj_free, (kmutex_t *mutex), (mutex), AT(ON_LOCK, mutex, WRI
 
 /* ---- condvar(9). ---- */
 
-
 /* A wait gives the lock back, and takes it again in the step in which the thread goes on. */
 static void begin_cv_wait(const char *call, kcondvar_t *cv, kmutex_t *mutex)
 {
 	at_call(call);
 	check_live(call, cv, sizeof(*cv));
 	check_live(call, mutex, sizeof(*mutex));
-	touch(ON_CV, cv, 0, WRITES);
 	touch(ON_LOCK, mutex, 0, WRITES | RELEASES);
 	run.current->relock = mutex;
 }
@@ -122,7 +111,7 @@ ANSWERED(int, cv_timedwait_sig, (kcondvar_t *cv, kmutex_t *mutex, int ticks), (c
 static void at_wake(const char *call, kcondvar_t *cv)
 {
 	at_thing(call, ON_CV, cv, sizeof(*cv), WRITES);
-	track_wake(call, run.current->place, cv, bucket_has(NULL, cv));
+	track_wake(call, run.current->place, cv, sleepq_has_waiter(NULL, cv));
 }
 
 WRAPPED(void, cv_signal, (kcondvar_t *cv), (cv), at_wake(__func__, cv))
@@ -148,7 +137,7 @@ WRAPPED(int, rw_lock_held, (krwlock_t *rw), (rw), AT(ON_LOCK, rw, 0))
 /* ---- pserialize(9). ---- */
 
 WRAPPED(int, pserialize_read_enter, (void), (), at_cpu(__func__, 0))
-WRAPPED(void, pserialize_read_exit, (int s), (s), leaving_cpu(__func__))
+WRAPPED(void, pserialize_read_exit, (int s), (s), at_call(__func__))
 AROUND(void, pserialize_perform, (pserialize_t psz), (psz), at_thing(__func__, ON_TARGET, psz, 1, 0), touch(ON_TARGET, psz, 0, 0))
 WRAPPED(void, pserialize_destroy, (pserialize_t psz), (psz), at_thing(__func__, ON_TARGET, psz, 1, WRITES))
 

@@ -21,27 +21,32 @@
 
 #include "inside.h"
 
-static bool do_overlap(const struct access *one, const struct access *other)
+static bool overlap(const struct access *one, const struct access *other)
 {
 	return one->address < other->address + other->size && other->address < one->address + one->size;
 }
 
 /* Whether two accesses are of the same thing, and one of them writes it. */
-static bool do_clash(const struct access *one, const struct access *other)
+static bool clash(const struct access *one, const struct access *other)
 {
 	if (one->kind != other->kind || ((one->how | other->how) & WRITES) == 0)
 		return false;
 	if (one->kind == ON_MEMORY)
-		return do_overlap(one, other);
+		return overlap(one, other);
 	return one->address == other->address && (one->cpu == other->cpu || one->cpu == ANY || other->cpu == ANY);
 }
 
-/* How a step is to a later one: they commute; they never change places; it does nothing to the later one but enable it; or they conflict otherwise. */
+/*
+ * How a step is to a later one: they commute; they never change places; it does nothing to the later one but enable it; or they conflict otherwise
+ *
+ * A step that enables another one is no race with it: a step ACQUIRES only what its thread waits for before it does anything, and so the two can't change
+ * places. Who asks the thread of xcall(9) for a second call enables it anew, and changes nothing of the first.
+ */
 enum relation { COMMUTE, ORDERED, ENABLES, CONFLICTS };
 
 static enum relation relation_of_accesses(const struct access *first, const struct access *second)
 {
-	if (!do_clash(first, second))
+	if (!clash(first, second))
 		return COMMUTE;
 	if (((first->how | second->how) & ORDERS) != 0)
 		return ORDERED;
@@ -70,7 +75,7 @@ static enum relation relation_of(const struct set *first, const struct set *seco
 	return found;
 }
 
-bool do_conflict(const struct set *one, const struct set *other)
+bool are_dependent(const struct set *one, const struct set *other)
 {
 	return relation_of(one, other) != COMMUTE;
 }
@@ -114,8 +119,7 @@ static uint32_t initials(unsigned earlier, unsigned later)
 		if (at < later && comes_after(step->clock, earlier))
 			continue;
 		uint32_t thread = UINT32_C(1) << step->chosen;
-		bool leads = at == later || comes_after(search->steps[later].clock, at);
-		if ((seen & thread) == 0 && leads && !has_earlier(list, count, at))
+		if ((seen & thread) == 0 && !has_earlier(list, count, at))
 			found |= thread;
 		seen |= thread;
 		list[count++] = at;
@@ -131,22 +135,21 @@ static uint32_t initials(unsigned earlier, unsigned later)
 static void add_backtrack_point(unsigned earlier, unsigned later)
 {
 	struct step *step = &search->steps[earlier];
-	uint32_t can = initials(earlier, later) & step->enabled & ~step->throttled, own = UINT32_C(1) << search->steps[later].chosen;
+	uint32_t can = initials(earlier, later) & step->enabled & ~step->throttled, own = UINT32_C(1) << search->steps[later].chosen, clock = UINT32_C(1) << CLOCK;
+	/* A tick that nobody hurried may be among them, and here it would be another step: it stands for no thread. */
+	can = (can & ~clock) != 0 ? can & ~clock : can;
 	if (can == 0 || (can & (step->backtrack | step->explored | step->sleeping | UINT32_C(1) << step->chosen)) != 0)
 		return;
 	step->backtrack |= (can & own) != 0 ? own : can & (~can + 1);
 }
 
-/* What is known of an earlier step, where a later one is looked back from. */
-enum then { WAS_DISABLED, WAS_ENABLED, WAS_ELSEWHERE };
-
 /* Whether the thread of a step, which its step before has left at its guard, was enabled at an earlier step of another thread. */
-static enum then thread_then(unsigned earlier, unsigned later, int before)
+static bool was_enabled(unsigned earlier, unsigned later, int before)
 {
 	const struct step *step = &search->steps[later];
 	if ((int)earlier <= before)
-		return step->guarded ? WAS_ELSEWHERE : WAS_ENABLED;
-	return (search->steps[earlier].enabled >> step->chosen & 1) != 0 ? WAS_ENABLED : WAS_DISABLED;
+		return !step->guarded;
+	return (search->steps[earlier].enabled >> step->chosen & 1) != 0;
 }
 
 /*
@@ -172,12 +175,11 @@ static unsigned order_step(unsigned at, unsigned upto, unsigned *races)
 		enum relation relation = relation_of(&found->set, &step->set);
 		if (relation == COMMUTE || (relation == ORDERED && at == search->length))
 			continue;
-		enum then then = thread_then((unsigned)other, at, before);
 		join(step->clock, found->clock);
-		if (relation == ORDERED || comes_after(covered, (unsigned)other) || (relation == ENABLES && then != WAS_ENABLED))
+		if (relation != CONFLICTS || comes_after(covered, (unsigned)other))
 			continue;
 		races[count++] = (unsigned)other;
-		if (then == WAS_ENABLED)
+		if (was_enabled((unsigned)other, at, before))
 			join(covered, found->clock);
 	}
 	step->clock[step->chosen] = at + 1;

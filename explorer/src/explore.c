@@ -88,7 +88,7 @@ static void keep_names(void)
 		snprintf(search->names[number], sizeof(search->names[number]), "%s", name);
 		search->ended |= (uint32_t)at->ended << number;
 	}
-	snprintf(search->names[THREADS - 1], sizeof(search->names[0]), "clock");
+	snprintf(search->names[CLOCK], sizeof(search->names[0]), "clock");
 }
 
 static void keep_outcome(void)
@@ -275,7 +275,7 @@ static void search_all(void)
 	while (!is_wrong() && next_failure())
 		search->found.complete &= search_orders();
 	search->found.complete &= has_all_failures();
-	search->found.exhausted = search->found.complete && search->found.throttled == 0;
+	search->found.exhausted = search->found.complete && search->found.throttled == 0 && search->found.hurried == 0;
 }
 
 /* Goes on until a run goes wrong by the line that is wanted. */
@@ -331,7 +331,7 @@ static void keep_schedule(struct bench_found *found)
 	found->changes = search->length == 0 ? 0 : last->switches;
 	write_schedule(found->schedule, sizeof(found->schedule));
 	write_failures(found->schedule, sizeof(found->schedule));
-	snprintf(found->failed, sizeof(found->failed), "%s", told_failure());
+	snprintf(found->failed, sizeof(found->failed), "%s", failure_text());
 }
 
 /* Runs the schedule of the fault once more, so that the steps are its own. */
@@ -384,7 +384,7 @@ static void read_schedule(const char *text)
 	unsigned count = 0;
 	const char *failures = strchr(text, '!');
 	for (const char *at = text; *at != '\0' && at != failures;) {
-		unsigned thread = *at == '.' ? THREADS - 1 : (unsigned)(*at - 'a');
+		unsigned thread = *at == '.' ? CLOCK : (unsigned)(*at - 'a');
 		char *end = (char *)at + 1;
 		unsigned long turns = at[1] >= '0' && at[1] <= '9' ? strtoul(at + 1, &end, 10) : 1;
 		if (thread >= THREADS || turns == 0)
@@ -444,17 +444,23 @@ static void fill_options(const struct bench_options *given)
 
 static void make_search(void)
 {
-	search = map_pages(sizeof(*search), MAP_SHARED);
+	/* A process that was forked doesn't search in its parent's memory. */
+	static pid_t mapped_by;
+	bool maps = mapped_by != getpid();
+	if (maps) {
+		mapped_by = getpid();
+		search = map_pages(sizeof(*search), MAP_SHARED);
+		map_stacks();
+		map_heap();
+	}
+	memset(search, 0, offsetof(struct search, steps));
 	search->found.bound = -1;
 	search->seed = options.seed * 0x9e3779b97f4a7c15;
-	prepare_stacks();
-	prepare_heap();
-	prepare_failures();
+	prepare_failures(maps);
 }
 
 int bench_explore(void (*setup)(void), const struct bench_options *given)
 {
-	static struct bench_found found;
 	if (run.current != NULL)
 		refuse("bench_explore inside of a run");
 	fill_options(given);
@@ -463,21 +469,18 @@ int bench_explore(void (*setup)(void), const struct bench_options *given)
 		refuse("there is no setup");
 	prepare = setup;
 	make_search();
+	struct bench_found *found = &search->told;
 	if (options.replay != NULL)
-		replay(&found);
+		replay(found);
 	else
-		explore(&found);
+		explore(found);
 	if (!options.quiet)
-		show(stdout, &found);
-	if (options.picture != NULL && found.first != 0 && !draw(options.picture, &found))
+		show(stdout, found);
+	if (options.picture != NULL && found->first != 0 && !draw(options.picture, found))
 		refuse("%s can't be written", options.picture);
 	if (options.found != NULL)
-		*options.found = found;
-	munmap(search, sizeof(*search));
-	release_stacks();
-	release_heap();
-	release_failures();
-	return found.first != 0;
+		*options.found = *found;
+	return found->first != 0;
 }
 
 /* ---- What a test calls. ---- */

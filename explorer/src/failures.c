@@ -1,9 +1,9 @@
 /*
  * failures.c - calls that fail although memory is left, and waits that end although nobody ended them
  *
- * A chance is such a call or wait, by its thread and its number among that thread's chances. A plan is a few chances, and in each of its runs just these are
- * taken. The first plan is empty. Whoever meets a chance that isn't in its plan adds a further plan, with that one too, as long as it has few enough. So each
- * chance that some schedule comes to is taken in all schedules that come to it.
+ * A failpoint is such a call or wait, by its thread and its number among that thread's failpoints. A plan is a few failpoints. In each of its runs exactly
+ * these fail. The first plan is empty. A failpoint that is met and isn't in the plan makes a further plan, with that one too, unless it has too many. So each
+ * failpoint that some schedule meets fails in all schedules that meet it.
  */
 #include <stdio.h>
 #include <stdlib.h>
@@ -15,39 +15,38 @@
 
 enum { MOST_PLANS = 4096 };
 
-struct chance {
+struct failpoint {
 	uint16_t thread, number;
 };
 
 struct plan {
 	unsigned count;
-	struct chance of[BENCH_FAILURES];	/* in order */
+	struct failpoint of[BENCH_FAILURES];	/* in order */
 };
 
 /* In memory that the parent shares. */
 static struct plans {
 	unsigned now, count;
 	bool left_out;		/* there was no room for a plan */
-	char told[BENCH_LINE];	/* of the chances that were taken */
+	char told[BENCH_LINE];	/* of the failpoints that were taken */
 	struct plan of[MOST_PLANS];
 } *plans;
 
 /* Of each thread, in this run. */
 static struct {
-	uint16_t chances;
+	uint16_t failpoints;
 	bool may_end;		/* the wait that it is in, or that comes next */
 	enum ending as, ending;	/* how that may end, and how the last one did */
 } threads[THREADS];
 
-void prepare_failures(void)
+void prepare_failures(bool maps)
 {
-	plans = map_pages(sizeof(*plans), MAP_SHARED);
+	if (maps)
+		plans = map_pages(sizeof(*plans), MAP_SHARED);
+	*plans->of = (struct plan){0};
+	plans->now = 0;
 	plans->count = 1;
-}
-
-void release_failures(void)
-{
-	munmap(plans, sizeof(*plans));
+	plans->left_out = false;
 }
 
 /* A run begins. */
@@ -75,24 +74,24 @@ bool next_failure(void)
 
 static int compare(const void *one, const void *other)
 {
-	const struct chance *a = one, *b = other;
+	const struct failpoint *a = one, *b = other;
 	return a->thread != b->thread ? a->thread - b->thread : a->number - b->number;
 }
 
-static bool is_planned(struct chance chance)
+static bool is_planned(struct failpoint failpoint)
 {
 	const struct plan *plan = &plans->of[plans->now];
-	return bsearch(&chance, plan->of, plan->count, sizeof(chance), compare) != NULL;
+	return bsearch(&failpoint, plan->of, plan->count, sizeof(failpoint), compare) != NULL;
 }
 
-/* Adds the plan that has this chance, too, unless it is there. */
-static void add_plan(struct chance chance)
+/* Adds the plan that has this failpoint, too, unless it is there. */
+static void add_plan(struct failpoint failpoint)
 {
 	struct plan more = plans->of[plans->now];
 	if (more.count == options.failures)
 		return;
-	more.of[more.count++] = chance;
-	qsort(more.of, more.count, sizeof(chance), compare);
+	more.of[more.count++] = failpoint;
+	qsort(more.of, more.count, sizeof(failpoint), compare);
 	for (unsigned at = 0; at < plans->count; at++)
 		if (memcmp(&plans->of[at], &more, sizeof(more)) == 0)
 			return;
@@ -101,18 +100,18 @@ static void add_plan(struct chance chance)
 		plans->of[plans->count++] = more;
 }
 
-/* Whether this thread's next chance is taken; else the chance is for another plan. */
-static bool takes_chance(void)
+/* Whether this thread's next failpoint is taken; else the failpoint is for another plan. */
+static bool fails_here(void)
 {
-	const struct chance chance = {(uint16_t)run.current->number, threads[run.current->number].chances++};
-	if (is_planned(chance))
+	const struct failpoint failpoint = {(uint16_t)run.current->number, threads[run.current->number].failpoints++};
+	if (is_planned(failpoint))
 		return true;
-	add_plan(chance);
+	add_plan(failpoint);
 	return false;
 }
 
-/* Tells of a chance that was taken, the call that the thread is in. */
-static void tell_failure(const char *how)
+/* Tells of a failpoint that was taken, the call that the thread is in. */
+static void note_failure(const char *how)
 {
 	const struct routine *me = run.current;
 	const struct thread *self = kupaldiz_self;
@@ -121,16 +120,16 @@ static void tell_failure(const char *how)
 	    self->place == NULL ? "" : " at ", self->place == NULL ? "" : self->place, how, me->name == NULL ? self->name : me->name);
 }
 
-const char *told_failure(void)
+const char *failure_text(void)
 {
 	return plans->told;
 }
 
 bool bench_fails(void)
 {
-	if (options.reliable || run.current == NULL || !takes_chance())
+	if (options.reliable || run.current == NULL || !fails_here())
 		return false;
-	tell_failure("fails");
+	note_failure("fails");
 	return true;
 }
 
@@ -143,9 +142,9 @@ void bench_may_end_early(bool signals)
 	threads[number].as = IN_TIME;
 	if (options.reliable)
 		return;
-	if (takes_chance())
+	if (fails_here())
 		threads[number].as = AS_IF_WOKEN;
-	if (signals && takes_chance())
+	if (signals && fails_here())
 		threads[number].as = BY_SIGNAL;
 }
 
@@ -160,7 +159,7 @@ void note_ending(struct routine *me, bool early)
 	threads[me->number].ending = early ? threads[me->number].as : IN_TIME;
 	threads[me->number].as = IN_TIME;
 	if (early)
-		tell_failure(threads[me->number].ending == BY_SIGNAL ? "is ended by a signal" : "ends although nobody woke it");
+		note_failure(threads[me->number].ending == BY_SIGNAL ? "is ended by a signal" : "ends although nobody woke it");
 }
 
 int bench_last_ending(void)
@@ -168,7 +167,7 @@ int bench_last_ending(void)
 	return (int)threads[run.current->number].ending;
 }
 
-/* ---- Plans in the text of a schedule: "!" before the letter of each chance's thread, and its number from 1 on. ---- */
+/* ---- Plans in the text of a schedule: "!" before the letter of each failpoint's thread, and its number from 1 on. ---- */
 
 void write_failures(char *text, size_t room)
 {
@@ -178,15 +177,15 @@ void write_failures(char *text, size_t room)
 		length += (size_t)snprintf(text + length, room - length, "!%c%u", 'a' + plan->of[at].thread, plan->of[at].number + 1u);
 }
 
-/* The chance that a text begins with; how long that is, 0 where it is none. */
-static int read_chance(const char *text, struct chance *chance)
+/* The failpoint that a text begins with; how long that is, 0 where it is none. */
+static int read_failpoint(const char *text, struct failpoint *failpoint)
 {
 	char letter;
 	unsigned number;
 	int length = 0;
 	if (sscanf(text, "!%c%u%n", &letter, &number, &length) != 2 || letter < 'a' || letter >= 'a' + THREADS || number == 0 || number > UINT16_MAX)
 		return 0;
-	*chance = (struct chance){(uint16_t)(letter - 'a'), (uint16_t)(number - 1)};
+	*failpoint = (struct failpoint){(uint16_t)(letter - 'a'), (uint16_t)(number - 1)};
 	return length;
 }
 
@@ -196,7 +195,7 @@ bool read_failures(const char *text)
 	struct plan *plan = &plans->of[plans->now = 0];
 	*plan = (struct plan){0};
 	for (int length; *text != '\0'; text += length)
-		if (plan->count == BENCH_FAILURES || (length = read_chance(text, &plan->of[plan->count++])) == 0)
+		if (plan->count == BENCH_FAILURES || (length = read_failpoint(text, &plan->of[plan->count++])) == 0)
 			return false;
 	qsort(plan->of, plan->count, sizeof(plan->of[0]), compare);
 	return true;

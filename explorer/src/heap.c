@@ -21,18 +21,11 @@ static unsigned char *parts;
 static uint32_t *owners;	/* of each sixteen bytes of the parts: the row of their block, counted from 1 */
 struct scratch *scratch;
 
-void prepare_heap(void)
+void map_heap(void)
 {
 	parts = map_pages((size_t)THREADS * PART, MAP_PRIVATE);
 	owners = map_pages((size_t)THREADS * PART / SMALLEST * sizeof(*owners), MAP_PRIVATE);
 	scratch = map_pages(sizeof(*scratch), MAP_PRIVATE);
-}
-
-void release_heap(void)
-{
-	munmap(parts, (size_t)THREADS * PART);
-	munmap(owners, (size_t)THREADS * PART / SMALLEST * sizeof(*owners));
-	munmap(scratch, sizeof(*scratch));
 }
 
 static void forbid(const void *at, size_t size)
@@ -47,7 +40,7 @@ static void allow(const void *at, size_t size)
 		__asan_unpoison_memory_region(at, size);
 }
 
-static const char *called(const struct thread *self)
+static const char *call_of(const struct thread *self)
 {
 	return self == NULL || self->call == NULL ? "setup" : self->call;
 }
@@ -78,7 +71,7 @@ void *allocate(size_t size, size_t align, bool judged)
 	memset(at + size, BEHIND, FENCE);
 	forbid(at + size, FENCE);
 	*(struct block *)new_row(BLOCKS) = (struct block){.at = at, .size = size, .live = true, .judged = judged, .by = number,
-	    .made_at = run.routines[number].clock[number], .call = called(self), .place = self == NULL ? NULL : self->place};
+	    .made_at = run.routines[number].clock[number], .call = call_of(self), .place = self == NULL ? NULL : self->place};
 	for (size_t from = 0; from < size + FENCE; from += SMALLEST)
 		*owner_of(at + from) = (uint32_t)run.rows[BLOCKS];
 	return at;
@@ -121,7 +114,7 @@ static bool is_within(const struct block *block, const volatile void *at, size_t
 	return block->live && (const volatile unsigned char *)at + size <= block->at + block->size;
 }
 
-static _Noreturn void tell_use(const char *what, const char *place, const struct block *block)
+static _Noreturn void report_use(const char *what, const char *place, const struct block *block)
 {
 	char where[256], freed[256];
 	if (block->live)
@@ -138,7 +131,7 @@ void check_live(const char *call, const volatile void *at, size_t size)
 		return;
 	touch_memory(at, size, 0);
 	if (!is_within(block, at, size))
-		tell_use(call, run.current->pc != NULL ? place_of(run.current->place, run.current->pc) : run.current->place, block);
+		report_use(call, run.current->pc != NULL ? place_of(run.current->place, run.current->pc) : run.current->place, block);
 }
 
 /* The same of a plain access, which must come after the call that took the memory, too. */
@@ -148,7 +141,7 @@ void check_usable(const struct routine *me, const volatile void *at, size_t size
 	if (block == NULL)
 		return;
 	if (!is_within(block, at, size))
-		tell_use(use->writes ? "plain write" : "plain read", place_of(use->place, use->pc), block);
+		report_use(use->writes ? "plain write" : "plain read", place_of(use->place, use->pc), block);
 	if (me->clock[block->by] < block->made_at)
 		fail("data race: thread \"%s\" takes memory by %s at %s, and thread \"%s\" %s it at %s", run.routines[block->by].name, block->call,
 		    place_of(block->place, NULL), me->name, use->verb, place_of(use->place, use->pc));
@@ -182,7 +175,7 @@ static void end_block(struct block *block)
 	const struct thread *self = kupaldiz_self;
 	block->live = false;
 	block->freed_by = run.current->number;
-	block->freed_call = called(self);
+	block->freed_call = call_of(self);
 	block->freed_place = self == NULL ? NULL : self->place;
 }
 
@@ -192,7 +185,7 @@ void release(void *address)
 	if (address == NULL)
 		return;
 	if (block == NULL || block->at != address)
-		fail("%s: no block of memory", called(kupaldiz_self));
+		fail("%s: no block of memory", call_of(kupaldiz_self));
 	check_block(block);
 	end_block(block);
 	memset(block->at, FREED, block->size);

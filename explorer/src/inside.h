@@ -10,6 +10,7 @@
 
 enum { THREADS = BENCH_THREADS, POINTS = BENCH_POINTS, ACCESSES = 12, ANY = 0xffff, NOBODY = 0xff };
 
+enum { CLOCK = THREADS - 1 };	/* the explorer's own thread, which lets time go on */
 enum { STACK = 64 * 4096 };	/* of a routine */
 #define NEVER	INT64_MAX
 
@@ -195,13 +196,14 @@ struct search {
 	unsigned priorities[THREADS], lowest, changes[3];
 	uint64_t seed;
 	uint64_t runs;
-	struct bench_found found;
+	struct bench_found found, told;	/* by the child; and what the parent makes of it */
 	char names[THREADS][32];
 	uint32_t ended;		/* a bit for each thread that has */
 	bool stuck;		/* the others can't go on */
+	/* A later search finds these as they are. */
+	struct step steps[POINTS + 1];
 	struct spot spots[SPOTS];	/* those that were asked for last */
 	unsigned spot_count;
-	struct step steps[POINTS + 1];
 };
 
 extern struct search *search;
@@ -260,8 +262,7 @@ extern struct scratch *scratch;
 
 /* ---- routine.c ---- */
 
-void prepare_stacks(void);
-void release_stacks(void);
+void map_stacks(void);
 bool is_on_stack(const struct routine *routine, const volatile void *at);
 struct routine *make_routine(const char *name, void (*body)(void *), void *arg, bool daemon);
 void switch_to(struct routine *routine);
@@ -322,20 +323,18 @@ struct cpu *cpu_here(const struct routine *me);
 void at_call(const char *call);
 void at_thing(const char *call, enum kind kind, const void *thing, size_t size, unsigned how);
 void at_cpu(const char *call, unsigned how);
-void leaving_cpu(const char *call);
 
 /* A call that touches one thing, whose size is known. */
 #define AT(kind, thing, how)	at_thing(__func__, kind, thing, sizeof(*(thing)), how)
 
 /* ---- failures.c: calls that fail, and waits that end early. ---- */
 
-void prepare_failures(void);
-void release_failures(void);
+void prepare_failures(bool maps);
 bool next_failure(void);
 bool has_all_failures(void);
 bool ends_early(const struct routine *routine);
 void note_ending(struct routine *me, bool early);
-const char *told_failure(void);
+const char *failure_text(void);
 void write_failures(char *text, size_t room);
 bool read_failures(const char *text);
 void forget_failures(void);
@@ -347,7 +346,7 @@ void track_ended(const void *lock);
 void check_none_made(const char *call, const void *from, size_t size);
 void check_none_left(void);
 void track_wake(const char *call, const char *place, const void *cv, bool waited);
-const struct missed *missed_by(const void *cv);
+const struct missed *lost_wakeup_at(const void *cv);
 
 /* ---- What guards are: locks.c. ---- */
 
@@ -359,7 +358,7 @@ bool was_released(const struct routine *me);
 bool has_ended_handler(const struct routine *me);
 bool has_ended(const struct routine *me);
 bool can_begin(const struct routine *me);
-bool is_made(const struct routine *me);
+bool is_xcall_complete(const struct routine *me);
 const struct routine *xcaller(void);
 uint64_t *releases_of(const void *target);
 void sleep_until(int64_t time);
@@ -367,7 +366,7 @@ void end_self(void);
 
 /* ---- commute.c ---- */
 
-bool do_conflict(const struct set *one, const struct set *other);
+bool are_dependent(const struct set *one, const struct set *other);
 void find_races_of_step(unsigned at);
 void find_races_of_disabled(unsigned thread, const struct set *set, unsigned upto);
 
@@ -405,8 +404,7 @@ void *row_for(enum table table, uintptr_t key);
 
 /* ---- heap.c ---- */
 
-void prepare_heap(void);
-void release_heap(void);
+void map_heap(void);
 bool is_live(const void *at);
 size_t size_of_block(const void *at);
 void *resize(void *block, size_t size);

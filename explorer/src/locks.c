@@ -53,7 +53,7 @@ struct thread *lock_owner(const uintptr_t *word)
 	return (struct thread *)*word;
 }
 
-bool lock_try(uintptr_t *word, struct thread *me)
+bool lock_tryacquire(uintptr_t *word, struct thread *me)
 {
 	touch(ON_LOCK, word, 0, WRITES);
 	if (*word != 0)
@@ -79,16 +79,16 @@ static void await_lock(uintptr_t *word, const struct thread *me)
 	run.current->off = off;
 }
 
-void lock_take(uintptr_t *word, struct thread *me, tell_fn *tell)
+void lock_acquire(uintptr_t *word, struct thread *me, report_fn *reporter)
 {
-	(void)tell;
+	(void)reporter;
 	if (run.current->visits || *word != 0)
 		await_lock(word, me);
 	touch(ON_LOCK, word, 0, WRITES | ACQUIRES);
 	*word = (uintptr_t)me;
 }
 
-void lock_give(uintptr_t *word, struct thread *me)
+void lock_release(uintptr_t *word, struct thread *me)
 {
 	(void)me;
 	touch(ON_LOCK, word, 0, WRITES | RELEASES);
@@ -97,25 +97,25 @@ void lock_give(uintptr_t *word, struct thread *me)
 
 /* ---- What threads wait in. ---- */
 
-struct bucket {
+struct sleepq {
 	int none;
 };
 
-struct bucket *bucket_of(const void *address)
+struct sleepq *sleepq_of(const void *address)
 {
-	static struct bucket all;
+	static struct sleepq all;
 	(void)address;
 	return &all;
 }
 
-void bucket_lock(struct bucket *bucket)
+void sleepq_lock(struct sleepq *sleepq)
 {
-	(void)bucket;
+	(void)sleepq;
 }
 
-void bucket_unlock(struct bucket *bucket)
+void sleepq_unlock(struct sleepq *sleepq)
 {
-	(void)bucket;
+	(void)sleepq;
 }
 
 /* Whether it was woken, or its time is over, and the lock is free that it takes then. */
@@ -164,9 +164,9 @@ static bool wait_for_wake(const void *of, int64_t deadline)
 	return me->woken;
 }
 
-bool bucket_wait(struct bucket *bucket, const void *of, struct thread *me, const struct timespec *deadline)
+bool sleepq_wait(struct sleepq *sleepq, const void *of, struct thread *me, const struct timespec *deadline)
 {
-	(void)bucket;
+	(void)sleepq;
 	(void)me;
 	return wait_for_wake(of, time_of(deadline));
 }
@@ -183,10 +183,10 @@ static struct routine *first_for(const void *of)
 	return first;
 }
 
-bool bucket_wake(struct bucket *bucket, const void *of)
+bool sleepq_wake(struct sleepq *sleepq, const void *of)
 {
 	struct routine *first = first_for(of);
-	(void)bucket;
+	(void)sleepq;
 	touch(ON_CV, of, 0, WRITES);
 	if (first == NULL)
 		return false;
@@ -195,15 +195,15 @@ bool bucket_wake(struct bucket *bucket, const void *of)
 	return true;
 }
 
-void bucket_wake_all(struct bucket *bucket, const void *of)
+void sleepq_wake_all(struct sleepq *sleepq, const void *of)
 {
-	while (bucket_wake(bucket, of))
+	while (sleepq_wake(sleepq, of))
 		;
 }
 
-bool bucket_has(struct bucket *bucket, const void *of)
+bool sleepq_has_waiter(struct sleepq *sleepq, const void *of)
 {
-	(void)bucket;
+	(void)sleepq;
 	touch(ON_CV, of, 0, 0);
 	return first_for(of) != NULL;
 }
@@ -426,7 +426,7 @@ int bench_cond_wait(const void *cond, const struct timespec *deadline, const voi
 
 void bench_cond_broadcast(const void *cond)
 {
-	bucket_wake_all(NULL, cond);
+	sleepq_wake_all(NULL, cond);
 }
 
 void sleep_until(int64_t time)

@@ -59,7 +59,7 @@ void track_wake(const char *call, const char *place, const void *cv, bool waited
 }
 
 /* The last wake-up, where nobody waited for it; else NULL. */
-const struct missed *missed_by(const void *cv)
+const struct missed *lost_wakeup_at(const void *cv)
 {
 	const struct missed *row = row_with(MISSED, (uintptr_t)cv);
 	return row != NULL && row->call != NULL ? row : NULL;

@@ -60,7 +60,7 @@ static void at_part(const percpu_t *percpu)
 }
 
 WRAPPED(void *, percpu_getref, (percpu_t *percpu), (percpu), at_cpu(__func__, 0); at_part(percpu))
-WRAPPED(void, percpu_putref, (percpu_t *percpu), (percpu), leaving_cpu(__func__); at_part(percpu))
+WRAPPED(void, percpu_putref, (percpu_t *percpu), (percpu), at_call(__func__); at_part(percpu))
 
 /* What percpu_foreach has each part looked at by. */
 struct look {
@@ -119,7 +119,7 @@ void curlwp_bindx(int bound)
 WRAPPED(void, kupaldiz_bind, (unsigned cpu), (cpu), (void)here(__func__); if (cpu < KUPALDIZ_CPUS) touch_bound(&cpus[cpu]))
 WRAPPED(void, kupaldiz_unbind, (void), (), struct routine *me = here(__func__); if (me->self != NULL) touch_bound(cpu_here(me)))
 WRAPPED(void, kpreempt_disable, (void), (), at_cpu(__func__, 0))
-WRAPPED(void, kpreempt_enable, (void), (), leaving_cpu(__func__))
+WRAPPED(void, kpreempt_enable, (void), (), at_call(__func__))
 
 /* A new level lets soft interrupts of the CPU go on, or keeps them off. */
 static void at_level(void)
@@ -130,7 +130,7 @@ static void at_level(void)
 WRAPPED(int, kupaldiz_splraise, (int level), (level),
     at_cpu("splraise", 0); at_level(); acquire_clock(ON_LOCK, &cpu_here(run.current)->hold, 0))
 WRAPPED(void, splx, (int level), (level),
-    leaving_cpu(__func__); at_level(); release_clock(ON_LOCK, &cpu_here(run.current)->hold, 0))
+    at_call(__func__); at_level(); release_clock(ON_LOCK, &cpu_here(run.current)->hold, 0))
 WRAPPED(void, softint_schedule, (void *cookie), (cookie), at_cpu(__func__, RELEASES))
 
 LAYER(void, softint_disestablish, (void *cookie));

@@ -57,7 +57,7 @@ static void text_at(FILE *to, double x, double y, const char *kind, const char *
 }
 
 /* The address of what a step touches of a kind. */
-static uintptr_t thing_of(const struct step *step, unsigned kind)
+static uintptr_t object_of(const struct step *step, unsigned kind)
 {
 	for (uint32_t at = 0; at < step->set.count; at++)
 		if (step->set.of[at].kind == kind)
@@ -86,7 +86,7 @@ static unsigned end_of(unsigned from, const struct pair *pair)
 	unsigned depth = 1;
 	for (unsigned at = from + 1; at < search->length; at++) {
 		const struct step *step = &search->steps[at];
-		if (step->chosen != first->chosen || thing_of(step, pair->thing) != thing_of(first, pair->thing))
+		if (step->chosen != first->chosen || object_of(step, pair->thing) != object_of(first, pair->thing))
 			continue;
 		depth += strcmp(step->call, pair->begins) == 0;
 		if (strcmp(step->call, pair->ends) == 0 && --depth == 0)

@@ -33,7 +33,7 @@ static int find_origin(struct dl_phdr_info *object, size_t size, void *of)
 }
 
 /* Takes the text to its first blank or line's end. */
-static void cut(char *text)
+static void cut_at_blank(char *text)
 {
 	text[strcspn(text, " \n")] = '\0';
 }
@@ -49,8 +49,8 @@ static void read_place(FILE *from, const struct origin *origin, struct spot *spo
 {
 	char function[96], place[sizeof(spot->text)];
 	while (fgets(function, sizeof(function), from) != NULL && fgets(place, sizeof(place), from) != NULL) {
-		cut(function);
-		cut(place);
+		cut_at_blank(function);
+		cut_at_blank(place);
 		if (spot->text[0] != '\0' && place[0] == '?')
 			return;
 		if (place[0] != '?')

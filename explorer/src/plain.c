@@ -31,7 +31,7 @@ static bool covers(const struct plain *one, const struct plain *other)
 }
 
 /* Whether the thread has used the bytes so since others may last have heard of it. */
-static bool is_again(const struct plain *old, const struct plain *now)
+static bool is_repeated(const struct plain *old, const struct plain *now)
 {
 	return old->thread == now->thread && old->at == now->at && covers(old, now);
 }
@@ -41,7 +41,7 @@ static void record(const struct routine *me, struct plain now)
 {
 	struct plain *row = NULL;
 	for (struct plain *old = row_with(PLAIN, now.by.key); old != NULL; old = row_after(PLAIN, old)) {
-		if (is_again(old, &now))
+		if (is_repeated(old, &now))
 			return;
 		check_ordered(old, &now, me);
 		if (is_before(old, me) && covers(&now, old))

@@ -12,7 +12,6 @@
 #include <valgrind/valgrind.h>
 #else
 #define VALGRIND_STACK_REGISTER(from, to)	0
-#define VALGRIND_STACK_DEREGISTER(stack)	((void)(stack))
 #endif
 
 #include "inside.h"
@@ -29,7 +28,6 @@ static size_t home_size;
 
 static struct routine *starter;	/* who waits until a new one has come to its first point */
 static char *stacks;
-static unsigned known[THREADS];	/* by valgrind */
 
 static char *stack_of(unsigned number)
 {
@@ -46,27 +44,20 @@ static void check_no_shadow_stack(void)
 		       "GLIBC_TUNABLES=glibc.cpu.hwcaps=-SHSTK");
 }
 
-/* A stack for each, with as much room below that nothing may touch. */
-void prepare_stacks(void)
+/* A stack for each, with as much room below that nothing may touch. They stay. */
+void map_stacks(void)
 {
 	check_no_shadow_stack();
 	stacks = map_pages((size_t)THREADS * 2 * STACK, MAP_PRIVATE);
 	for (unsigned number = 0; number < THREADS; number++) {
 		mprotect(stack_of(number) - STACK, STACK, PROT_NONE);
-		known[number] = VALGRIND_STACK_REGISTER(stack_of(number), stack_of(number) + STACK);
+		(void)VALGRIND_STACK_REGISTER(stack_of(number), stack_of(number) + STACK);
 	}
 }
 
 bool is_on_stack(const struct routine *routine, const volatile void *at)
 {
 	return (uintptr_t)at - (uintptr_t)stack_of(routine->number) < STACK;
-}
-
-void release_stacks(void)
-{
-	for (unsigned number = 0; number < THREADS; number++)
-		VALGRIND_STACK_DEREGISTER(known[number]);
-	munmap(stacks, (size_t)THREADS * 2 * STACK);
 }
 
 /* ---- Switching. ---- */

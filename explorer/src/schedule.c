@@ -12,7 +12,6 @@ static uint32_t bit(unsigned number)
 }
 
 enum {
-	CLOCK = THREADS - 1,	/* the explorer's own, which lets time go on */
 	PATIENCE = 200		/* a thread that goes on for so many points may spin for another one: it doesn't go on before that */
 };
 
@@ -124,22 +123,23 @@ static unsigned next_after(unsigned number, uint32_t mask)
 	return lowest(above != 0 ? above : mask);
 }
 
-/* Those of another step that sleep here, too: what they would do commutes with what was done. */
+/*
+ * Those of another step that sleep here, too: what they would do commutes with what was done
+ *
+ * The clock never sleeps: where no thread is enabled it doesn't hurry, which is another step. To let fewer threads sleep tries more, and leaves nothing out.
+ */
 static void inherit_sleep_set(const struct step *before, struct step *step)
 {
-	uint32_t candidates = (before->sleeping | before->explored) & ~bit(before->chosen);
+	uint32_t candidates = (before->sleeping | before->explored) & ~bit(before->chosen) & ~bit(CLOCK);
 	step->sleeping = 0;
 	for (; candidates != 0; candidates &= candidates - 1) {
 		unsigned number = lowest(candidates);
 		const struct set *set = (before->sleeping & bit(number)) != 0 ? before->sleep_sets[number] : &before->explored_sets[number];
-		if (do_conflict(set, &before->set))
+		if (are_dependent(set, &before->set))
 			continue;
 		step->sleeping |= bit(number);
 		step->sleep_sets[number] = set;
 	}
-	/* Where no thread is enabled the clock doesn't hurry: that is another step than the one that sleeps. */
-	if (step->enabled == bit(CLOCK))
-		step->sleeping = 0;
 }
 
 static unsigned highest_priority(uint32_t mask)
@@ -170,6 +170,13 @@ static void throttle(struct step *step, const struct step *before)
 	uint32_t own = before == NULL || before->turns < PATIENCE ? 0 : bit(before->chosen);
 	step->throttled = (step->enabled & ~own) != 0 ? own : 0;
 	search->found.throttled += step->throttled != 0;
+}
+
+/* Where a deadline stands, and time has gone on early as often as it may, an order is left out. */
+static void count_hurried(uint32_t enabled)
+{
+	bool waits = run.ticks == options.ticks && run.phase == RUNNING && next_time() != NEVER;
+	search->found.hurried += waits && (enabled & bit(CLOCK)) == 0;
 }
 
 /* ---- Steps that are never made. ---- */
@@ -211,6 +218,7 @@ static unsigned choose_new(struct step *step, const struct step *before)
 	step->sleeping = 0;
 	step->backtrack = 0;
 	throttle(step, before);
+	count_hurried(enabled);
 	if (search->mode == RANDOM && step->throttled != 0)
 		search->priorities[before->chosen] = --search->lowest;
 	if (search->mode == RANDOM)

@@ -20,7 +20,7 @@ void write_schedule(char *text, size_t room)
 	for (unsigned at = 0, turns; at < search->length && length + 8 < room; at += turns) {
 		unsigned thread = search->steps[at].chosen;
 		turns = turns_from(at);
-		char letter = thread == THREADS - 1 ? '.' : (char)('a' + thread);
+		char letter = thread == CLOCK ? '.' : (char)('a' + thread);
 		length += (size_t)snprintf(text + length, room - length, turns == 1 ? "%c" : "%c%u", letter, turns);
 	}
 	text[length] = '\0';
@@ -59,6 +59,15 @@ static void show_left_out(FILE *to, const struct bench_found *found)
 	    (unsigned long long)options.seed);
 }
 
+/* The search came to its end, within two bounds of each run. */
+static void show_withheld(FILE *to, const struct bench_found *found)
+{
+	if (found->hurried > 0)
+		fprintf(to, "%s: left out: schedules in which time goes on early more than %u times\n", options.name, options.ticks);
+	if (found->throttled > 0)
+		fprintf(to, "%s: left out: schedules in which a thread goes on for more than 200 points while another can\n", options.name);
+}
+
 static void show_counts(FILE *to, const struct bench_found *found)
 {
 	fprintf(to, "%s: %llu schedules, %llu cut short, %llu states, %llu points, %llu switches\n", options.name, (unsigned long long)found->schedules,
@@ -66,7 +75,7 @@ static void show_counts(FILE *to, const struct bench_found *found)
 	if (found->exhausted)
 		fprintf(to, "%s: every schedule of its points was tried%s\n", options.name, options.whole ? "" : ", or one that is the same as it");
 	else if (found->complete)
-		fprintf(to, "%s: left out: schedules in which a thread goes on for more than 200 points while another can\n", options.name);
+		show_withheld(to, found);
 	else if (found->first == 0 && options.replay == NULL)
 		show_left_out(to, found);
 	if (found->failures > 0)

@@ -2,7 +2,8 @@
  * softints.c - softint_thread.c, as the explorer has it
  *
  * Each CPU has a thread for the soft interrupts of each level, as in the kernel: a handler that waits for a lock keeps no other level off. It can go on
- * where one waits there, and nobody has the CPU or somebody at a lower level, at any point. The highest level goes first. Whoever has the CPU goes on when the handlers have ended, or one of them waits for a lock.
+ * at any point where one is pending and the CPU is free, or a thread has it at a lower level. The highest level goes first. That thread goes on when the
+ * handlers have ended, or one of them waits for a lock.
  */
 #include "inside.h"
 
@@ -106,7 +107,7 @@ static void run_handlers(void *of)
 }
 
 /* The thread of a CPU's level, which is made where there is none. */
-void want_softint_thread(struct thread *me, struct cpu *cpu, int level)
+void ensure_softint_thread(struct thread *me, struct cpu *cpu, int level)
 {
 	struct routine **softint = &softints[cpu->info.ci_index][level];
 	(void)me;
@@ -121,29 +122,29 @@ void want_softint_thread(struct thread *me, struct cpu *cpu, int level)
 }
 
 /* The scheduler decides when they have it. */
-void offer_cpu(struct thread *me)
+void lend_cpu(struct thread *me)
 {
 	(void)me;
 }
 
 /* A thread that has its CPU waits for a lock: others get the CPU meanwhile. */
-void step_off(struct thread *me)
+void yield_cpu(struct thread *me)
 {
 	run.current->off = true;
 	if (me->softint)
 		release_cpu(me);
 	else
-		lock_give(&me->cpu->hold, me);
+		lock_release(&me->cpu->hold, me);
 }
 
 /* It has the lock, and goes on once it has the CPU again. */
-void step_on(struct thread *me)
+void reclaim_cpu(struct thread *me)
 {
 	if (me->softint) {
 		wait_here(can_go_on, NULL);
 		acquire_cpu(me);
 	} else {
-		lock_take(&me->cpu->hold, me, NULL);
+		lock_acquire(&me->cpu->hold, me, NULL);
 	}
 	run.current->off = false;
 }

@@ -4,7 +4,7 @@
 
 #include "inside.h"
 
-static const char *name_it(const struct routine *routine)
+static const char *name_of_routine(const struct routine *routine)
 {
 	return routine->name != NULL ? routine->name : routine->self != NULL ? routine->self->name : "?";
 }
@@ -51,7 +51,7 @@ static struct waiting waits_for(const struct routine *me)
 	} else if (me->guard == was_released) {
 		found.on = holder_on((unsigned)(uintptr_t)me->of, me->target);
 		snprintf(found.what, sizeof(found.what), "a reference of CPU %u", (unsigned)(uintptr_t)me->of);
-	} else if (me->guard == is_made) {
+	} else if (me->guard == is_xcall_complete) {
 		found.on = xcaller();
 		snprintf(found.what, sizeof(found.what), "the call");
 	} else if (me->guard == has_ended) {
@@ -64,7 +64,7 @@ static struct waiting waits_for(const struct routine *me)
 		found.on = routine_of(lock_owner(&me->relock->mtx_word));
 		snprintf(found.what, sizeof(found.what), "the lock");
 	} else if (me->guard == was_woken) {
-		const struct missed *missed = missed_by(me->queue);
+		const struct missed *missed = lost_wakeup_at(me->queue);
 		snprintf(found.what, sizeof(found.what), "a wake-up that nobody is left to give%s%s%s%s%s", missed == NULL ? "" : "; ",
 		    missed == NULL ? "" : missed->call, missed == NULL || missed->place == NULL ? "" : " at ",
 		    missed == NULL || missed->place == NULL ? "" : missed->place, missed == NULL ? "" : " came while nobody waited");
@@ -86,11 +86,11 @@ static const struct routine *report_wait(const struct routine *me, char *text, s
 {
 	char more[512];
 	const struct waiting found = waits_for(me);
-	snprintf(more, sizeof(more), "thread \"%s\" waits in %s%s%s for %s", name_it(me), me->call, me->place == NULL ? "" : " at ",
+	snprintf(more, sizeof(more), "thread \"%s\" waits in %s%s%s for %s", name_of_routine(me), me->call, me->place == NULL ? "" : " at ",
 	    me->place == NULL ? "" : me->place, found.what);
 	append(text, room, more);
 	if (found.on != NULL && found.on != me) {
-		snprintf(more, sizeof(more), " of thread \"%s\"", name_it(found.on));
+		snprintf(more, sizeof(more), " of thread \"%s\"", name_of_routine(found.on));
 		append(text, room, more);
 	}
 	return found.on;

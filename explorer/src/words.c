@@ -9,7 +9,7 @@
 #include "inside.h"
 
 /* What was left at a thing. */
-static uint32_t *left_at(enum kind kind, const volatile void *address, unsigned cpu)
+static uint32_t *clock_at(enum kind kind, const volatile void *address, unsigned cpu)
 {
 	uintptr_t of = ((uintptr_t)address * 31 + (uintptr_t)kind) * (UINT8_MAX + 1) + cpu % (UINT8_MAX + 1);
 	return ((struct sync *)row_for(SYNCS, of))->clock;
@@ -20,14 +20,14 @@ void release_clock(enum kind kind, const volatile void *address, unsigned cpu)
 	struct routine *me = run.current;
 	if (me == NULL)
 		return;
-	join(left_at(kind, address, cpu), me->clock);
+	join(clock_at(kind, address, cpu), me->clock);
 	me->clock[me->number]++;
 }
 
 void acquire_clock(enum kind kind, const volatile void *address, unsigned cpu)
 {
 	if (run.current != NULL)
-		join(run.current->clock, left_at(kind, address, cpu));
+		join(run.current->clock, clock_at(kind, address, cpu));
 }
 
 /* The running thread comes after all that the others have done. */
@@ -84,7 +84,7 @@ static void pass_barrier(struct routine *me, unsigned how)
 /* A store that doesn't load ends what the stores before it have left. */
 static void order_access(struct routine *me, const volatile void *address, unsigned how)
 {
-	uint32_t *left = left_at(ON_MEMORY, address, 0);
+	uint32_t *left = clock_at(ON_MEMORY, address, 0);
 	if ((how & KUPALDIZ_LOADS) != 0)
 		join((how & KUPALDIZ_ACQUIRES) != 0 ? me->clock : me->pending, left);
 	if ((how & KUPALDIZ_STORES) == 0)

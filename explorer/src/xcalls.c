@@ -23,13 +23,13 @@ static struct xcall *first, **last = &first;
 static uint64_t asked, made;
 static struct routine *caller;
 
-static bool is_asked(const struct routine *me)
+static bool has_xcall(const struct routine *me)
 {
 	(void)me;
 	return first != NULL;
 }
 
-bool is_made(const struct routine *me)
+bool is_xcall_complete(const struct routine *me)
 {
 	return made >= me->noted;
 }
@@ -55,7 +55,7 @@ static void make_calls(void *arg)
 	(void)arg;
 	(void)named_thread("xcall", "xcall");
 	for (;;) {
-		point("xcall", NULL, is_asked, NULL);
+		point("xcall", NULL, has_xcall, NULL);
 		touch(ON_XCALL, NULL, 0, WRITES | ACQUIRES);
 		const struct xcall *xcall = first;
 		first = xcall->next;
@@ -70,7 +70,7 @@ static void make_calls(void *arg)
 }
 
 /* Asks for a call. What xc_wait takes. */
-static uint64_t ask(const struct xcall *asked_for)
+static uint64_t enqueue_xcall(const struct xcall *asked_for)
 {
 	struct xcall *xcall = allocate(sizeof(*xcall), 16, false);
 	if (caller == NULL)
@@ -87,26 +87,26 @@ uint64_t xc_broadcast(unsigned flags, xcfunc_t body, void *arg_a, void *arg_b)
 {
 	at_call(__func__);
 	const struct thread *me = begin_call(__func__);
-	want_sleepable(me);
-	return ask(&(struct xcall){.flags = flags, .body = body, .arg_a = arg_a, .arg_b = arg_b, .place = me->place});
+	require_sleepable(me);
+	return enqueue_xcall(&(struct xcall){.flags = flags, .body = body, .arg_a = arg_a, .arg_b = arg_b, .place = me->place});
 }
 
 uint64_t xc_unicast(unsigned flags, xcfunc_t body, void *arg_a, void *arg_b, struct cpu_info *cpu)
 {
 	at_call(__func__);
-	want_sleepable(begin_plain(__func__));
-	return ask(&(struct xcall){.flags = flags, .body = body, .arg_a = arg_a, .arg_b = arg_b, .cpu = cpu});
+	require_sleepable(begin_plain(__func__));
+	return enqueue_xcall(&(struct xcall){.flags = flags, .body = body, .arg_a = arg_a, .arg_b = arg_b, .cpu = cpu});
 }
 
 void xc_wait(uint64_t ticket)
 {
 	struct routine *me = here(__func__);
 	const struct thread *self = begin_plain(__func__);
-	want_sleepable(self);
+	require_sleepable(self);
 	if (ticket == 0 || ticket > asked)
 		stop(self, "no such call");
 	me->noted = ticket;
-	point(__func__, NULL, is_made, NULL);
+	point(__func__, NULL, is_xcall_complete, NULL);
 	touch(ON_XCALL, NULL, 0, ACQUIRES);
 }
 

@@ -277,6 +277,36 @@ static void test_barred(void)
 	EXPECT(found.throttled > 0 && !found.exhausted && found.random == 0);
 }
 
+/* Two pauses: with one early end in a run orders are left out, and the verdict says so. With two nothing is. */
+BODY(pause_twice)
+{
+	(void)kpause("pauses", false, 1, NULL);
+	(void)kpause("pauses", false, 1, NULL);
+}
+
+BODY(look_at_time)
+{
+	(void)getticks();
+	(void)getticks();
+}
+
+static void make_pauses(void)
+{
+	bench_thread("pauses", pause_twice, NULL);
+	bench_thread("looks", look_at_time, NULL);
+}
+
+static void test_hurried(void)
+{
+	struct bench_found found;
+	struct bench_options options = {.quiet = true, .found = &found};
+	EXPECT(bench_explore(make_pauses, &options) == 0);
+	EXPECT(found.hurried > 0 && found.complete && !found.exhausted && found.throttled == 0 && found.random == 0);
+	options.ticks = 2;
+	EXPECT(bench_explore(make_pauses, &options) == 0);
+	EXPECT(found.hurried == 0 && found.exhausted);
+}
+
 /* ---- Questions: what one thread asks another one may change at the same time, so both answers are come to. ---- */
 
 static krwlock_t rw;
@@ -510,6 +540,7 @@ int main(void)
 	test_full_set();
 	test_random_spins();
 	test_barred();
+	test_hurried();
 	test_count(1, 1, 0, 0);
 	test_count(3, 3, 0, 0);
 	test_count(2, 2, 2, 0);

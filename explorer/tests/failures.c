@@ -252,11 +252,11 @@ static bool tells_what_is_left_out(void)
 	static const struct find timed = {.first = wait_for_time, .second = make_ready, .finish = end_lock};
 	struct bench_found found;
 	struct bench_options options = {.quiet = true};
-	bool right = !goes_wrong(&timed, options, 0, &found) && found.exhausted && found.failures == 0;
+	bool right = !goes_wrong(&timed, options, 0, &found) && is_tried(&found) && found.failures == 0;
 	options.schedules = found.schedules + found.cut;
-	right &= !goes_wrong(&timed, options, 0, &found) && found.exhausted;
+	right &= !goes_wrong(&timed, options, 0, &found) && is_tried(&found);
 	options.bounded = options.random = 1;
-	return right && !goes_wrong(&timed, options, 1, &found) && !found.exhausted && !found.complete && found.failures > 0;
+	return right && !goes_wrong(&timed, options, 1, &found) && !found.complete && found.failures > 0;
 }
 
 int main(int count_of_words, char **words)

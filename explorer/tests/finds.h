@@ -78,7 +78,7 @@ static inline bool is_fault(const struct find *find, const struct bench_found *f
 static inline bool has_outcomes(const struct find *find, const struct bench_found *found)
 {
 	unsigned wanted = 0;
-	bool right = found->exhausted;
+	bool right = is_tried(found);
 	while (wanted < 8 && find->outcomes[wanted] != NULL)
 		right &= has_outcome(found, find->outcomes[wanted++]);
 	return right && found->outcomes == wanted;

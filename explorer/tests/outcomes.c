@@ -44,7 +44,7 @@ static struct psref_class *things;
 static struct psref_target target;
 static struct localcount local;
 static bool drained;
-static void *softint, *plain_softint, *own_softints[MOST];
+static void *own_softints[MOST];
 static unsigned *blocks[MOST];
 static callout_t callout;
 static char seen[MOST][LONGEST + 1];
@@ -53,7 +53,7 @@ static unsigned count[MOST];
 /* What a program's own books say is no access of it. */
 #define UNSEEN	__attribute__((no_sanitize("thread")))
 
-UNSEEN static void see(unsigned thread, unsigned value)
+UNSEEN static void observe(unsigned thread, unsigned value)
 {
 	if (count[thread] < LONGEST)
 		seen[thread][count[thread]++] = (char)(value == 0 ? '-' : 'a' + (value - 1) % 26);
@@ -76,7 +76,16 @@ static void store_both(unsigned value)
 
 HANDLER(count_plainly, plains[0]++)
 HANDLER(handle, atomic_store_relaxed(&words[1], 26))
+HANDLER(lock_and_store, atomic_store_relaxed(&words[0], 23); mutex_enter(&locks[0]); atomic_store_relaxed(&words[1], 22); mutex_exit(&locks[0]))
 HANDLER(ring, atomic_store_relaxed(&words[0], 25))
+
+/* Soft interrupts that any thread schedules. */
+enum { STORES, COUNTS, LOCKS, SOFTINTS };
+static struct {
+	const char *letters;
+	void (*handler)(void *);
+	void *cookie;
+} softints[SOFTINTS] = {[STORES] = {"ih", handle}, [COUNTS] = {"p", count_plainly}, [LOCKS] = {"m", lock_and_store}};
 
 UNSEEN static void change_block(void *arg)
 {
@@ -85,7 +94,7 @@ UNSEEN static void change_block(void *arg)
 }
 
 /* Whether the program does one of these things: what it doesn't need isn't made. */
-static bool does(const char *letters)
+static bool uses(const char *letters)
 {
 	for (unsigned at = 0; at < MOST; at++)
 		if (strpbrk(texts[at], letters) != NULL)
@@ -96,7 +105,7 @@ static bool does(const char *letters)
 static void try_lock(unsigned thread)
 {
 	int taken = mutex_tryenter(&locks[0]);
-	see(thread, (unsigned)taken);
+	observe(thread, (unsigned)taken);
 	if (taken)
 		mutex_exit(&locks[0]);
 }
@@ -114,7 +123,7 @@ static void wait_for_a_tick(unsigned thread)
 {
 	mutex_enter(&locks[0]);
 	if (!flag)
-		see(thread, cv_timedwait(&cv, &locks[0], 1) == 0 ? 1 : 2);
+		observe(thread, cv_timedwait(&cv, &locks[0], 1) == 0 ? 1 : 2);
 	mutex_exit(&locks[0]);
 }
 
@@ -145,9 +154,9 @@ static void count_in(unsigned thread)
 	if (found)
 		localcount_acquire(&local);
 	pserialize_read_exit(s);
-	see(thread, found);
+	observe(thread, found);
 	if (found) {
-		see(thread, atomic_load_relaxed(&words[1]));
+		observe(thread, atomic_load_relaxed(&words[1]));
 		localcount_release(&local, &cv, &locks[1]);
 	}
 }
@@ -171,7 +180,7 @@ static void set_flag(void)
 }
 
 /* Acquires a reference where the target isn't gone, and looks at a word while it has it. */
-static void refer(unsigned thread)
+static void use_target(unsigned thread)
 {
 	struct psref psref;
 	int bound = curlwp_bind(), s = pserialize_read_enter();
@@ -179,9 +188,9 @@ static void refer(unsigned thread)
 	if (found)
 		psref_acquire(&psref, &target, things);
 	pserialize_read_exit(s);
-	see(thread, found);
+	observe(thread, found);
 	if (found) {
-		see(thread, atomic_load_relaxed(&words[0]));
+		observe(thread, atomic_load_relaxed(&words[0]));
 		psref_release(&psref, &target, things);
 	}
 	curlwp_bindx(bound);
@@ -201,7 +210,7 @@ static void make_thread(unsigned thread)
 {
 	lwp_t *made;
 	EXPECT(kthread_create(PRI_NONE, KTHREAD_MUSTJOIN, NULL, store_and_exit, NULL, &made, "worker") == 0);
-	see(thread, atomic_load_relaxed(&words[0]));
+	observe(thread, atomic_load_relaxed(&words[0]));
 	kthread_join(made);
 }
 
@@ -211,19 +220,19 @@ static void lock_words(unsigned thread, krw_t how, unsigned value)
 	if (how == RW_WRITER)
 		atomic_store_relaxed(&words[0], value);
 	else
-		see(thread, atomic_load_relaxed(&words[0]));
+		observe(thread, atomic_load_relaxed(&words[0]));
 	rw_exit(&rw);
 }
 
 /* Does what a letter says. */
-UNSEEN static void act(unsigned thread, char letter, unsigned value)
+UNSEEN static void execute(unsigned thread, char letter, unsigned value)
 {
 	switch (letter) {
-	case 'a': see(thread, atomic_load_relaxed(&words[0])); break;
-	case 'b': see(thread, atomic_load_relaxed(&words[1])); break;
+	case 'a': observe(thread, atomic_load_relaxed(&words[0])); break;
+	case 'b': observe(thread, atomic_load_relaxed(&words[1])); break;
 	case 'A': atomic_store_relaxed(&words[0], value); break;
 	case 'B': atomic_store_relaxed(&words[1], value); break;
-	case '+': see(thread, atomic_inc_uint_nv(&words[0])); break;
+	case '+': observe(thread, atomic_inc_uint_nv(&words[0])); break;
 	case '(': mutex_enter(&locks[0]); break;
 	case ')': mutex_exit(&locks[0]); break;
 	case '[': mutex_enter(&locks[1]); break;
@@ -236,15 +245,18 @@ UNSEEN static void act(unsigned thread, char letter, unsigned value)
 	case 's': set_flag(); break;
 	case 'r': lock_words(thread, RW_READER, value); break;
 	case 'W': lock_words(thread, RW_WRITER, value); break;
-	case 'g': refer(thread); break;
+	case 'g': use_target(thread); break;
 	case 'D': end_target(); break;
 	case 'h': break;
-	case 'i': softint_schedule(softint); break;
+	case 'i': softint_schedule(softints[STORES].cookie); break;
 	case 'o': callout_reset(&callout, 1, ring, NULL); break;
 	case 'O': (void)callout_halt(&callout, NULL); break;
 	case 'c': kupaldiz_bind(0); break;
 	case 'k': (void)kpause("outcomes", false, 1, NULL); break;
-	case 'v': see(thread, (unsigned)getticks()); break;
+	case 'K': (void)kpause("outcomes", false, 2, NULL); break;
+	case 'd': delay(10000); break;
+	case 'm': softint_schedule(softints[LOCKS].cookie); break;
+	case 'v': observe(thread, (unsigned)getticks()); break;
 	case 'T': wait_for_a_tick(thread); break;
 	case 'S': cv_signal(&cv); break;
 	case 'j': schedule_own(thread); break;
@@ -252,13 +264,13 @@ UNSEEN static void act(unsigned thread, char letter, unsigned value)
 	case 'f': end_softint(thread, true); break;
 	case 'l': (void)splnet(); break;
 	case 'L': splx(IPL_NONE); break;
-	case 'x': see(thread, load(0)); break;
-	case 'y': see(thread, load(1)); break;
+	case 'x': observe(thread, load(0)); break;
+	case 'y': observe(thread, load(1)); break;
 	case 'X': store(0, value); break;
 	case 'Y': store(1, value); break;
 	case '#': count_plainly(NULL); break;
 	case 'z': store_both(value); break;
-	case 'p': softint_schedule(plain_softint); break;
+	case 'p': softint_schedule(softints[COUNTS].cookie); break;
 	case '{': mutex_enter(&spin); break;
 	case '}': mutex_exit(&spin); break;
 	case 'n': make_thread(thread); break;
@@ -273,44 +285,43 @@ UNSEEN static void run_text(void *arg)
 	const char *text = arg;
 	unsigned thread = (unsigned)((char(*)[LONGEST])arg - texts);
 	for (unsigned at = 0; text[at] != '\0'; at++)
-		act(thread, text[at], thread * 8 + at + 1);
+		execute(thread, text[at], thread * 8 + at + 1);
 }
 
-#define WITH_LOCKS	"()[]twsTSqQ"
+#define WITH_LOCKS	"()[]twsTSqQm"
 #define WITH_CV		"wsTSqQ"
 #define WITH_SECTIONS	"<>PgDqQ"
 #define PLAINLY		"xyXYz#p"
 #define NOT_BESIDE	PLAINLY "v"	/* a processor reorders plain accesses; real time is another one */
 
 /* A soft interrupt waits on CPU 0 from the beginning, and its thread is made before the others. */
-static void schedule_early(void) { kupaldiz_bind(0); softint_schedule(softint); kupaldiz_unbind(); }
+static void schedule_early(void) { kupaldiz_bind(0); softint_schedule(softints[STORES].cookie); kupaldiz_unbind(); }
 
 static void begin(void)
 {
 	static const char *const names[] = {"one", "two", "three", "four"};
-	for (unsigned at = 0; at < 2 && does(WITH_LOCKS); at++)
-		mutex_init(&locks[at], MUTEX_DEFAULT, IPL_NONE);
-	if (does("rW"))
+	for (unsigned at = 0; at < 2 && uses(WITH_LOCKS); at++)
+		mutex_init(&locks[at], MUTEX_DEFAULT, IPL_SOFTNET);
+	if (uses("rW"))
 		rw_init(&rw);
-	if (does(WITH_CV))
+	if (uses(WITH_CV))
 		cv_init(&cv, "flag");
-	if (does(WITH_SECTIONS))
+	if (uses(WITH_SECTIONS))
 		psz = pserialize_create();
-	if (does("gD")) {
+	if (uses("gD")) {
 		things = psref_class_create("thing", IPL_SOFTNET);
 		psref_target_init(&target, things);
 	}
-	if (does("{}"))
-		mutex_init(&spin, MUTEX_DEFAULT, IPL_SOFTNET);
-	if (does("ih"))
-		softint = softint_establish(SOFTINT_NET | SOFTINT_MPSAFE, handle, NULL);
-	if (does("h"))
+	if (uses("{}"))
+		mutex_init(&spin, MUTEX_SPIN, IPL_SOFTNET);
+	for (unsigned at = 0; at < SOFTINTS; at++)
+		if (uses(softints[at].letters))
+			softints[at].cookie = softint_establish(SOFTINT_NET | SOFTINT_MPSAFE, softints[at].handler, NULL);
+	if (uses("h"))
 		schedule_early();
-	if (does("p"))
-		plain_softint = softint_establish(SOFTINT_NET | SOFTINT_MPSAFE, count_plainly, NULL);
-	if (does("oO"))
+	if (uses("oO"))
 		callout_init(&callout, 0);
-	if (does("qQ"))
+	if (uses("qQ"))
 		localcount_init(&local);
 	for (unsigned at = 0; at < MOST; at++) {
 		if (strpbrk(texts[at], "jef") != NULL) {
@@ -324,25 +335,25 @@ static void begin(void)
 
 static void end_references(void)
 {
-	if (does("qQ") && !drained)
+	if (uses("qQ") && !drained)
 		drain();
-	if (does("gD") && !gone)
+	if (uses("gD") && !gone)
 		psref_target_destroy(&target, things);
-	if (does("gD"))
+	if (uses("gD"))
 		psref_class_destroy(things);
-	if (does(WITH_SECTIONS))
+	if (uses(WITH_SECTIONS))
 		pserialize_destroy(psz);
 }
 
 static void end_locks(void)
 {
-	for (unsigned at = 0; at < 2 && does(WITH_LOCKS); at++)
+	for (unsigned at = 0; at < 2 && uses(WITH_LOCKS); at++)
 		mutex_destroy(&locks[at]);
-	if (does("rW"))
+	if (uses("rW"))
 		rw_destroy(&rw);
-	if (does("{}"))
+	if (uses("{}"))
 		mutex_destroy(&spin);
-	if (does(WITH_CV))
+	if (uses(WITH_CV))
 		cv_destroy(&cv);
 }
 
@@ -353,29 +364,29 @@ static void finish(void)
 	for (unsigned at = 0; at < MOST; at++)
 		end_softint(at, false);
 	/* A soft interrupt of real threads may run later. */
-	if (!prints || !does("iohj"))
+	if (!prints || !uses("iohjm"))
 		bench_outcome("%u %u %u %u", words[0], words[1], plains[0], plains[1]);
-	if (does("oO")) {
+	if (uses("oO")) {
 		(void)callout_halt(&callout, NULL);
 		callout_destroy(&callout);
 	}
-	if (does("ih"))
-		softint_disestablish(softint);
-	if (does("p"))
-		softint_disestablish(plain_softint);
+	for (unsigned at = 0; at < SOFTINTS; at++)
+		if (uses(softints[at].letters))
+			softint_disestablish(softints[at].cookie);
 	end_references();
 	end_locks();
 }
 
 /* A program that has more schedules without the reduction is too long. */
 static uint64_t most_schedules = 15000;
+static unsigned ticks = 1;	/* how often the clock may jump */
 
 static struct bench_found explore(bool whole)
 {
 	struct bench_found found;
 	/* A real thread may be late by several ticks on a busy machine. */
 	const struct bench_options options = {.quiet = true, .whole = whole, .reliable = true, .schedules = most_schedules, .finish = finish, .found = &found, .bounded = 1,
-	    .preemptions = 1, .random = 1, .racy = racy, .ticks = prints ? 3 : 1};
+	    .preemptions = 1, .random = 1, .racy = racy, .ticks = prints ? 3 : ticks};
 	bench_explore(begin, &options);
 	return found;
 }
@@ -383,30 +394,29 @@ static struct bench_found explore(bool whole)
 static void show(const struct bench_found *found, const char *which)
 {
 	printf("%s: %llu schedules, %u outcomes, %s%s\n", which, (unsigned long long)found->schedules, found->outcomes, found->line,
-	    found->exhausted ? "" : " (not exhausted)");
+	    is_tried(found) ? "" : " (not tried)");
 	for (unsigned at = 0; at < found->outcomes; at++)
 		printf("    %s\n", found->outcome[at].text);
 }
 
-static bool are_same(const struct bench_found *whole, const struct bench_found *reduced)
+/* Whether the reduced search has found a fault where the other one has, else each outcome of that one; and nothing more, if that one has tried all. */
+static bool agree(const struct bench_found *whole, const struct bench_found *reduced)
 {
-	if ((whole->first != 0) != (reduced->first != 0))
-		return false;
-	if (whole->first != 0)
-		return true;
+	if (whole->first != 0 || reduced->first != 0)
+		return reduced->first != 0 && (whole->first != 0 || !is_tried(whole));
 	for (unsigned at = 0; at < whole->outcomes; at++)
 		if (!has_outcome(reduced, whole->outcome[at].text))
 			return false;
-	return whole->outcomes == reduced->outcomes;
+	return is_tried(reduced) && (!is_tried(whole) || whole->outcomes == reduced->outcomes);
 }
 
 static unsigned long long wholes, reduceds;
-static unsigned compared, faults, skipped;
+static unsigned compared, faults, begun, skipped;
 
 static void print_outcomes(void)
 {
 	struct bench_found found = explore(false);
-	bool whole = found.first == 0 && (found.exhausted || found.states == 0);
+	bool whole = found.first == 0 && (is_tried(&found) || found.states == 0);
 	for (unsigned at = 0; at < found.outcomes && whole; at++)
 		printf("%s|%s|%s: %s\n", texts[0], texts[1], texts[2], found.outcome[at].text);
 	if (!whole)
@@ -416,43 +426,26 @@ static void print_outcomes(void)
 /* Compares the two ways of the search for the program that is written. */
 static void compare(void)
 {
-	if (prints && !does(NOT_BESIDE))
+	if (prints && !uses(NOT_BESIDE))
 		print_outcomes();
 	if (prints)
 		return;
-	struct bench_found whole = explore(true);
-	if ((!whole.exhausted && whole.first == 0) || whole.others > 0) {
+	struct bench_found whole = explore(true), reduced = explore(false);
+	bool all = is_tried(&whole) || whole.first != 0;
+	if (whole.others > 0 || (!all && !is_tried(&reduced) && reduced.first == 0)) {
 		skipped++;
 		return;
 	}
-	struct bench_found reduced = explore(false);
-	compared++;
+	*(all ? &compared : &begun) += 1;
 	faults += whole.first != 0;
 	wholes += whole.schedules;
 	reduceds += reduced.schedules + reduced.cut;
-	if (are_same(&whole, &reduced) && (whole.first != 0 || reduced.exhausted))
+	if (agree(&whole, &reduced))
 		return;
-	printf("different%s: %s | %s | %s | %s\n", racy ? ", racy" : "", texts[0], texts[1], texts[2], texts[3]);
+	printf("different%s, ticks %u: %s | %s | %s | %s\n", racy ? ", racy" : "", ticks, texts[0], texts[1], texts[2], texts[3]);
 	show(&whole, "whole");
 	show(&reduced, "reduced");
 	exit(1);
-}
-
-static void write_text(unsigned thread, const char *text)
-{
-	snprintf(texts[thread], LONGEST, "%s", text);
-}
-
-static void try(const char *first, const char *second, const char *third)
-{
-	write_text(0, first);
-	write_text(1, second);
-	write_text(2, third);
-	racy = false;
-	compare();
-	racy = does(PLAINLY);
-	if (racy)
-		compare();
 }
 
 /* ---- Random programs: balanced in their locks and sections. ---- */
@@ -476,7 +469,7 @@ static void make_text(char *text, unsigned parts)
 {
 	static const char *const pieces[] = {"a", "b", "A", "B", "+", "(a)", "[A]", "([B])", "t", "<a>", "<ab>", "P", "(A)", "r", "W", "AB", "ba", "s", "w", "g", "i",
 	    "k", "o", "oO", "<iab>", "<iA>", "<ib>", "T", "TS", "S", "j", "je", "jAe", "jf", "lAL", "lAjL", "q",
-	    "q", "(S)", "kA", "x", "X", "xy", "Y", "z", "(x)", "(X)", "[Y]", "#", "({#})", "{x}", "<y>", "lXL", "lpyL", "p", "n", "B(t)", "v", "vS"};
+	    "q", "(S)", "kA", "x", "X", "xy", "Y", "z", "(x)", "(X)", "[Y]", "#", "({#})", "{x}", "<y>", "lXL", "lpyL", "p", "n", "B(t)", "v", "vS", "K", "d", "kv", "m", "(m)"};
 	for (unsigned at = 0; at < parts; at++)
 		add(text, pieces[pick(sizeof(pieces) / sizeof(pieces[0]))]);
 }
@@ -486,7 +479,7 @@ static unsigned points_of(const char *text)
 {
 	unsigned points = 0;
 	for (; *text != '\0'; text++)
-		points += strchr("gqDQ", *text) != NULL ? 6 : strchr("twsTjfeoOrWnph", *text) != NULL ? 3 : *text != 'c';
+		points += strchr("gqDQ", *text) != NULL ? 6 : strchr("twsTjfeoOrWnphm", *text) != NULL ? 3 : *text != 'c';
 	return points;
 }
 
@@ -498,10 +491,10 @@ static bool is_short(unsigned threads)
 	for (unsigned thread = 0; thread < threads; thread++)
 		for (unsigned own = 1, all = points_of(texts[thread]); own <= all; own++)
 			orders = orders * ++points / own;
-	return orders < 4 * (double)most_schedules;
+	return 4 * orders < (double)most_schedules;
 }
 
-static void try_random(uint64_t of)
+static void compare_random(uint64_t of)
 {
 	seed = of * 2654435761u + 7;
 	memset(texts, 0, sizeof(texts));
@@ -515,71 +508,34 @@ static void try_random(uint64_t of)
 	if (pick(4) == 0)
 		add(texts[threads - 1], pick(2) == 0 ? "D" : "Q");
 	racy = pick(4) > 0;
+	ticks = 1 + pick(4) / 3;
 	if (seconds == 0 || is_short(threads))
 		compare();
 }
 
-/* The programs that are written here. */
-static void try_written(void)
+/* The programs that are written here: the texts of up to three threads. */
+static const char *const written[][3] = {
+	{"Ab", "Ba"}, {"A", "A", "a"}, {"(a)(A)", "(a)(A)"}, {"([A])", "[(A)]"}, {"<ab>", "APB"}, {"<a><b>", "AP", "BP"}, {"w", "s"}, {"w", "w", "s"},
+	{"w", "a", "b"}, {"(t)", "(a)"}, {"ia", "b", "A"}, {"<iab>", "A"}, {"<iB>b", "b"}, {"g", "D"}, {"gA", "D"}, {"g", "g", "D"}, {"r", "W", "r"},
+	{"ka", "A"}, {"kA", "ka"}, {"oa", "a"}, {"o", "<a>O"}, {"oOa", "A"}, {"c<a>A", "c<aA>"}, {"c<ab>i", "cA", "B"}, {"c(a)", "c<A>", "(a)"}, {"T", "s"},
+	{"T", "S", "s"}, {"T", "T", "S"}, {"T", "vS"}, {"je", "a"}, {"jf", "a"}, {"jAe", "ab"}, {"cjlAALe", "a"}, {"cjlALb", "cA", "oO"}, {"q", "Q"},
+	{"q", "q", "Q"}, {"T", "jS", "k"}, {"ba", "je"}, {"TST", "S(A)", "AB"}, {"s", "TS", "T"}, {"lAjL", "jf"}, {"#", "#"}, {"xY", "yX"}, {"(X)", "[x]"},
+	{"(#)", "(#)", "(x)"}, {"X(A)", "(a)x"}, {"X{a}", "{A}Y", "y"}, {"{#}", "c{p}"}, {"clpxL", "x"}, {"n", "Ba"}, {"nx", "Xb"}, {"A(a)", "ko"}, {"o"},
+	{"z", "y"}, {"Ab", "aB", "ab"}, {"t", "[A](a)"}, {"hc<b>"}, {"T", "oaS"}, {"cai", "cb<A>"}, {"kv", "kv"}, {"hc<bb>", "B"}, {"cm", "()", "c<ab>"},
+	{"K", "dv", "k"}, {"ckj", "cj"},
+};
+
+static void compare_written(void)
 {
-	try("Ab", "Ba", "");
-	try("A", "A", "a");
-	try("(a)(A)", "(a)(A)", "");
-	try("([A])", "[(A)]", "");
-	try("<ab>", "APB", "");
-	try("<a><b>", "AP", "BP");
-	try("w", "s", "");
-	try("w", "w", "s");
-	try("w", "a", "b");
-	try("(t)", "(a)", "");
-	try("ia", "b", "A");
-	try("<iab>", "A", "");
-	try("<iB>b", "b", "");
-	try("g", "D", "");
-	try("gA", "D", "");
-	try("g", "g", "D");
-	try("r", "W", "r");
-	try("ka", "A", "");
-	try("kA", "ka", "");
-	try("oa", "a", "");
-	try("o", "<a>O", "");
-	try("oOa", "A", "");
-	try("c<a>A", "c<aA>", "");
-	try("c<ab>i", "cA", "B");
-	try("c(a)", "c<A>", "(a)");
-	try("T", "s", "");
-	try("T", "S", "s");
-	try("T", "T", "S");
-	try("T", "vS", "");
-	try("je", "a", "");
-	try("jf", "a", "");
-	try("jAe", "ab", "");
-	try("cjlAALe", "a", "");
-	try("cjlALb", "cA", "oO");
-	try("q", "Q", "");
-	try("q", "q", "Q");
-	try("T", "jS", "k");
-	try("ba", "je", "");
-	try("TST", "S(A)", "AB");
-	try("s", "TS", "T");
-	try("lAjL", "jf", "");
-	try("#", "#", "");
-	try("xY", "yX", "");
-	try("(X)", "[x]", "");
-	try("(#)", "(#)", "(x)");
-	try("X(A)", "(a)x", "");
-	try("X{a}", "{A}Y", "y");
-	try("{#}", "c{p}", "");
-	try("clpxL", "x", "");
-	try("n", "Ba", "");
-	try("nx", "Xb", "");
-	try("A(a)", "ko", "");
-	try("o", "", "");
-	try("z", "y", "");
-	try("Ab", "aB", "ab");
-	try("t", "[A](a)", "");
-	try("hc<b>", "", "");
-	try("T", "oaS", "");
+	for (unsigned row = 0; row < sizeof(written) / sizeof(written[0]); row++) {
+		for (unsigned thread = 0; thread < 3; thread++)
+			snprintf(texts[thread], LONGEST, "%s", written[row][thread] == NULL ? "" : written[row][thread]);
+		racy = false;
+		compare();
+		racy = uses(PLAINLY);
+		if (racy)
+			compare();
+	}
 }
 
 static time_t now(void)
@@ -589,15 +545,21 @@ static time_t now(void)
 	return time.tv_sec;
 }
 
-static int try_for_a_while(uint64_t first)
+static void print_counts(void)
 {
-	most_schedules = 400;
-	try_written();
+	printf("%u programs have the same outcomes by %llu schedules as by %llu; %u of them a fault; of %u others a part was compared; %u were too long\n",
+	    compared, reduceds, wholes, faults, begun, skipped);
+}
+
+static int compare_for_a_while(uint64_t first)
+{
+	most_schedules = 150;
+	compare_written();
 	for (time_t end = now() + seconds; now() < end; first++)
-		try_random(first);
+		compare_random(first);
 	EXPECT(2 * faults < compared);
-	printf("%u programs in %u seconds: the same outcomes by %llu schedules as by %llu; %u of them with a fault; %u others were too long\n", compared,
-	    seconds, reduceds, wholes, faults, skipped);
+	printf("in %u seconds ", seconds);
+	print_counts();
 	return 0;
 }
 
@@ -605,17 +567,16 @@ int main(int count_of_words, char **given)
 {
 	if (count_of_words == 4 && strcmp(given[1], "for") == 0) {
 		seconds = (unsigned)atoi(given[2]);
-		return try_for_a_while(strtoull(given[3], NULL, 10));
+		return compare_for_a_while(strtoull(given[3], NULL, 10));
 	}
 	prints = count_of_words == 4 && strcmp(given[1], "print") == 0;
 	unsigned first = count_of_words >= 3 ? (unsigned)atoi(given[count_of_words - 2]) : 1;
 	unsigned number = count_of_words >= 3 ? (unsigned)atoi(given[count_of_words - 1]) : 60;
-	try_written();
+	compare_written();
 	for (unsigned at = 0; at < number; at++)
-		try_random(first + at);
+		compare_random(first + at);
 	EXPECT(prints || 2 * faults < compared);
 	if (!prints)
-		printf("%u programs: the same outcomes by %llu schedules as by %llu; %u of them with a fault; %u were too long\n", compared, reduceds, wholes,
-		    faults, skipped);
+		print_counts();
 	return 0;
 }

@@ -43,7 +43,7 @@ static void open_registry(struct thread *me, struct bank *bank)
 	const struct registry_settings settings = {
 	    ALL_CPUS, ROWS, KUPALDIZ_CHANGES, KUPALDIZ_SECTIONS, KUPALDIZ_REFERENCES, KUPALDIZ_REFERENCES};
 	struct registry_cpu handles[ALL_CPUS] = {{0}};
-	done(me, registry_open(&settings, &bank->keeper, handles, ALL_CPUS));
+	must_succeed(me, registry_open(&settings, &bank->keeper, handles, ALL_CPUS));
 	for (unsigned cpu = 0; cpu < ALL_CPUS; cpu++)
 		bank->cpus[cpu].cpu = handles[cpu];
 	bank->used_up = bank->swept = false;
@@ -60,8 +60,8 @@ static void retire_bank(struct bank *bank)
 static void reopen(struct thread *me, struct bank *bank)
 {
 	for (unsigned cpu = 0; cpu < ALL_CPUS; cpu++)
-		done(me, registry_close_cpu(&bank->cpus[cpu].cpu));
-	done(me, registry_close_keeper(&bank->keeper));
+		must_succeed(me, registry_close_cpu(&bank->cpus[cpu].cpu));
+	must_succeed(me, registry_close_keeper(&bank->keeper));
 	used_up--;
 	open_registry(me, bank);
 }
@@ -155,7 +155,7 @@ static struct registry_name name_for(struct thread *me, uint64_t serial)
 	char text[REGISTRY_NAME_BYTES + 8];
 	struct registry_name name;
 	int length = snprintf(text, sizeof(text), "t%llu", (unsigned long long)serial);
-	done(me, registry_name_parse(text, (size_t)length, &name, NULL));
+	must_succeed(me, registry_name_parse(text, (size_t)length, &name, NULL));
 	return name;
 }
 
@@ -191,7 +191,7 @@ static struct bank *attach_somewhere(struct thread *me, const struct registry_na
 		if (answer == REGISTRY_DONE)
 			return bank;
 		if (answer != REGISTRY_HISTORY_FULL)
-			done(me, answer);
+			must_succeed(me, answer);
 		retire_bank(bank);
 	}
 }
@@ -226,17 +226,17 @@ void retire_row(struct thread *me, struct found_row at, const void *owner)
 	if (at.row->retired || at.bank->owners[at.row - at.bank->rows] != owner)
 		stop(me, "another thread waits for it already");
 	at.row->retired = true;
-	done(me, registry_detach(&at.bank->keeper, writers(at.bank), REGISTRY_DRIVER, &at.row->name, NULL));
+	must_succeed(me, registry_detach(&at.bank->keeper, writers(at.bank), REGISTRY_DRIVER, &at.row->name, NULL));
 	exit_interlock();
 }
 
 /* One turn of destroying the entry of a row. Where nothing holds it any more, its slot is vacant and the row has no owner. */
-bool is_freed(struct thread *me, struct found_row at, struct registry_stage *met)
+bool try_free_row(struct thread *me, struct found_row at, struct registry_stage *met)
 {
 	enter_interlock();
 	uint32_t answer = registry_destroy(&at.bank->keeper, writers(at.bank), at.row->number, met);
 	if (answer != REGISTRY_STILL_HELD) {
-		done(me, answer);
+		must_succeed(me, answer);
 		COMES_AFTER(&at.row->gone);
 		free(at.row->held);
 		at.row->held = NULL;
@@ -267,7 +267,7 @@ void enter_section(struct thread *me)
 	uint32_t answer;
 	while ((answer = registry_enter(handle_of(me, me->cpu->bank))) == REGISTRY_SECTIONS_SPENT)
 		move_sections(me);
-	done(me, answer);
+	must_succeed(me, answer);
 	/* No test on x86-64 sees this fence: the enter is one there. Elsewhere the list could be loaded before the section is seen. */
 	__atomic_thread_fence(__ATOMIC_SEQ_CST);
 }
@@ -275,7 +275,7 @@ void enter_section(struct thread *me)
 void exit_section(struct thread *me)
 {
 	COMES_BEFORE(&me->cpu->edge);
-	done(me, registry_exit(handle_of(me, me->cpu->bank)));
+	must_succeed(me, registry_exit(handle_of(me, me->cpu->bank)));
 }
 
 /* ---- Waits. ---- */
@@ -291,16 +291,16 @@ static void begin_bank_wait(struct thread *me, struct bank *bank, struct bank_wa
 {
 	bank->waits++;
 	wait->bank = bank;
-	done(me, registry_perform_begin(&bank->keeper, writers(bank), &wait->wait));
+	must_succeed(me, registry_perform_begin(&bank->keeper, writers(bank), &wait->wait));
 }
 
 /* One turn of a wait: whether all sections that were open as it began have ended. */
-static bool have_ended(struct thread *me, struct bank_wait *wait, uint64_t *waited)
+static bool poll_bank_wait(struct thread *me, struct bank_wait *wait, uint64_t *waited)
 {
 	enter_interlock();
 	uint32_t answer = registry_perform_turn(&wait->bank->keeper, writers(wait->bank), &wait->wait, waited);
 	if (answer != REGISTRY_WAITING) {
-		done(me, answer);
+		must_succeed(me, answer);
 		wait->bank->waits--;
 	}
 	exit_interlock();
@@ -311,9 +311,9 @@ static bool have_ended(struct thread *me, struct bank_wait *wait, uint64_t *wait
 static void end_bank_wait(struct thread *me, struct bank_wait *wait, struct pauses *pauses)
 {
 	struct registry_stage met = {REGISTRY_GRACE, 0};
-	while (!have_ended(me, wait, &met.what))
+	while (!poll_bank_wait(me, wait, &met.what))
 		if (pause_longer(pauses, &met))
-			tell_of_section(me, met.what);
+			report_section_wait(me, met.what);
 }
 
 /*
@@ -365,13 +365,13 @@ static void close_cpu(struct thread *me, struct registry_cpu *cpu)
 {
 	while (registry_exit(cpu) == REGISTRY_DONE)
 		;
-	done(me, registry_close_cpu(cpu));
+	must_succeed(me, registry_close_cpu(cpu));
 }
 
 static void forget_held(struct thread *me, struct row *row)
 {
 	for (size_t place = 0; place < row->count; place++)
-		done(me, registry_local_forget(&row->held[place].local));
+		must_succeed(me, registry_local_forget(&row->held[place].local));
 }
 
 static void close_bank(struct thread *me, struct bank *bank)
@@ -380,7 +380,7 @@ static void close_bank(struct thread *me, struct bank *bank)
 		forget_held(me, &bank->rows[slot]);
 	for (unsigned cpu = 0; cpu < ALL_CPUS; cpu++)
 		close_cpu(me, &bank->cpus[cpu].cpu);
-	done(me, registry_close_keeper(&bank->keeper));
+	must_succeed(me, registry_close_keeper(&bank->keeper));
 }
 
 /* Closes each registry. No thread goes on in a call, and none calls the layer again. */

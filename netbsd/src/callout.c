@@ -87,7 +87,7 @@ static void run_due(void *arg)
 }
 
 /* Tells the CPUs of those that are due, once each. When the next one is. The caller has the lock. */
-static int64_t tell_cpus(struct thread *me)
+static int64_t raise_due_softints(struct thread *me)
 {
 	int64_t next = INT64_MAX, time = now();
 	for (callout_t *at = callouts; at != NULL; at = at->c_next) {
@@ -109,7 +109,7 @@ static _Noreturn void *run_clock(void *arg)
 	(void)arg;
 	pthread_mutex_lock(&lock);
 	for (;;) {
-		int64_t next = tell_cpus(me);
+		int64_t next = raise_due_softints(me);
 		const struct timespec until = {next / 1000000000, (long)(next % 1000000000)};
 		if (next == INT64_MAX)
 			pthread_cond_wait(&changed, &lock);
@@ -119,7 +119,7 @@ static _Noreturn void *run_clock(void *arg)
 }
 
 /* The soft interrupt and the clock's thread, at the first callout. */
-static void begin(void)
+static void start_clock(void)
 {
 	pthread_t thread;
 	pthread_condattr_t monotonic;
@@ -133,7 +133,7 @@ static void begin(void)
 	pthread_detach(thread);
 }
 
-static void want_callout(const struct thread *me, const callout_t *callout)
+static void require_callout(const struct thread *me, const callout_t *callout)
 {
 	if (callout->c_made == ENDED)
 		stop(me, "the callout was destroyed");
@@ -145,12 +145,12 @@ void callout_init(callout_t *callout, unsigned flags)
 {
 	(void)flags;
 	(void)begin_plain(__func__);
-	pthread_once(&begun, begin);
+	pthread_once(&begun, start_clock);
 	*callout = (callout_t){.c_made = A_CALLOUT};
 }
 
 /* The first CPU that runs it on another thread than this one; KUPALDIZ_CPUS where none does. The caller has the lock. */
-static unsigned runs_on(const struct thread *me, const callout_t *callout)
+static unsigned running_cpu(const struct thread *me, const callout_t *callout)
 {
 	unsigned cpu = 0;
 	while (cpu < KUPALDIZ_CPUS && (running[cpu] != callout || runners[cpu] == me))
@@ -161,11 +161,11 @@ static unsigned runs_on(const struct thread *me, const callout_t *callout)
 void callout_destroy(callout_t *callout)
 {
 	struct thread *me = begin_call(__func__);
-	want_callout(me, callout);
+	require_callout(me, callout);
 	pthread_mutex_lock(&lock);
 	if ((callout->c_state & PENDING) != 0)
 		stop(me, "the callout is pending");
-	if (runs_on(me, callout) < KUPALDIZ_CPUS)
+	if (running_cpu(me, callout) < KUPALDIZ_CPUS)
 		stop(me, "the callout runs");
 	callout->c_made = ENDED;
 	pthread_mutex_unlock(&lock);
@@ -174,7 +174,7 @@ void callout_destroy(callout_t *callout)
 void callout_setfunc(callout_t *callout, void (*body)(void *), void *arg)
 {
 	struct thread *me = begin_plain(__func__);
-	want_callout(me, callout);
+	require_callout(me, callout);
 	pthread_mutex_lock(&lock);
 	callout->c_body = body;
 	callout->c_arg = arg;
@@ -199,7 +199,7 @@ static void make_pending(struct thread *me, callout_t *callout, int ticks)
 void callout_reset(callout_t *callout, int ticks, void (*body)(void *), void *arg)
 {
 	struct thread *me = begin_plain(__func__);
-	want_callout(me, callout);
+	require_callout(me, callout);
 	pthread_mutex_lock(&lock);
 	callout->c_body = body;
 	callout->c_arg = arg;
@@ -210,7 +210,7 @@ void callout_reset(callout_t *callout, int ticks, void (*body)(void *), void *ar
 void callout_schedule(callout_t *callout, int ticks)
 {
 	struct thread *me = begin_plain(__func__);
-	want_callout(me, callout);
+	require_callout(me, callout);
 	pthread_mutex_lock(&lock);
 	make_pending(me, callout, ticks);
 	pthread_mutex_unlock(&lock);
@@ -219,7 +219,7 @@ void callout_schedule(callout_t *callout, int ticks)
 bool callout_stop(callout_t *callout)
 {
 	struct thread *me = begin_plain(__func__);
-	want_callout(me, callout);
+	require_callout(me, callout);
 	pthread_mutex_lock(&lock);
 	bool expired = cancel(callout);
 	pthread_mutex_unlock(&lock);
@@ -241,12 +241,12 @@ static void await_end(struct thread *me, const callout_t *callout)
 	bool told = false;
 	int waits = begin_wait();
 	unsigned cpu;
-	while ((cpu = runs_on(me, callout)) < KUPALDIZ_CPUS) {
+	while ((cpu = running_cpu(me, callout)) < KUPALDIZ_CPUS) {
 		note_halt(callout);
 		if (told)
 			pthread_cond_wait(&changed, &lock);
 		else if (pthread_cond_timedwait(&changed, &lock, &tells) != 0 && (told = true))
-			say(me, "waits for CPU %u, which runs it", cpu);
+			report(me, "waits for CPU %u, which runs it", cpu);
 	}
 	end_wait(waits);
 }
@@ -254,29 +254,29 @@ static void await_end(struct thread *me, const callout_t *callout)
 bool callout_halt(callout_t *callout, void *interlock)
 {
 	struct thread *me = begin_call(__func__);
-	want_callout(me, callout);
+	require_callout(me, callout);
 	if (interlock != NULL && !has_mutex(me, interlock))
 		stop(me, "the thread does not have the lock");
 	pthread_mutex_lock(&lock);
-	bool expired = cancel(callout), runs = runs_on(me, callout) < KUPALDIZ_CPUS;
+	bool expired = cancel(callout), runs = running_cpu(me, callout) < KUPALDIZ_CPUS;
 	if (runs) {
 		if (interlock != NULL)
-			give_mutex(me, interlock);
-		want_sleepable(me);
+			release_mutex(me, interlock);
+		require_sleepable(me);
 		await_end(me, callout);
 		/* It may have been set since its body ended. */
 		cancel(callout);
 	}
 	pthread_mutex_unlock(&lock);
 	if (runs && interlock != NULL)
-		take_mutex(me, interlock);
+		acquire_mutex(me, interlock);
 	return expired;
 }
 
 /* Whether one of these holds of it. */
-static bool is(const char *call, callout_t *callout, uint32_t states)
+static bool has_state(const char *call, callout_t *callout, uint32_t states)
 {
-	want_callout(begin_plain(call), callout);
+	require_callout(begin_plain(call), callout);
 	pthread_mutex_lock(&lock);
 	bool holds = (callout->c_state & states) != 0;
 	pthread_mutex_unlock(&lock);
@@ -285,27 +285,27 @@ static bool is(const char *call, callout_t *callout, uint32_t states)
 
 bool callout_pending(callout_t *callout)
 {
-	return is(__func__, callout, PENDING);
+	return has_state(__func__, callout, PENDING);
 }
 
 bool callout_expired(callout_t *callout)
 {
-	return is(__func__, callout, FIRED);
+	return has_state(__func__, callout, FIRED);
 }
 
 bool callout_active(callout_t *callout)
 {
-	return is(__func__, callout, PENDING | FIRED);
+	return has_state(__func__, callout, PENDING | FIRED);
 }
 
 bool callout_invoking(callout_t *callout)
 {
-	return is(__func__, callout, INVOKING);
+	return has_state(__func__, callout, INVOKING);
 }
 
 void callout_ack(callout_t *callout)
 {
-	want_callout(begin_plain(__func__), callout);
+	require_callout(begin_plain(__func__), callout);
 	pthread_mutex_lock(&lock);
 	callout->c_state &= ~(uint32_t)INVOKING;
 	pthread_mutex_unlock(&lock);

@@ -9,7 +9,7 @@ void cv_init(kcondvar_t *cv, const char *name)
 }
 
 /* Stops where it isn't a condition variable. */
-static void want_cv(const struct thread *me, const kcondvar_t *cv)
+static void require_cv(const struct thread *me, const kcondvar_t *cv)
 {
 	if (cv->cv_made == ENDED)
 		stop(me, "the condition variable was destroyed");
@@ -20,17 +20,17 @@ static void want_cv(const struct thread *me, const kcondvar_t *cv)
 void cv_destroy(kcondvar_t *cv)
 {
 	struct thread *me = begin_call(__func__);
-	want_cv(me, cv);
+	require_cv(me, cv);
 	if (cv_has_waiters(cv))
 		stop(me, "a thread waits for %s", cv->cv_name);
 	cv->cv_made = ENDED;
 }
 
 /* Stops where the thread mustn't sleep. It may have this lock, which may spin. */
-static void want_sleepable_with(struct thread *me, const kmutex_t *mutex)
+static void require_sleepable_with(struct thread *me, const kmutex_t *mutex)
 {
 	if (!mutex->mtx_spins) {
-		want_sleepable(me);
+		require_sleepable(me);
 		return;
 	}
 	if (me->softint)
@@ -46,36 +46,36 @@ static void want_sleepable_with(struct thread *me, const kmutex_t *mutex)
 bool wait_for(struct thread *me, kcondvar_t *cv, kmutex_t *mutex, int64_t nanoseconds)
 {
 	struct timespec deadline = time_after(nanoseconds < 0 ? 0 : nanoseconds);
-	struct bucket *bucket = bucket_of(cv);
-	want_cv(me, cv);
-	want_mutex(me, mutex);
+	struct sleepq *sleepq = sleepq_of(cv);
+	require_cv(me, cv);
+	require_mutex(me, mutex);
 	if (!has_mutex(me, mutex))
 		stop(me, "the thread does not have the lock");
-	want_sleepable_with(me, mutex);
+	require_sleepable_with(me, mutex);
 	int waits = begin_wait();
-	bucket_lock(bucket);
-	give_mutex(me, mutex);
-	bool woken = bucket_wait(bucket, cv, me, nanoseconds < 0 ? NULL : &deadline);
-	bucket_unlock(bucket);
-	take_mutex(me, mutex);
+	sleepq_lock(sleepq);
+	release_mutex(me, mutex);
+	bool woken = sleepq_wait(sleepq, cv, me, nanoseconds < 0 ? NULL : &deadline);
+	sleepq_unlock(sleepq);
+	acquire_mutex(me, mutex);
 	end_wait(waits);
 	return woken;
 }
 
 void wake_cv(struct thread *me, kcondvar_t *cv, bool all)
 {
-	struct bucket *bucket = bucket_of(cv);
-	bucket_lock(bucket);
-	want_cv(me, cv);
+	struct sleepq *sleepq = sleepq_of(cv);
+	sleepq_lock(sleepq);
+	require_cv(me, cv);
 	if (all)
-		bucket_wake_all(bucket, cv);
+		sleepq_wake_all(sleepq, cv);
 	else
-		bucket_wake(bucket, cv);
-	bucket_unlock(bucket);
+		sleepq_wake(sleepq, cv);
+	sleepq_unlock(sleepq);
 }
 
 /* A wait of the code's own. 0 ticks are for ever. Below 0 the time is over already. */
-static int timed(struct thread *me, kcondvar_t *cv, kmutex_t *mutex, int ticks, bool signals)
+static int timedwait(struct thread *me, kcondvar_t *cv, kmutex_t *mutex, int ticks, bool signals)
 {
 	int64_t nanoseconds = ticks == 0 ? -1 : ticks < 0 ? 0 : (int64_t)ticks * TICK;
 	MAY_END_EARLY(signals);
@@ -92,22 +92,22 @@ static int timed(struct thread *me, kcondvar_t *cv, kmutex_t *mutex, int ticks, 
 
 void cv_wait(kcondvar_t *cv, kmutex_t *mutex)
 {
-	(void)timed(begin_call(__func__), cv, mutex, 0, false);
+	(void)timedwait(begin_call(__func__), cv, mutex, 0, false);
 }
 
 int cv_wait_sig(kcondvar_t *cv, kmutex_t *mutex)
 {
-	return timed(begin_call(__func__), cv, mutex, 0, true);
+	return timedwait(begin_call(__func__), cv, mutex, 0, true);
 }
 
 int cv_timedwait(kcondvar_t *cv, kmutex_t *mutex, int ticks)
 {
-	return timed(begin_call(__func__), cv, mutex, ticks, false);
+	return timedwait(begin_call(__func__), cv, mutex, ticks, false);
 }
 
 int cv_timedwait_sig(kcondvar_t *cv, kmutex_t *mutex, int ticks)
 {
-	return timed(begin_call(__func__), cv, mutex, ticks, true);
+	return timedwait(begin_call(__func__), cv, mutex, ticks, true);
 }
 
 void cv_signal(kcondvar_t *cv)
@@ -126,10 +126,10 @@ void cv_broadcast(kcondvar_t *cv)
 
 bool cv_has_waiters(kcondvar_t *cv)
 {
-	struct bucket *bucket = bucket_of(cv);
-	bucket_lock(bucket);
-	bool waited = bucket_has(bucket, cv);
-	bucket_unlock(bucket);
+	struct sleepq *sleepq = sleepq_of(cv);
+	sleepq_lock(sleepq);
+	bool waited = sleepq_has_waiter(sleepq, cv);
+	sleepq_unlock(sleepq);
 	return waited;
 }
 

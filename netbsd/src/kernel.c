@@ -1,4 +1,4 @@
-/* kernel.c - assertions, panic(9), kpause(9), kthread(9) and copy(9) */
+/* kernel.c - assertions, panic(9), kpause(9), kthread(9) and copy_user(9) */
 #ifndef _GNU_SOURCE
 #define _GNU_SOURCE
 #endif
@@ -40,7 +40,7 @@ void kupaldiz_failed_with(const char *place, const char *text, const char *forma
 
 void kupaldiz_assert_sleepable(void)
 {
-	want_sleepable(begin_call("ASSERT_SLEEPABLE"));
+	require_sleepable(begin_call("ASSERT_SLEEPABLE"));
 }
 
 /* ---- Time. ---- */
@@ -71,8 +71,8 @@ int kpause(const char *name, bool interruptible, int ticks, kmutex_t *mutex)
 	struct timespec left = {ticks * (long)TICK / 1000000000, ticks * (long)TICK % 1000000000};
 	(void)name;
 	if (mutex != NULL)
-		give_mutex(me, mutex);
-	want_sleepable(me);
+		release_mutex(me, mutex);
+	require_sleepable(me);
 	if (ticks <= 0)
 		stop(me, "no time to sleep for");
 	bool ended = interruptible && FAILS();
@@ -83,7 +83,7 @@ int kpause(const char *name, bool interruptible, int ticks, kmutex_t *mutex)
 		;	/* a signal has come to the process, which isn't the thread's */
 	end_wait(waits);
 	if (mutex != NULL)
-		take_mutex(me, mutex);
+		acquire_mutex(me, mutex);
 	return ended ? EINTR : EWOULDBLOCK;
 }
 
@@ -125,7 +125,7 @@ static void *run_kthread(void *of)
 }
 
 /* Starts it, and waits until it has begun. Once it is in the list, another thread may join and free it. 0 or an errno. */
-static int start(struct kthread *kthread, lwp_t **made)
+static int start_kthread(struct kthread *kthread, lwp_t **made)
 {
 	int answer = pthread_create(&kthread->id, NULL, run_kthread, kthread);
 	if (answer != 0)
@@ -148,7 +148,7 @@ static int start(struct kthread *kthread, lwp_t **made)
 int kthread_create(pri_t priority, int flags, struct cpu_info *cpu, void (*body)(void *), void *arg, lwp_t **made, const char *format, ...)
 {
 	struct thread *me = begin_plain(__func__);
-	want_sleepable(me);
+	require_sleepable(me);
 	if (FAILS())
 		return ENOMEM;
 	struct kthread *kthread = memory(me, sizeof(*kthread));
@@ -163,7 +163,7 @@ int kthread_create(pri_t priority, int flags, struct cpu_info *cpu, void (*body)
 	kthread->arg = arg;
 	kthread->joined = joined;
 	int waits = begin_wait();
-	int answer = start(kthread, made);
+	int answer = start_kthread(kthread, made);
 	end_wait(waits);
 	if (answer != 0 || !joined)
 		free(kthread);
@@ -187,7 +187,7 @@ void await_thread(struct thread *me, pthread_t id, const struct thread *thread)
 	int waits = begin_wait();
 	while (pthread_tryjoin_np(id, NULL) == EBUSY)
 		if (pause_longer(&pauses, NULL))
-			say(me, "waits for thread \"%s\" to end", name_of(thread, name, sizeof(name)));
+			report(me, "waits for thread \"%s\" to end", name_of(thread, name, sizeof(name)));
 	end_wait(waits);
 }
 
@@ -195,7 +195,7 @@ int kthread_join(lwp_t *thread)
 {
 	struct thread *me = begin_call(__func__);
 	struct kthread *found = NULL;
-	want_sleepable(me);
+	require_sleepable(me);
 	pthread_mutex_lock(&kthreads_lock);
 	for (struct kthread **at = &kthreads; *at != NULL; at = &(*at)->next) {
 		if (&(*at)->thread->lwp == thread) {
@@ -213,7 +213,7 @@ int kthread_join(lwp_t *thread)
 	return 0;
 }
 
-/* ---- copy(9) ---- */
+/* ---- copy_user(9) ---- */
 
 /* Whether an address may be the user's. */
 static bool is_mapped(const void *user)
@@ -221,9 +221,9 @@ static bool is_mapped(const void *user)
 	return (uintptr_t)user >= 4096;
 }
 
-static int copy(struct thread *me, const void *from, void *to, const void *user, size_t length)
+static int copy_user(struct thread *me, const void *from, void *to, const void *user, size_t length)
 {
-	want_sleepable(me);
+	require_sleepable(me);
 	if (length > 0 && !is_mapped(user))
 		return EFAULT;
 	if (length > 0)
@@ -233,17 +233,17 @@ static int copy(struct thread *me, const void *from, void *to, const void *user,
 
 int copyin(const void *user, void *kernel, size_t length)
 {
-	return copy(begin_call(__func__), user, kernel, user, length);
+	return copy_user(begin_call(__func__), user, kernel, user, length);
 }
 
 int copyout(const void *kernel, void *user, size_t length)
 {
-	return copy(begin_call(__func__), kernel, user, user, length);
+	return copy_user(begin_call(__func__), kernel, user, user, length);
 }
 
 static int copy_text(struct thread *me, const char *from, char *to, const void *user, size_t length, size_t *copied)
 {
-	want_sleepable(me);
+	require_sleepable(me);
 	if (!is_mapped(user))
 		return EFAULT;
 	size_t all = strnlen(from, length);

@@ -37,7 +37,7 @@
  *
  * The soft interrupts of a level are a thread of their CPU's. It takes the CPU, or gets it from the thread that has it, which waits meanwhile.
  *
- * The order of locks: the caller's, then a CPU's hold, then the row's or the interlock, and a bucket of lock.c. No other lock is taken under the
+ * The order of locks: the caller's, then a CPU's hold, then the row's or the interlock, and a sleep queue of lock.c. No other lock is taken under the
  * last three.
  */
 #ifndef KUPALDIZ_NETBSD_LAYER_H
@@ -160,24 +160,24 @@ struct lock {
 };
 
 /* Says which thread a wait for the lock waits for. */
-typedef void tell_fn(struct thread *me, const uintptr_t *word);
+typedef void report_fn(struct thread *me, const uintptr_t *word);
 
-bool lock_try(uintptr_t *word, struct thread *me);
-void lock_take(uintptr_t *word, struct thread *me, tell_fn *tell);
-void lock_give(uintptr_t *word, struct thread *me);
-void lock_pass(uintptr_t *word, struct thread *to);
-void lock_await(uintptr_t *word, struct thread *me);
+bool lock_tryacquire(uintptr_t *word, struct thread *me);
+void lock_acquire(uintptr_t *word, struct thread *me, report_fn *reporter);
+void lock_release(uintptr_t *word, struct thread *me);
+void lock_hand_over(uintptr_t *word, struct thread *to);
+void lock_wait(uintptr_t *word, struct thread *me);
 struct thread *lock_owner(const uintptr_t *word);
 
 /* A place to wait in, for an address: many addresses share one. */
-struct bucket;
-struct bucket *bucket_of(const void *address);
-void bucket_lock(struct bucket *bucket);
-void bucket_unlock(struct bucket *bucket);
-bool bucket_wait(struct bucket *bucket, const void *of, struct thread *me, const struct timespec *deadline);
-bool bucket_wake(struct bucket *bucket, const void *of);
-void bucket_wake_all(struct bucket *bucket, const void *of);
-bool bucket_has(struct bucket *bucket, const void *of);
+struct sleepq;
+struct sleepq *sleepq_of(const void *address);
+void sleepq_lock(struct sleepq *sleepq);
+void sleepq_unlock(struct sleepq *sleepq);
+bool sleepq_wait(struct sleepq *sleepq, const void *of, struct thread *me, const struct timespec *deadline);
+bool sleepq_wake(struct sleepq *sleepq, const void *of);
+void sleepq_wake_all(struct sleepq *sleepq, const void *of);
+bool sleepq_has_waiter(struct sleepq *sleepq, const void *of);
 
 struct timespec time_after(int64_t nanoseconds);
 
@@ -202,7 +202,7 @@ struct thread {
 	bool kept;			/* its memory is used again once it was joined */
 	struct thread *lender;		/* of a soft interrupt: the thread whose CPU it has */
 	struct thread *next;		/* in the list of those that are free, or in a wait */
-	const void *waits_for;		/* under the bucket's lock */
+	const void *waits_for;		/* under the sleep queue's lock */
 	bool woken;
 	unsigned tries;			/* how often it waited for the lock that it waits for */
 	pthread_cond_t cond;
@@ -249,7 +249,7 @@ extern _Thread_local struct thread *kupaldiz_self __attribute__((tls_model("init
 extern _Thread_local struct places kupaldiz_places __attribute__((tls_model("initial-exec"), visibility("hidden")));
 
 /* The place of the call that begins next; NULL where nothing noted one. */
-static inline const char *take_place(void)
+static inline const char *pop_place(void)
 {
 	return kupaldiz_places.count == 0 ? NULL : kupaldiz_places.at[--kupaldiz_places.count];
 }
@@ -261,7 +261,7 @@ void reuse_thread(struct thread *ended);
 void hold_cpu(struct thread *me);
 void unhold_cpu(struct thread *me);
 void bind_to(struct thread *me, struct cpu *cpu);
-void tell_of_cpu(struct thread *me, const uintptr_t *word);
+void report_cpu_wait(struct thread *me, const uintptr_t *word);
 void visit_cpus(struct thread *me);
 struct cpu *cpu_of(struct thread *me);
 
@@ -280,7 +280,7 @@ static inline struct thread *begin_plain(const char *call)
 static inline struct thread *begin_call(const char *call)
 {
 	struct thread *me = begin_plain(call);
-	me->place = take_place();
+	me->place = pop_place();
 	return me;
 }
 
@@ -313,12 +313,12 @@ extern pthread_cond_t pending_changed;
 
 void note_pending(struct cpu *cpu);
 bool run_softint(struct thread *me, int level);
-void want_softint_thread(struct thread *me, struct cpu *cpu, int level);
+void ensure_softint_thread(struct thread *me, struct cpu *cpu, int level);
 
-void judge_return(const struct thread *me, const char *what, int level, unsigned locks, unsigned references);
-void offer_cpu(struct thread *me);
-void step_off(struct thread *me);
-void step_on(struct thread *me);
+void check_handler_return(const struct thread *me, const char *what, int level, unsigned locks, unsigned references);
+void lend_cpu(struct thread *me);
+void yield_cpu(struct thread *me);
+void reclaim_cpu(struct thread *me);
 void *make_softint(unsigned flags, void (*handler)(void *), void *arg);
 void schedule_on(struct thread *me, void *cookie, struct cpu *cpu);
 int raise_level(struct thread *me, int level);
@@ -334,7 +334,7 @@ static inline bool is_interrupted(const struct thread *me)
 static inline void end_call(struct thread *me)
 {
 	if (me->holds != 0 && !me->softint && is_interrupted(me))
-		offer_cpu(me);
+		lend_cpu(me);
 }
 
 /* ---- report.c: lines on standard error. ---- */
@@ -342,11 +342,11 @@ static inline void end_call(struct thread *me)
 /* Ends the process after one line that names the call and its place. */
 _Noreturn void stop(const struct thread *me, const char *format, ...) __attribute__((format(printf, 2, 3)));
 _Noreturn void stop_at(const char *call, const char *place, const char *format, ...) __attribute__((format(printf, 3, 4)));
-void done(const struct thread *me, uint32_t answer);
-void say(const struct thread *me, const char *format, ...) __attribute__((format(printf, 2, 3)));
+void must_succeed(const struct thread *me, uint32_t answer);
+void report(const struct thread *me, const char *format, ...) __attribute__((format(printf, 2, 3)));
 const char *name_of(const struct thread *thread, char *text, size_t room);
 const char *at_place(const char *place, char *text, size_t room);
-void want_sleepable(const struct thread *me);
+void require_sleepable(const struct thread *me);
 void *memory(const struct thread *me, size_t size);
 
 /* ---- bank.c: registries. ---- */
@@ -400,7 +400,7 @@ struct registry_cpu *handle_of(struct thread *me, struct bank *bank);
 void attach_row(struct thread *me, const void *owner, uint64_t *serial, uint64_t *place);
 bool find_row(const void *owner, uint64_t serial, uint64_t place, struct found_row *found);
 void retire_row(struct thread *me, struct found_row at, const void *owner);
-bool is_freed(struct thread *me, struct found_row at, struct registry_stage *met);
+bool try_free_row(struct thread *me, struct found_row at, struct registry_stage *met);
 void enter_section(struct thread *me);
 void exit_section(struct thread *me);
 void perform_all(struct thread *me);
@@ -426,17 +426,17 @@ struct pauses begin_pauses(void);
 bool pause_longer(struct pauses *pauses, const struct registry_stage *met);
 bool pauses_are_over(struct pauses *pauses);
 
-void tell_of_section(struct thread *me, uint64_t cpu);
-void tell_of_reference(struct thread *me, uint64_t cpu, const struct psref_target *target);
+void report_section_wait(struct thread *me, uint64_t cpu);
+void report_reference_wait(struct thread *me, uint64_t cpu, const struct psref_target *target);
 
 /* ---- mutex.c and condvar.c, for other calls. ---- */
 
-void take_mutex(struct thread *me, kmutex_t *mutex);
+void acquire_mutex(struct thread *me, kmutex_t *mutex);
 void enter_mutex(struct thread *me, kmutex_t *mutex);
-void give_mutex(struct thread *me, kmutex_t *mutex);
+void release_mutex(struct thread *me, kmutex_t *mutex);
 bool has_mutex(const struct thread *me, const kmutex_t *mutex);
-void want_mutex(const struct thread *me, const kmutex_t *mutex);
-void want_blockable(const struct thread *me);
+void require_mutex(const struct thread *me, const kmutex_t *mutex);
+void require_blockable(const struct thread *me);
 bool wait_for(struct thread *me, kcondvar_t *cv, kmutex_t *mutex, int64_t nanoseconds);
 void wake_cv(struct thread *me, kcondvar_t *cv, bool all);
 

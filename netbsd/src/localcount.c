@@ -10,7 +10,7 @@ enum { DRAINED = 1, FINISHED, FIRST_ROOM = 8 };
 void localcount_init(struct localcount *lc)
 {
 	struct thread *me = begin_call(__func__);
-	want_sleepable(me);
+	require_sleepable(me);
 	attach_row(me, lc, &lc->lc_serial, &lc->lc_row);
 }
 
@@ -32,7 +32,7 @@ static struct found_row count_row(const struct thread *me, const struct localcou
 }
 
 /* Stops where the condition variable or the interlock differs from the one before. The row is locked. */
-static void want_same(struct thread *me, struct row *row, const kcondvar_t *cv, const kmutex_t *interlock)
+static void require_same(struct thread *me, struct row *row, const kcondvar_t *cv, const kmutex_t *interlock)
 {
 	if (row->interlock != NULL && row->interlock != interlock)
 		stop(me, "the interlock differs from the one before");
@@ -73,7 +73,7 @@ static void push(struct thread *me, struct row *row, const struct registry_local
 static void pop(struct thread *me, struct row *row, struct registry_local *reference, const kcondvar_t *cv, const kmutex_t *interlock)
 {
 	pthread_mutex_lock(&row->lock);
-	want_same(me, row, cv, interlock);
+	require_same(me, row, cv, interlock);
 	if (row->count == 0)
 		stop(me, "no reference to the count is held");
 	*reference = row->held[--row->count].local;
@@ -89,7 +89,7 @@ static uint32_t acquire_on(struct thread *me, struct registry_cpu *handle, const
 	if (answer != REGISTRY_DONE)
 		return answer;
 	answer = registry_local_acquire(handle, reference);
-	done(me, registry_exit(handle));
+	must_succeed(me, registry_exit(handle));
 	return answer;
 }
 
@@ -107,7 +107,7 @@ void localcount_acquire(struct localcount *lc)
 	}
 	if (answer == REGISTRY_NOT_FOUND)
 		stop(me, "the count is being drained");
-	done(me, answer);
+	must_succeed(me, answer);
 	push(me, at.row, &reference);
 	unhold_cpu(me);
 	end_call(me);
@@ -115,14 +115,14 @@ void localcount_acquire(struct localcount *lc)
 
 /* Gives up a reference that a drain waits for, and wakes the drain, which goes on once the caller's lock is free. A soft interrupt takes that lock, too,
  * at any level: as in the kernel it sleeps if it must. */
-static void give_up(struct thread *me, struct bank *bank, struct registry_local *reference, kcondvar_t *cv, kmutex_t *interlock)
+static void release_collected(struct thread *me, struct bank *bank, struct registry_local *reference, kcondvar_t *cv, kmutex_t *interlock)
 {
-	take_mutex(me, interlock);
+	acquire_mutex(me, interlock);
 	enter_interlock();
-	done(me, registry_local_give_up(&bank->keeper, reference));
+	must_succeed(me, registry_local_give_up(&bank->keeper, reference));
 	exit_interlock();
 	wake_cv(me, cv, true);
-	give_mutex(me, interlock);
+	release_mutex(me, interlock);
 }
 
 void localcount_release(struct localcount *lc, kcondvar_t *cv, kmutex_t *interlock)
@@ -138,20 +138,20 @@ void localcount_release(struct localcount *lc, kcondvar_t *cv, kmutex_t *interlo
 	uint32_t answer = registry_local_release(handle_of(me, at.bank), &reference);
 	unhold_cpu(me);
 	if (answer == REGISTRY_COLLECTED)
-		give_up(me, at.bank, &reference, cv, interlock);
+		release_collected(me, at.bank, &reference, cv, interlock);
 	else
-		done(me, answer);
+		must_succeed(me, answer);
 	end_call(me);
 }
 
 /* ---- Draining. ---- */
 
 /* Says what a drain waits for. */
-static void tell(struct thread *me, struct row *row, const struct registry_stage *met)
+static void report_wait(struct thread *me, struct row *row, const struct registry_stage *met)
 {
 	char where[256];
 	if (met->stage == REGISTRY_GRACE) {
-		tell_of_section(me, met->what);
+		report_section_wait(me, met->what);
 		return;
 	}
 	pthread_mutex_lock(&row->lock);
@@ -159,9 +159,9 @@ static void tell(struct thread *me, struct row *row, const struct registry_stage
 	const char *place = count > 0 ? row->held[count - 1].place : NULL;
 	pthread_mutex_unlock(&row->lock);
 	if (count == 0)
-		say(me, "waits for a release that is under way");
+		report(me, "waits for a release that is under way");
 	else
-		say(me, count == 1 ? "waits for %zu reference, acquired%s" : "waits for %zu references, one of them acquired%s", count,
+		report(me, count == 1 ? "waits for %zu reference, acquired%s" : "waits for %zu references, one of them acquired%s", count,
 		    at_place(place, where, sizeof(where)));
 }
 
@@ -173,18 +173,18 @@ static bool wait_once(struct thread *me, const struct registry_stage *met, kcond
 		wait_for(me, cv, interlock, KUPALDIZ_LOOKS);
 		return pauses_are_over(pauses);
 	}
-	give_mutex(me, interlock);
+	release_mutex(me, interlock);
 	bool over = pause_longer(pauses, met);
-	take_mutex(me, interlock);
+	acquire_mutex(me, interlock);
 	return over;
 }
 
 /* The kernel gives the interlock up while it visits each CPU, also where nobody has a reference. */
 static void let_others_in(struct thread *me, kmutex_t *interlock)
 {
-	give_mutex(me, interlock);
+	release_mutex(me, interlock);
 	sched_yield();
-	take_mutex(me, interlock);
+	acquire_mutex(me, interlock);
 }
 
 void localcount_drain(struct localcount *lc, kcondvar_t *cv, kmutex_t *interlock)
@@ -192,19 +192,19 @@ void localcount_drain(struct localcount *lc, kcondvar_t *cv, kmutex_t *interlock
 	struct thread *me = begin_call(__func__);
 	struct pauses pauses = begin_pauses();
 	struct registry_stage met = {0, 0};
-	want_sleepable(me);
+	require_sleepable(me);
 	if (!has_mutex(me, interlock))
 		stop(me, "the thread does not have the interlock");
 	struct found_row at = count_row(me, lc);
 	pthread_mutex_lock(&at.row->lock);
-	want_same(me, at.row, cv, interlock);
+	require_same(me, at.row, cv, interlock);
 	pthread_mutex_unlock(&at.row->lock);
 	int waits = begin_wait();
 	retire_row(me, at, lc);
 	let_others_in(me, interlock);
-	while (!is_freed(me, at, &met))
+	while (!try_free_row(me, at, &met))
 		if (wait_once(me, &met, cv, interlock, &pauses))
-			tell(me, at.row, &met);
+			report_wait(me, at.row, &met);
 	lc->lc_serial = 0;
 	lc->lc_row = DRAINED;
 	sweep_banks(me);

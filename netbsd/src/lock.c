@@ -2,16 +2,16 @@
  * lock.c - a lock that knows its owner, where threads wait, and the pauses of a wait
  *
  * A lock is one word: its owner, and a bit that says that somebody waits. Taking and giving a lock that nobody waits for is one atomic step. Whoever
- * waits is in the bucket of the lock's address, in the order of arrival.
+ * waits is in the sleep queue of the lock's address, in the order of arrival.
  */
 #include <sched.h>
 #include <stdio.h>
 
 #include "layer.h"
 
-enum { BUCKETS = 64, WAITED = 1, PATIENT_TRIES = 2 };
+enum { SLEEPQS = 64, WAITED = 1, PATIENT_TRIES = 2 };
 
-struct bucket {
+struct sleepq {
 	_Alignas(LINE) pthread_mutex_t mutex;
 	struct thread *first;
 };
@@ -21,28 +21,28 @@ struct bucket {
 #define SIXTEEN	FOUR, FOUR, FOUR, FOUR
 
 /* Those of locks, and those of condition variables and what else waits with a lock: the former are taken under the latter. */
-static struct bucket buckets[BUCKETS] = {SIXTEEN, SIXTEEN, SIXTEEN, SIXTEEN};
-static struct bucket lock_buckets[BUCKETS] = {SIXTEEN, SIXTEEN, SIXTEEN, SIXTEEN};
+static struct sleepq sleepqs[SLEEPQS] = {SIXTEEN, SIXTEEN, SIXTEEN, SIXTEEN};
+static struct sleepq lock_sleepqs[SLEEPQS] = {SIXTEEN, SIXTEEN, SIXTEEN, SIXTEEN};
 
 static size_t place_of(const void *address)
 {
 	uintptr_t word = (uintptr_t)address;
-	return (word >> 4 ^ word >> 10 ^ word >> 16) % BUCKETS;
+	return (word >> 4 ^ word >> 10 ^ word >> 16) % SLEEPQS;
 }
 
-struct bucket *bucket_of(const void *address)
+struct sleepq *sleepq_of(const void *address)
 {
-	return &buckets[place_of(address)];
+	return &sleepqs[place_of(address)];
 }
 
-void bucket_lock(struct bucket *bucket)
+void sleepq_lock(struct sleepq *sleepq)
 {
-	pthread_mutex_lock(&bucket->mutex);
+	pthread_mutex_lock(&sleepq->mutex);
 }
 
-void bucket_unlock(struct bucket *bucket)
+void sleepq_unlock(struct sleepq *sleepq)
 {
-	pthread_mutex_unlock(&bucket->mutex);
+	pthread_mutex_unlock(&sleepq->mutex);
 }
 
 /* The time of the monotonic clock so many nanoseconds from now. */
@@ -59,9 +59,9 @@ struct timespec time_after(int64_t nanoseconds)
 	return time;
 }
 
-static void leave_queue(struct bucket *bucket, struct thread *me)
+static void leave_queue(struct sleepq *sleepq, struct thread *me)
 {
-	for (struct thread **at = &bucket->first; *at != NULL; at = &(*at)->next) {
+	for (struct thread **at = &sleepq->first; *at != NULL; at = &(*at)->next) {
 		if (*at == me) {
 			*at = me->next;
 			return;
@@ -69,11 +69,11 @@ static void leave_queue(struct bucket *bucket, struct thread *me)
 	}
 }
 
-/* Waits, with the bucket's lock, until it is woken or the time is over: whether it was woken. The caller isn't cancelled meanwhile. */
-bool bucket_wait(struct bucket *bucket, const void *of, struct thread *me, const struct timespec *deadline)
+/* Waits, with the sleep queue's lock, until it is woken or the time is over: whether it was woken. The caller isn't cancelled meanwhile. */
+bool sleepq_wait(struct sleepq *sleepq, const void *of, struct thread *me, const struct timespec *deadline)
 {
 	int answer = 0;
-	struct thread **at = &bucket->first;
+	struct thread **at = &sleepq->first;
 	while (*at != NULL)
 		at = &(*at)->next;
 	*at = me;
@@ -82,20 +82,20 @@ bool bucket_wait(struct bucket *bucket, const void *of, struct thread *me, const
 	me->woken = false;
 	while (!me->woken && answer == 0) {
 		if (deadline == NULL)
-			pthread_cond_wait(&me->cond, &bucket->mutex);
+			pthread_cond_wait(&me->cond, &sleepq->mutex);
 		else
-			answer = pthread_cond_timedwait(&me->cond, &bucket->mutex, deadline);
+			answer = pthread_cond_timedwait(&me->cond, &sleepq->mutex, deadline);
 	}
 	if (!me->woken)
-		leave_queue(bucket, me);
+		leave_queue(sleepq, me);
 	me->waits_for = NULL;
 	return me->woken;
 }
 
 /* Wakes the first that waits for something. Whether there was one. */
-bool bucket_wake(struct bucket *bucket, const void *of)
+bool sleepq_wake(struct sleepq *sleepq, const void *of)
 {
-	for (struct thread **at = &bucket->first; *at != NULL; at = &(*at)->next) {
+	for (struct thread **at = &sleepq->first; *at != NULL; at = &(*at)->next) {
 		struct thread *found = *at;
 		if (found->waits_for == of) {
 			*at = found->next;
@@ -107,24 +107,24 @@ bool bucket_wake(struct bucket *bucket, const void *of)
 	return false;
 }
 
-void bucket_wake_all(struct bucket *bucket, const void *of)
+void sleepq_wake_all(struct sleepq *sleepq, const void *of)
 {
-	while (bucket_wake(bucket, of))
+	while (sleepq_wake(sleepq, of))
 		;
 }
 
 /* The first that waits for something; NULL where nobody does. */
-static struct thread *first_for(struct bucket *bucket, const void *of)
+static struct thread *first_for(struct sleepq *sleepq, const void *of)
 {
-	struct thread *at = bucket->first;
+	struct thread *at = sleepq->first;
 	while (at != NULL && at->waits_for != of)
 		at = at->next;
 	return at;
 }
 
-bool bucket_has(struct bucket *bucket, const void *of)
+bool sleepq_has_waiter(struct sleepq *sleepq, const void *of)
 {
-	return first_for(bucket, of) != NULL;
+	return first_for(sleepq, of) != NULL;
 }
 
 /* ---- The lock. ---- */
@@ -145,16 +145,16 @@ struct thread *lock_owner(const uintptr_t *word)
 	return (struct thread *)(word_of(word) & ~(uintptr_t)WAITED);
 }
 
-bool lock_try(uintptr_t *word, struct thread *me)
+bool lock_tryacquire(uintptr_t *word, struct thread *me)
 {
 	return replace(word, 0, (uintptr_t)me);
 }
 
-/* Takes it where it is free, or has been passed to this thread; else notes that somebody waits. The caller has the bucket's lock. */
-static bool take_or_mark(struct bucket *bucket, uintptr_t *word, struct thread *me)
+/* Takes it where it is free, or has been passed to this thread; else notes that somebody waits. The caller has the sleep queue's lock. */
+static bool acquire_or_mark(struct sleepq *sleepq, uintptr_t *word, struct thread *me)
 {
 	for (;;) {
-		uintptr_t now = word_of(word), waited = bucket_has(bucket, word) ? WAITED : 0;
+		uintptr_t now = word_of(word), waited = sleepq_has_waiter(sleepq, word) ? WAITED : 0;
 		if ((now & ~(uintptr_t)WAITED) == (uintptr_t)me)
 			return true;
 		if (now == 0) {
@@ -166,74 +166,74 @@ static bool take_or_mark(struct bucket *bucket, uintptr_t *word, struct thread *
 	}
 }
 
-void lock_take(uintptr_t *word, struct thread *me, tell_fn *tell)
+void lock_acquire(uintptr_t *word, struct thread *me, report_fn *reporter)
 {
-	if (lock_try(word, me))
+	if (lock_tryacquire(word, me))
 		return;
-	struct bucket *bucket = &lock_buckets[place_of(word)];
-	struct timespec tells = time_after(KUPALDIZ_PATIENCE * INT64_C(1000000));
-	bool told = tell == NULL;
+	struct sleepq *sleepq = &lock_sleepqs[place_of(word)];
+	struct timespec patience = time_after(KUPALDIZ_PATIENCE * INT64_C(1000000));
+	bool reported = reporter == NULL;
 	int waits = begin_wait();
-	bucket_lock(bucket);
-	for (me->tries = 0; !take_or_mark(bucket, word, me); me->tries++) {
-		if (bucket_wait(bucket, word, me, told ? NULL : &tells) || told)
+	sleepq_lock(sleepq);
+	for (me->tries = 0; !acquire_or_mark(sleepq, word, me); me->tries++) {
+		if (sleepq_wait(sleepq, word, me, reported ? NULL : &patience) || reported)
 			continue;
-		told = true;
-		bucket_unlock(bucket);
-		tell(me, word);
-		bucket_lock(bucket);
+		reported = true;
+		sleepq_unlock(sleepq);
+		reporter(me, word);
+		sleepq_lock(sleepq);
 	}
-	bucket_unlock(bucket);
+	sleepq_unlock(sleepq);
 	end_wait(waits);
 }
 
-/* Makes another thread the owner, whether it waits already or will. The caller has the bucket's lock. */
-static void pass(struct bucket *bucket, uintptr_t *word, struct thread *to)
+/* Makes another thread the owner, whether it waits already or will. The caller has the sleep queue's lock. */
+static void hand_over(struct sleepq *sleepq, uintptr_t *word, struct thread *to)
 {
 	if (to->waits_for == word) {
-		leave_queue(bucket, to);
+		leave_queue(sleepq, to);
 		to->woken = true;
 	}
-	__atomic_store_n(word, (uintptr_t)to | (bucket_has(bucket, word) ? WAITED : 0), __ATOMIC_RELEASE);
+	__atomic_store_n(word, (uintptr_t)to | (sleepq_has_waiter(sleepq, word) ? WAITED : 0), __ATOMIC_RELEASE);
 	pthread_cond_signal(&to->cond);
 }
 
 /* Whoever waits gets the lock when it is free next; one that others came before often enough gets it passed. */
-void lock_give(uintptr_t *word, struct thread *me)
+void lock_release(uintptr_t *word, struct thread *me)
 {
 	uintptr_t mine = (uintptr_t)me;
 	if (__atomic_compare_exchange_n(word, &mine, 0, false, __ATOMIC_RELEASE, __ATOMIC_RELAXED))
 		return;
-	struct bucket *bucket = &lock_buckets[place_of(word)];
-	bucket_lock(bucket);
-	struct thread *first = first_for(bucket, word);
+	struct sleepq *sleepq = &lock_sleepqs[place_of(word)];
+	sleepq_lock(sleepq);
+	struct thread *first = first_for(sleepq, word);
 	if (first != NULL && first->tries >= PATIENT_TRIES) {
-		pass(bucket, word, first);
+		hand_over(sleepq, word, first);
 	} else {
 		__atomic_store_n(word, 0, __ATOMIC_RELEASE);
-		bucket_wake(bucket, word);
+		sleepq_wake(sleepq, word);
 	}
-	bucket_unlock(bucket);
+	sleepq_unlock(sleepq);
 }
 
-/* Makes another thread the owner. That one waits for it by lock_take or lock_await, or will. */
-void lock_pass(uintptr_t *word, struct thread *to)
+/* Makes another thread the owner. That one waits for it by lock_acquire or lock_wait, or will. */
+void lock_hand_over(uintptr_t *word, struct thread *to)
 {
-	struct bucket *bucket = &lock_buckets[place_of(word)];
-	bucket_lock(bucket);
-	pass(bucket, word, to);
-	bucket_unlock(bucket);
+	struct sleepq *sleepq = &lock_sleepqs[place_of(word)];
+	sleepq_lock(sleepq);
+	hand_over(sleepq, word, to);
+	sleepq_unlock(sleepq);
 }
 
 /* Waits until it is passed back. */
-void lock_await(uintptr_t *word, struct thread *me)
+void lock_wait(uintptr_t *word, struct thread *me)
 {
-	struct bucket *bucket = &lock_buckets[place_of(word)];
+	struct sleepq *sleepq = &lock_sleepqs[place_of(word)];
 	int waits = begin_wait();
-	bucket_lock(bucket);
+	sleepq_lock(sleepq);
 	while (lock_owner(word) != me)
-		pthread_cond_wait(&me->cond, &bucket->mutex);
-	bucket_unlock(bucket);
+		pthread_cond_wait(&me->cond, &sleepq->mutex);
+	sleepq_unlock(sleepq);
 	end_wait(waits);
 }
 
@@ -259,7 +259,8 @@ bool pauses_are_over(struct pauses *pauses)
 	return true;
 }
 
-/* What it waits for is `met`, or NULL. Lets others run: at first at once, then for a time that doubles up to the longest pause. Whether it is time to say what it waits for. */
+/* Lets others run while a wait for `met`, or for anything where that is NULL, isn't over: at first at once, then for a time that doubles. Whether it is time to
+ * report the wait. */
 bool pause_longer(struct pauses *pauses, const struct registry_stage *met)
 {
 	const struct timespec pause = {0, pauses->nanoseconds};

@@ -46,7 +46,7 @@ static size_t alignment_of(size_t size, const struct pool *pool)
 }
 
 /* Memory for a block behind its head; NULL where there is none. */
-static struct head *take_memory(size_t size, size_t align)
+static struct head *alloc_memory(size_t size, size_t align)
 {
 	size_t before = align > sizeof(struct head) ? align : sizeof(struct head);
 	if (size > SIZE_MAX - before - align)
@@ -60,15 +60,15 @@ static struct head *take_memory(size_t size, size_t align)
 }
 
 /* A block of kmem's, or an object of a pool's. */
-static void *take_block(struct thread *me, size_t size, bool sleeps, const struct pool *pool)
+static void *alloc_block(struct thread *me, size_t size, bool sleeps, const struct pool *pool)
 {
 	if (size == 0)
 		stop(me, "a block of no bytes");
 	if (sleeps)
-		want_sleepable(me);
+		require_sleepable(me);
 	else if (FAILS())
 		return NULL;
-	struct head *head = take_memory(size, alignment_of(size, pool));
+	struct head *head = alloc_memory(size, alignment_of(size, pool));
 	if (head == NULL && sleeps)
 		stop(me, "out of memory");
 	if (head == NULL)
@@ -102,7 +102,7 @@ static void free_head(struct head *head)
 	free((char *)(head + 1) - head->before);
 }
 
-static void give_block(struct thread *me, void *block, size_t size)
+static void free_block(struct thread *me, void *block, size_t size)
 {
 	struct head *head = head_of(me, block, NULL);
 	if (head->size != size)
@@ -111,13 +111,13 @@ static void give_block(struct thread *me, void *block, size_t size)
 }
 
 /* kmem_alloc and kmem_free aren't for interrupts. */
-static void want_no_interrupt(const struct thread *me)
+static void require_no_interrupt(const struct thread *me)
 {
 	if (me->softint)
 		stop(me, "in a soft interrupt");
 }
 
-static bool sleeps(const struct thread *me, km_flag_t flags)
+static bool may_sleep(const struct thread *me, km_flag_t flags)
 {
 	if ((flags & (KM_SLEEP | KM_NOSLEEP)) == 0 || (flags & (KM_SLEEP | KM_NOSLEEP)) == (KM_SLEEP | KM_NOSLEEP))
 		stop(me, "neither KM_SLEEP nor KM_NOSLEEP alone");
@@ -127,46 +127,46 @@ static bool sleeps(const struct thread *me, km_flag_t flags)
 void *kmem_alloc(size_t size, km_flag_t flags)
 {
 	struct thread *me = begin_call(__func__);
-	want_no_interrupt(me);
-	return take_block(me, size, sleeps(me, flags), NULL);
+	require_no_interrupt(me);
+	return alloc_block(me, size, may_sleep(me, flags), NULL);
 }
 
 void *kmem_zalloc(size_t size, km_flag_t flags)
 {
 	struct thread *me = begin_call(__func__);
-	want_no_interrupt(me);
-	return zeroed(take_block(me, size, sleeps(me, flags), NULL), size);
+	require_no_interrupt(me);
+	return zeroed(alloc_block(me, size, may_sleep(me, flags), NULL), size);
 }
 
 void kmem_free(void *block, size_t size)
 {
 	struct thread *me = begin_call(__func__);
-	want_no_interrupt(me);
-	give_block(me, block, size);
+	require_no_interrupt(me);
+	free_block(me, block, size);
 }
 
 void *kmem_intr_alloc(size_t size, km_flag_t flags)
 {
 	struct thread *me = begin_call(__func__);
-	return take_block(me, size, sleeps(me, flags), NULL);
+	return alloc_block(me, size, may_sleep(me, flags), NULL);
 }
 
 void *kmem_intr_zalloc(size_t size, km_flag_t flags)
 {
 	struct thread *me = begin_call(__func__);
-	return zeroed(take_block(me, size, sleeps(me, flags), NULL), size);
+	return zeroed(alloc_block(me, size, may_sleep(me, flags), NULL), size);
 }
 
 void kmem_intr_free(void *block, size_t size)
 {
-	give_block(begin_call(__func__), block, size);
+	free_block(begin_call(__func__), block, size);
 }
 
 char *kmem_strdupsize(const char *text, size_t *size, km_flag_t flags)
 {
 	struct thread *me = begin_plain(__func__);
 	size_t length = strlen(text) + 1;
-	char *copy = take_block(me, length, sleeps(me, flags), NULL);
+	char *copy = alloc_block(me, length, may_sleep(me, flags), NULL);
 	if (copy != NULL)
 		memcpy(copy, text, length);
 	if (size != NULL)
@@ -178,7 +178,7 @@ void kmem_strfree(char *text)
 {
 	struct thread *me = begin_plain(__func__);
 	if (text != NULL)
-		give_block(me, text, strlen(text) + 1);
+		free_block(me, text, strlen(text) + 1);
 }
 
 /* ---- pool(9) ---- */
@@ -191,23 +191,23 @@ void pool_init(struct pool *pool, size_t size, unsigned align, unsigned offset, 
 	*pool = (struct pool){.pr_name = name, .pr_size = size, .pr_align = align, .pr_level = level, .pr_flags = flags};
 }
 
-static void want_unused(struct thread *me, struct pool *pool)
+static void require_unused(struct thread *me, struct pool *pool)
 {
 	size_t out = __atomic_load_n(&pool->pr_out, __ATOMIC_ACQUIRE);
 	if (out != 0)
 		stop(me, "%zu objects of %s are in use", out, pool->pr_name);
 }
 
-static void *get(struct thread *me, struct pool *pool, int flags)
+static void *pool_alloc(struct thread *me, struct pool *pool, int flags)
 {
-	void *object = take_block(me, pool->pr_size, (flags & PR_WAITOK) != 0, pool);
+	void *object = alloc_block(me, pool->pr_size, (flags & PR_WAITOK) != 0, pool);
 	if (object == NULL)
 		return NULL;
 	__atomic_fetch_add(&pool->pr_out, 1, __ATOMIC_RELAXED);
 	return (flags & PR_ZERO) != 0 ? memset(object, 0, pool->pr_size) : object;
 }
 
-static void put(struct thread *me, struct pool *pool, void *object)
+static void pool_release(struct thread *me, struct pool *pool, void *object)
 {
 	free_head(head_of(me, object, pool));
 	__atomic_fetch_sub(&pool->pr_out, 1, __ATOMIC_RELEASE);
@@ -215,17 +215,17 @@ static void put(struct thread *me, struct pool *pool, void *object)
 
 void pool_destroy(struct pool *pool)
 {
-	want_unused(begin_call(__func__), pool);
+	require_unused(begin_call(__func__), pool);
 }
 
 void *pool_get(struct pool *pool, int flags)
 {
-	return get(begin_call(__func__), pool, flags);
+	return pool_alloc(begin_call(__func__), pool, flags);
 }
 
 void pool_put(struct pool *pool, void *object)
 {
-	put(begin_call(__func__), pool, object);
+	pool_release(begin_call(__func__), pool, object);
 }
 
 /* ---- pool_cache(9) ---- */
@@ -234,7 +234,7 @@ pool_cache_t pool_cache_init(size_t size, unsigned align, unsigned offset, unsig
     int level, int (*make)(void *, void *, int), void (*end)(void *, void *), void *arg)
 {
 	struct thread *me = begin_plain(__func__);
-	want_sleepable(me);
+	require_sleepable(me);
 	struct pool_cache *cache = memory(me, sizeof(*cache));
 	pool_init(&cache->pool, size, align, offset, (int)flags, name, from, level);
 	cache->make = make;
@@ -245,20 +245,20 @@ pool_cache_t pool_cache_init(size_t size, unsigned align, unsigned offset, unsig
 }
 
 /* Whether readers may still look at an object that was given back. */
-static bool is_looked_at(const struct pool_cache *cache)
+static bool may_be_read(const struct pool_cache *cache)
 {
 	return (cache->pool.pr_flags & PR_PSERIALIZE) != 0;
 }
 
 /* A constructed object that nobody uses; NULL where there is none. */
-static struct head *take_constructed(pool_cache_t cache)
+static struct head *pop_constructed(pool_cache_t cache)
 {
 	pthread_mutex_lock(&cache->lock);
 	struct head *head = cache->constructed;
 	if (head != NULL)
 		cache->constructed = head->next;
 	pthread_mutex_unlock(&cache->lock);
-	if (head != NULL && !is_looked_at(cache))
+	if (head != NULL && !may_be_read(cache))
 		UNHIDE(head + 1, head->size);
 	return head;
 }
@@ -267,12 +267,12 @@ void pool_cache_destroy(pool_cache_t cache)
 {
 	struct thread *me = begin_call(__func__);
 	struct head *head;
-	want_unused(me, &cache->pool);
-	if (is_looked_at(cache)) {
-		want_sleepable(me);
+	require_unused(me, &cache->pool);
+	if (may_be_read(cache)) {
+		require_sleepable(me);
 		perform_all(me);
 	}
-	while ((head = take_constructed(cache)) != NULL) {
+	while ((head = pop_constructed(cache)) != NULL) {
 		if (cache->end != NULL)
 			cache->end(cache->arg, head + 1);
 		free_head(head);
@@ -284,10 +284,10 @@ void pool_cache_destroy(pool_cache_t cache)
 /* A new object, which is constructed. */
 static void *construct(struct thread *me, pool_cache_t cache, int flags)
 {
-	void *object = get(me, &cache->pool, flags);
+	void *object = pool_alloc(me, &cache->pool, flags);
 	if (object == NULL || cache->make == NULL || cache->make(cache->arg, object, flags) == 0)
 		return object;
-	put(me, &cache->pool, object);
+	pool_release(me, &cache->pool, object);
 	return NULL;
 }
 
@@ -295,8 +295,8 @@ void *pool_cache_get(pool_cache_t cache, int flags)
 {
 	struct thread *me = begin_call(__func__);
 	if ((flags & PR_WAITOK) != 0)
-		want_sleepable(me);
-	struct head *head = take_constructed(cache);
+		require_sleepable(me);
+	struct head *head = pop_constructed(cache);
 	if (head == NULL)
 		return construct(me, cache, flags);
 	head->mark = mark_of(&cache->pool);
@@ -310,7 +310,7 @@ void pool_cache_put(pool_cache_t cache, void *object)
 	struct thread *me = begin_call(__func__);
 	struct head *head = head_of(me, object, &cache->pool);
 	__atomic_store_n(&head->mark, 0, __ATOMIC_RELAXED);
-	if (!is_looked_at(cache))
+	if (!may_be_read(cache))
 		HIDE(object, head->size);
 	pthread_mutex_lock(&cache->lock);
 	head->next = cache->constructed;
@@ -328,7 +328,7 @@ static void *own_of(const struct percpu *percpu, unsigned cpu)
 
 static percpu_t *create(struct thread *me, size_t size, percpu_callback_t make, percpu_callback_t end, void *arg)
 {
-	want_sleepable(me);
+	require_sleepable(me);
 	if (size > SIZE_MAX / KUPALDIZ_CPUS - LINE)
 		stop(me, "out of memory");
 	struct percpu *percpu = memory(me, sizeof(*percpu));
@@ -355,7 +355,7 @@ percpu_t *percpu_alloc(size_t size)
 void percpu_free(percpu_t *percpu, size_t size)
 {
 	struct thread *me = begin_call(__func__);
-	want_sleepable(me);
+	require_sleepable(me);
 	if (percpu->size != size)
 		stop(me, "%zu bytes are given back of %zu", size, percpu->size);
 	for (unsigned cpu = 0; cpu < KUPALDIZ_CPUS && percpu->end != NULL; cpu++)
@@ -395,7 +395,7 @@ struct visit {
 	percpu_callback_t look;
 };
 
-static void visit(void *of, void *arg)
+static void visit_part(void *of, void *arg)
 {
 	struct visit *visit = of;
 	unsigned cpu = cpu_number();
@@ -405,8 +405,8 @@ static void visit(void *of, void *arg)
 void percpu_foreach_xcall(percpu_t *percpu, unsigned flags, percpu_callback_t look, void *arg)
 {
 	struct visit each = {percpu, look};
-	want_sleepable(begin_plain(__func__));
+	require_sleepable(begin_plain(__func__));
 	/* xc_broadcast takes a place: not that of a call which this one is an argument of. */
 	kupaldiz_at(NULL);
-	xc_wait(xc_broadcast(flags, visit, &each, arg));
+	xc_wait(xc_broadcast(flags, visit_part, &each, arg));
 }

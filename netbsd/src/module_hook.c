@@ -19,7 +19,7 @@ static struct pserialize psz;
 static const char *begin_change(const char *call, const bool *hooked, bool is_set)
 {
 	struct thread *me = begin_call(call);
-	want_sleepable(me);
+	require_sleepable(me);
 	if (*hooked != is_set)
 		stop(me, is_set ? "the hook is not set" : "the hook is set already");
 	return me->place;

@@ -15,7 +15,7 @@ void mutex_init(kmutex_t *mutex, kmutex_type_t type, int level)
 }
 
 /* Stops where it isn't a lock. */
-void want_mutex(const struct thread *me, const kmutex_t *mutex)
+void require_mutex(const struct thread *me, const kmutex_t *mutex)
 {
 	if (mutex->mtx_made == ENDED)
 		stop(me, "the lock was destroyed");
@@ -26,7 +26,7 @@ void want_mutex(const struct thread *me, const kmutex_t *mutex)
 static void destroy(struct thread *me, kmutex_t *mutex)
 {
 	char name[64], where[256];
-	want_mutex(me, mutex);
+	require_mutex(me, mutex);
 	struct thread *owner = lock_owner(&mutex->mtx_word);
 	if (owner != NULL)
 		stop(me, "the lock is held: thread \"%s\" took it%s", name_of(owner, name, sizeof(name)),
@@ -40,7 +40,7 @@ void mutex_destroy(kmutex_t *mutex)
 }
 
 /* Stops where the thread mustn't wait for a lock that doesn't spin. */
-void want_blockable(const struct thread *me)
+void require_blockable(const struct thread *me)
 {
 	char where[256];
 	if (me->depth > 0)
@@ -52,19 +52,19 @@ void want_blockable(const struct thread *me)
 }
 
 /* Says who has the lock that this thread waits for. */
-static void tell(struct thread *me, const uintptr_t *word)
+static void report_wait(struct thread *me, const uintptr_t *word)
 {
 	char name[64], where[256];
 	const kmutex_t *mutex = (const kmutex_t *)word;
 	struct thread *owner = lock_owner(word);
 	if (owner != NULL)
-		say(me, "waits for the lock that thread \"%s\" took%s", name_of(owner, name, sizeof(name)),
+		report(me, "waits for the lock that thread \"%s\" took%s", name_of(owner, name, sizeof(name)),
 		    at_place(__atomic_load_n(&mutex->mtx_place, __ATOMIC_RELAXED), where, sizeof(where)));
 }
 
 _Static_assert(offsetof(kmutex_t, mtx_word) == 0, "a lock's word is at its head");
 
-static void note_taken(struct thread *me, kmutex_t *mutex)
+static void note_acquired(struct thread *me, kmutex_t *mutex)
 {
 	if (!mutex->mtx_spins)
 		me->locks++;
@@ -82,7 +82,7 @@ static int level_of(const kmutex_t *mutex)
 }
 
 /* Raises the CPU's level to that of a spin lock, which this thread takes then. */
-static void raise_for(struct thread *me, const kmutex_t *mutex)
+static void raise_to_level_of(struct thread *me, const kmutex_t *mutex)
 {
 	int before = raise_level(me, level_of(mutex));
 	me->spins_at[level_of(mutex)]++;
@@ -91,7 +91,7 @@ static void raise_for(struct thread *me, const kmutex_t *mutex)
 }
 
 /* The level before, once the last spin lock is given back. */
-static void lower_again(struct thread *me, int level)
+static void restore_level(struct thread *me, int level)
 {
 	me->spins_at[level]--;
 	if (--me->spins == 0)
@@ -99,43 +99,43 @@ static void lower_again(struct thread *me, int level)
 }
 
 /* Takes a lock that doesn't spin. Whoever has its CPU, as a soft interrupt has, gives it back while it waits. */
-static void take_slowly(struct thread *me, kmutex_t *mutex)
+static void acquire_slowly(struct thread *me, kmutex_t *mutex)
 {
 	bool steps = me->holds > 0;
-	want_blockable(me);
-	if (lock_try(&mutex->mtx_word, me))
+	require_blockable(me);
+	if (lock_tryacquire(&mutex->mtx_word, me))
 		return;
 	if (steps)
-		step_off(me);
-	lock_take(&mutex->mtx_word, me, tell);
+		yield_cpu(me);
+	lock_acquire(&mutex->mtx_word, me, report_wait);
 	if (steps)
-		step_on(me);
+		reclaim_cpu(me);
 }
 
-void take_mutex(struct thread *me, kmutex_t *mutex)
+void acquire_mutex(struct thread *me, kmutex_t *mutex)
 {
 	char where[256];
-	want_mutex(me, mutex);
+	require_mutex(me, mutex);
 	if (has_mutex(me, mutex))
 		stop(me, "the thread has the lock already, taken%s", at_place(mutex->mtx_place, where, sizeof(where)));
 	if (mutex->mtx_spins) {
-		raise_for(me, mutex);
-		lock_take(&mutex->mtx_word, me, tell);
+		raise_to_level_of(me, mutex);
+		lock_acquire(&mutex->mtx_word, me, report_wait);
 	} else {
-		take_slowly(me, mutex);
+		acquire_slowly(me, mutex);
 	}
-	note_taken(me, mutex);
+	note_acquired(me, mutex);
 }
 
-void give_mutex(struct thread *me, kmutex_t *mutex)
+void release_mutex(struct thread *me, kmutex_t *mutex)
 {
-	want_mutex(me, mutex);
+	require_mutex(me, mutex);
 	if (!has_mutex(me, mutex))
 		stop(me, "the thread does not have the lock");
 	int level = level_of(mutex);
-	lock_give(&mutex->mtx_word, me);
+	lock_release(&mutex->mtx_word, me);
 	if (level > IPL_NONE)
-		lower_again(me, level);
+		restore_level(me, level);
 	else
 		me->locks--;
 }
@@ -146,7 +146,7 @@ bool has_mutex(const struct thread *me, const kmutex_t *mutex)
 }
 
 /* Stops where a soft interrupt takes a lock that isn't for it. */
-static void want_for_softint(const struct thread *me, const kmutex_t *mutex)
+static void require_for_softint(const struct thread *me, const kmutex_t *mutex)
 {
 	if (me->softint && mutex->mtx_made == A_MUTEX && !mutex->mtx_spins && mutex->mtx_level == IPL_NONE)
 		stop(me, "in a soft interrupt, and the lock is of IPL_NONE");
@@ -154,8 +154,8 @@ static void want_for_softint(const struct thread *me, const kmutex_t *mutex)
 
 void enter_mutex(struct thread *me, kmutex_t *mutex)
 {
-	want_for_softint(me, mutex);
-	take_mutex(me, mutex);
+	require_for_softint(me, mutex);
+	acquire_mutex(me, mutex);
 }
 
 void mutex_enter(kmutex_t *mutex)
@@ -166,28 +166,28 @@ void mutex_enter(kmutex_t *mutex)
 void mutex_exit(kmutex_t *mutex)
 {
 	struct thread *me = begin_call(__func__);
-	give_mutex(me, mutex);
+	release_mutex(me, mutex);
 	end_call(me);
 }
 
 int mutex_tryenter(kmutex_t *mutex)
 {
 	struct thread *me = begin_call(__func__);
-	want_mutex(me, mutex);
+	require_mutex(me, mutex);
 	if (mutex->mtx_spins)
-		raise_for(me, mutex);
-	if (lock_try(&mutex->mtx_word, me)) {
-		note_taken(me, mutex);
+		raise_to_level_of(me, mutex);
+	if (lock_tryacquire(&mutex->mtx_word, me)) {
+		note_acquired(me, mutex);
 		return 1;
 	}
 	if (mutex->mtx_spins)
-		lower_again(me, level_of(mutex));
+		restore_level(me, level_of(mutex));
 	return 0;
 }
 
-static void want_spin(const struct thread *me, const kmutex_t *mutex)
+static void require_spin(const struct thread *me, const kmutex_t *mutex)
 {
-	want_mutex(me, mutex);
+	require_mutex(me, mutex);
 	if (!mutex->mtx_spins)
 		stop(me, "the lock does not spin");
 }
@@ -195,15 +195,15 @@ static void want_spin(const struct thread *me, const kmutex_t *mutex)
 void mutex_spin_enter(kmutex_t *mutex)
 {
 	struct thread *me = begin_call(__func__);
-	want_spin(me, mutex);
-	take_mutex(me, mutex);
+	require_spin(me, mutex);
+	acquire_mutex(me, mutex);
 }
 
 void mutex_spin_exit(kmutex_t *mutex)
 {
 	struct thread *me = begin_call(__func__);
-	want_spin(me, mutex);
-	give_mutex(me, mutex);
+	require_spin(me, mutex);
+	release_mutex(me, mutex);
 	end_call(me);
 }
 
@@ -215,7 +215,7 @@ int mutex_owned(const kmutex_t *mutex)
 int mutex_ownable(const kmutex_t *mutex)
 {
 	struct thread *me = begin_plain(__func__);
-	want_mutex(me, mutex);
+	require_mutex(me, mutex);
 	if (has_mutex(me, mutex))
 		stop(me, "the thread has the lock already");
 	return 1;
@@ -224,7 +224,7 @@ int mutex_ownable(const kmutex_t *mutex)
 kmutex_t *mutex_obj_alloc(kmutex_type_t type, int level)
 {
 	struct thread *me = begin_plain(__func__);
-	want_sleepable(me);
+	require_sleepable(me);
 	struct counted_mutex *counted = memory(me, sizeof(*counted));
 	mutex_init(&counted->mutex, type, level);
 	counted->references = 1;

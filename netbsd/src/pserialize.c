@@ -6,7 +6,7 @@
 pserialize_t pserialize_create(void)
 {
 	struct thread *me = begin_plain(__func__);
-	want_sleepable(me);
+	require_sleepable(me);
 	return memory(me, sizeof(struct pserialize));
 }
 
@@ -49,7 +49,7 @@ void pserialize_read_exit(int s)
 void pserialize_perform(pserialize_t psz)
 {
 	struct thread *me = begin_call(__func__);
-	want_sleepable(me);
+	require_sleepable(me);
 	int waits = begin_wait();
 	__atomic_fetch_add(&psz->performing, 1, __ATOMIC_ACQ_REL);
 	perform_all(me);
@@ -68,14 +68,14 @@ bool pserialize_not_in_read_section(void)
 }
 
 /* Says of a CPU whose section lasts which thread is inside, and since where. */
-void tell_of_section(struct thread *me, uint64_t cpu)
+void report_section_wait(struct thread *me, uint64_t cpu)
 {
 	char text[64], where[256];
 	struct thread *owner = cpu < KUPALDIZ_CPUS ? lock_owner(&cpus[cpu].hold) : NULL;
 	const char *entered = owner == NULL ? NULL : __atomic_load_n(&owner->entered, __ATOMIC_RELAXED);
 	if (entered == NULL)
-		say(me, "waits for CPU %u", (unsigned)cpu);
+		report(me, "waits for CPU %u", (unsigned)cpu);
 	else
-		say(me, "waits for CPU %u, whose thread \"%s\" is inside a read section, entered%s", (unsigned)cpu,
+		report(me, "waits for CPU %u, whose thread \"%s\" is inside a read section, entered%s", (unsigned)cpu,
 		    name_of(owner, text, sizeof(text)), at_place(entered, where, sizeof(where)));
 }

@@ -16,7 +16,7 @@ enum { FIRST_ROOM = 16 };
 struct psref_class *psref_class_create(const char *name, ipl_cookie_t level)
 {
 	struct thread *me = begin_plain(__func__);
-	want_sleepable(me);
+	require_sleepable(me);
 	struct psref_class *psref_class = memory(me, sizeof(*psref_class));
 	psref_class->name = name;
 	psref_class->level = level;
@@ -69,14 +69,14 @@ static struct reference *reference_at(struct cpu *cpu, const struct psref *psref
 }
 
 /* Stops where this storage has a reference of this CPU. */
-static void want_unheld(const struct thread *me, const struct psref *psref)
+static void require_unheld(const struct thread *me, const struct psref *psref)
 {
 	if (reference_at(me->cpu, psref) != NULL)
 		stop(me, "the reference is held already");
 }
 
 /* Memory for a row that this one goes on with. */
-static void *longer(struct thread *me, void *row, size_t size)
+static void *grow_row(struct thread *me, void *row, size_t size)
 {
 	row = realloc(row, size);
 	if (row == NULL)
@@ -96,8 +96,8 @@ static void extend(struct thread *me)
 {
 	struct cpu *cpu = me->cpu;
 	uint32_t before = cpu->room, room = before == 0 ? FIRST_ROOM : before * 2;
-	cpu->references = longer(me, cpu->references, room * sizeof(*cpu->references));
-	cpu->chains = longer(me, cpu->chains, room * sizeof(*cpu->chains));
+	cpu->references = grow_row(me, cpu->references, room * sizeof(*cpu->references));
+	cpu->chains = grow_row(me, cpu->chains, room * sizeof(*cpu->chains));
 	cpu->room = room;
 	memset(cpu->chains, 0xff, room * sizeof(*cpu->chains));
 	for (uint32_t place = 0; place < before; place++)
@@ -124,7 +124,7 @@ static void note_reference(struct thread *me, struct psref *psref, const struct 
 }
 
 /* The reference that lies there, which is this thread's; stops where there is none. */
-static struct reference *judge_reference(const struct thread *me, const struct psref *psref)
+static struct reference *own_reference(const struct thread *me, const struct psref *psref)
 {
 	char text[64], where[256];
 	if (psref->psref_target == NULL || psref->psref_cpu >= KUPALDIZ_CPUS)
@@ -160,7 +160,7 @@ static void forget_reference(struct thread *me, struct reference *reference)
 
 /* ---- Acquiring and releasing. ---- */
 
-static void want_bound(const struct thread *me)
+static void require_bound(const struct thread *me)
 {
 	if (!is_bound(me) && me->preemptions == 0)
 		stop(me, "the thread is not bound to a CPU");
@@ -206,7 +206,7 @@ static uint32_t acquire(struct thread *me, struct found_row at)
 		answer = count_one(me, at, via = WRITERS, false);
 	if (answer == REGISTRY_NOT_FOUND)
 		stop(me, "the target is being destroyed");
-	done(me, answer);
+	must_succeed(me, answer);
 	return via;
 }
 
@@ -219,7 +219,7 @@ static uint32_t copy(struct thread *me, struct found_row at, uint32_t via)
 		if (count_one(me, at, via, true) == REGISTRY_DONE)
 			return via;
 	}
-	done(me, answer);
+	must_succeed(me, answer);
 	return via;
 }
 
@@ -228,16 +228,16 @@ static void release(struct thread *me, struct found_row at, uint64_t number, uin
 	COMES_BEFORE(&at.row->gone);
 	uint32_t answer = registry_release(begin_count(me, at, via), number);
 	end_count(via);
-	done(me, answer);
+	must_succeed(me, answer);
 }
 
 void psref_acquire(struct psref *psref, const struct psref_target *target, struct psref_class *psref_class)
 {
 	struct thread *me = begin_call(__func__);
-	want_bound(me);
+	require_bound(me);
 	struct found_row at = target_row(me, target, psref_class);
 	hold_cpu(me);
-	want_unheld(me, psref);
+	require_unheld(me, psref);
 	note_reference(me, psref, target, acquire(me, at));
 	unhold_cpu(me);
 	end_call(me);
@@ -247,7 +247,7 @@ void psref_release(struct psref *psref, const struct psref_target *target, struc
 {
 	struct thread *me = begin_call(__func__);
 	hold_cpu(me);
-	struct reference *reference = judge_reference(me, psref);
+	struct reference *reference = own_reference(me, psref);
 	if (psref->psref_target != target)
 		stop(me, "the reference is to another target");
 	struct found_row at = target_row(me, target, psref_class);
@@ -265,8 +265,8 @@ void psref_copy(struct psref *to, const struct psref *from, struct psref_class *
 {
 	struct thread *me = begin_call(__func__);
 	hold_cpu(me);
-	struct reference *reference = judge_reference(me, from);
-	want_unheld(me, to);
+	struct reference *reference = own_reference(me, from);
+	require_unheld(me, to);
 	struct found_row at = target_row(me, from->psref_target, psref_class);
 	note_reference(me, to, from->psref_target, copy(me, at, reference->via));
 	unhold_cpu(me);
@@ -288,10 +288,10 @@ bool psref_held(const struct psref_target *target, struct psref_class *psref_cla
 {
 	struct thread *me = begin_call(__func__);
 	bool held = false;
-	want_bound(me);
+	require_bound(me);
 	struct found_row at = target_row(me, target, psref_class);
 	hold_cpu(me);
-	done(me, registry_held(handle_of(me, at.bank), at.row->number, &held));
+	must_succeed(me, registry_held(handle_of(me, at.bank), at.row->number, &held));
 	if (!held && me->cpu->counted_elsewhere > 0)
 		held = find_reference(me->cpu, target, NULL) != NULL;
 	unhold_cpu(me);
@@ -302,7 +302,7 @@ bool psref_held(const struct psref_target *target, struct psref_class *psref_cla
 /* ---- The end of a target. ---- */
 
 /* Stops where this thread has a reference to the target: nobody else could release it. */
-static void want_none_of_own(struct thread *me, const struct psref_target *target)
+static void require_none_of_own(struct thread *me, const struct psref_target *target)
 {
 	char where[256];
 	if (me->references == 0)
@@ -315,12 +315,12 @@ static void want_none_of_own(struct thread *me, const struct psref_target *targe
 }
 
 /* Says what the end of a target waits for. */
-static void tell_of_stage(struct thread *me, const struct registry_stage *met, const struct psref_target *target)
+static void report_stage(struct thread *me, const struct registry_stage *met, const struct psref_target *target)
 {
 	if (met->stage == REGISTRY_GRACE)
-		tell_of_section(me, met->what);
+		report_section_wait(me, met->what);
 	else
-		tell_of_reference(me, met->what, target);
+		report_reference_wait(me, met->what, target);
 }
 
 void psref_target_destroy(struct psref_target *target, struct psref_class *psref_class)
@@ -328,14 +328,14 @@ void psref_target_destroy(struct psref_target *target, struct psref_class *psref
 	struct thread *me = begin_call(__func__);
 	struct pauses pauses = begin_pauses();
 	struct registry_stage met = {0, 0};
-	want_sleepable(me);
+	require_sleepable(me);
 	struct found_row at = target_row(me, target, psref_class);
-	want_none_of_own(me, target);
+	require_none_of_own(me, target);
 	int waits = begin_wait();
 	retire_row(me, at, target);
-	while (!is_freed(me, at, &met))
+	while (!try_free_row(me, at, &met))
 		if (pause_longer(&pauses, &met))
-			tell_of_stage(me, &met, target);
+			report_stage(me, &met, target);
 	/* A section may have released the last reference and still follow the links of what the target lies in. */
 	perform_all(me);
 	target->prt_class = NULL;
@@ -368,11 +368,11 @@ static void describe(const struct cpu *cpu, const struct psref_target *target, c
 }
 
 /* Takes a CPU for a look at it, if it is free before long. */
-static bool take_for_a_look(struct thread *me, struct cpu *cpu)
+static bool try_hold_cpu(struct thread *me, struct cpu *cpu)
 {
 	const struct timespec moment = {0, 1000000};
 	for (unsigned turn = 0; turn < 100; turn++) {
-		if (lock_try(&cpu->hold, me))
+		if (lock_tryacquire(&cpu->hold, me))
 			return true;
 		nanosleep(&moment, NULL);
 	}
@@ -380,23 +380,23 @@ static bool take_for_a_look(struct thread *me, struct cpu *cpu)
 }
 
 /* Says whose reference a wait waits for. That of the writers' CPU may be in any table. */
-void tell_of_reference(struct thread *me, uint64_t of, const struct psref_target *target)
+void report_reference_wait(struct thread *me, uint64_t of, const struct psref_target *target)
 {
 	char text[400] = ", which holds a reference";
 	unsigned first = of == WRITERS ? 0 : (unsigned)of, last = of == WRITERS ? KUPALDIZ_CPUS - 1 : (unsigned)of;
 	for (unsigned cpu = first; cpu <= last; cpu++) {
-		if (!take_for_a_look(me, &cpus[cpu]))
+		if (!try_hold_cpu(me, &cpus[cpu]))
 			continue;
 		bool found = find_reference(&cpus[cpu], target, NULL) != NULL;
 		describe(&cpus[cpu], target, text, sizeof(text));
-		lock_give(&cpus[cpu].hold, me);
+		lock_release(&cpus[cpu].hold, me);
 		if (found)
 			of = cpu;
 		if (found)
 			break;
 	}
 	if (of == WRITERS)
-		say(me, "waits for a reference");
+		report(me, "waits for a reference");
 	else
-		say(me, "waits for CPU %u%s", (unsigned)of, text);
+		report(me, "waits for CPU %u%s", (unsigned)of, text);
 }

@@ -44,7 +44,7 @@ void stop_at(const char *call, const char *place, const char *format, ...)
 	abort();
 }
 
-void say(const struct thread *me, const char *format, ...)
+void report(const struct thread *me, const char *format, ...)
 {
 	va_list words;
 	va_start(words, format);
@@ -53,7 +53,7 @@ void say(const struct thread *me, const char *format, ...)
 }
 
 /* Stops where the registry refuses, as at a limit. */
-void done(const struct thread *me, uint32_t answer)
+void must_succeed(const struct thread *me, uint32_t answer)
 {
 	char text[128];
 	if (answer == REGISTRY_DONE)
@@ -92,7 +92,7 @@ const char *at_place(const char *place, char *text, size_t room)
 }
 
 /* Stops where the thread mustn't sleep. */
-void want_sleepable(const struct thread *me)
+void require_sleepable(const struct thread *me)
 {
 	char text[192];
 	if (me->depth > 0)

@@ -1,4 +1,4 @@
-/* rwlock.c - rwlock(9): its words are read and written under the lock of the bucket in which its threads wait */
+/* rwlock.c - rwlock(9): its words are read and written under the lock of the sleep queue in which its threads wait */
 #include "layer.h"
 
 void rw_init(krwlock_t *rw)
@@ -7,7 +7,7 @@ void rw_init(krwlock_t *rw)
 }
 
 /* Stops where it isn't a lock. */
-static void want_rw(const struct thread *me, const krwlock_t *rw)
+static void require_rw(const struct thread *me, const krwlock_t *rw)
 {
 	if (rw->rw_made == ENDED)
 		stop(me, "the lock was destroyed");
@@ -18,16 +18,16 @@ static void want_rw(const struct thread *me, const krwlock_t *rw)
 void rw_destroy(krwlock_t *rw)
 {
 	struct thread *me = begin_call(__func__);
-	want_rw(me, rw);
-	bucket_lock(bucket_of(rw));
+	require_rw(me, rw);
+	sleepq_lock(sleepq_of(rw));
 	if (rw->rw_writer != 0 || rw->rw_readers != 0)
 		stop(me, "the lock is held");
 	rw->rw_made = ENDED;
-	bucket_unlock(bucket_of(rw));
+	sleepq_unlock(sleepq_of(rw));
 }
 
 /* Takes it where it is free for this. */
-static bool try(struct thread *me, krwlock_t *rw, krw_t how)
+static bool rw_tryacquire(struct thread *me, krwlock_t *rw, krw_t how)
 {
 	if (rw->rw_writer != 0 || (how == RW_WRITER ? rw->rw_readers != 0 : rw->rw_wanted != 0))
 		return false;
@@ -40,17 +40,17 @@ static bool try(struct thread *me, krwlock_t *rw, krw_t how)
 	return true;
 }
 
-/* Says who has the lock. Whether anybody has it. The caller has the bucket's lock. */
-static bool tell(struct thread *me, const krwlock_t *rw)
+/* Says who has the lock. Whether anybody has it. The caller has the sleep queue's lock. */
+static bool report_wait(struct thread *me, const krwlock_t *rw)
 {
 	char name[64], where[256];
 	if (rw->rw_writer == 0 && rw->rw_readers == 0)
 		return false;
 	if (rw->rw_writer != 0)
-		say(me, "waits for the lock that thread \"%s\" took as a writer%s",
+		report(me, "waits for the lock that thread \"%s\" took as a writer%s",
 		    name_of((const struct thread *)rw->rw_writer, name, sizeof(name)), at_place(rw->rw_place, where, sizeof(where)));
 	else
-		say(me, "waits for %u readers, the last of which took the lock%s", rw->rw_readers, at_place(rw->rw_place, where, sizeof(where)));
+		report(me, "waits for %u readers, the last of which took the lock%s", rw->rw_readers, at_place(rw->rw_place, where, sizeof(where)));
 	return true;
 }
 
@@ -60,28 +60,28 @@ static struct timespec patience(void)
 	return time_after(KUPALDIZ_PATIENCE * INT64_C(1000000));
 }
 
-/* Waits until it has the lock. The caller has the bucket's lock. */
-static void take(struct thread *me, krwlock_t *rw, krw_t how)
+/* Waits until it has the lock. The caller has the sleep queue's lock. */
+static void rw_acquire(struct thread *me, krwlock_t *rw, krw_t how)
 {
 	struct timespec tells = patience();
 	bool told = false;
 	rw->rw_wanted += how == RW_WRITER;
 	for (;;) {
 		rw->rw_wanted -= how == RW_WRITER;
-		if (try(me, rw, how))
+		if (rw_tryacquire(me, rw, how))
 			return;
 		rw->rw_wanted += how == RW_WRITER;
-		if (bucket_wait(bucket_of(rw), rw, me, told ? NULL : &tells) || told)
+		if (sleepq_wait(sleepq_of(rw), rw, me, told ? NULL : &tells) || told)
 			continue;
-		told = tell(me, rw);
+		told = report_wait(me, rw);
 		tells = patience();
 	}
 }
 
 /* Stops where the thread mustn't wait for it. */
-static void want_free_of(struct thread *me, const krwlock_t *rw)
+static void require_free_of(struct thread *me, const krwlock_t *rw)
 {
-	want_blockable(me);
+	require_blockable(me);
 	if (rw->rw_writer == (uintptr_t)me)
 		stop(me, "the thread has the lock already");
 }
@@ -89,36 +89,36 @@ static void want_free_of(struct thread *me, const krwlock_t *rw)
 void rw_enter(krwlock_t *rw, const krw_t how)
 {
 	struct thread *me = begin_call(__func__);
-	want_rw(me, rw);
-	bucket_lock(bucket_of(rw));
-	want_free_of(me, rw);
-	if (try(me, rw, how)) {
-		bucket_unlock(bucket_of(rw));
+	require_rw(me, rw);
+	sleepq_lock(sleepq_of(rw));
+	require_free_of(me, rw);
+	if (rw_tryacquire(me, rw, how)) {
+		sleepq_unlock(sleepq_of(rw));
 		return;
 	}
 	bool steps = me->holds > 0;
 	if (steps)
-		step_off(me);
+		yield_cpu(me);
 	int waits = begin_wait();
-	take(me, rw, how);
+	rw_acquire(me, rw, how);
 	end_wait(waits);
-	bucket_unlock(bucket_of(rw));
+	sleepq_unlock(sleepq_of(rw));
 	if (steps)
-		step_on(me);
+		reclaim_cpu(me);
 }
 
 int rw_tryenter(krwlock_t *rw, const krw_t how)
 {
 	struct thread *me = begin_call(__func__);
-	want_rw(me, rw);
-	bucket_lock(bucket_of(rw));
-	bool taken = try(me, rw, how);
-	bucket_unlock(bucket_of(rw));
+	require_rw(me, rw);
+	sleepq_lock(sleepq_of(rw));
+	bool taken = rw_tryacquire(me, rw, how);
+	sleepq_unlock(sleepq_of(rw));
 	return taken;
 }
 
-/* Stops where the thread can't have the lock. The caller has the bucket's lock. */
-static void want_held(const struct thread *me, const krwlock_t *rw)
+/* Stops where the thread can't have the lock. The caller has the sleep queue's lock. */
+static void require_held(const struct thread *me, const krwlock_t *rw)
 {
 	if (rw->rw_writer == 0 && rw->rw_readers == 0)
 		stop(me, "nobody has the lock");
@@ -129,70 +129,70 @@ static void want_held(const struct thread *me, const krwlock_t *rw)
 void rw_exit(krwlock_t *rw)
 {
 	struct thread *me = begin_call(__func__);
-	struct bucket *bucket = bucket_of(rw);
-	want_rw(me, rw);
-	bucket_lock(bucket);
+	struct sleepq *sleepq = sleepq_of(rw);
+	require_rw(me, rw);
+	sleepq_lock(sleepq);
 	if (rw->rw_writer != 0 && rw->rw_writer != (uintptr_t)me)
 		stop(me, "another thread has the lock as its writer");
-	want_held(me, rw);
+	require_held(me, rw);
 	if (rw->rw_writer != 0)
 		rw->rw_writer = 0;
 	else
 		rw->rw_readers--;
 	me->locks--;
-	bucket_wake_all(bucket, rw);
-	bucket_unlock(bucket);
+	sleepq_wake_all(sleepq, rw);
+	sleepq_unlock(sleepq);
 }
 
 int rw_tryupgrade(krwlock_t *rw)
 {
 	struct thread *me = begin_plain(__func__);
-	want_rw(me, rw);
-	bucket_lock(bucket_of(rw));
-	want_held(me, rw);
+	require_rw(me, rw);
+	sleepq_lock(sleepq_of(rw));
+	require_held(me, rw);
 	bool alone = rw->rw_writer == 0 && rw->rw_readers == 1;
 	if (alone) {
 		rw->rw_readers = 0;
 		rw->rw_writer = (uintptr_t)me;
 	}
-	bucket_unlock(bucket_of(rw));
+	sleepq_unlock(sleepq_of(rw));
 	return alone;
 }
 
 void rw_downgrade(krwlock_t *rw)
 {
 	struct thread *me = begin_plain(__func__);
-	want_rw(me, rw);
-	bucket_lock(bucket_of(rw));
+	require_rw(me, rw);
+	sleepq_lock(sleepq_of(rw));
 	if (rw->rw_writer != (uintptr_t)me)
 		stop(me, "the thread is not the lock's writer");
 	rw->rw_writer = 0;
 	rw->rw_readers = 1;
-	bucket_wake_all(bucket_of(rw), rw);
-	bucket_unlock(bucket_of(rw));
+	sleepq_wake_all(sleepq_of(rw), rw);
+	sleepq_unlock(sleepq_of(rw));
 }
 
 int rw_read_held(krwlock_t *rw)
 {
-	bucket_lock(bucket_of(rw));
+	sleepq_lock(sleepq_of(rw));
 	bool held = rw->rw_readers > 0;
-	bucket_unlock(bucket_of(rw));
+	sleepq_unlock(sleepq_of(rw));
 	return held;
 }
 
 int rw_write_held(krwlock_t *rw)
 {
 	struct thread *me = begin_plain(__func__);
-	bucket_lock(bucket_of(rw));
+	sleepq_lock(sleepq_of(rw));
 	bool held = rw->rw_writer == (uintptr_t)me;
-	bucket_unlock(bucket_of(rw));
+	sleepq_unlock(sleepq_of(rw));
 	return held;
 }
 
 int rw_lock_held(krwlock_t *rw)
 {
-	bucket_lock(bucket_of(rw));
+	sleepq_lock(sleepq_of(rw));
 	bool held = rw->rw_readers > 0 || rw->rw_writer != 0;
-	bucket_unlock(bucket_of(rw));
+	sleepq_unlock(sleepq_of(rw));
 	return held;
 }

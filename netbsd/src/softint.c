@@ -104,7 +104,7 @@ static void dequeue(struct softint *softint, unsigned cpu)
 }
 
 /* Stops where a handler, or a function of xcall(9), left something behind. It began at this level, with so many locks and references. */
-void judge_return(const struct thread *me, const char *what, int level, unsigned locks, unsigned references)
+void check_handler_return(const struct thread *me, const char *what, int level, unsigned locks, unsigned references)
 {
 	if (me->depth > 0)
 		stop(me, "%s returned inside a read section", what);
@@ -136,7 +136,7 @@ bool run_softint(struct thread *me, int level)
 	next->handler(next->arg);
 	me->call = "softint";
 	me->place = NULL;
-	judge_return(me, "the handler", next->level, 0, 0);
+	check_handler_return(me, "the handler", next->level, 0, 0);
 	pthread_mutex_lock(&pending_list);
 	next->running--;
 	pthread_mutex_unlock(&pending_list);
@@ -163,7 +163,7 @@ void *make_softint(unsigned flags, void (*handler)(void *), void *arg)
 
 void *softint_establish(unsigned flags, void (*handler)(void *), void *arg)
 {
-	want_sleepable(begin_plain(__func__));
+	require_sleepable(begin_plain(__func__));
 	return FAILS() ? NULL : make_softint(flags, handler, arg);
 }
 
@@ -176,7 +176,7 @@ static bool is_established(const struct softint *softint)
 	return false;
 }
 
-static void want_established(const struct thread *me, const struct softint *softint)
+static void require_established(const struct thread *me, const struct softint *softint)
 {
 	if (!is_established(softint))
 		stop(me, "the soft interrupt is not established");
@@ -187,10 +187,10 @@ void schedule_on(struct thread *me, void *cookie, struct cpu *cpu)
 {
 	struct softint *softint = cookie;
 	pthread_mutex_lock(&pending_list);
-	want_established(me, softint);
-	want_softint_thread(me, cpu, softint->level);
+	require_established(me, softint);
+	ensure_softint_thread(me, cpu, softint->level);
 	/* The list was free while that thread began. */
-	want_established(me, softint);
+	require_established(me, softint);
 	enqueue(softint, cpu->info.ci_index);
 	note_pending(cpu);
 	pthread_cond_broadcast(&pending_changed);
@@ -213,7 +213,7 @@ static void await_handlers(struct thread *me, struct softint *softint)
 	while (softint->running > 0) {
 		pthread_mutex_unlock(&pending_list);
 		if (pause_longer(&pauses, NULL))
-			say(me, "waits for its handler");
+			report(me, "waits for its handler");
 		pthread_mutex_lock(&pending_list);
 	}
 }
@@ -222,10 +222,10 @@ void softint_disestablish(void *cookie)
 {
 	struct thread *me = begin_call(__func__);
 	struct softint *softint = cookie, **at = &softints;
-	want_sleepable(me);
+	require_sleepable(me);
 	int waits = begin_wait();
 	pthread_mutex_lock(&pending_list);
-	want_established(me, softint);
+	require_established(me, softint);
 	softint->dead = true;
 	for (unsigned cpu = 0; cpu < KUPALDIZ_CPUS; cpu++) {
 		dequeue(softint, cpu);

@@ -30,14 +30,14 @@ static int highest(const struct cpu *cpu)
 }
 
 /* Gives the CPU back to whoever lent it, else to all. */
-static void give_cpu(struct thread *me)
+static void return_cpu(struct thread *me)
 {
 	struct thread *lender = me->lender;
 	me->lender = NULL;
 	if (lender != NULL)
-		lock_pass(&me->cpu->hold, lender);
+		lock_hand_over(&me->cpu->hold, lender);
 	else
-		lock_give(&me->cpu->hold, me);
+		lock_release(&me->cpu->hold, me);
 }
 
 /* The levels of a CPU with a handler that waits for a lock, and those with one that has it and waits for the CPU. */
@@ -66,7 +66,7 @@ static void run_level(struct thread *me, int level)
 		;
 	me->holds = 0;
 	me->level = IPL_NONE;
-	give_cpu(me);
+	return_cpu(me);
 	/* Lower levels go on. */
 	pthread_mutex_lock(&pending_list);
 	pthread_cond_broadcast(&pending_changed);
@@ -89,13 +89,13 @@ static _Noreturn void *run_all(void *of)
 	pthread_mutex_unlock(&pending_list);
 	for (;;) {
 		await_turn(softint_thread);
-		lock_take(&me->cpu->hold, me, NULL);
+		lock_acquire(&me->cpu->hold, me, NULL);
 		run_level(me, softint_thread->level);
 	}
 }
 
 /* The thread of a CPU's level, which is begun where it isn't. The caller has the list. */
-void want_softint_thread(struct thread *me, struct cpu *cpu, int level)
+void ensure_softint_thread(struct thread *me, struct cpu *cpu, int level)
 {
 	pthread_t thread;
 	struct softint_thread *softint_thread = &threads[cpu->info.ci_index][level];
@@ -122,44 +122,44 @@ static struct thread *next_above(const struct thread *me)
 }
 
 /* Lets the soft interrupts that wait have the CPU, one level after another, and waits for it. */
-void offer_cpu(struct thread *me)
+void lend_cpu(struct thread *me)
 {
 	struct thread *next;
 	while ((next = next_above(me)) != NULL) {
 		next->lender = me;
-		lock_pass(&me->cpu->hold, next);
+		lock_hand_over(&me->cpu->hold, next);
 		pthread_mutex_lock(&pending_list);
 		pthread_cond_broadcast(&pending_changed);
 		pthread_mutex_unlock(&pending_list);
-		lock_await(&me->cpu->hold, me);
+		lock_wait(&me->cpu->hold, me);
 	}
 }
 
 /* A thread that has its CPU waits for a lock: others get the CPU meanwhile. */
-void step_off(struct thread *me)
+void yield_cpu(struct thread *me)
 {
 	if (!me->softint) {
-		lock_give(&me->cpu->hold, me);
+		lock_release(&me->cpu->hold, me);
 		return;
 	}
 	pthread_mutex_lock(&pending_list);
 	note_waits(me->cpu, me->cpu->blocked | bit_of(me->level), me->cpu->goes_on);
 	pthread_mutex_unlock(&pending_list);
-	give_cpu(me);
+	return_cpu(me);
 }
 
 /* It has the lock, and goes on once it has the CPU again. */
-void step_on(struct thread *me)
+void reclaim_cpu(struct thread *me)
 {
 	if (!me->softint) {
-		lock_take(&me->cpu->hold, me, tell_of_cpu);
+		lock_acquire(&me->cpu->hold, me, report_cpu_wait);
 		return;
 	}
 	uint32_t level = bit_of(me->level);
 	pthread_mutex_lock(&pending_list);
 	note_waits(me->cpu, me->cpu->blocked & ~level, me->cpu->goes_on | level);
 	pthread_mutex_unlock(&pending_list);
-	lock_take(&me->cpu->hold, me, NULL);
+	lock_acquire(&me->cpu->hold, me, NULL);
 	pthread_mutex_lock(&pending_list);
 	note_waits(me->cpu, me->cpu->blocked, me->cpu->goes_on & ~level);
 	pthread_mutex_unlock(&pending_list);

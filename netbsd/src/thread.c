@@ -80,11 +80,11 @@ static struct thread *thread_memory(void)
 struct thread *named_thread(const char *call, const char *name)
 {
 	if (forked)
-		stop_at(call, take_place(), "in the child of a fork");
+		stop_at(call, pop_place(), "in the child of a fork");
 	pthread_once(&opened, open_layer);
 	struct thread *me = thread_memory();
 	if (me == NULL || pthread_setspecific(ending, me) != 0)
-		stop_at(call, take_place(), "out of memory");
+		stop_at(call, pop_place(), "out of memory");
 	snprintf(me->name, sizeof(me->name), "%s", name);
 	me->lwp.l_name = me->name;
 	me->lwp.l_cpu = NULL;
@@ -103,7 +103,7 @@ struct thread *new_thread(const char *call)
 }
 
 /* Stops where the thread has passive references. */
-static void want_unreferring(const struct thread *me)
+static void require_unreferring(const struct thread *me)
 {
 	if (me->references != 0)
 		stop(me, "the thread has passive references");
@@ -112,7 +112,7 @@ static void want_unreferring(const struct thread *me)
 /* The thread isn't bound any more. */
 static void unbind(struct thread *me)
 {
-	want_unreferring(me);
+	require_unreferring(me);
 	me->lwp.l_pflag &= ~LP_BOUND;
 	__atomic_fetch_sub(&me->cpu->bound, 1, __ATOMIC_RELAXED);
 }
@@ -138,7 +138,7 @@ void end_of_thread(struct thread *me)
 		stop(me, "with a lock");
 	if (me->holds > 0)
 		stop(me, "with its CPU");
-	want_unreferring(me);
+	require_unreferring(me);
 	if (is_bound(me))
 		unbind(me);
 	kupaldiz_self = NULL;
@@ -170,17 +170,17 @@ struct cpu *cpu_of(struct thread *me)
 }
 
 /* Takes a CPU that is free; where none is, waits for the one that this thread had last. */
-static void take_any(struct thread *me)
+static void acquire_any_cpu(struct thread *me)
 {
 	unsigned last = cpu_of(me)->info.ci_index;
 	for (unsigned turn = 0; turn < KUPALDIZ_CPUS; turn++) {
 		struct cpu *cpu = &cpus[(last + turn) % KUPALDIZ_CPUS];
-		if (lock_try(&cpu->hold, me)) {
+		if (lock_tryacquire(&cpu->hold, me)) {
 			move_to(me, cpu);
 			return;
 		}
 	}
-	lock_take(&me->cpu->hold, me, tell_of_cpu);
+	lock_acquire(&me->cpu->hold, me, report_cpu_wait);
 }
 
 /* Has the CPU, for one reason more. */
@@ -189,29 +189,29 @@ void hold_cpu(struct thread *me)
 	if (me->holds++ > 0)
 		return;
 	if (is_bound(me))
-		lock_take(&me->cpu->hold, me, tell_of_cpu);
+		lock_acquire(&me->cpu->hold, me, report_cpu_wait);
 	else
-		take_any(me);
+		acquire_any_cpu(me);
 }
 
 /* Has it for one reason less. */
 void unhold_cpu(struct thread *me)
 {
 	if (--me->holds == 0)
-		lock_give(&me->cpu->hold, me);
+		lock_release(&me->cpu->hold, me);
 }
 
 /* Has each CPU once: what other threads did there before is over then. The thread has none. */
 void visit_cpus(struct thread *me)
 {
 	for (unsigned cpu = 0; cpu < KUPALDIZ_CPUS; cpu++) {
-		lock_take(&cpus[cpu].hold, me, tell_of_cpu);
-		lock_give(&cpus[cpu].hold, me);
+		lock_acquire(&cpus[cpu].hold, me, report_cpu_wait);
+		lock_release(&cpus[cpu].hold, me);
 	}
 }
 
 /* Says who has the CPU that this thread waits for. */
-void tell_of_cpu(struct thread *me, const uintptr_t *word)
+void report_cpu_wait(struct thread *me, const uintptr_t *word)
 {
 	char text[64], where[256];
 	const struct cpu *cpu = (const struct cpu *)(const void *)((const char *)word - offsetof(struct cpu, hold));
@@ -219,7 +219,7 @@ void tell_of_cpu(struct thread *me, const uintptr_t *word)
 	if (owner == NULL)
 		return;
 	const char *entered = __atomic_load_n(&owner->entered, __ATOMIC_RELAXED);
-	say(me, "waits for CPU %u, whose thread \"%s\" %s%s", cpu->info.ci_index, name_of(owner, text, sizeof(text)),
+	report(me, "waits for CPU %u, whose thread \"%s\" %s%s", cpu->info.ci_index, name_of(owner, text, sizeof(text)),
 	    entered == NULL ? "keeps it" : "is inside a read section, entered", at_place(entered, where, sizeof(where)));
 }
 
@@ -251,11 +251,11 @@ void kupaldiz_bind(unsigned cpu)
 		stop(me, "there is no CPU %u", cpu);
 	if (is_bound(me))
 		stop(me, "the thread is bound to CPU %u", me->cpu->info.ci_index);
-	want_sleepable(me);
+	require_sleepable(me);
 	bind_to(me, &cpus[cpu]);
 }
 
-static void want_bound(const struct thread *me)
+static void require_bound(const struct thread *me)
 {
 	if (!is_bound(me))
 		stop(me, "the thread is not bound to a CPU");
@@ -264,8 +264,8 @@ static void want_bound(const struct thread *me)
 void kupaldiz_unbind(void)
 {
 	struct thread *me = begin_call(__func__);
-	want_bound(me);
-	want_sleepable(me);
+	require_bound(me);
+	require_sleepable(me);
 	unbind(me);
 }
 
@@ -294,7 +294,7 @@ int curlwp_bind(void)
 void curlwp_bindx(int bound)
 {
 	struct thread *me = begin_call(__func__);
-	want_bound(me);
+	require_bound(me);
 	if (!bound)
 		unbind(me);
 }

@@ -45,16 +45,16 @@ static struct work *dequeue(struct queue *queue)
 }
 
 /* Does the first work. The caller has the lock, which is free meanwhile. */
-static void do_first(struct thread *me, struct queue *queue)
+static void run_first_work(struct thread *me, struct queue *queue)
 {
 	struct work *work = dequeue(queue);
 	queue->current = work;
-	give_mutex(me, &queue->lock);
+	release_mutex(me, &queue->lock);
 	queue->all->body(work, queue->all->arg);
 	me->call = "workqueue";
 	me->place = NULL;
-	judge_return(me, "the function", IPL_NONE, 0, 0);
-	take_mutex(me, &queue->lock);
+	check_handler_return(me, "the function", IPL_NONE, 0, 0);
+	acquire_mutex(me, &queue->lock);
 	queue->current = NULL;
 	wake_cv(me, &queue->changed, true);
 }
@@ -66,7 +66,7 @@ static void *run_queue(void *of)
 	me->kept = true;
 	if (queue->cpu != NULL)
 		bind_to(me, queue->cpu);
-	take_mutex(me, &queue->lock);
+	acquire_mutex(me, &queue->lock);
 	queue->thread = me;
 	wake_cv(me, &queue->changed, true);
 	for (;;) {
@@ -74,9 +74,9 @@ static void *run_queue(void *of)
 			wait_for(me, &queue->changed, &queue->lock, -1);
 		if (queue->first == NULL)
 			break;
-		do_first(me, queue);
+		run_first_work(me, queue);
 	}
-	give_mutex(me, &queue->lock);
+	release_mutex(me, &queue->lock);
 	return NULL;
 }
 
@@ -91,24 +91,24 @@ static int begin_queue(struct thread *me, struct queue *queue, int level)
 	int answer = pthread_create(&queue->id, NULL, run_queue, queue);
 	if (answer != 0)
 		return answer;
-	take_mutex(me, &queue->lock);
+	acquire_mutex(me, &queue->lock);
 	while (queue->thread == NULL)
 		wait_for(me, &queue->changed, &queue->lock, -1);
-	give_mutex(me, &queue->lock);
+	release_mutex(me, &queue->lock);
 	return 0;
 }
 
 /* Ends a queue and its thread. */
 static void end_queue(struct thread *me, struct queue *queue)
 {
-	take_mutex(me, &queue->lock);
+	acquire_mutex(me, &queue->lock);
 	if (queue->thread == me)
 		stop(me, "in a function of the queue");
 	if (queue->first != NULL)
 		stop(me, "a work is enqueued");
 	queue->ends = true;
 	wake_cv(me, &queue->changed, true);
-	give_mutex(me, &queue->lock);
+	release_mutex(me, &queue->lock);
 	await_thread(me, queue->id, queue->thread);
 	reuse_thread(queue->thread);
 }
@@ -126,7 +126,7 @@ int workqueue_create(struct workqueue **made, const char *name, void (*body)(str
 	bool each = (flags & WQ_PERCPU) != 0;
 	unsigned count = each ? KUPALDIZ_CPUS : 1;
 	(void)priority;
-	want_sleepable(me);
+	require_sleepable(me);
 	if (FAILS())
 		return ENOMEM;
 	struct workqueue *all = memory(me, sizeof(*all) + count * sizeof(all->queues[0]));
@@ -148,7 +148,7 @@ int workqueue_create(struct workqueue **made, const char *name, void (*body)(str
 void workqueue_destroy(struct workqueue *all)
 {
 	struct thread *me = begin_call(__func__);
-	want_sleepable(me);
+	require_sleepable(me);
 	end_queues(me, all, all->count);
 }
 
@@ -177,23 +177,23 @@ void workqueue_enqueue(struct workqueue *all, struct work *work, struct cpu_info
 	*queue->last = work;
 	queue->last = &work->wk_next;
 	wake_cv(me, &queue->changed, true);
-	give_mutex(me, &queue->lock);
+	release_mutex(me, &queue->lock);
 	end_call(me);
 }
 
 /* Waits until a work is neither in a queue nor being done by another thread than this one. */
 static void await_work(struct thread *me, struct queue *queue, const struct work *work)
 {
-	take_mutex(me, &queue->lock);
+	acquire_mutex(me, &queue->lock);
 	while (queue->thread != me && (is_enqueued(queue, work) || queue->current == work))
 		wait_for(me, &queue->changed, &queue->lock, -1);
-	give_mutex(me, &queue->lock);
+	release_mutex(me, &queue->lock);
 }
 
 void workqueue_wait(struct workqueue *all, struct work *work)
 {
 	struct thread *me = begin_call(__func__);
-	want_sleepable(me);
+	require_sleepable(me);
 	for (unsigned at = 0; at < all->count; at++)
 		await_work(me, &all->queues[at], work);
 }

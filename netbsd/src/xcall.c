@@ -19,7 +19,7 @@ static void run_on(struct thread *me, struct cpu *cpu, unsigned flags, xcfunc_t 
 	body(arg_a, arg_b);
 	me->call = call;
 	me->place = place;
-	judge_return(me, "the function", level, locks, references);
+	check_handler_return(me, "the function", level, locks, references);
 	lower_level(me, IPL_NONE);
 	me->lwp.l_pflag = (me->lwp.l_pflag & ~LP_BOUND) | flag;
 	me->cpu = before;
@@ -29,7 +29,7 @@ static void run_on(struct thread *me, struct cpu *cpu, unsigned flags, xcfunc_t 
 uint64_t xc_unicast(unsigned flags, xcfunc_t body, void *arg_a, void *arg_b, struct cpu_info *cpu)
 {
 	struct thread *me = begin_plain(__func__);
-	want_sleepable(me);
+	require_sleepable(me);
 	run_on(me, &cpus[cpu->ci_index], flags, body, arg_a, arg_b);
 	return __atomic_add_fetch(&tickets, 1, __ATOMIC_RELAXED);
 }
@@ -37,7 +37,7 @@ uint64_t xc_unicast(unsigned flags, xcfunc_t body, void *arg_a, void *arg_b, str
 uint64_t xc_broadcast(unsigned flags, xcfunc_t body, void *arg_a, void *arg_b)
 {
 	struct thread *me = begin_call(__func__);
-	want_sleepable(me);
+	require_sleepable(me);
 	for (unsigned cpu = 0; cpu < KUPALDIZ_CPUS; cpu++)
 		run_on(me, &cpus[cpu], flags, body, arg_a, arg_b);
 	return __atomic_add_fetch(&tickets, 1, __ATOMIC_RELAXED);
@@ -46,7 +46,7 @@ uint64_t xc_broadcast(unsigned flags, xcfunc_t body, void *arg_a, void *arg_b)
 void xc_wait(uint64_t ticket)
 {
 	struct thread *me = begin_plain(__func__);
-	want_sleepable(me);
+	require_sleepable(me);
 	if (ticket == 0 || ticket > __atomic_load_n(&tickets, __ATOMIC_RELAXED))
 		stop(me, "no such call");
 }
@@ -55,6 +55,6 @@ void xc_barrier(unsigned flags)
 {
 	struct thread *me = begin_call(__func__);
 	(void)flags;
-	want_sleepable(me);
+	require_sleepable(me);
 	visit_cpus(me);
 }

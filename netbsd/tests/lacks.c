@@ -130,7 +130,7 @@ STOPS(cut_line, kupaldiz_failed("KASSERT", long_text, long_place))
 
 /* ---- Calls that say it. ---- */
 
-static void want_no_memory(void)
+static void require_no_memory(void)
 {
 	size_t size = 0;
 	open_without(NOTHING_LACKS);
@@ -145,9 +145,9 @@ static void want_no_memory(void)
 	pool_destroy(&pool);
 	pool_cache_destroy(cache);
 }
-STOPS("panic: memory was told to be out, at PLACE", want_no_memory(); panic("memory was told to be out"))
+STOPS("panic: memory was told to be out, at PLACE", require_no_memory(); panic("memory was told to be out"))
 
-static void want_no_threads(void)
+static void require_no_threads(void)
 {
 	lwp_t *made = NULL;
 	open_without(THREADS);
@@ -157,7 +157,7 @@ static void want_no_threads(void)
 	EXPECT(softint_establish(SOFTINT_NET, nothing, NULL) == NULL);
 	lacks = NOTHING_LACKS;
 }
-STOPS("panic: threads were told to be out, at PLACE", want_no_threads(); panic("threads were told to be out"))
+STOPS("panic: threads were told to be out, at PLACE", require_no_threads(); panic("threads were told to be out"))
 
 /* ---- What is taken is given back. ---- */
 
@@ -220,7 +220,7 @@ static void note_call(void *own, void *arg, struct cpu_info *cpu)
 	calls[place]++;
 }
 
-static void want_calls(unsigned each)
+static void require_calls(unsigned each)
 {
 	for (unsigned cpu = 0; cpu < KUPALDIZ_CPUS; cpu++)
 		EXPECT(calls[cpu] == each);
@@ -236,14 +236,14 @@ static void visit_each_once(void)
 		memset(calls, 0, sizeof(calls));
 		memset(parts, 0, sizeof(parts));
 		percpu_t *percpu = percpu_create(sizes[i], note_call, note_call, calls);
-		want_calls(1);
+		require_calls(1);
 		EXPECT(aligned >= sizes[i] * KUPALDIZ_CPUS && aligned <= (sizes[i] + 2 * LINE) * KUPALDIZ_CPUS);
 		percpu_foreach(percpu, note_call, calls);
-		want_calls(2);
+		require_calls(2);
 		percpu_foreach_xcall(percpu, 0, note_call, calls);
-		want_calls(3);
+		require_calls(3);
 		percpu_free(percpu, sizes[i]);
-		want_calls(4);
+		require_calls(4);
 		EXPECT(blocks == before);
 	}
 }
@@ -251,7 +251,7 @@ STOPS("panic: each part was visited once, at PLACE", visit_each_once(); panic("e
 
 /* ---- Zeros. ---- */
 
-static void want_zeros(void *own, void *size, struct cpu_info *cpu)
+static void require_zeros(void *own, void *size, struct cpu_info *cpu)
 {
 	EXPECT(cpu == NULL || cpu_index(cpu) < KUPALDIZ_CPUS);
 	for (size_t at = 0; at < *(size_t *)size; at++)
@@ -262,10 +262,10 @@ static void ask_for_zeros(void)
 {
 	size_t size = 200;
 	pool_init(&pool, size, 0, 0, 0, "thingpl", NULL, IPL_NONE);
-	want_zeros(kmem_zalloc(size, KM_SLEEP), &size, NULL);
-	want_zeros(kmem_intr_zalloc(size, KM_NOSLEEP), &size, NULL);
-	want_zeros(pool_get(&pool, PR_WAITOK | PR_ZERO), &size, NULL);
-	percpu_foreach(percpu_alloc(size), want_zeros, &size);
+	require_zeros(kmem_zalloc(size, KM_SLEEP), &size, NULL);
+	require_zeros(kmem_intr_zalloc(size, KM_NOSLEEP), &size, NULL);
+	require_zeros(pool_get(&pool, PR_WAITOK | PR_ZERO), &size, NULL);
+	percpu_foreach(percpu_alloc(size), require_zeros, &size);
 }
 STOPS("panic: all of them were zeros, at PLACE", ask_for_zeros(); panic("all of them were zeros"))
 

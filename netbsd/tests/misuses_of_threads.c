@@ -198,14 +198,14 @@ static size_t write_whole(void)
 	return MOST - begun;
 }
 
-static void say_with_place(size_t length)
+static void report_with_place(size_t length)
 {
 	long_place[length] = '\0';
 	kupaldiz_failed("KASSERT", long_text, long_place);
 }
-STOPS(whole, say_with_place(write_whole()))
-STOPS(whole, say_with_place(write_whole() + 1))
-STOPS(whole, say_with_place(write_whole() + 2))
+STOPS(whole, report_with_place(write_whole()))
+STOPS(whole, report_with_place(write_whole() + 1))
+STOPS(whole, report_with_place(write_whole() + 2))
 /* What can't be written is told by the reason. */
 STOPS("KASSERT: No space left on device", is_full = true; kupaldiz_failed("KASSERT", "1 + 1 == 3", NULL))
 

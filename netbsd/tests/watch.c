@@ -87,7 +87,7 @@ static _Atomic(const void *) marked[PLACES], guarded[PLACES];
 static _Atomic(const pthread_mutex_t *) interlock;
 
 /* The thread has one lock, and that is the one for all keepers. */
-static void want_interlock(void)
+static void require_interlock(void)
 {
 	const pthread_mutex_t *none = NULL;
 	EXPECT(count == 1);
@@ -112,7 +112,7 @@ static _Atomic(const void *) *place_guarded(const void *handle)
 /* Notes that it needs the interlock, which the caller has. */
 static void note_guarded(const void *handle)
 {
-	want_interlock();
+	require_interlock();
 	atomic_store(place_guarded(handle), handle);
 }
 
@@ -121,7 +121,7 @@ static void begin(const void *handle)
 {
 	const void *nobody = NULL;
 	if (atomic_load(place_guarded(handle)) == handle)
-		want_interlock();
+		require_interlock();
 	for (size_t place = place_of(handle); !atomic_compare_exchange_strong(&marked[place], &nobody, handle); place = (place + 1) % PLACES) {
 		EXPECT(nobody != handle);
 		nobody = NULL;

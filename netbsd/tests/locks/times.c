@@ -109,7 +109,7 @@ static void test_ticks(void)
 
 static long step;
 
-static void step_on(void) { now += step; }
+static void reclaim_cpu(void) { now += step; }
 
 /* A delay reads the clock after each yield, and is over when its time is: not before, and not a turn later. */
 static void test_delays(void)
@@ -120,7 +120,7 @@ static void test_delays(void)
 		long step;
 		unsigned yields;
 	} each[] = {{0, 1, 1, 1000}, {999999500, 1, 1, 1000}, {0, 3, 1000, 3}, {300000000, 3000000, 500000000, 6}, {300000000, 3000000, 400000000, 8}};
-	yields_by = step_on;
+	yields_by = reclaim_cpu;
 	for (unsigned i = 0; i < sizeof(each) / sizeof(each[0]); i++) {
 		step = each[i].step;
 		see_from(70 * SECOND + each[i].begin);
