@@ -40,8 +40,8 @@ sys.exit(gate(
         Part("the bench", f"{FACE} bench"),
         Part("manual page", f"{FACE} page"),
         Part("program", "tools/test-program.py"),
-        # 2,500,000 changes behind the lock, on a registry of the capacity, beside a plain model: no test that is compiled without a proof comes so far.
-        Part("a history beyond the usual range", f"{BENCH} history 1250000", STATUS),
+        # 1,200,000 changes behind the lock, on a registry of the capacity, beside a plain model: no test that is compiled without a proof comes so far.
+        Part("a history beyond the usual range", f"{BENCH} history 600000", STATUS),
         Part("examples", f"tools/run-examples.py --program {PROGRAM}"),
         Part("conformance kit", "tools/conformance.py test"),
         Part("pictures", "tools/picture.py check"),
