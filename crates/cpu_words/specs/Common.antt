@@ -37,7 +37,7 @@ pub use Rattle.cpu_words.specs.Logs.{tells_pass, the_cpu, the_keeper, told_by_cp
 pub use Rattle.cpu_words.specs.Notes.{CpuHears, HasHeard, KeeperHasHeard, KeeperHears, as_before, beside_cpu, beside_keeper, history_told, keeper_with_note, pass_told, with_note}
 pub use Rattle.cpu_words.specs.Opening.{AreOpening, AreSeats, MaySeat, cpu_seat, keeper_with, next_seat, one_seated, with_cpu_seated}
 pub use Rattle.cpu_words.specs.Ordered.{OrderedInTime, TwoMoments}
-pub use Rattle.cpu_words.specs.Passives.{HasSubtracted, IsAloneAt, IsAt, IsNamed, IsWordOf, MayAdd, MayUse, tells_added, tells_passive, tells_subtracted}
+pub use Rattle.cpu_words.specs.Passives.{HasSubtracted, IsAloneAt, IsAt, IsWordOf, MayAdd, MayUse, tells_added, tells_passive, tells_subtracted}
 pub use Rattle.cpu_words.specs.Publishing.{HasPublished, HasUnpublished, IsBefore, IsLinkPlace, LeadsBelow, MayPublish, MayUnpublish, PublishTold, UnpublishTold, head_with, keeper_after_unpublish}
 pub use Rattle.cpu_words.specs.Publishing.{link_index, links_with}
 pub use Rattle.cpu_words.specs.Publishing.LeadsBelow.{To_end, To_slot}

@@ -36,7 +36,7 @@ pub use Rattle.protocol.specs.Invariant.{IsSeenInHand, SnapshotsStand, StandsOn,
 pub use Rattle.protocol.specs.Invariant.{subtraction_due_at}
 pub use Rattle.protocol.specs.Laws.{AnswersLawfully, BalanceAtRest, BalancesAtRest, DriversOutlive, EndsByExit, EveryRunKeeps, GraceLaw, HasBegun, HasExit, HasMoved, Headline, InvariantSuffices}
 pub use Rattle.protocol.specs.Laws.{IsAllowed, IsAnswered, IsBalanced, IsLoadOf, IsSafe, LawfulAnswers, ObeysLaws, OutliveInterfaces, ReusesSafely, SafeReuse, after, after_event, answer_of}
-pub use Rattle.protocol.specs.Laws.{AreAlike, AreNamedLawfully, NarrowEvents, NarrowNames, NarrowRuns, NewestRecalls, RecallsNewest}
+pub use Rattle.protocol.specs.Laws.{AreNamedLawfully, NarrowEvents, NarrowNames, NarrowRuns, NewestRecalls, RecallsNewest}
 pub use Rattle.protocol.specs.Laws.{AnswersFreshly, FreshAnswers, HasTry, IsFreshAnswer, IsNoSeek, IsTry, SeeksNone, SeesAll, RecallsLive, LiveRecalls, UntriedRuns, WholePasses, destroyed_slot, given_slot, held_of, occupant_of, seek_for}
 pub use Rattle.protocol.specs.Loaded.{SlotWithin, entry_with, loaded_at, loaded_of_name, row_of_place}
 pub use Rattle.protocol.specs.Marking.{AllClear, AllCollected, AllPassed, MarksGrow, SameElsewhere}

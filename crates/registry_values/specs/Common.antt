@@ -19,8 +19,8 @@ pub use Rattle.registry_values.specs.Ids.{IdsComeBack, NamesComeBack, digit_byte
 pub use Rattle.registry_values.specs.Limits.{are_fit, are_limits_fit, are_sizes_fit, are_usual, is_within}
 pub use Rattle.registry_values.specs.Marks.{Grows, are_clear, are_collected, has_changed, have_passed, is_clear, is_collected, is_even, is_out, is_passed, is_some_collected, least_below}
 pub use Rattle.registry_values.specs.Marks.{mark_after_collect, mark_after_look, mark_after_passive_look, no_mark, or_next}
-pub use Rattle.registry_values.specs.Names.{IsWritten, RoundTrip, are_zeros, bad_place, bytes_of, high_word, is_allowed, is_key, is_lawful, key_of_bytes, key_of_words, is_name, is_padded, is_rest, low_word, name_of, name_of_bytes}
-pub use Rattle.registry_values.specs.Names.{name_of_words, padded_bytes}
+pub use Rattle.registry_values.specs.Names.{IsWritten, RoundTrip, are_zeros, bad_place, bytes_of, high_word, is_allowed, is_key, is_lawful, key_of_words, is_name, is_padded, is_rest, low_word, name_of, name_of_bytes}
+pub use Rattle.registry_values.specs.Names.{padded_bytes}
 pub use Rattle.registry_values.specs.Refusals.{Answers, IsRefusalOfNew, number_of_refusal}
 pub use Rattle.registry_values.specs.Slots.{are_words_of, has_number, is_available, is_driver, is_iface, is_live, is_live_as, is_retired, is_retired_as, is_taken, is_vacant, key_of, key_of_record}
 pub use Rattle.registry_values.specs.Slots.{kind_word, leads_to, live_count, retired_number, retired_slot, same_key, same_kind, same_name, slot_at, slot_before, slot_of}

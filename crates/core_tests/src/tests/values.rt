@@ -63,7 +63,10 @@ fn words_of_no_name(rt: HostRuntime) {
 fn names_of_any_bytes(rt: HostRuntime) {
     let sixteen = Name::of_words(0x4142434445464748, 0x494a4b4c4d4e4f50);
     let keys = [
-        (b"eth0.100".as_slice(), Name::of_words(0x657468302e313030, 0)),
+        (
+            b"eth0.100".as_slice(),
+            Name::of_words(0x657468302e313030, 0),
+        ),
         (b"ABCDEFGHIJKLMNOP", sixteen),
         (b"\0\0\0\0\0\0\0\0\x01", Name::of_words(0, 1 << 56)),
     ];

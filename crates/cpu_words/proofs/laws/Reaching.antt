@@ -2,9 +2,12 @@
 use Rattle.std.proofs.Common.{◌≡◌, ℕ, List, [], ◌∷◌, ◌++◌, Option, Some, None, refl, sym, ap, ◌∙◌, append_assoc, length, length-append, arith}
 use Rattle.cpu_words.specs.Types.{Settings, Event, Reply}
 use Rattle.protocol.specs.Common.{State, opening, Outcome, step, Run, run_of_events, empty_run, run_with_event, after}
-use Rattle.protocol.proofs.runs.Runs.{ran_push}
 use Rattle.atomic_table.specs.Table.{State as Table}
 use Rattle.cpu_words.specs.Common.{LogItem, View, Reached, Ruled, GoesOn, by_number, did, log_with, log_from, log_of_events}
+
+ran_push : (r : Run) (es : List Event) (e : Event) → run_of_events r (es ++ e ∷ []) ≡ run_with_event (run_of_events r es) (step (run_of_events r es).state e)
+ran_push r [] e = refl
+ran_push r (f ∷ es) e = ran_push (run_with_event r (step r.state f)) es e
 
 noted_push : (s : State) (e : Event) (o : Option Outcome) (a b : List LogItem) → log_with s e o (a ++ b) ≡ log_with s e o a ++ b
 noted_push s e None a b = refl
