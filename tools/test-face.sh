@@ -6,7 +6,7 @@
 #     tools/test-face.sh                      proves and builds the archive first
 #     tools/test-face.sh --built              takes out/libregistry.a as it stands
 #     tools/test-face.sh --built PART..       some parts alone, which may run beside each other once build has ended:
-#                                             page build c watched heap netbsd rust rust-watched
+#                                             page build c watched heap netbsd bench rust rust-watched
 set -uo pipefail
 cd "$(dirname "$0")/.."
 out=out
