@@ -1,7 +1,7 @@
 //! A test bench: the pure machine is driven through every order of two short lists of commands, and looked at after each command.
 
 ghost use Rattle.std.specs.Prelude.{◌≡◌, IsTrue, true};
-ghost use Rattle.registry_values.specs.Common.{is_key};
+ghost use Rattle.registry_values.specs.Common.{is_lawful};
 ghost use Rattle.protocol.specs.Common.{is_inside};
 ghost use Rattle.passive_core.specs.Common.{IsQuiet};
 
@@ -68,7 +68,7 @@ struct Bench {
     reused: bool,
     ghost quiet: { IsQuiet core },
     ghost cpus: { core.settings.cpus ≡ 2 },
-    ghost keys: { IsTrue (is_key driver) × IsTrue (is_key other) },
+    ghost lawful: { IsTrue (is_lawful driver) × IsTrue (is_lawful other) },
 }
 
 /// Drives the machine through every order.
@@ -132,7 +132,7 @@ impl Bench {
     }
 
     fn attach(&mut self, name: Name) -> Result<(), Refusal>
-        requires name { IsTrue (is_key name) }
+        requires name { IsTrue (is_lawful name) }
     {
         let rec = Record {
             kind: Kind::Driver,
