@@ -4,7 +4,7 @@
 //! the second one, its neighbour, makes the changes.
 
 ghost use Rattle.std.specs.Prelude.{◌≡◌, IsTrue};
-ghost use Rattle.registry_values.specs.Common.{is_lawful};
+ghost use Rattle.registry_values.specs.Common.{is_key};
 ghost use Rattle.registry_values.specs.declared.entry.Kind.TheVariants.{Iface};
 ghost use Rattle.name_registry.specs.Common.{IsBlankOf};
 
@@ -351,7 +351,7 @@ fn attach_iface<D: Domain, R: Wait>(
     rec: Record,
 ) -> Result<Entry, Failure>
     requires kind { rec.kind ≡ Iface }
-    requires name { IsTrue (is_lawful rec.name) }
+    requires name { IsTrue (is_key rec.name) }
 {
     let words = registry.words();
     if enter(words, cpu).is_err() || !cpu.inside() {
