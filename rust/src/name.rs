@@ -284,7 +284,7 @@ mod tests {
             texts.push((0..length).map(|place| b'a' + (place % 26) as u8).collect());
         }
         for bytes in texts {
-            if let Ok(text) = str::from_utf8(&bytes) {
+            if let Ok(text) = std::str::from_utf8(&bytes) {
                 assert_eq!(Name::parse(text).map(|name| name.words), parsed_by_archive(&bytes), "{text}");
             }
             let name = Name::from_bytes(&bytes);
