@@ -28,7 +28,7 @@ runs() {
     built smallest "$@" && "$room/smallest" | grep -x 'wm0 has value 1500' && built together "$@" && "$room/together" 2
 }
 
-# The same over musl, and waits that are interrupted: their deadlines and cancellations are the C library's.
+# The same over musl, and waits that are interrupted: their deadlines and cancellations are the C library's. (The checking build stops such a wait.)
 runs_over_musl() {
     runs musl-gcc "$@" && built interrupted musl-gcc "$@" && "$room/interrupted"
 }
@@ -83,7 +83,7 @@ if command -v ld.lld >/dev/null; then
 fi
 if command -v musl-gcc >/dev/null; then
     check "musl-gcc -static" runs_over_musl -std=c11 -O2 -static
-    check "musl-gcc -static, the checking build" runs_over_musl -std=c11 -O2 -static -DREGISTRY_CHECK c/src/check.c
+    check "musl-gcc -static, the checking build" runs musl-gcc -std=c11 -O2 -static -DREGISTRY_CHECK c/src/check.c
 fi
 check "g++ -std=c++20" runs_as_cxx g++
 ! command -v clang++ >/dev/null || check "clang++ -std=c++20" runs_as_cxx clang++
