@@ -47,7 +47,7 @@ struct bench_found {
 	uint64_t points;
 	uint64_t throttled;	/* points at which a thread, after 200 without another one, didn't go on */
 	uint64_t hurried;	/* points at which time didn't go on early, as it had as often as `ticks` allows */
-	bool complete;		/* the search through all came to its end, but for what these two count */
+	bool complete;		/* the search through all came to its end, except what these two count */
 	bool exhausted;		/* and left nothing out: every schedule of the points was tried, or is the same as one that was */
 	int bound;		/* every schedule with at most so many preemptions was tried; -1 where none */
 	uint64_t random;	/* runs by random priorities */

@@ -136,7 +136,7 @@ static void add_backtrack_point(unsigned earlier, unsigned later)
 {
 	struct step *step = &search->steps[earlier];
 	uint32_t can = initials(earlier, later) & step->enabled & ~step->throttled, own = UINT32_C(1) << search->steps[later].chosen, clock = UINT32_C(1) << CLOCK;
-	/* A tick that nobody hurried may be among them, and here it would be another step: it stands for no thread. */
+	/* A tick that nobody hurried may be among them. Here it would be another step, so it isn't taken for a thread. */
 	can = (can & ~clock) != 0 ? can & ~clock : can;
 	if (can == 0 || (can & (step->backtrack | step->explored | step->sleeping | UINT32_C(1) << step->chosen)) != 0)
 		return;
