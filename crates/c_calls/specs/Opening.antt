@@ -2,23 +2,18 @@
 use Rattle.std.specs.Prelude.{◌≡◌, ◌≢◌, ◌⊎◌, ℕ, zero, suc, ◌-◌, ◌<◌, List, [], ◌∷◌, ◌++◌, length, map, replicate, get_or, true, false, Option, Some, None}
 use mathlib.Core.Option.{some}
 use lib.ListN.{get_elem?}
-use Rattle.std_alloc.specs.declared.boxed.Box.{Box}
-use Rattle.std_heap.specs.declared.Global.{Global}
 use Rattle.c_calls.specs.Types.{BadSettings, MissingCpu, NoMemory, Settings, Vacant, LogItem}
 use Rattle.registry_values.specs.Common.{are_fit, number_of_refusal}
-use Rattle.cpu_words.specs.Common.{keeper_with, Named, new_cpu}
-use Rattle.passive_list.specs.Common.{OnPlainCpu, OnPlainKeeper, no_memory}
+use Rattle.cpu_words.specs.Common.{keeper_with, Named}
+use Rattle.passive_list.specs.Common.{OnPlainCpu, OnPlainKeeper}
+pub use Rattle.name_registry.specs.Common.{boxed, opened_cpu}
 use Rattle.c_handles.specs.declared.handle.CpuHandle.{CpuHandle}
 use Rattle.c_handles.specs.declared.values.plain.TheConstants.{DONE, FULL_HANDLE, NULL}
 use Rattle.c_handles.specs.declared.values.plain.CSettings.{CSettings}
 use Rattle.c_handles.specs.values.Places.{DoesBy}
 use Rattle.c_handles.specs.values.Values.{settings_in}
 
--- the CPU c of a new registry: outside, with nothing found and nothing held
-abbrev pub opened_cpu : Named → ℕ → OnPlainCpu
-opened_cpu w c = record { words = w; cpu = record { view = new_cpu w.settings c; depth = 0; made = 0; memory = no_memory w.settings.slots; known_log = []; log = [] } }
-
--- its keeper: all slots are vacant, and there was no change; the log is of the seats that it gave the CPUs
+-- the keeper of a new registry: all slots are vacant, and there was no change; the log is of the seats that it gave the CPUs
 abbrev pub opened_keeper : Named → List LogItem → OnPlainKeeper
 opened_keeper w log = record { words = w; keeper = record { view = keeper_with w.settings w.settings.cpus; slots = replicate w.settings.slots Vacant; log = log } }
 
@@ -26,10 +21,6 @@ opened_keeper w log = record { words = w; keeper = record { view = keeper_with w
 abbrev pub opened_down : Named → ℕ → ℕ → List OnPlainCpu
 opened_down w n zero = []
 opened_down w n (suc k) = opened_down w n k ++ opened_cpu w (n - suc k) ∷ []
-
--- what is in each of a list of boxes
-abbrev pub boxed : List (Box OnPlainCpu Global) → List OnPlainCpu
-boxed boxes = map (λ (b : Box OnPlainCpu Global). b.value) boxes
 
 -- the bodies of a list of handles
 abbrev pub bodies_of : List CpuHandle → List (Option OnPlainCpu)

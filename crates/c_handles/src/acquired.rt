@@ -10,17 +10,12 @@ const PLACES: usize = 32;
 #[derive(Drop)]
 pub struct LastAcquired {
     slots: [u8; PLACES],
-    /// Never written: it keeps the CPU's data off the cache lines of the body in the next block.
-    apart: [u64; 16],
 }
 
 impl LastAcquired {
     /// Hints of slot 0 alone.
     pub fn none() -> LastAcquired {
-        LastAcquired {
-            slots: [0; PLACES],
-            apart: [0; 16],
-        }
+        LastAcquired { slots: [0; PLACES] }
     }
 
     /// Keeps the slot as the hint for this number. The hint for another number with the same remainder is overwritten.

@@ -29,11 +29,12 @@ use std_alloc::room::Vacant;
 #[derive(Drop)]
 pub struct CpuBody {
     pub words: Arc<Words, Global>,
-    pub cpu: PlainCpu,
     /// The block of a local reference that was released here, for the next one that is acquired here. It is freed as the CPU is.
     spare: Spare<LocalBody>,
-    /// The slots of the passive references that were acquired here last. It comes last, for the room at its end.
+    /// The slots of the passive references that were acquired here last.
     acquired: LastAcquired,
+    /// It comes last, for the room at its end.
+    pub cpu: PlainCpu,
 }
 
 impl Model for CpuBody {
@@ -56,9 +57,9 @@ impl CpuBody {
     {
         CpuBody {
             words,
-            cpu,
             spare: Spare::empty(),
             acquired: LastAcquired::none(),
+            cpu,
         }
     }
 

@@ -18,7 +18,7 @@ pub use Rattle.name_registry.specs.Locking.{IsAttachRefusal, IsDestroyRefusal, I
 pub use Rattle.name_registry.specs.Meeting.{HasLearned, HasSeenAttach, HasSeenDetach, IsNote, KeepsWords, hears_cpu, is_inside, keeper_after_hear, keeper_after_tell, tells_and_hears}
 pub use Rattle.name_registry.specs.Meeting.{tells_twice_and_hears}
 pub use Rattle.name_registry.specs.Obstacles.{AnswersBy, HasMet, IsDestroyAnswer, IsNotRetired, IsRetiredIn, IsTurn, MetLocals, MetReference, MetSection}
-pub use Rattle.name_registry.specs.Opening.{AreNewCpus, IsBlankOf}
+pub use Rattle.name_registry.specs.Opening.{AreNewCpus, AreOpened, IsBlankOf, boxed, new_on, opened_cpu}
 pub use Rattle.name_registry.specs.Performing.{Finishes, GlancesBelow, GlancesOnce, HasBegun, HasGlanced, HasPassedAll, HasPassedFor, HasPerformed, HasSeenAllOut, Hold, LastTurn, Looking, LooksOnce}
 pub use Rattle.name_registry.specs.Performing.{PassesBelow, PassesIf, PassesNumber, PerformsOutside, SnapshotsBelow, SomeBegan, SomeGlanced, SomePassed, TurnsWaiting, is_seen, looking, none_seen}
 pub use Rattle.name_registry.specs.Performing.{word_of}

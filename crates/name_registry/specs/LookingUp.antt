@@ -22,9 +22,12 @@ pub record InSection {X : Type 0} (a b : OnCpu) (r : Result X Refusal) (P : OnCp
 abbrev pub MayBegin : OnCpu → Type 0
 MayBegin a = (a.depth ≡ 0) × IsTrue (may_begin a.view)
 
+abbrev pub LooksUpInSection : Key → OnCpu → OnCpu → Result Entry Refusal → Type 0
+LooksUpInSection key a b r = InSection a b r (λ x y. (found : Option Entry) × (r ≡ found_or found) × HasFoundInside key x y found)
+
 pub record LooksUp (key : Key) (a b : OnCpu) (r : Result Entry Refusal) : Type 0 where
   pub by_memory : MayBegin a → (found : Option Entry) × (r ≡ found_or found) × HasFoundRemembered key a b found × FindsWhatStays key a.view.pass b.view.pass found
-  pub by_calls : (MayBegin a → ⊥) → InSection a b r (λ x y. (found : Option Entry) × (r ≡ found_or found) × HasFoundInside key x y found)
+  pub by_calls : (MayBegin a → ⊥) → LooksUpInSection key a b r
 
 -- A find, and an acquire of what it found. What is refused is the result, and nothing is acquired.
 pub record FindsAndAcquires (key : Key) (a b : OnCpu) (r : Result (Entry × OnPsref) Refusal) : Type 0 where

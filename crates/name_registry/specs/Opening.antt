@@ -1,19 +1,37 @@
 -- A registry before it is named, and its CPUs as it is opened.
-use Rattle.std.specs.Prelude.{◌≡◌, ℕ, ◌<◌, List, [], length, IsTrue}
+use Rattle.std.specs.Prelude.{◌≡◌, ℕ, ◌<◌, List, [], length, map, IsTrue}
 use mathlib.Core.Option.{some}
 use lib.ListN.{get_elem?}
+use Rattle.std.specs.Global.{Box}
 use Rattle.atomic_table.specs.Seated.{TableId}
-use Rattle.name_registry.specs.Types.{Settings, MOST_CPUS, CpuView, KeeperView}
+use Rattle.name_registry.specs.Types.{Settings, MOST_CPUS, KeeperView}
 use Rattle.registry_values.specs.Common.{are_fit}
-use Rattle.cpu_words.specs.Common.{Named, Seated, new_cpu, AreSeats, keeper_with}
-use Rattle.passive_list.specs.Common.{OnCpu, no_memory}
+use Rattle.cpu_words.specs.Common.{Named, Seated, new_cpu, keeper_with}
+use Rattle.passive_list.specs.Common.{OnCpu, OnPlainCpu, no_memory}
 
--- the seats are those of a new table
-pub record IsBlank (w : Named) (k : Seated KeeperView) (xs : List (Seated CpuView)) : Type 0 where
+-- the CPU c of a new table: outside, with nothing found and nothing held, and nothing was made
+abbrev pub new_on : Settings → ℕ → OnCpu
+new_on z c = record { view = new_cpu z c; depth = 0; made = 0; memory = no_memory z.slots; known_log = []; log = [] }
+
+-- the same, with its table
+abbrev pub opened_cpu : Named → ℕ → OnPlainCpu
+opened_cpu w c = record { words = w; cpu = new_on w.settings c }
+
+-- what is in each of a list of boxes
+abbrev pub boxed : List (Box OnPlainCpu) → List OnPlainCpu
+boxed boxes = map (λ (b : Box OnPlainCpu). b.value) boxes
+
+-- the first n CPUs of a new table, CPU 0 first
+pub record AreOpened (w : Named) (n : ℕ) (xs : List OnPlainCpu) : Type 0 where
+  pub count : length xs ≡ n
+  pub each : (c : ℕ) → c < n → get_elem? xs c ≡ some (opened_cpu w c)
+
+-- the keeper's seat and the CPUs are those of a new table
+pub record IsBlank (w : Named) (k : Seated KeeperView) (xs : List OnPlainCpu) : Type 0 where
   pub fit : IsTrue (are_fit w.settings)
   pub table : k.table ≡ w.table
   pub keeper : k.view ≡ keeper_with w.settings w.settings.cpus
-  pub seats : AreSeats w.table w.settings w.settings.cpus xs
+  pub cpus : AreOpened w w.settings.cpus xs
 
 -- a registry before it is named, to a contract: which table it is, its settings, and which ledger counts its changes
 pub record OnBlank : Type 0 where
@@ -25,7 +43,7 @@ pub record OnBlank : Type 0 where
 abbrev pub IsBlankOf : OnBlank → TableId → Settings → ℕ → ℕ → Type 0
 IsBlankOf b table settings name parts = (b.table ≡ table) × (b.settings ≡ settings) × (b.changes ≡ name) × (parts ≡ MOST_CPUS)
 
--- the first n CPUs, CPU 0 first, all outside, and nothing was found, is held or was made
+-- the first n CPUs, CPU 0 first
 pub record AreNewCpus (z : Settings) (n : ℕ) (xs : List OnCpu) : Type 0 where
   pub count : length xs ≡ n
-  pub each : (c : ℕ) → c < n → get_elem? xs c ≡ some (record { view = new_cpu z c; depth = 0; made = 0; memory = no_memory z.slots; known_log = []; log = [] })
+  pub each : (c : ℕ) → c < n → get_elem? xs c ≡ some (new_on z c)

@@ -1,15 +1,15 @@
 //! The words and seats of a registry that isn't named yet.
 
-ghost use Rattle.std.specs.Prelude.{◌≡◌, ◌↔◌, ◌≤◌, [], IfOk, IfErr, IsErrOf, IsTrue, false, replicate, vec_len, vec_capacity};
+ghost use Rattle.std.specs.Prelude.{◌≡◌, ◌↔◌, ◌≤◌, [], IfOk, IfErr, IsErrOf, IsTrue, false, vec_len, vec_capacity};
 ghost use Rattle.registry_values.specs.Common.{are_fit, are_usual, IsRefusalOfNew};
 ghost use Rattle.name_registry.specs.Types.{NoMemory};
-ghost use Rattle.cpu_words.specs.Common.{AreSeats};
-ghost use Rattle.name_registry.specs.Opening.{IsBlankOf, AreNewCpus};
+ghost use Rattle.cpu_words.specs.Common.{AreSeats, keeper_with};
+ghost use Rattle.name_registry.specs.Opening.{IsBlankOf, AreNewCpus, AreOpened, boxed};
 
 use crate::interlock::Interlock;
 use crate::registry::Registry;
 use cpu_words::{CpuSeat, Domain, KeeperSeat, Words};
-use passive_list::{Cpu, CpuRows, Keeper, KeeperRows};
+use passive_list::{Cpu, CpuRows, Keeper, KeeperRows, PlainCpu};
 use registry_values::{MOST_CPUS, Refusal, Settings};
 use std::alloc::{AllocError, Global};
 use std::marker::Model;
@@ -17,25 +17,25 @@ use std::sync::ledger::Share;
 use std::sync::{Mutex, ledger};
 
 /// A registry before it is named: its words, and its seats. A caller hands it to a function over `D: Domain`, called with `Brand`, so that D
-/// names its table there, and opens it. To a contract it is which table it is, its settings, and the ledger of its changes.
+/// names its table there, and opens it. It has the CPUs already, since they take memory. To a contract it is which table it is, its settings, and the ledger of its changes.
 #[derive(Drop)]
 pub struct Blank {
     words: Words,
     keeper: KeeperSeat,
-    cpus: Vec<CpuSeat>,
+    cpus: Vec<Box<PlainCpu>>,
     changes: ledger::Blank,
 }
 
 impl Model for Blank {
     ghost use Rattle.std.specs.Prelude.{◌≡◌};
     ghost use Rattle.name_registry.specs.Types.{MOST_CPUS};
-    ghost use Rattle.name_registry.specs.Opening.{IsBlank, OnBlank};
+    ghost use Rattle.name_registry.specs.Opening.{IsBlank, OnBlank, boxed};
 
     ghost Value = { OnBlank };
 
     ghost view = { λ b. record { table = b.words.table; settings = b.words.settings; changes = b.changes.name } };
 
-    ghost invariant = { λ b. IsBlank b.words b.keeper b.cpus.items × (b.changes.parts ≡ MOST_CPUS) };
+    ghost invariant = { λ b. IsBlank b.words b.keeper (boxed b.cpus.items) × (b.changes.parts ≡ MOST_CPUS) };
 }
 
 impl Blank {
@@ -46,13 +46,8 @@ impl Blank {
         ensures bad { IsErrOf result Refusal.BadSettings ↔ are_usual settings ≡ false }
         ensures err { IfErr result IsRefusalOfNew }
     {
-        let (words, keeper, cpus) = Words::new(alloc, settings)?;
-        Ok(Blank {
-            words,
-            keeper,
-            cpus,
-            changes: ledger::Blank::new(MOST_CPUS as u64),
-        })
+        let (words, keeper, seats) = Words::new(alloc, settings)?;
+        blank_of(alloc, words, keeper, seats)
     }
 
     /// The same for any settings within the capacity, as those of a registry of C.
@@ -63,15 +58,10 @@ impl Blank {
         ensures err { IfErr result IsRefusalOfNew }
     {
         settings.check_fit()?;
-        let Ok((words, keeper, cpus)) = Words::opening(alloc, settings) else {
+        let Ok((words, keeper, seats)) = Words::opening(alloc, settings) else {
             return Err(Refusal::NoMemory);
         };
-        Ok(Blank {
-            words,
-            keeper,
-            cpus,
-            changes: ledger::Blank::new(MOST_CPUS as u64),
-        })
+        blank_of(alloc, words, keeper, seats)
     }
 
     /// The registry, and its CPUs, CPU 0 first. Condition: D names the blank's table, settings and ledger.
@@ -87,58 +77,76 @@ impl Blank {
         let Ok(mut cpus) = Vec::with_capacity(alloc, self.cpus.len()) else {
             return Err((Refusal::NoMemory, self));
         };
-        let Ok(keeper_rows) = KeeperRows::new(alloc, self.words.settings()) else {
-            return Err((Refusal::NoMemory, self));
-        };
-        let Ok(rows) = rows_of(alloc, self.words.settings()) else {
+        let Ok(rows) = KeeperRows::new(alloc, self.words.settings()) else {
             return Err((Refusal::NoMemory, self));
         };
         let Blank {
             words,
             keeper,
-            cpus: seats,
+            cpus: plain,
             changes,
         } = self;
         let (book, shares) = changes.open::<D>();
-        let keeper = Keeper::of_seat(keeper, words.settings(), keeper_rows);
-        seat_cpus(seats, rows, &mut cpus, shares);
+        let keeper = Keeper::of_seat(keeper, words.settings(), rows);
+        name_cpus(plain, &mut cpus, shares);
         let interlock = Mutex::new(Interlock { keeper, book });
         Ok((Registry { words, interlock }, cpus))
     }
 }
 
-/// The rows of all CPUs of a registry with these settings.
-fn rows_of(alloc: Global, settings: Settings) -> Result<Vec<CpuRows>, AllocError>
-    requires { IsTrue (are_fit settings) }
-    ensures { IfOk result (λ rows. rows.items ≡ replicate settings.cpus settings.slots) }
+/// A blank of new words and their seats. Refused: `NoMemory`.
+fn blank_of(
+    alloc: Global,
+    words: Words,
+    keeper: KeeperSeat,
+    seats: Vec<CpuSeat>,
+) -> Result<Blank, Refusal>
+    requires fit { IsTrue (are_fit words.settings) }
+    requires keeper { (keeper.table ≡ words.table) × (keeper.view ≡ keeper_with words.settings words.settings.cpus) }
+    requires seats { AreSeats words.table words.settings words.settings.cpus seats.items }
+    ensures ok { IfOk result (λ blank. blank.settings ≡ words.settings) }
+    ensures err { IfErr result (λ refusal. refusal ≡ Refusal.NoMemory) }
 {
-    let mut rows = Vec::new(alloc);
-    for _ in 0..settings.cpus {
-        rows.push(CpuRows::new(alloc, settings.slots)?)?;
-    }
-    Ok(rows)
+    let Ok(cpus) = cpus_of(alloc, &words, seats) else {
+        return Err(Refusal::NoMemory);
+    };
+    Ok(Blank {
+        words,
+        keeper,
+        cpus,
+        changes: ledger::Blank::new(MOST_CPUS as u64),
+    })
 }
 
-/// Gives each seat its CPU, CPU 0 first, with rows and a part of the ledger. The list has room for them.
-fn seat_cpus<D: Domain>(
+/// The CPUs of the seats of these words, each in a block of its own, CPU 0 first.
+fn cpus_of(
+    alloc: Global,
+    words: &Words,
     seats: Vec<CpuSeat>,
-    mut rows: Vec<CpuRows>,
-    cpus: &mut Vec<Cpu<D>>,
-    mut shares: Share<D>,
-)
+) -> Result<Vec<Box<PlainCpu>>, AllocError>
+    requires fit { IsTrue (are_fit words.now.settings) }
+    requires seats { AreSeats words.now.table words.now.settings words.now.settings.cpus seats.items }
+    ensures { IfOk result (λ cpus. AreOpened words.now words.now.settings.cpus (boxed cpus.items)) }
+{
+    let mut cpus = Vec::new(alloc);
+    for seat in seats {
+        let id = cpus.len() as u8;
+        let rows = CpuRows::new(alloc, words.settings().slots)?;
+        cpus.push(Box::new(alloc, PlainCpu::of_seat(seat, id, rows))?)?;
+    }
+    Ok(cpus)
+}
+
+/// Gives each CPU its table's name and a part of the ledger, CPU 0 first. The list has room for them.
+fn name_cpus<D: Domain>(plain: Vec<Box<PlainCpu>>, cpus: &mut Vec<Cpu<D>>, mut shares: Share<D>)
     requires fit { IsTrue (are_fit D.settings) }
-    requires seats { AreSeats D.table D.settings D.settings.cpus seats.items }
-    requires rows { rows.items ≡ replicate D.settings.cpus D.settings.slots }
+    requires plain { AreOpened (record { table = D.table; settings = D.settings }) D.settings.cpus (boxed plain.items) }
     requires room { (cpus.old.items ≡ []) × (vec_len cpus.old ≡ 0) × (D.settings.cpus ≤ vec_capacity cpus.old) }
     requires parts { (shares.parts ≡ MOST_CPUS) × (shares.amount ≡ 0) }
     ensures { AreNewCpus D.settings D.settings.cpus cpus.new.items }
 {
-    for seat in seats {
-        let id = cpus.len() as u8;
+    for cpu in plain {
         let share = shares.split_off(1, 0);
-        let Some(own) = rows.pop() else {
-            unreachable!()
-        };
-        cpus.push_reserved(Cpu::of_seat(seat, id, own, share));
+        cpus.push_reserved(Cpu::of(cpu, share));
     }
 }

@@ -3,7 +3,7 @@
 ghost use Rattle.std.specs.Prelude.{◌≡◌, ◌≢◌, IsTrue, None};
 ghost use Rattle.cpu_words.specs.Common.{AreWordsOf, key_with};
 ghost use Rattle.passive_list.specs.Common.{may_begin};
-ghost use Rattle.name_registry.specs.LookingUp.{FindsAndAcquires, Gets, GetsAnew, GetsByMemory, GetsFound, GetsInSection, LooksUp, found_or};
+ghost use Rattle.name_registry.specs.LookingUp.{FindsAndAcquires, Gets, GetsAnew, GetsByMemory, GetsFound, GetsInSection, LooksUp, LooksUpInSection, found_or};
 
 use crate::registry::Registry;
 use cpu_words::{Domain, Words};
@@ -18,16 +18,14 @@ impl<D: Domain> Registry<D> {
     /// is live, the entry is the registry's answer at the very point of that load. Else it looks up in a section of its own, and remembers the
     /// result. In an open section it is an enter, a find and an exit: the last found entry is the result then.
     /// Refused: `TooDeep`, `SectionsSpent`, as `enter`, and nothing has changed; `NotFound`.
+    #[inline(always)]
     pub fn look_up(&self, cpu: &mut Cpu<D>, kind: Kind, name: &Name) -> Result<Entry, Refusal>
         ensures { LooksUp (key_with kind name.now) cpu.old cpu.new result }
     {
         if may_begin_on(&self.words, &cpu.plain) {
             return found_or(find_remembered(&self.words, cpu, kind, name));
         }
-        enter(&self.words, cpu)?;
-        let found = find_inside(&self.words, cpu, kind, name);
-        exit(&self.words, cpu);
-        found_or(found)
+        look_up_in_section(&self.words, cpu, kind, name)
     }
 
     /// Looks an entry up and acquires a passive reference to it (psref(9)).
@@ -36,6 +34,7 @@ impl<D: Domain> Registry<D> {
     /// says that the entry is live, the addition is the reference. Else it looks the entry up as `look_up` does, and tries once more if there is
     /// one. If that fails too, and in an open section, it is an enter, a find, an acquire and an exit.
     /// Refused: `TooDeep`, `SectionsSpent`, as `enter`, and nothing has changed; `NotFound`; `PassiveFull`. Nothing is acquired then.
+    #[inline(always)]
     pub fn get(&self, cpu: &mut Cpu<D>, kind: Kind, name: &Name) -> Result<(Entry, Psref), Refusal>
         ensures { Gets (key_with kind name.now) cpu.old cpu.new result }
     {
@@ -46,7 +45,25 @@ impl<D: Domain> Registry<D> {
     }
 }
 
+/// Looks an entry up in a section. It stands apart, so that a lookup by memory saves no register for it.
+#[inline(never)]
+fn look_up_in_section<D: Domain>(
+    words: &Words,
+    cpu: &mut Cpu<D>,
+    kind: Kind,
+    name: &Name,
+) -> Result<Entry, Refusal>
+    requires words { AreWordsOf words.now D.table D.settings }
+    ensures { LooksUpInSection (key_with kind name.now) cpu.old cpu.new result }
+{
+    enter(words, cpu)?;
+    let found = find_inside(words, cpu, kind, name);
+    exit(words, cpu);
+    found_or(found)
+}
+
 /// Acquires a reference to the entry that the CPU remembers, else looks it up first. Conditions: outside; a section is left.
+#[inline(always)]
 fn get_from_outside<D: Domain>(
     words: &Words,
     cpu: &mut Cpu<D>,
@@ -65,6 +82,7 @@ fn get_from_outside<D: Domain>(
 }
 
 /// Looks an entry up, and acquires a reference to it, if there is one. Conditions: outside; a section is left.
+#[inline(never)]
 fn get_anew<D: Domain>(
     words: &Words,
     cpu: &mut Cpu<D>,
@@ -99,6 +117,7 @@ fn get_found<D: Domain>(
 }
 
 /// Looks an entry up and acquires a reference to it in a section.
+#[inline(never)]
 fn get_in_section<D: Domain>(
     words: &Words,
     cpu: &mut Cpu<D>,
@@ -131,6 +150,7 @@ fn find_and_acquire<D: Domain>(
 }
 
 /// The result of a lookup that found so.
+#[inline(always)]
 fn found_or(found: Option<Entry>) -> Result<Entry, Refusal>
     ensures { result ≡ found_or found }
 {

@@ -1,13 +1,11 @@
 //! A virtual CPU of a table that a type names.
 
-ghost use Rattle.std.specs.Prelude.{◌≡◌, ◌≢◌, ◌↔◌, ◌<◌, IsTrue, None};
-ghost use Rattle.cpu_words.specs.Common.{new_cpu};
+ghost use Rattle.std.specs.Prelude.{◌≡◌, ◌≢◌, ◌↔◌, IsTrue, None};
+ghost use Rattle.cpu_words.specs.Common.{AreWordsOf};
 ghost use Rattle.passive_list.specs.Cpus.{HoldsFound};
-ghost use Rattle.passive_list.specs.Memories.{no_memory};
-ghost use Rattle.registry_values.specs.Common.{are_fit};
 
-use crate::plain_cpu::{CpuRows, PlainCpu};
-use cpu_words::{CpuSeat, Domain};
+use crate::plain_cpu::PlainCpu;
+use cpu_words::Domain;
 use std::marker::Model;
 use std::sync::ledger::Share;
 
@@ -21,7 +19,8 @@ use std::sync::ledger::Share;
 /// - what it has heard of the keeper's log.
 #[derive(Drop)]
 pub struct Cpu<D: Domain> {
-    pub plain: PlainCpu,
+    /// The CPU itself, in a block of its own: CPUs that lie in one list write no cache line together.
+    pub plain: Box<PlainCpu>,
     /// One part of the ledger. It takes no bytes.
     pub share: Share<D>,
 }
@@ -33,30 +32,20 @@ impl<D: Domain> Model for Cpu<D> {
 
     ghost Value = { OnCpu };
 
-    ghost view = { λ c. record c.plain.cpu { made = c.share.amount } };
+    ghost view = { λ c. record c.plain.value.cpu { made = c.share.amount } };
 
-    ghost invariant = { λ c. AreWordsOf c.plain.words D.table D.settings × (c.share.parts ≡ 1) };
+    ghost invariant = { λ c. AreWordsOf c.plain.value.words D.table D.settings × (c.share.parts ≡ 1) };
 }
 
 impl<D: Domain> Cpu<D> {
-    /// The CPU of a new seat: outside, with nothing found and nothing held. What its share has is what its calls have made.
-    /// Conditions:
-    ///
-    /// - the seat is of D's table, as `Words::new` gave it;
-    /// - `id` is its number, below how many CPUs the table has;
-    /// - the rows are for the table's slots;
-    /// - the share is one part of D's ledger.
-    pub fn of_seat(seat: CpuSeat, id: u8, rows: CpuRows, share: Share<D>) -> Cpu<D>
-        requires table { (seat.table ≡ D.table) × IsTrue (are_fit D.settings) × (id < D.settings.cpus) }
-        requires new { seat.view ≡ new_cpu D.settings id }
-        requires rows { rows ≡ D.settings.slots }
+    /// This CPU, as one of the table that D names. What its share has is what its calls have made.
+    /// Condition: it is of D's table, and the share is one part of D's ledger.
+    pub fn of(plain: Box<PlainCpu>, share: Share<D>) -> Cpu<D>
+        requires words { AreWordsOf plain.value.words D.table D.settings }
         requires part { share.parts ≡ 1 }
-        ensures { result ≡ record { view = new_cpu D.settings id; depth = 0; made = share.amount; memory = no_memory D.settings.slots; known_log = seat.known_log; log = seat.log } }
+        ensures { result ≡ record plain.value.cpu { made = share.amount } }
     {
-        Cpu {
-            plain: PlainCpu::of_seat(seat, id, rows),
-            share,
-        }
+        Cpu { plain, share }
     }
 
     /// The CPU's number, from 0.

@@ -23,6 +23,7 @@ const ABOVE_ALL: u64 = MOST_CHANGES + 1;
 /// - The result is the registry's at some point from what this CPU had seen at the call to what it has seen at the return.
 /// - It is one search, of loads alone: one, and five for each entry visited. It visits no more entries than there are slots. The last load
 ///   replies the result.
+#[inline(always)]
 pub fn find<D: Domain>(words: &Words, cpu: &mut Cpu<D>, kind: Kind, name: &Name) -> Option<Entry>
     requires words { AreWordsOf words.now D.table D.settings }
     requires inside { cpu.old.view.begin ≢ None }
@@ -32,6 +33,7 @@ pub fn find<D: Domain>(words: &Words, cpu: &mut Cpu<D>, kind: Kind, name: &Name)
 }
 
 /// `find` on a CPU that names its own table. Conditions: the words are its table's; inside.
+#[inline(always)]
 pub fn find_on(words: &Words, cpu: &mut PlainCpu, kind: Kind, name: &Name) -> Option<Entry>
     requires words { AreWordsOf words.now cpu.old.words.table cpu.old.words.settings }
     requires inside { cpu.old.cpu.view.begin ≢ None }

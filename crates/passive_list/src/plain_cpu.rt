@@ -65,6 +65,8 @@ pub struct PlainCpu {
     pub net: Vec<NumberedCount>,
     /// The entries that it has found.
     pub memory: Memory,
+    /// Never written. It comes last: what the CPU writes stays off the cache lines of the next block.
+    apart: [u64; 16],
 }
 
 impl Model for PlainCpu {
@@ -101,6 +103,7 @@ impl PlainCpu {
             passive,
             net,
             memory,
+            apart: [0; 16],
         }
     }
 

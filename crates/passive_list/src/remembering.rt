@@ -60,6 +60,7 @@ pub fn recall_remembered(words: &Words, cpu: &mut PlainCpu, kind: Kind, name: Na
 /// `find_by_memory` on a CPU of the table that D names: looks an entry up by its kind and name, by one load if the CPU remembers a live one, by two
 /// if it remembers that there is none, else in a section of its own. Nothing is held from then on, and the last found entry stays.
 /// Conditions: the CPU is outside, and has a section left (`may_begin_on`).
+#[inline(always)]
 pub fn find_remembered<D: Domain>(
     words: &Words,
     cpu: &mut Cpu<D>,
@@ -179,6 +180,7 @@ fn miss_on(cpu: &mut PlainCpu, kind: Kind, name: Name, number: u64)
 }
 
 /// `find_inside_on` on a CPU of the table that D names. Condition: inside.
+#[inline(always)]
 pub fn find_inside<D: Domain>(
     words: &Words,
     cpu: &mut Cpu<D>,

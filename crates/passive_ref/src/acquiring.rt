@@ -15,6 +15,7 @@ use registry_values::{Refusal, why_full};
 /// is released.
 /// Refused, in this order, and nothing has changed: `NothingFound` if this CPU has no last found entry; `PassiveFull` if it has
 /// `passive_limit` references to that entry.
+#[inline(always)]
 pub fn acquire<D: Domain>(words: &Words, cpu: &mut Cpu<D>) -> Result<Psref, Refusal>
     requires words { AreWordsOf words.now D.table D.settings }
     ensures answer { Answers (why_not_acquired cpu.old.view cpu.old.view.found) (IsAcquired cpu.old cpu.new) result }
@@ -24,6 +25,7 @@ pub fn acquire<D: Domain>(words: &Words, cpu: &mut Cpu<D>) -> Result<Psref, Refu
 }
 
 /// `acquire` on a CPU that names its own table. Condition: the words are its table's.
+#[inline(always)]
 pub fn acquire_on(words: &Words, cpu: &mut PlainCpu) -> Result<Psref, Refusal>
     requires words { AreWordsOf words.now cpu.old.words.table cpu.old.words.settings }
     ensures answer { Answers (why_not_acquired cpu.old.cpu.view cpu.old.cpu.view.found) (IsAcquired cpu.old.cpu cpu.new.cpu) result }
@@ -62,6 +64,7 @@ pub fn copy_on(words: &Words, cpu: &mut PlainCpu, psref: &Psref) -> Result<Psref
 /// Releases a passive reference, on the CPU that it was acquired on (psref(9)). It needs no section.
 /// Refused, in this order, and nothing has changed: `WrongCpu` if the reference names another CPU; `NotHeld` if this CPU holds no passive
 /// reference to that number. The reference comes back with the refusal.
+#[inline(always)]
 pub fn release<D: Domain>(
     words: &Words,
     cpu: &mut Cpu<D>,
@@ -75,6 +78,7 @@ pub fn release<D: Domain>(
 }
 
 /// `release` on a CPU that names its own table. Condition: the words are its table's.
+#[inline(always)]
 pub fn release_on(words: &Words, cpu: &mut PlainCpu, psref: Psref) -> Result<(), (Refusal, Psref)>
     requires words { AreWordsOf words.now cpu.old.words.table cpu.old.words.settings }
     ensures answer { GivesBack (why_unusable cpu.old.cpu.view psref) psref (λ _. HasOneLess psref.number cpu.old.cpu cpu.new.cpu) result }
@@ -108,6 +112,7 @@ pub fn release_at(words: &Words, cpu: &mut PlainCpu, hint: u8, number: u64) -> b
 }
 
 /// Adds one reference to an entry that this CPU found last or refers to, unless it has as many as it may.
+#[inline(always)]
 fn add(words: &Words, cpu: &mut PlainCpu, slot: u8, number: u64) -> Result<Psref, Refusal>
     requires words { AreWordsOf words.now cpu.old.words.table cpu.old.words.settings }
     requires known { MayRefer cpu.old.cpu.view slot number }
@@ -132,6 +137,7 @@ fn add(words: &Words, cpu: &mut PlainCpu, slot: u8, number: u64) -> Result<Psref
 }
 
 /// Takes away one reference, of those that this CPU has to the entry.
+#[inline(always)]
 fn subtract(words: &Words, cpu: &mut PlainCpu, slot: u8, number: u64)
     requires words { AreWordsOf words.now cpu.old.words.table cpu.old.words.settings }
     requires held { IsHeldAt cpu.old.cpu.view slot number }

@@ -68,6 +68,7 @@ pub fn get_by_memory(
 }
 
 /// `get_by_memory` on a CPU of the table that D names, which returns the entry.
+#[inline(always)]
 pub fn get_remembered<D: Domain>(
     words: &Words,
     cpu: &mut Cpu<D>,
@@ -83,6 +84,7 @@ pub fn get_remembered<D: Domain>(
 }
 
 /// The reference with its entry, in place of the entry's words.
+#[inline(always)]
 fn with_entry(got: Option<(Seen, Psref)>, kind: Kind, name: Name) -> Option<(Entry, Psref)>
     requires { IfSome got (λ got. got.0.slot < MOST_SLOTS) }
     ensures { result ≡ entry_got (key_with kind name) got }

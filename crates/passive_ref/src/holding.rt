@@ -28,6 +28,7 @@ pub fn held_on(cpu: &PlainCpu, number: u64) -> bool
 }
 
 /// The slot of the entry that the reference is to, or why this CPU may not use it.
+#[inline(always)]
 pub(crate) fn usable_slot(cpu: &PlainCpu, psref: &Psref) -> Result<u8, Refusal>
     ensures { Answers (why_unusable cpu.now.cpu.view psref.now) (λ t. IsHeldAt cpu.now.cpu.view t psref.now.number) result }
 {
@@ -40,6 +41,7 @@ pub(crate) fn usable_slot(cpu: &PlainCpu, psref: &Psref) -> Result<u8, Refusal>
 }
 
 /// The same as `slot_of`; where the hint is that slot, it needs no search.
+#[inline(always)]
 fn slot_by(cpu: &PlainCpu, hint: u8, number: u64) -> Option<u8>
     ensures some { IfSome result (λ t. IsHeldAt cpu.now.cpu.view t number) }
     ensures none { result ≡ None → references_to number cpu.now.cpu.view.references ≡ 0 }
@@ -51,6 +53,7 @@ fn slot_by(cpu: &PlainCpu, hint: u8, number: u64) -> Option<u8>
 }
 
 /// Whether there is a place of that slot, and it counts for that number.
+#[inline(always)]
 pub(crate) fn counts_at(cpu: &PlainCpu, slot: u8, number: u64) -> bool
     ensures { IsTrue result → IsHeldAt cpu.now.cpu.view slot number }
 {
@@ -65,6 +68,7 @@ pub(crate) fn counts_at(cpu: &PlainCpu, slot: u8, number: u64) -> bool
 }
 
 /// The slot of the entry with that number, where this CPU refers to it.
+#[inline(never)]
 fn slot_of(cpu: &PlainCpu, number: u64) -> Option<u8>
     ensures some { IfSome result (λ t. IsHeldAt cpu.now.cpu.view t number) }
     ensures none { result ≡ None → references_to number cpu.now.cpu.view.references ≡ 0 }
@@ -86,6 +90,7 @@ fn place_for(number: u64, places: &[NumberedCount]) -> Option<usize>
 }
 
 /// How many references this CPU has to an entry that it found last or refers to.
+#[inline(always)]
 pub(crate) fn count_of(cpu: &PlainCpu, slot: u8, number: u64) -> u64
     requires { MayRefer cpu.now.cpu.view slot number }
     ensures { result ≡ references_to number cpu.now.cpu.view.references }

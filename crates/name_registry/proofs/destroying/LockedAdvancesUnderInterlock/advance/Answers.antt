@@ -4,7 +4,7 @@ use Rattle.name_registry.specs.Types.{Settings}
 use Rattle.passive_list.specs.Common.{OnCpu}
 use Rattle.name_registry.specs.Common.{HasAdvancedFor, IsStageOf}
 use Rattle.name_registry.proofs.Counted.{advanced_for_same, still_booked}
-use Rattle.name_registry.proofs.Sharing.{advanced, sharing}
+use Rattle.name_registry.proofs.Sharing.{advanced, shared, sharing}
 use Rattle.name_registry.proofs.Turned.{told_turn}
 use Rattle.name_registry.proofs.destroying.LockedAdvancesUnderInterlock.advance.Goals as goal
 
@@ -19,8 +19,8 @@ returns g c =
     let k = c.deref_mut.result.now.keeper.keeper in
     let b = c.advance_for in
     let m = c.cpu.inside.share.amount in
-    let had = subst (λ (z : Settings). HasAdvancedFor z k c.cpu.inside.plain.cpu c.args.number b.result b.new.keeper.keeper b.new.cpu.cpu) named b.ensures.answer in
-    let does = subst (λ (x : OnCpu). HasAdvancedFor g.D.Domain.settings k x c.args.number b.result b.new.keeper.keeper (sharing m b.new.cpu.cpu)) c.cpu.view_is (advanced m _ _ _ _ _ _ _ had) in (
+    let had = subst (λ (z : Settings). HasAdvancedFor z k c.deref_mut-2.result.now.cpu c.args.number b.result b.new.keeper.keeper b.new.cpu.cpu) named b.ensures.answer in
+    let does = subst (λ (x : OnCpu). HasAdvancedFor g.D.Domain.settings k x c.args.number b.result b.new.keeper.keeper (sharing m b.new.cpu.cpu)) (shared m _ _ _ c.deref_mut-2.ensures.value c.cpu.view_is) (advanced m _ _ _ _ _ _ _ had) in (
       (k, b.new.keeper.keeper, does),
       subst (λ (z : Settings). IfOk b.result (λ stage. IsStageOf z stage)) named b.ensures.stage,
       told_turn g.D.Domain.settings k _ c.args.number b.result b.new.keeper.keeper _ does,

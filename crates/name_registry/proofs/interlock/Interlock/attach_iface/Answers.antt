@@ -9,36 +9,39 @@ use Rattle.registry_values.specs.Common.{is_iface}
 use Rattle.name_registry.specs.Common.{HasAttachedIfaceFor, attach_iface_answer, IsAttachRefusal, is_inside}
 use Rattle.name_registry.proofs.Counted.{attach_counted, iface_numbered, few_changes, one_made}
 use Rattle.name_registry.proofs.Owned.{iface_may, iface_owned, iface_refused}
-use Rattle.name_registry.proofs.Sharing.{iface_attached, sharing}
+use Rattle.name_registry.proofs.Sharing.{iface_attached, shared, sharing}
 use Rattle.name_registry.proofs.interlock.Interlock.attach_iface.Goals as goal
 
 pub returns-in-Ok-clause-may : goal.returns-in-Ok-clause-may
 returns-in-Ok-clause-may g c =
+    let own = shared c.cpu.inside.share.amount _ _ _ c.deref_mut.ensures.value c.cpu.view_is in
     let k = c.args.self.now.keeper in
     let e = c.in-Ok.entry in
     iface_may k.words.settings k.keeper c.args.cpu.now c.args.rec c.args.reference (Ok e)
-    (subst (λ (p : OnCpu × ReferenceView). attach_iface_answer k.words.settings k.keeper p.0 c.args.rec p.1 ≡ Ok e) (λ i. (c.cpu.view_is i, c.reference.view_is i)) c.in-Ok.ensures.answer)
+    (subst (λ (p : OnCpu × ReferenceView). attach_iface_answer k.words.settings k.keeper p.0 c.args.rec p.1 ≡ Ok e) (λ i. (own i, c.reference.view_is i)) c.in-Ok.ensures.answer)
 
 pub returns-in-Ok-clause-ok : goal.returns-in-Ok-clause-ok
 returns-in-Ok-clause-ok g c =
+    let own = shared c.cpu.inside.share.amount _ _ _ c.deref_mut.ensures.value c.cpu.view_is in
     let k = c.args.self.now.keeper in
     let b = c.attach_iface_in.new.keeper.keeper in
     let e = c.in-Ok.entry in
     let y = sharing c.cpu.inside.share.amount c.attach_iface_in.new.cpu.cpu in
-    let is = subst (λ (p : OnCpu × ReferenceView). attach_iface_answer k.words.settings k.keeper p.0 c.args.rec p.1 ≡ Ok e) (λ i. (c.cpu.view_is i, c.reference.view_is i)) c.in-Ok.ensures.answer in
-    let has = subst (λ (p : OnCpu × ReferenceView). HasAttachedIfaceFor k.keeper p.0 p.1 e b y) (λ i. (c.cpu.view_is i, c.reference.view_is i))
+    let is = subst (λ (p : OnCpu × ReferenceView). attach_iface_answer k.words.settings k.keeper p.0 c.args.rec p.1 ≡ Ok e) (λ i. (own i, c.reference.view_is i)) c.in-Ok.ensures.answer in
+    let has = subst (λ (p : OnCpu × ReferenceView). HasAttachedIfaceFor k.keeper p.0 p.1 e b y) (λ i. (own i, c.reference.view_is i))
     (iface_attached c.cpu.inside.share.amount _ _ _ _ _ _ c.in-Ok.ensures.ok) in
     let owned = iface_owned k.words.settings k.keeper b c.args.cpu.now y c.args.rec c.args.reference (Ok e) is has in
     let counted = attach_counted c.args.cpu.now y c.count_attach.new.cpu e _ c.count_attach.ensures.cpu (owned.1, owned.2) in (owned.0, counted.0, counted.1)
 
 pub returns-in-Ok-clause-made : goal.returns-in-Ok-clause-made
 returns-in-Ok-clause-made g c =
+    let own = shared c.cpu.inside.share.amount _ _ _ c.deref_mut.ensures.value c.cpu.view_is in
     let k = c.args.self.now.keeper in
     let b = c.attach_iface_in.new.keeper.keeper in
     let e = c.in-Ok.entry in
     let y = sharing c.cpu.inside.share.amount c.attach_iface_in.new.cpu.cpu in
-    let is = subst (λ (p : OnCpu × ReferenceView). attach_iface_answer k.words.settings k.keeper p.0 c.args.rec p.1 ≡ Ok e) (λ i. (c.cpu.view_is i, c.reference.view_is i)) c.in-Ok.ensures.answer in
-    let has = subst (λ (p : OnCpu × ReferenceView). HasAttachedIfaceFor k.keeper p.0 p.1 e b y) (λ i. (c.cpu.view_is i, c.reference.view_is i))
+    let is = subst (λ (p : OnCpu × ReferenceView). attach_iface_answer k.words.settings k.keeper p.0 c.args.rec p.1 ≡ Ok e) (λ i. (own i, c.reference.view_is i)) c.in-Ok.ensures.answer in
+    let has = subst (λ (p : OnCpu × ReferenceView). HasAttachedIfaceFor k.keeper p.0 p.1 e b y) (λ i. (own i, c.reference.view_is i))
     (iface_attached c.cpu.inside.share.amount _ _ _ _ _ _ c.in-Ok.ensures.ok) in
     let few = (few_changes _ _ _ _ c.settings-settings.ensures.own.1.agree).0 in
     one_made _ c.args.cpu.now y c.count_attach.new.cpu (Attach e) (iface_numbered k.words.settings k.keeper c.args.cpu.now c.args.rec c.args.reference e few is) has.cpu c.count_attach.ensures.cpu
@@ -50,12 +53,13 @@ returns-in-Ok-clause-keeping g c =
 
 pub returns-in-Err-clause-refused : goal.returns-in-Err-clause-refused
 returns-in-Err-clause-refused g c =
+    let own = shared c.cpu.inside.share.amount _ _ _ c.deref_mut.ensures.value c.cpu.view_is in
     let k = c.args.self.now.keeper in
     let m = c.cpu.inside.share.amount in
     let y = sharing m c.attach_iface_in.new.cpu.cpu in
     let f = c.in-Err.refusal in
     let back = c.in-Err.plain.reference in
     let r = c.in-Err.ensures.refused in
-    subst (λ (p : OnCpu × ReferenceView). IsAttachRefusal (is_inside p.0) (is_iface p.1.entry.rec.kind) f × (back ≡ p.1) × (y ≡ p.0)) (λ i. (c.cpu.view_is i, c.reference.view_is i))
-    (iface_refused k.words.settings k.keeper c.attach_iface_in.new.keeper.keeper (sharing m c.cpu.inside.plain.cpu) y c.args.rec c.reference.inside.plain.reference (Err (f, back))
+    subst (λ (p : OnCpu × ReferenceView). IsAttachRefusal (is_inside p.0) (is_iface p.1.entry.rec.kind) f × (back ≡ p.1) × (y ≡ p.0)) (λ i. (own i, c.reference.view_is i))
+    (iface_refused k.words.settings k.keeper c.attach_iface_in.new.keeper.keeper (sharing m c.deref_mut.result.now.cpu) y c.args.rec c.reference.inside.plain.reference (Err (f, back))
     (r.0, ap (λ (o : OnPlainRef). o.reference) r.1, keeper_is r.2, ap (λ (o : OnPlainCpu). sharing m o.cpu) r.3))

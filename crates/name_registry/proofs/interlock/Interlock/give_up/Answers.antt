@@ -4,7 +4,7 @@ use Rattle.name_registry.specs.Types.{ReferenceView}
 use Rattle.passive_list.specs.Common.{OnCpu}
 use Rattle.name_registry.specs.Common.{HasGivenUpFor}
 use Rattle.name_registry.proofs.GivenUp.{knows_given, learns_given}
-use Rattle.name_registry.proofs.Sharing.{given_up, sharing}
+use Rattle.name_registry.proofs.Sharing.{given_up, shared, sharing}
 use Rattle.name_registry.proofs.interlock.Interlock.give_up.Goals as goal
 
 pub returns : goal.returns
@@ -14,6 +14,6 @@ returns g c =
     let m = c.cpu.inside.share.amount in
     let v = c.reference.inside.plain.reference in
     let y = sharing m b.new.cpu.cpu in
-    let shared = subst (λ (x : OnCpu). HasGivenUpFor k x v b.new.keeper.keeper y) c.cpu.view_is (given_up m _ _ _ _ _ b.ensures.change) in
-    let has = subst (λ (u : ReferenceView). HasGivenUpFor k c.args.cpu.now u b.new.keeper.keeper y) c.reference.view_is shared in
+    let with_share = subst (λ (x : OnCpu). HasGivenUpFor k x v b.new.keeper.keeper y) (shared m _ _ _ c.deref_mut.ensures.value c.cpu.view_is) (given_up m _ _ _ _ _ b.ensures.change) in
+    let has = subst (λ (u : ReferenceView). HasGivenUpFor k c.args.cpu.now u b.new.keeper.keeper y) c.reference.view_is with_share in
     record { learned = (learns_given _ _ _ _ _ has, ap (λ (o : OnCpu). o.made) has.hears.is); log = has.cpu_log; known = knows_given _ _ _ _ _ has }

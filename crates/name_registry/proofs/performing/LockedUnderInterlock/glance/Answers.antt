@@ -4,7 +4,7 @@ use Rattle.name_registry.specs.Types.{Settings}
 use Rattle.passive_list.specs.Common.{OnCpu}
 use Rattle.name_registry.specs.Common.{HasGlanced}
 use Rattle.name_registry.proofs.Counted.{glanced_same, still_booked}
-use Rattle.name_registry.proofs.Sharing.{glanced, sharing}
+use Rattle.name_registry.proofs.Sharing.{glanced, shared, sharing}
 use Rattle.name_registry.proofs.performing.LockedUnderInterlock.glance.Goals as goal
 
 pub invariant_of-deref_mut-clause-counted : goal.invariant_of-deref_mut-clause-counted
@@ -17,10 +17,10 @@ returns g c =
     let k = c.deref_mut.result.now.keeper.keeper in
     let b = c.glance_at_all in
     let m = c.cpu.inside.share.amount in
-    let had = subst (λ (z : Settings). HasGlanced z c.args.snapshots.now k c.cpu.inside.plain.cpu c.args.seen.now b.result b.new.seen b.new.keeper.keeper b.new.cpu.cpu) c.deref_mut.result.now.named.1
+    let had = subst (λ (z : Settings). HasGlanced z c.args.snapshots.now k c.deref_mut-2.result.now.cpu c.args.seen.now b.result b.new.seen b.new.keeper.keeper b.new.cpu.cpu) c.deref_mut.result.now.named.1
     b.ensures.glanced in (
       k,
       b.new.keeper.keeper,
-      subst (λ (x : OnCpu). HasGlanced g.D.Domain.settings c.args.snapshots.now k x c.args.seen.now b.result b.new.seen b.new.keeper.keeper (sharing m b.new.cpu.cpu)) c.cpu.view_is
+      subst (λ (x : OnCpu). HasGlanced g.D.Domain.settings c.args.snapshots.now k x c.args.seen.now b.result b.new.seen b.new.keeper.keeper (sharing m b.new.cpu.cpu)) (shared m _ _ _ c.deref_mut-2.ensures.value c.cpu.view_is)
           (glanced m _ _ _ _ _ _ _ _ _ had),
     )
