@@ -6,7 +6,7 @@ use Rattle.registry_values.specs.Answers as answers
 use Rattle.registry_values.specs.Common.{key_of_record, is_iface, is_taken, live_count}
 use Rattle.passive_list.specs.Common.{OnCpu, OnKeeper, HasHeardOn, HasAttached, HasAttachedKeeping, LogsAttach}
 use Rattle.cpu_words.specs.Common.{IsAttachedKeeping, did}
-use Rattle.name_registry.specs.Meeting.{is_inside, keeper_after_hear, HasSeenAttach}
+use Rattle.name_registry.specs.Exchange.{is_inside, keeper_after_hear, HasSeenAttach}
 
 abbrev pub first_fit : OnKeeper → Option ℕ
 first_fit k = answers.first_fit k.slots k.view.keeps

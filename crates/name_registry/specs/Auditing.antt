@@ -6,7 +6,7 @@ use lib.ListN.{get_elem?}
 use Rattle.name_registry.specs.Types.{Change, LogItem, Teller, Cpu, Keeper, Balance, Entry, Settings, Slot, Vacant, Live, Retired}
 use Rattle.cpu_words.specs.Common.{changes_in, given_up, heard_from, occupant, sum_collected, word_collected, words_collected, IsShownAfter, with_note, keeper_with_note, Good, IsShown, number_at}
 use Rattle.cpu_words.specs.Common.{CpuShown, KeeperShown}
-use Rattle.name_registry.specs.Meeting.{HasLearned, keeper_after_tell}
+use Rattle.name_registry.specs.Exchange.{HasLearned, keeper_after_tell}
 use Rattle.registry_values.specs.Common.{Tally, bias, less_bias, sum_of, tally_shown, is_retired, slot_at}
 use Rattle.protocol.specs.Common.{IsIn, State, mark_at, total_at}
 use Rattle.passive_list.specs.Common.{OnCpu, IsAtRest, OnKeeper, HeardAndTold}

@@ -15,8 +15,8 @@ pub use Rattle.name_registry.specs.Destroying.{Destroys, DestroysOutside, HasAdv
 pub use Rattle.name_registry.specs.Detaching.{HasDetachedFor, IsDetachAnswer, IsDetachRefusal, IsLivePlace, IsLookupNow}
 pub use Rattle.name_registry.specs.Law.{Balanced, ExactAudit, FreeInterlock, counts_of}
 pub use Rattle.name_registry.specs.Locking.{IsAttachRefusal, IsDestroyRefusal, IsDetachRefusedTo, IsPerformRefusal, IsStageOf, MayAttach}
-pub use Rattle.name_registry.specs.Meeting.{HasLearned, HasSeenAttach, HasSeenDetach, IsNote, KeepsWords, hears_cpu, is_inside, keeper_after_hear, keeper_after_tell, tells_and_hears}
-pub use Rattle.name_registry.specs.Meeting.{tells_twice_and_hears}
+pub use Rattle.name_registry.specs.Exchange.{HasLearned, HasSeenAttach, HasSeenDetach, IsNote, KeepsWords, hears_cpu, is_inside, keeper_after_hear, keeper_after_tell, tells_and_hears}
+pub use Rattle.name_registry.specs.Exchange.{tells_twice_and_hears}
 pub use Rattle.name_registry.specs.Obstacles.{AnswersBy, HasMet, IsDestroyAnswer, IsNotRetired, IsRetiredIn, IsTurn, MetLocals, MetReference, MetSection}
 pub use Rattle.name_registry.specs.Opening.{AreNewCpus, AreOpened, IsBlankOf, boxed, new_on, opened_cpu}
 pub use Rattle.name_registry.specs.Performing.{Finishes, GlancesBelow, GlancesOnce, HasBegun, HasGlanced, HasPassedAll, HasPassedFor, HasPerformed, HasSeenAllOut, Hold, LastTurn, Looking, LooksOnce}

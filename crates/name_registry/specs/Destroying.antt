@@ -8,7 +8,7 @@ use Rattle.cpu_words.specs.Common.{changes_in}
 use Rattle.name_registry.specs.Advancing.{HasAdvanced, IsGoneIfFreed}
 use Rattle.name_registry.specs.Locking.{IsStageOf}
 use Rattle.name_registry.specs.Obstacles.{IsTurn}
-use Rattle.name_registry.specs.Meeting.{keeper_after_hear, keeper_after_tell, tells_twice_and_hears}
+use Rattle.name_registry.specs.Exchange.{keeper_after_hear, keeper_after_tell, tells_twice_and_hears}
 
 -- a turn that met an obstacle; after any other answer there is nothing more to do
 abbrev pub MeetsObstacle : Result Stage Refusal → Type 0

@@ -6,7 +6,7 @@ use Rattle.protocol.specs.Common.{IsLookup}
 use Rattle.registry_values.specs.Common.{slot_at}
 use Rattle.cpu_words.specs.Common.{did}
 use Rattle.passive_list.specs.Common.{OnCpu, OnKeeper, HasHeardOn, HasDetached, LogsDetach}
-use Rattle.name_registry.specs.Meeting.{is_inside, keeper_after_hear, HasSeenDetach}
+use Rattle.name_registry.specs.Exchange.{is_inside, keeper_after_hear, HasSeenDetach}
 
 -- the result of a lookup now
 abbrev pub IsLookupNow : OnKeeper → Key → Option Entry → Type 0

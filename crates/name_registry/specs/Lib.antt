@@ -1,5 +1,5 @@
 pub mod Common
-pub mod Meeting
+pub mod Exchange
 pub mod Obstacles
 pub mod Rows
 pub mod Attaching

@@ -5,7 +5,7 @@ use Rattle.name_registry.specs.Types.{Done, Entry, JoinKeeper, LogItem, Referenc
 use Rattle.cpu_words.specs.Common.{did, given_up}
 use Rattle.local_count.specs.References.{HasReleased, HasComeBack}
 use Rattle.passive_list.specs.Common.{OnCpu, OnKeeper, HasGivenUp, HasHeardOn}
-use Rattle.name_registry.specs.Meeting.{HasLearned, keeper_after_hear, keeper_after_tell, tells_and_hears}
+use Rattle.name_registry.specs.Exchange.{HasLearned, keeper_after_hear, keeper_after_tell, tells_and_hears}
 
 -- The CPU is as it was, except its log, only where a compare-exchange found the CPU's own count word collected. The exchange is in the log
 -- with its reply, and after it that the reference came back.

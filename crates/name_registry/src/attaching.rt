@@ -5,10 +5,10 @@ ghost use Rattle.name_registry.specs.Types.{Iface};
 ghost use Rattle.registry_values.specs.Common.{is_key};
 ghost use Rattle.cpu_words.specs.Common.{AreWordsOf};
 ghost use Rattle.name_registry.specs.Attaching.{attach_answer, attach_iface_answer, HasAttachedFor, HasAttachedIfaceFor};
-ghost use Rattle.name_registry.specs.Meeting.{KeepsWords};
+ghost use Rattle.name_registry.specs.Exchange.{KeepsWords};
 
+use crate::exchange::{hear_cpu, show_cpu};
 use crate::first_fit::entry_for;
-use crate::meeting::{hear_cpu, show_cpu};
 use cpu_words::Words;
 use local_count::{PlainRef, publish_iface};
 use passive_list::{Keeper, PlainCpu, publish};

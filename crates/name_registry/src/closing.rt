@@ -3,8 +3,8 @@
 ghost use Rattle.std.specs.Prelude.{◌≡◌};
 ghost use Rattle.name_registry.specs.Closing.{ClosesRun};
 
+use crate::exchange::hear_cpu;
 use crate::interlock::Interlock;
-use crate::meeting::hear_cpu;
 use crate::registry::Registry;
 use cpu_words::{Domain, LastWords};
 use passive_list::Cpu;

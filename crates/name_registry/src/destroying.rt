@@ -5,11 +5,11 @@ ghost use Rattle.cpu_words.specs.Common.{IsFreedFrom, AreWordsOf};
 ghost use Rattle.name_registry.specs.Destroying.{Destroys, DestroysOutside, HasAdvancedFor};
 ghost use Rattle.name_registry.specs.Locking.{IsDestroyRefusal, IsStageOf};
 ghost use Rattle.name_registry.specs.Obstacles.{IsDestroyAnswer, IsTurn};
-ghost use Rattle.name_registry.specs.Meeting.{KeepsWords, is_inside, HasLearned};
+ghost use Rattle.name_registry.specs.Exchange.{KeepsWords, is_inside, HasLearned};
 
 use crate::advancing::advance_in;
+use crate::exchange::{hear_cpu, show_cpu};
 use crate::locked::Locked;
-use crate::meeting::{hear_cpu, show_cpu};
 use crate::registry::Registry;
 use cpu_words::{Domain, Words};
 use passive_list::{Cpu, Keeper, PlainCpu};

@@ -5,9 +5,9 @@ ghost use Rattle.registry_values.specs.Common.{is_live_as};
 ghost use Rattle.cpu_words.specs.Common.{AreWordsOf};
 ghost use Rattle.name_registry.specs.Detaching.{IsDetachAnswer, IsLivePlace, HasDetachedFor};
 ghost use Rattle.name_registry.specs.Rows.{is_live_row};
-ghost use Rattle.name_registry.specs.Meeting.{KeepsWords};
+ghost use Rattle.name_registry.specs.Exchange.{KeepsWords};
 
-use crate::meeting::{hear_cpu, show_cpu};
+use crate::exchange::{hear_cpu, show_cpu};
 use cpu_words::Words;
 use passive_list::{Keeper, KeptSlot, PlainCpu, retire};
 use registry_values::{Entry, Key, Kind, Name, Refusal, detach_answer, is_live_as};

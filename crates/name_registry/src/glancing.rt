@@ -5,10 +5,10 @@ ghost use Rattle.std.specs.Prelude.{◌≡◌, ◌<◌, ◌≤◌, ℕ, None, sl
 ghost use Rattle.registry_values.specs.Common.{retired_number, slot_at};
 ghost use Rattle.cpu_words.specs.Common.{AreWordsOf};
 ghost use Rattle.name_registry.specs.Performing.{GlancesBelow, GlancesOnce, HasBegun, HasGlanced, HasPassedAll, PassesBelow, PassesEntry, SnapshotsBelow, looking};
-ghost use Rattle.name_registry.specs.Meeting.{KeepsWords};
+ghost use Rattle.name_registry.specs.Exchange.{KeepsWords};
 
 use crate::advancing::look_at_all;
-use crate::meeting::{hear_cpu, show_cpu};
+use crate::exchange::{hear_cpu, show_cpu};
 use cpu_words::Words;
 use passive_list::{Keeper, PlainCpu, glance, snapshot};
 use registry_values::{MOST_CPUS, MOST_SLOTS, first_unseen, is_out, is_retired_as, retired_number};

@@ -6,7 +6,7 @@ ghost use Rattle.name_registry.specs.Types.{Attach, Detach, Iface};
 ghost use Rattle.cpu_words.specs.Common.{IsAttachedKeeping, AreWordsOf};
 ghost use Rattle.name_registry.specs.Changes.{HasMade, weigh, weight};
 ghost use Rattle.name_registry.specs.Locking.{MayAttach, IsAttachRefusal, IsDetachRefusedTo};
-ghost use Rattle.name_registry.specs.Meeting.{is_inside, tells_and_hears, HasLearned, HasSeenAttach, HasSeenDetach};
+ghost use Rattle.name_registry.specs.Exchange.{is_inside, tells_and_hears, HasLearned, HasSeenAttach, HasSeenDetach};
 ghost use Rattle.name_registry.specs.Releasing.{KnowsGivenUp};
 
 use crate::attaching::{attach_iface_in, attach_in};

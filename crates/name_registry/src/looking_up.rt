@@ -3,7 +3,7 @@
 ghost use Rattle.std.specs.Prelude.{◌≡◌, ◌≢◌, IsTrue, None};
 ghost use Rattle.cpu_words.specs.Common.{AreWordsOf, key_with};
 ghost use Rattle.passive_list.specs.Common.{may_begin};
-ghost use Rattle.name_registry.specs.LookingUp.{FindsAndAcquires, Gets, GetsAnew, GetsByMemory, GetsFound, GetsInSection, LooksUp, LooksUpInSection, found_or};
+ghost use Rattle.name_registry.specs.LookingUp.{FindsAndAcquires, Gets, GetsAnew, GetsFound, GetsInSection, LooksUp, LooksUpInSection, found_or};
 
 use crate::registry::Registry;
 use cpu_words::{Domain, Words};
@@ -38,10 +38,13 @@ impl<D: Domain> Registry<D> {
     pub fn get(&self, cpu: &mut Cpu<D>, kind: Kind, name: &Name) -> Result<(Entry, Psref), Refusal>
         ensures { Gets (key_with kind name.now) cpu.old cpu.new result }
     {
-        if may_begin_on(&self.words, &cpu.plain) {
-            return get_from_outside(&self.words, cpu, kind, name);
+        if !may_begin_on(&self.words, &cpu.plain) {
+            return get_in_section(&self.words, cpu, kind, name);
         }
-        get_in_section(&self.words, cpu, kind, name)
+        if let Some(got) = get_remembered(&self.words, cpu, kind, name) {
+            return Ok(got);
+        }
+        get_anew(&self.words, cpu, kind, name)
     }
 }
 
@@ -60,25 +63,6 @@ fn look_up_in_section<D: Domain>(
     let found = find_inside(words, cpu, kind, name);
     exit(words, cpu);
     found_or(found)
-}
-
-/// Acquires a reference to the entry that the CPU remembers, else looks it up first. Conditions: outside; a section is left.
-#[inline(always)]
-fn get_from_outside<D: Domain>(
-    words: &Words,
-    cpu: &mut Cpu<D>,
-    kind: Kind,
-    name: &Name,
-) -> Result<(Entry, Psref), Refusal>
-    requires words { AreWordsOf words.now D.table D.settings }
-    requires outside { cpu.old.depth ≡ 0 }
-    requires room { IsTrue (may_begin cpu.old.view) }
-    ensures { GetsByMemory (key_with kind name.now) cpu.old cpu.new result }
-{
-    if let Some(got) = get_remembered(words, cpu, kind, name) {
-        return Ok(got);
-    }
-    get_anew(words, cpu, kind, name)
 }
 
 /// Looks an entry up, and acquires a reference to it, if there is one. Conditions: outside; a section is left.

@@ -2,10 +2,10 @@
 
 ghost use Rattle.std.specs.Prelude.{◌≡◌, ◌<◌};
 ghost use Rattle.cpu_words.specs.Common.{AreWordsOf, IsFoundCollected};
-ghost use Rattle.name_registry.specs.Meeting.{KeepsWords};
+ghost use Rattle.name_registry.specs.Exchange.{KeepsWords};
 ghost use Rattle.name_registry.specs.Releasing.{HasGivenUpFor, IsLetGo, IsLetGoAndHeard, KnowsGivenUp};
 
-use crate::meeting::{hear_cpu, show_cpu};
+use crate::exchange::{hear_cpu, show_cpu};
 use crate::registry::Registry;
 use cpu_words::{Domain, Words};
 use local_count::{LocalRef, PlainRef, release_under, try_release};

@@ -1,11 +1,14 @@
 //! A virtual CPU of a table that a type names.
 
-ghost use Rattle.std.specs.Prelude.{◌≡◌, ◌≢◌, ◌↔◌, IsTrue, None};
-ghost use Rattle.cpu_words.specs.Common.{AreWordsOf};
+ghost use Rattle.std.specs.Prelude.{◌≡◌, ◌≢◌, ◌↔◌, ◌<◌, IfOk, IsTrue, None};
+ghost use Rattle.cpu_words.specs.Common.{AreWordsOf, new_cpu};
 ghost use Rattle.passive_list.specs.Cpus.{HoldsFound};
+ghost use Rattle.passive_list.specs.Memories.{no_memory};
+ghost use Rattle.registry_values.specs.Common.{are_fit};
 
-use crate::plain_cpu::PlainCpu;
-use cpu_words::Domain;
+use crate::plain_cpu::{CpuRows, PlainCpu};
+use cpu_words::{CpuSeat, Domain};
+use std::alloc::{AllocError, Global};
 use std::marker::Model;
 use std::sync::ledger::Share;
 
@@ -38,6 +41,32 @@ impl<D: Domain> Model for Cpu<D> {
 }
 
 impl<D: Domain> Cpu<D> {
+    /// The CPU of a new seat: outside, with nothing found and nothing held. What its share has is what its calls have made.
+    /// Conditions:
+    ///
+    /// - the seat is of D's table, as `Words::new` gave it;
+    /// - `id` is its number, below how many CPUs the table has;
+    /// - the rows are for the table's slots;
+    /// - the share is one part of D's ledger.
+    ///
+    /// Refused: there is no memory. The seat is lost then.
+    pub fn of_seat(
+        alloc: Global,
+        seat: CpuSeat,
+        id: u8,
+        rows: CpuRows,
+        share: Share<D>,
+    ) -> Result<Cpu<D>, AllocError>
+        requires table { (seat.table ≡ D.table) × IsTrue (are_fit D.settings) × (id < D.settings.cpus) }
+        requires new { seat.view ≡ new_cpu D.settings id }
+        requires rows { rows ≡ D.settings.slots }
+        requires part { share.parts ≡ 1 }
+        ensures { IfOk result (λ cpu. cpu ≡ record { view = new_cpu D.settings id; depth = 0; made = share.amount; memory = no_memory D.settings.slots; known_log = seat.known_log; log = seat.log }) }
+    {
+        let plain = Box::new(alloc, PlainCpu::of_seat(seat, id, rows))?;
+        Ok(Cpu::of(plain, share))
+    }
+
     /// This CPU, as one of the table that D names. What its share has is what its calls have made.
     /// Condition: it is of D's table, and the share is one part of D's ledger.
     pub fn of(plain: Box<PlainCpu>, share: Share<D>) -> Cpu<D>

@@ -9,7 +9,7 @@ use super::answers::Answer;
 use super::keepers::{Writer, by_keeper};
 use super::readers::{Held, Reader, by_reader};
 use cpu_words::{CpuSeat, Domain, KeeperSeat, Words};
-use passive_list::{Cpu, CpuRows, Keeper, KeeperRows, PlainCpu};
+use passive_list::{Cpu, CpuRows, Keeper, KeeperRows};
 use registry_values::{MOST_CPUS, Settings};
 use std::alloc::Global;
 use std::process::Abort;
@@ -80,16 +80,15 @@ impl<D: Domain> Seats<D> {
         } = table;
         let settings = words.settings();
         let rows = KeeperRows::new(alloc, settings)?;
-        let first = PlainCpu::of_seat(first, 0, CpuRows::new(alloc, settings.slots)?);
-        let second = PlainCpu::of_seat(second, 1, CpuRows::new(alloc, settings.slots)?);
-        let (first, second) = (Box::new(alloc, first)?, Box::new(alloc, second)?);
+        let first_rows = CpuRows::new(alloc, settings.slots)?;
+        let second_rows = CpuRows::new(alloc, settings.slots)?;
         let (_book, mut shares) = changes.open::<D>();
         let (one, other) = (shares.split_off(1, 0), shares.split_off(1, 0));
         Ok(Seats {
             words,
             keeper: Keeper::of_seat(keeper, settings, rows),
-            first: Cpu::of(first, one),
-            second: Cpu::of(second, other),
+            first: Cpu::of_seat(alloc, first, 0, first_rows, one)?,
+            second: Cpu::of_seat(alloc, second, 1, second_rows, other)?,
         })
     }
 
