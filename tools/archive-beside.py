@@ -1,4 +1,4 @@
-#!/usr/bin/env python3
+#!/usr/bin/env -S python3 -B
 """Runs `rt ci`, and beside it proves and builds the archive for C, out/libregistry.a, proves its library for aarch64, and tries edits.
 
     tools/archive-beside.py rt ci
@@ -26,8 +26,6 @@ import sys
 import tempfile
 import threading
 import time
-
-sys.dont_write_bytecode = True
 
 from kit import below, kit, over_libraries
 from limits import LIMITS

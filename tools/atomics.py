@@ -1,4 +1,4 @@
-#!/usr/bin/env python3
+#!/usr/bin/env -S python3 -B
 """Whether each atomic instruction of the archive for aarch64 is one of sequentially consistent steps, and most were met by a test.
 
     tools/atomics.py ARCHIVE PROGRAM..

@@ -1,4 +1,4 @@
-#!/usr/bin/env python3
+#!/usr/bin/env -S python3 -B
 """A look before the gate, in a copy of the tree: what the gate would refuse for its form alone, and say at its end.
 
     tools/before-gate.py                      each file as rt fmt writes it; each edit (docs/RECIPES.md) fits its file
@@ -12,8 +12,6 @@ import shutil
 import subprocess
 import sys
 import tempfile
-
-sys.dont_write_bytecode = True
 
 from edits import KINDS, ROOT, TESTS, apply, edits_of, restore
 from parts import ended

@@ -1,4 +1,4 @@
-#!/usr/bin/env python3
+#!/usr/bin/env -S python3 -B
 """Finds what the documents name and the tree doesn't have: links to files and headings, and names in backquotes. Also tables that a line cuts off, and
 turns of phrase that readers stumble over (BANNED), and our private words on a page for users (PRIVATE).
 
@@ -12,8 +12,6 @@ import re
 import subprocess
 import sys
 from fnmatch import fnmatch
-
-sys.dont_write_bytecode = True
 
 from parts import ended
 

@@ -1,4 +1,4 @@
-#!/usr/bin/env python3
+#!/usr/bin/env -S python3 -B
 """Holds imports against what a crate's specs/Common.antt and specs/Types.antt pass on (docs/PROOFS.md, "Where names come from").
 
     tools/check-imports.py      says which name is passed on and imported by no one, and which file imports one from where it is defined;
@@ -8,8 +8,6 @@ import collections
 import pathlib
 import re
 import sys
-
-sys.dont_write_bytecode = True
 
 from parts import ended
 

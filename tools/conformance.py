@@ -1,4 +1,4 @@
-#!/usr/bin/env python3
+#!/usr/bin/env -S python3 -B
 """A conformance kit: scripts from a seed with their reports, for whoever builds the protocol elsewhere.
 
     tools/conformance.py write FOLDER [--seed N] [--scripts N] [--lines N] [--only COMMAND,..]
@@ -15,8 +15,6 @@ import pathlib
 import random
 import sys
 import tempfile
-
-sys.dont_write_bytecode = True
 
 from engines import ROOT, ran, said_when_tried
 from other_registry import FAULTS, report_of

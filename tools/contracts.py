@@ -1,4 +1,4 @@
-#!/usr/bin/env python3
+#!/usr/bin/env -S python3 -B
 """Prints the contract of each public function: its head and its clauses, a block each, sorted.
 
   tools/contracts.py [REVISION | . [CRATE..]]

@@ -1,4 +1,4 @@
-#!/usr/bin/env python3
+#!/usr/bin/env -S python3 -B
 """Makes the table of docs/MODEL.md from the sources: for each event its step, its contract, its lemmas and its wrong bodies.
 
     tools/event-table.py make     writes the table into docs/MODEL.md
@@ -11,8 +11,6 @@ import collections
 import functools
 import re
 import sys
-
-sys.dont_write_bytecode = True
 
 from contracts import contract
 from parts import ended

@@ -1,4 +1,4 @@
-#!/usr/bin/env python3
+#!/usr/bin/env -S python3 -B
 """Prints what stack each export of the static library takes at most, with all that it calls in the library, in bytes, the deepest first.
 
   tools/frames.py ARCHIVE [LIMIT]

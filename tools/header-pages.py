@@ -1,4 +1,4 @@
-#!/usr/bin/env python3
+#!/usr/bin/env -S python3 -B
 """Makes the manual pages of the calls for C from their headers, which alone say what a call does.
 
     tools/header-pages.py make      writes man/PAGE.3, which git doesn't keep, from man/PAGE.3.in and its header, for each page
@@ -21,8 +21,6 @@ import re
 import sys
 import textwrap
 from typing import NamedTuple
-
-sys.dont_write_bytecode = True
 
 from parts import ended
 

@@ -1,4 +1,4 @@
-#!/usr/bin/env python3
+#!/usr/bin/env -S python3 -B
 """Makes registry_limits.h, the header for C with the limits of a build, and compares the limits with each place outside of Rattle that says them again.
 
     tools/limits-header.py [LIMITS.rt] >registry_limits.h      without a file: those of crates/registry_values/src/limits.rt
@@ -9,8 +9,6 @@ Where the file lacks a limit, one line says which, the status is 2, and nothing 
 """
 import re
 import sys
-
-sys.dont_write_bytecode = True
 
 from limits import DEFAULTS, LIMITS, RANGES, ROOT, limits, number, version
 from parts import ended

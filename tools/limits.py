@@ -1,4 +1,4 @@
-#!/usr/bin/env python3
+#!/usr/bin/env -S python3 -B
 """The limits of a build, as the proved code says them, and the version: for the tools that write them again or compare them. As a command it says what
 limits a build is to have: what `tools/build-archive.sh --cpus N --slots N` is proved and built from.
 
@@ -12,8 +12,6 @@ is read from `LimitsLeaveRoom`, which each build proves. Words that aren't right
 import pathlib
 import re
 import sys
-
-sys.dont_write_bytecode = True
 
 ROOT = pathlib.Path(__file__).resolve().parent.parent
 LIMITS = "crates/registry_values/src/limits.rt"

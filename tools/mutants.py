@@ -1,4 +1,4 @@
-#!/usr/bin/env python3
+#!/usr/bin/env -S python3 -B
 """Makes small wrong bodies of the code that nothing proves, and says which of them every test accepts.
 
     tools/mutants.py [--only FILE[:LINE]].. [--sample N] [--seed N] [--jobs N] [--least N]
@@ -31,8 +31,6 @@ import sys
 import tempfile
 import time
 from concurrent.futures import ThreadPoolExecutor
-
-sys.dont_write_bytecode = True
 
 from parts import ROOT, guard, of_session, running, stop_running
 

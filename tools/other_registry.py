@@ -1,4 +1,4 @@
-#!/usr/bin/env python3
+#!/usr/bin/env -S python3 -B
 """A registry that shares nothing with this repository's, written after docs/SCRIPTS.md: tools/conformance.py tries it as a program of somebody's own.
 
     tools/other_registry.py [FAULT] <SCRIPT

@@ -1,4 +1,4 @@
-#!/usr/bin/env python3
+#!/usr/bin/env -S python3 -B
 """Compares pictures that are drawn by hand with what they show.
 
     tools/picture.py check
@@ -12,8 +12,6 @@ import html
 import pathlib
 import re
 import sys
-
-sys.dont_write_bytecode = True
 
 from parts import ended
 

@@ -1,4 +1,4 @@
-#!/usr/bin/env python3
+#!/usr/bin/env -S python3 -B
 """The record of an archive's proof, which lies beside the archive as libregistry.proved.
 
     tools/proof-record.py begin LIMITS                                  prints the first line of a LOG, before a proof begins: the sum of what is to be proved
@@ -14,8 +14,6 @@ import pathlib
 import re
 import subprocess
 import sys
-
-sys.dont_write_bytecode = True
 
 import limits as chosen
 from kit import ROOT, below

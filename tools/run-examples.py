@@ -1,4 +1,4 @@
-#!/usr/bin/env python3
+#!/usr/bin/env -S python3 -B
 """Runs the examples of the documents over both engines, and compares what the program says.
 
 An example is a fenced block `script`, and the next fenced block after it: `report`, what the program must print, with nothing on standard
@@ -17,8 +17,6 @@ import argparse
 import pathlib
 import re
 import sys
-
-sys.dont_write_bytecode = True
 
 from engines import ROOT, ran, said_when_tried
 from parts import ended

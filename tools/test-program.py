@@ -1,4 +1,4 @@
-#!/usr/bin/env python3
+#!/usr/bin/env -S python3 -B
 """Runs the built program and compares its status, standard output and standard error with what they must be.
 
     tools/test-program.py [PROGRAM]..    crates/registry_run/out/registry_run, which tools/prove-program.sh makes; beside it what
@@ -13,8 +13,6 @@ import pathlib
 import subprocess
 import sys
 import tempfile
-
-sys.dont_write_bytecode = True
 
 from parts import ended
 

@@ -1,4 +1,4 @@
-#!/usr/bin/env python3
+#!/usr/bin/env -S python3 -B
 """Tries the tools of the gate: each on a tree that it finds good, and on the same tree with one planted fault of each kind that it is to find.
 
     tools/test-tools.py [WORD]..    the tools whose names have one of the words, or all
@@ -12,8 +12,6 @@ import re
 import sys
 import tempfile
 from concurrent.futures import ThreadPoolExecutor
-
-sys.dont_write_bytecode = True
 
 from parts import ended
 from tests import documents, gates, libraries, programs, refusals, releases, sources

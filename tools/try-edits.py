@@ -1,4 +1,4 @@
-#!/usr/bin/env python3
+#!/usr/bin/env -S python3 -B
 """Tries wrong bodies (docs/RECIPES.md): the prover, or a test, must refuse each.
 
     tools/try-edits.py gate   [--anew] [CRATE | CRATE/EDIT]..    crates/CRATE/edits/gate.edits:    the prover must refuse each; the gate tries them
@@ -24,8 +24,6 @@ import subprocess
 import sys
 import tempfile
 from concurrent.futures import ThreadPoolExecutor
-
-sys.dont_write_bytecode = True
 
 from contracts import functions_of
 from edit_checks import results

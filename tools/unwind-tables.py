@@ -1,4 +1,4 @@
-#!/usr/bin/env python3
+#!/usr/bin/env -S python3 -B
 """Adds unwind tables (.eh_frame) to an object of the compiler that has none: unwind-tables.py OBJECT, which is written anew.
 
 The tables are read off the finished code. Of each function every path is followed from its first instruction: what moves the stack pointer says how deep
@@ -13,8 +13,6 @@ import subprocess
 import sys
 import tempfile
 from pathlib import Path
-
-sys.dont_write_bytecode = True
 
 LINE = re.compile(r"^\s+([0-9a-f]+):\t(\S+)(?:\s+(.*))?$")
 OUT = "out"
