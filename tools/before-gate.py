@@ -14,7 +14,7 @@ import sys
 import tempfile
 
 from edits import KINDS, ROOT, TESTS, apply, edits_of, restore
-from parts import ended
+from parts import counted
 
 CRATES = sorted(it.name for it in (ROOT / "crates").iterdir() if it.is_dir())
 
@@ -72,15 +72,11 @@ def main():
     if words and words[0] != "compile" or set(words[1:]) - set(CRATES):
         sys.exit(__doc__)
     kept = shutil.ignore_patterns(".git") if words else shutil.ignore_patterns("out", ".git")
-    passed = failed = 0
     with tempfile.TemporaryDirectory() as folder:
         tree = pathlib.Path(folder) / "tree"
         shutil.copytree(ROOT, tree, ignore=kept)
-        for name, fault in compiles(tree, words[1:]) if words else looks(tree):
-            passed, failed = passed + (not fault), failed + bool(fault)
-            if fault:
-                print(f"{name}: {fault}", flush=True)
-    sys.exit(ended(passed, failed))
+        found = compiles(tree, words[1:]) if words else looks(tree)
+        sys.exit(counted(f"{name}: {fault}" if fault else "" for name, fault in found))
 
 
 main()

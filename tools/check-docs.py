@@ -7,15 +7,12 @@ turns of phrase that readers stumble over (BANNED), and our private words on a p
 For each document there is a check of its links and one of its names, and for a page that USERS or EXPLAINING lists, a header or a manual page too, one of
 its phrases. A name counts if it is a word of some file that isn't a document, or of a path, or if FOREIGN lists it with its origin.
 """
-import pathlib
 import re
 import subprocess
 import sys
 from fnmatch import fnmatch
 
-from parts import ended
-
-ROOT = pathlib.Path(__file__).resolve().parent.parent
+from parts import ROOT, counted
 
 # Words in backquotes that no file of this repository has, by where they come from.
 FOREIGN = {
@@ -164,7 +161,7 @@ def words_of(files):
     words = set()
     for path in files:
         words.update(WORD.findall(str(path.relative_to(ROOT))))
-        if path.suffix != ".md" and path.resolve() != pathlib.Path(__file__).resolve():
+        if path.suffix != ".md" and path != ROOT / "tools/check-docs.py":
             words.update(WORD.findall(text_of(path)))
     return words
 
@@ -183,13 +180,8 @@ def checks_of(path, words):
 def main():
     files = tracked()
     words = words_of(files)
-    passed = failed = 0
-    for path in files:
-        for kind, found in checks_of(path, words):
-            passed, failed = passed + (not found), failed + bool(found)
-            for line in found:
-                print(f"{path.relative_to(ROOT)}: {kind}: {line}")
-    sys.exit(ended(passed, failed))
+    checks = ((path, kind, found) for path in files for kind, found in checks_of(path, words))
+    sys.exit(counted("\n".join(f"{path.relative_to(ROOT)}: {kind}: {line}" for line in found) for path, kind, found in checks))
 
 
 main()

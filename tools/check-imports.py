@@ -5,13 +5,12 @@
                                 ends with 'N passed, M failed': one check for each of these files
 """
 import collections
-import pathlib
 import re
 import sys
 
-from parts import ended
+from parts import ROOT, counted
 
-CRATES = pathlib.Path(__file__).resolve().parent.parent / "crates"
+CRATES = ROOT / "crates"
 IMPORT = re.compile(r"^ *(?:pub |ghost )*use ([\w.]+)\.\{([^}]*)\};?$", re.M)
 PASSING = ("specs/Common.antt", "specs/Types.antt")
 
@@ -51,12 +50,7 @@ def main():
         for item in found:
             importers[item].append(path)
     paths = sorted(it for name in PASSING for it in CRATES.glob(f"*/{name}"))
-    failed = 0
-    for path in paths:
-        found = list(faults(path, imported[path], importers))
-        failed += bool(found)
-        print(*found, sep="\n", end="\n" if found else "")
-    return ended(len(paths) - failed, failed)
+    return counted("\n".join(faults(path, imported[path], importers)) for path in paths)
 
 
 sys.exit(main())

@@ -18,7 +18,7 @@ import tempfile
 
 from engines import ROOT, ran, said_when_tried
 from other_registry import FAULTS, report_of
-from parts import ended
+from parts import counted, ended
 
 PROGRAM = ROOT / "crates/registry_run/out/registry_run"
 
@@ -199,22 +199,18 @@ def first_difference(report, found):
 
 
 def failures_of(folder, program):
-    """Each script of which a program doesn't print the report, and where it parts from it."""
+    """Of each script where a program parts from its report, '' where it prints that."""
     for path in sorted(folder.glob("*.txt")):
         report = path.with_suffix(".report").read_text()
         status, found, _ = ran(program, path.read_text())
         if status != 0:
             yield f"{path.name}: status {status}"
-        elif found != report:
-            yield f"{path.name}: {first_difference(report, found)}"
+        else:
+            yield f"{path.name}: {first_difference(report, found)}" if found != report else ""
 
 
 def run(options):
-    failures = list(failures_of(options.folder, options.program))
-    for failure in failures:
-        print(failure)
-    count = len(list(options.folder.glob("*.txt")))
-    return ended(count - len(failures), len(failures))
+    return counted(failures_of(options.folder, options.program))
 
 
 def is_told(folder, fault=None):

@@ -16,15 +16,13 @@ A page's frame, PAGE.3.in, is mdoc with lines that stand for parts of the header
 A comment is in paragraphs and lists of lines that begin with '- '. In it names of calls, constants, `parameters` and other pages are marked up.
 """
 import os
-import pathlib
 import re
 import sys
 import textwrap
 from typing import NamedTuple
 
-from parts import ended
+from parts import ROOT, counted
 
-ROOT = pathlib.Path(__file__).resolve().parent.parent
 PAGES = {"registry": "crates/registry_c/include/registry.h", "registry_waiting": "c/include/waiting.h"}
 WIDTH = 80
 
@@ -236,7 +234,7 @@ def main():
         for page in PAGES:
             write(page)
     elif sys.argv[1:] == ["check"]:
-        sys.exit(ended(len([made(page) for page in PAGES]), 0))
+        sys.exit(counted("" for page in PAGES if made(page)))
     else:
         sys.exit(__doc__)
 

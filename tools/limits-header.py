@@ -11,7 +11,7 @@ import re
 import sys
 
 from limits import DEFAULTS, LIMITS, RANGES, ROOT, limits, number, version
-from parts import ended
+from parts import counted
 
 HEAD = """\
 /*
@@ -98,21 +98,13 @@ def faults():
         yield "" if of[name] == wanted else f"{LIMITS}: {name} is {of[name]}, and {wanted} in the default build"
 
 
-def check():
-    found = list(faults())
-    wrong = list(filter(None, found))
-    for fault in wrong:
-        print(fault)
-    return ended(len(found) - len(wrong), len(wrong))
-
-
 def main(words):
     if len(words) > 1:
         print("usage: limits-header.py [LIMITS.rt | check]", file=sys.stderr)
         return 2
     try:
         if words == ["check"]:
-            return check()
+            return counted(faults())
         of = limits(*words)
         lacking = [name for name in DEFAULTS if of[name] is None]
         if lacking:

@@ -205,6 +205,16 @@ def ended(passed, failed):
     return int(failed > 0)
 
 
+def counted(faults):
+    """Prints the fault of each check as it comes, '' where there is none, and the count; the status that goes with it."""
+    passed = failed = 0
+    for fault in faults:
+        passed, failed = passed + (not fault), failed + bool(fault)
+        if fault:
+            print(fault, flush=True)
+    return ended(passed, failed)
+
+
 def count(parts):
     """Prints the count of all parts; the status that goes with it."""
     return ended(sum(it.passed for it in parts), sum(it.failed for it in parts))

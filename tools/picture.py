@@ -9,13 +9,11 @@
 The last line is 'N passed, M failed', and the status is 1 where one failed.
 """
 import html
-import pathlib
 import re
 import sys
 
-from parts import ended
-
-ROOT = pathlib.Path(__file__).resolve().parent.parent
+from kit import listed
+from parts import ROOT, counted
 
 
 def lacking(lines, texts):
@@ -37,7 +35,7 @@ def examples():
         script = path.with_suffix(".txt")
         commands, report = parts(script.read_text() if script.is_file() else f"there is no {script.name}")
         missing = lacking(commands, texts) or lacking(report, texts)
-        yield f"examples/{path.name}", f"it should say: {missing}" if missing else ""
+        yield f"examples/{path.name}: it should say: {missing}" if missing else ""
 
 
 def nearest(crates):
@@ -47,26 +45,15 @@ def nearest(crates):
 
 def layers():
     """What the picture of the layers lacks, or has too much of."""
-    crates = {}
-    for line in (ROOT / "crates.txt").read_text().splitlines():
-        if line and not line.startswith("#"):
-            crate, below = line.split(":")
-            crates[crate.split()[0]] = below.split()
+    crates = listed()
     drawing = (ROOT / "docs/layers.svg").read_text()
     boxes = set(re.findall(r'data-crate="(\w+)"', drawing))
     arrows = set(re.findall(r'data-from="(\w+)" data-to="(\w+)"', drawing))
     ours = {(crate, on) for crate, on in nearest(crates) if on in crates}
-    yield "docs/layers.svg, crates", " ".join(sorted(boxes ^ set(crates)))
-    yield "docs/layers.svg, arrows", " ".join(sorted(f"{crate}-{on}" for crate, on in arrows ^ ours))
+    for kind, odd in (("crates", boxes ^ set(crates)), ("arrows", {f"{crate}-{on}" for crate, on in arrows ^ ours})):
+        yield f"docs/layers.svg, {kind}: {' '.join(sorted(odd))}" if odd else ""
 
 
-def main():
-    if sys.argv[1:] != ["check"]:
-        sys.exit(__doc__)
-    found = [*examples(), *layers()]
-    print("".join(f"{name}: {fault}\n" for name, fault in found if fault), end="")
-    failed = sum(bool(fault) for _, fault in found)
-    return ended(len(found) - failed, failed)
-
-
-sys.exit(main())
+if sys.argv[1:] != ["check"]:
+    sys.exit(__doc__)
+sys.exit(counted([*examples(), *layers()]))

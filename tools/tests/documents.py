@@ -257,7 +257,7 @@ def picture():
         Fault("an arrow that is missing", "docs/layers.svg, arrows: high-low", (("docs/layers.svg", 'data-from="high" data-to="low"', ""),)),
         Fault("an arrow too many", "docs/layers.svg, arrows: low-high", (("docs/layers.svg", "<svg>", '<svg><path data-from="low" data-to="high"/>'),)),
     )
-    return [Case("picture", ["picture.py", "parts.py"], tree, ["tools/picture.py", "check"], faults)]
+    return [Case("picture", ["picture.py", "kit.py", "parts.py"], tree, ["tools/picture.py", "check"], faults)]
 
 
 def header_pages():
