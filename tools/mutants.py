@@ -30,9 +30,8 @@ import subprocess
 import sys
 import tempfile
 import time
-from concurrent.futures import ThreadPoolExecutor
 
-from parts import ROOT, guard, of_session, running, stop_running
+from parts import ROOT, end_all, guard, of_session, run_all, started
 
 # ---- The rules: each changes one thing of a text and leaves the rest. ----
 #
@@ -369,16 +368,12 @@ def run(words, folder, seconds, memory=None):
     environment = {it: text for it, text in os.environ.items() if it not in ("CARGO_TARGET_DIR", "REGISTRY_LIB_DIR")} | {"CARGO_BUILD_JOBS": "1"}
     limits = ["prlimit", "--core=0", f"--fsize={MOST_BYTES}", *([f"--data={memory}"] if memory else [])]
     with tempfile.TemporaryFile() as said:
-        process = subprocess.Popen([*limits, *words], cwd=folder, env=environment, stdin=subprocess.DEVNULL, stdout=said, stderr=said, start_new_session=True)
-        running.add(process.pid)
-        with contextlib.suppress(subprocess.TimeoutExpired):
-            process.wait(seconds)
-        status = process.poll()
-        for pid in of_session(process.pid):
-            with contextlib.suppress(ProcessLookupError):
-                os.kill(pid, signal.SIGKILL)
-        process.wait()
-        running.discard(process.pid)
+        with started([*limits, *words], cwd=folder, env=environment, stdout=said, stderr=said) as process:
+            with contextlib.suppress(subprocess.TimeoutExpired):
+                process.wait(seconds)
+            status = process.poll()
+            end_all(of_session(process.pid), signal.SIGKILL)
+            process.wait()
         said.seek(max(0, said.tell() - 4000))
         return status, said.read().decode(errors="replace")
 
@@ -493,13 +488,7 @@ def try_all(tried, jobs, room):
         finally:
             free.put(lane)
 
-    with ThreadPoolExecutor(jobs) as pool:
-        try:
-            collections.deque(pool.map(one, tried.bodies), maxlen=0)
-        except BaseException:
-            pool.shutdown(wait=False, cancel_futures=True)
-            stop_running()
-            raise
+    run_all(one, tried.bodies, jobs)
 
 
 def sampled(found, count, seed):

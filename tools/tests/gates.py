@@ -149,7 +149,7 @@ def on_all_processors():
     """A tool that leaves no processor to edits, and one that forgets them, where there are processors enough to tell."""
     if len(os.sched_getaffinity(0)) >= 4:
         yield Fault("rt ci on all processors", "7 passed, 1 failed", (("tools/archive-beside.py", "MANY = 4", "MANY = 4000"),))
-        yield Fault("edits that wait for rt ci", "edits that weren't tried", (("tools/archive-beside.py", "            edits.take(stands[1])", "            pass"),))
+        yield Fault("edits that wait for rt ci", "edits that weren't tried", (("tools/archive-beside.py", "edits.submit(try_edits, crate, last)", "pass"),))
 
 
 TOUCHED = ("crates.txt", "crates/low/src/lib.rt", "crates/low/specs/Lib.antt", "crates/low/proofs/Lib.antt", "crates/registry_c/specs/Lib.antt")
@@ -162,7 +162,7 @@ def archive():
         Fault("a proof that fails", f"the archive is not proved, status 1:\nbegin {LIMITS}\nnot proved", ((rattle, made, "echo not proved; exit 1"),)),
         Fault("a library that isn't there", "No such file or directory", (("crates/low/out/rlib/low.rlib/format", "low", None), (ci, "sleep", "rmdir crates/low/out/rlib/low.rlib; sleep"))),
         *(Fault(f"{path} is touched meanwhile", "a file that it is proved from was touched", ((ci, "sleep", f"touch {path}; sleep"),)) for path in TOUCHED),
-        Fault("a log without the sources that the proof began with", "6 passed, 1 failed", (("tools/archive-beside.py", "            log.write(self.began)\n", ""),)),
+        Fault("a log without the sources that the proof began with", "6 passed, 1 failed", (("tools/archive-beside.py", "            said.write(began)\n", ""),)),
         Fault("a proof that is killed", "its proof was killed", ((rattle, made, "kill -KILL $$"),)),
         Fault("a proof for aarch64 that fails", f"the library for aarch64 is not proved, status 1:\nbegin {LIMITS}\nnot there", ((rattle, made, f'case "$*" in *aarch64*) echo not there; exit 1;; esac; {made}'),)),
         Fault("a failure of rt ci", "6 passed, 2 failed", ((ci, "5 passed, 0", "4 passed, 2"),)),
