@@ -61,6 +61,19 @@ storm_says() {
     says "$log.wanted" "$@" "$cpus" "$turns"
 }
 
+# programs KIND HOW BEFORE PROGRAM..: each program with its words; what is before its name runs it. Three say what they did.
+# shellcheck disable=SC2086
+programs() {
+    local kind=$1 how=$2 before=$3 program
+    for program in "${@:4}"; do
+        case $program in
+        smallest | row) check "$kind $program$how" ${program}_says $before$program ;;
+        storm*) check "$kind $program$how" storm_says ${program#storm } ${before}storm ;;
+        *) check "$kind $program$how" $before$program ;;
+        esac
+    done
+}
+
 # counted NAME COMMAND..: a command that counts its own checks in lines with 'N passed, M failed' or 'N passed; M failed'.
 counted() {
     local name=$1 good bad status
