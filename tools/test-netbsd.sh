@@ -14,33 +14,10 @@ make_layer() {
     make -s -C $folder "$@"
 }
 
-# The cases of a program that counts them in its last line.
-count_cases() {
-    limited "$2" >"$log" 2>&1
-    local words
-    read -ra words < <(tail -n 1 "$log")
-    if [ "${words[1]-}" != passed, ] || [ "${words[3]-}" != failed ]; then
-        words=(0 passed, 1 failed)
-    fi
-    passed=$((passed + words[0]))
-    failed=$((failed + words[2]))
-    if [ "${words[2]}" -eq 0 ]; then
-        echo "ok      $1: ${words[0]}"
-    else
-        echo "FAILED  $1: ${words[2]}"
-        head -n -1 "$log"
-    fi
-}
-
-# Whether a program counts its cases, as stops.h does and some do by themselves.
-counts() {
-    find $folder/tests -name "$1.c" -exec grep -qE 'run_cases\(|passed, %' {} +
-}
-
-# A program, with its words, of a way in which the Makefile builds it.
+# A program of a way in which the Makefile builds it. Some count their cases, as stops.h does.
 try_program() {
-    if counts "$1"; then
-        count_cases "each case of $1, $2" "$out/$2/$1"
+    if find $folder/tests -name "$1.c" -exec grep -qE 'run_cases\(|passed, %' {} +; then
+        counted "each case of $1, $2" "$out/$2/$1"
     else
         check "$1, $2" "$out/$2/$1"
     fi
