@@ -36,6 +36,17 @@ check() {
     judge "$name" $?
 }
 
+negated() {
+    ! "$@"
+}
+
+# prints_nothing COMMAND..: the command finds nothing to print.
+prints_nothing() {
+    local said
+    said=$("$@")
+    [ -z "$said" ] || { echo "$said"; return 1; }
+}
+
 # says FILE COMMAND..: the command's status is 0, and it prints what is in the file.
 says() {
     local wanted=$1

@@ -27,11 +27,6 @@ made() {
     (umask 077 && make -s -C "$top" "$@" DESTDIR="$stage" PREFIX="$prefix" LIBDIR="$libdir")
 }
 
-# Like a user's own pkg-config, which finds what is below the scratch folder.
-config() {
-    PKG_CONFIG_PATH=$stage$libdir/pkgconfig PKG_CONFIG_SYSROOT_DIR=$stage pkg-config "$@" "$module"
-}
-
 version_of() {
     sed -nE 's/^#define REGISTRY_VERSION_(MAJOR|MINOR|PATCH)[[:blank:]]+//p' "$1" | paste -sd .
 }
@@ -67,7 +62,7 @@ refused_by_linker() {
 
 # An #include of a plain name, as <cpu.h>, finds nothing of these libraries: what the folders for the compiler offer is in folders of its own.
 offers_no_plain_name() {
-    [ -z "$(find "$stage$prefix/include" "$stage$prefix/include/kupaldiz/netbsd" -maxdepth 1 -type f)" ]
+    prints_nothing find "$stage$prefix/include" "$stage$prefix/include/kupaldiz/netbsd" -maxdepth 1 -type f
 }
 
 # is_hardened LIBRARY: its relocations are done and read-only from the start on, its stack isn't run, and it stays loaded.
@@ -83,34 +78,24 @@ takes_shadow_stack() {
     readelf -nW "$stage$libdir/$1.so" | grep SHSTK
 }
 
-takes_none() {
-    ! takes_shadow_stack "$1"
-}
+# What is built over each library, and what it says.
+declare -A sources=([kupaldiz]=installed [netbsd]=installed_netbsd [bench]=installed_bench)
+declare -A says=([kupaldiz]="C, version" [netbsd]="C, by the pages' names" [bench]="C, in every order")
 
 # A project of CMake's that knows the libraries by find_package alone, shared and static.
 found_by_cmake() {
-    mkdir -p "$room/cmake" && cp c/tests/installed{,_netbsd,_bench}.c "$room/cmake" && cat >"$room/cmake/CMakeLists.txt" <<'PROJECT'
-cmake_minimum_required(VERSION 3.13)
-project(installed C)
-find_package(kupaldiz 0.1 REQUIRED)
-foreach(kind kupaldiz static)
-  add_executable(registry-${kind} installed.c)
-  target_link_libraries(registry-${kind} PRIVATE kupaldiz::${kind})
-endforeach()
-foreach(kind netbsd netbsd_static)
-  add_executable(names-${kind} installed_netbsd.c)
-  target_link_libraries(names-${kind} PRIVATE kupaldiz::${kind})
-endforeach()
-foreach(kind bench bench_static)
-  add_executable(orders-${kind} installed_bench.c)
-  target_link_libraries(orders-${kind} PRIVATE kupaldiz::${kind})
-endforeach()
-PROJECT
+    local library kind kinds=(kupaldiz:kupaldiz static:kupaldiz {netbsd,netbsd_static}:netbsd {bench,bench_static}:bench)
+    mkdir -p "$room/cmake" && cp c/tests/installed{,_netbsd,_bench}.c "$room/cmake" &&
+        printf '%s\n' 'cmake_minimum_required(VERSION 3.13)' 'project(installed C)' 'find_package(kupaldiz 0.1 REQUIRED)' >"$room/cmake/CMakeLists.txt" || return
+    for kind in "${kinds[@]}"; do
+        printf 'add_executable(of-%s %s.c)\ntarget_link_libraries(of-%s PRIVATE kupaldiz::%s)\n' "${kind%:*}" "${sources[${kind#*:}]}" "${kind%:*}" "${kind%:*}"
+    done >>"$room/cmake/CMakeLists.txt"
     cmake -S "$room/cmake" -B "$room/cmake/out" -DCMAKE_PREFIX_PATH="$stage$prefix" -DCMAKE_C_FLAGS="-Wall -Wextra -Werror" &&
-        cmake --build "$room/cmake/out" &&
-        runs cmake/out/registry-kupaldiz "C, version $(version)" && runs cmake/out/registry-static "C, version $(version)" &&
-        runs cmake/out/names-netbsd "C, by the pages' names" && runs cmake/out/names-netbsd_static "C, by the pages' names" &&
-        runs cmake/out/orders-bench "C, in every order" && runs cmake/out/orders-bench_static "C, in every order"
+        cmake --build "$room/cmake/out" || return
+    for kind in "${kinds[@]}"; do
+        library=${kind#*:}
+        runs "cmake/out/of-${kind%:*}" "${says[$library]}$([ "$library" != kupaldiz ] || echo " $(version)")" || return
+    done
 }
 
 # Another version is asked for than the one that is there.
@@ -122,13 +107,13 @@ refused_by_cmake() {
 
 # What is installed with a .pc file that names no place, and moved: programs are built where it is now.
 moved() {
-    made install PC_PREFIX='$${pcfiledir}/../..' && mv "$stage$prefix" "$room/moved" &&
-        stage=$room/moved prefix='' libdir=/lib PKG_CONFIG_SYSROOT_DIR='' in_place
+    made install PC_PREFIX='$${pcfiledir}/../..' && mv "$stage$prefix" "$room/moved" && stage=$room/moved prefix='' libdir=/lib PKG_CONFIG_SYSROOT_DIR='' in_place
 }
 
 in_place() {
     # shellcheck disable=SC2046
-    LD_LIBRARY_PATH=$stage$libdir gcc -o "$room/in_place" c/tests/installed.c $(PKG_CONFIG_PATH=$stage$libdir/pkgconfig pkg-config --cflags --libs kupaldiz) && runs in_place "C, version $(version_of crates/registry_c/include/registry.h)"
+    gcc -o "$room/in_place" c/tests/installed.c $(PKG_CONFIG_PATH=$stage$libdir/pkgconfig pkg-config --cflags --libs kupaldiz) &&
+        runs in_place "C, version $(version_of crates/registry_c/include/registry.h)"
 }
 
 # The page of each call is found by its name, and is the one that names it.
@@ -211,9 +196,7 @@ holds_pages() {
 
 # Pages and folders can be read by everyone.
 open_to_all() {
-    local shut
-    shut=$(find "$stage$prefix" \( -type d -not -perm 755 \) -o \( -type f -path '*/share/man/*' -not -perm 644 \))
-    [ -z "$shut" ] || { echo "$shut"; return 1; }
+    prints_nothing find "$stage$prefix" \( -type d -not -perm 755 \) -o \( -type f -path '*/share/man/*' -not -perm 644 \)
 }
 
 # Nothing that is read names the scratch folder or the repository.
@@ -233,23 +216,17 @@ pc_says() {
 }
 
 leaves_nothing() {
-    local left
-    left=$(find "$stage" \( -type f -o -type l \) -o -type d -path '*/include/kupaldiz*' -o -type d -path '*/cmake/kupaldiz*' -o -type d -path '*/doc/kupaldiz*')
-    [ -z "$left" ] || { echo "$left"; return 1; }
+    prints_nothing find "$stage" \( -type f -o -type l \) -o -type d -path '*/include/kupaldiz*' -o -type d -path '*/cmake/kupaldiz*' -o -type d -path '*/doc/kupaldiz*'
 }
 
 # has NAME FILE WORDS..: `nm` with these words lists a function of this name. It is read to its end: nm would fail where nobody reads on.
 has() {
-    local name=$1
-    shift
-    nm "$@" 2>/dev/null | grep -E " T $name(@|\$)" >/dev/null
+    nm "${@:2}" 2>/dev/null | grep -E " T $1(@|\$)" >/dev/null
 }
 
 # relinks MARK LIBRARY COMMAND..: once the command has put a function MARK into a source, what is installed has it, static and shared.
 relinks() {
-    local name=$1 library=$2
-    shift 2
-    "$@" "$name" && made install && has "$name" "$stage$libdir/$library.a" && has "$name" -D "$stage$libdir/$library.so"
+    "${@:3}" "$1" && made install && has "$1" "$stage$libdir/$2.a" && has "$1" -D "$stage$libdir/$2.so"
 }
 
 # A copy of what is installed, which is changed as the work on it goes on: from here on it is what is installed from.
@@ -267,20 +244,9 @@ mark() {
     printf '\nvoid %s(void);\nvoid %s(void)\n{\n}\n' "$2" "$2" >>"$1"
 }
 
-change_archive() {
+# What is in the archive: a function more, as an object beside its own.
+mark_archive() {
     : >"$room/mark.c" && mark "$room/mark.c" "$1" && gcc -fPIC -c -o "$room/mark.o" "$room/mark.c" && ar r "$top/out/libregistry.a" "$room/mark.o"
-}
-
-change_waiting() {
-    mark "$top/c/src/waiting.c" "$1"
-}
-
-change_bench() {
-    mark "$top/explorer/src/show.c" "$1"
-}
-
-change_layer() {
-    mark "$(find "$top/netbsd/src" -name '*.c' | sort | head -n 1)" "$1"
 }
 
 # The licence goes into each .pc file, and none is named as long as none is chosen.
@@ -299,7 +265,6 @@ make_later() {
 }
 
 check "install" made install
-check "the version is the header's" test "$(config --modversion)" = "$(version)"
 check "each file, with its mode, owner and link" holds_files "$(version)"
 check "each manual page, and each name that leads to one" holds_pages
 check "pages and folders are open to all" open_to_all
@@ -315,9 +280,10 @@ for library in libkupaldiz libkupaldiz_netbsd libkupaldiz_bench; do
     check "$library names its soname" has_soname "$library"
     check "$library is hardened" is_hardened "$library"
 done
-check "libkupaldiz takes a shadow stack" takes_shadow_stack libkupaldiz
-check "libkupaldiz_netbsd takes a shadow stack" takes_shadow_stack libkupaldiz_netbsd
-check "libkupaldiz_bench, which switches stacks, takes none" takes_none libkupaldiz_bench
+for library in libkupaldiz libkupaldiz_netbsd; do
+    check "$library takes a shadow stack" takes_shadow_stack $library
+done
+check "libkupaldiz_bench, which switches stacks, takes none" negated takes_shadow_stack libkupaldiz_bench
 check "a program of the pages' names for other CPUs doesn't link" refused_by_linker
 counted "programs over what is installed" made installcheck
 if command -v cmake >/dev/null; then
@@ -353,10 +319,10 @@ check "the words of a distribution are taken" flags_are_taken
 check "an upgrade: it is installed" made install
 check "an upgrade: each of its files" holds_files "$older"
 check "the licence is told once it is chosen" licence_is_told
-check "no stale object is linked: a changed archive" relinks registry_mark_of_archive libkupaldiz change_archive
-check "no stale object is linked: changed waits" relinks registry_mark_of_waiting libkupaldiz change_waiting
-check "no stale object is linked: changed names of the pages" relinks kupaldiz_mark libkupaldiz_netbsd change_layer
-check "no stale object is linked: a changed bench" relinks kupaldiz_mark_of_bench libkupaldiz_bench change_bench
+check "no stale object is linked: a changed archive" relinks registry_mark_of_archive libkupaldiz mark_archive
+check "no stale object is linked: changed waits" relinks registry_mark_of_waiting libkupaldiz mark "$top/c/src/waiting.c"
+check "no stale object is linked: changed names of the pages" relinks kupaldiz_mark libkupaldiz_netbsd mark "$top/netbsd/src/psref.c"
+check "no stale object is linked: a changed bench" relinks kupaldiz_mark_of_bench libkupaldiz_bench mark "$top/explorer/src/show.c"
 check "an upgrade: the later version" make_later
 check "an upgrade: it is installed over the older one" made install
 check "an upgrade: each file, and none of the older version" holds_files "${older%.*}.7"
