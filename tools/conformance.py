@@ -55,15 +55,19 @@ WEIGHTS = {
 }
 
 
+# The arguments of each command, by the methods of a Writer that choose them; of any other a CPU and a label.
+ARGUMENTS = {
+    "attach": "cpu kind name number", "plug": "cpu plugged number label", "detach": "cpu entry", "find": "cpu entry", "copy": "cpu label label", "peek": "label",
+    "advance": "number", "destroy": "cpu number turns", "perform": "cpu turns", "enter": "cpu", "exit": "cpu", "audit": "",
+}
+
+
 class Writer:
     """Writes one script of these commands. One in eight nests a section too deep."""
 
     def __init__(self, rng, verbs):
-        self.rng = rng
-        self.cpus = rng.randint(1, 4)
-        self.changes = 0
-        self.verbs = [verb for verb in WEIGHTS if verb in verbs]
-        self.allowed = verbs
+        self.rng, self.cpus, self.changes = rng, rng.randint(1, 4), 0
+        self.verbs, self.allowed = [verb for verb in WEIGHTS if verb in verbs], verbs
 
     def cpu(self):
         return str(self.rng.randrange(self.cpus))
@@ -71,11 +75,20 @@ class Writer:
     def name(self):
         return self.rng.choice(("wm", "wm", "vga", "wm0", "wm0"))
 
-    def kind_and_name(self):
-        """Of an entry that may be there: an interface is called wm0, mostly."""
+    def plugged(self):
+        return "wm0"
+
+    def kind(self):
+        return self.rng.choice(KINDS[:1] * 9 + KINDS[1:])
+
+    def turns(self):
+        return str(self.rng.randint(1, 3))
+
+    def entry(self):
+        """The kind and the name of an entry that may be there: an interface is called wm0, mostly."""
         name = self.name()
         kind = KINDS[name == "wm0"] if self.rng.random() < 0.9 else self.rng.choice(KINDS)
-        return [kind, name]
+        return f"{kind} {name}"
 
     def label(self):
         return self.rng.choice("abc")
@@ -84,28 +97,14 @@ class Writer:
         """Of an entry that may be there."""
         return str(self.rng.randint(max(1, self.changes // 4 - 7), self.changes // 4 + 1))
 
-    def words(self, verb):
-        rng, cpu, label = self.rng, self.cpu, self.label
+    def command(self, verb):
         self.changes += verb in ("attach", "plug", "detach")
-        return {
-            "attach": lambda: [cpu(), rng.choice(KINDS[:1] * 9 + KINDS[1:]), self.name(), self.number()],
-            "plug": lambda: [cpu(), "wm0", self.number(), label()],
-            "detach": lambda: [cpu(), *self.kind_and_name()],
-            "find": lambda: [cpu(), *self.kind_and_name()],
-            "copy": lambda: [cpu(), label(), label()],
-            "peek": lambda: [label()],
-            "advance": lambda: [self.number()],
-            "destroy": lambda: [cpu(), self.number(), str(rng.randint(1, 3))],
-            "perform": lambda: [cpu(), str(rng.randint(1, 3))],
-            "enter": lambda: [cpu()],
-            "exit": lambda: [cpu()],
-            "audit": lambda: [],
-        }.get(verb, lambda: [cpu(), label()])()
+        return " ".join([verb, *(getattr(self, it)() for it in ARGUMENTS.get(verb, "cpu label").split())])
 
     def burst(self):
         """A section on one CPU in which something is looked up and referred to, as far as these commands go."""
         cpu = self.cpu()
-        lines = [f"enter {cpu}", " ".join(["find", cpu, *self.kind_and_name()]), f"{self.rng.choice(('ref', 'count'))} {cpu} {self.label()}"]
+        lines = [f"enter {cpu}", f"find {cpu} {self.entry()}", f"{self.rng.choice(('ref', 'count'))} {cpu} {self.label()}"]
         lines += [f"exit {cpu}"] if self.rng.random() < 0.9 else []
         return [line for line in lines if line.split()[0] in self.allowed]
 
@@ -120,7 +119,7 @@ class Writer:
     def script(self, lines):
         rng, text = self.rng, list(self.head())
         for verb in rng.choices(self.verbs, [WEIGHTS[verb] for verb in self.verbs], k=lines):
-            text.append(" ".join([verb, *self.words(verb)]))
+            text.append(self.command(verb))
             if rng.random() < 0.25:
                 text.extend(self.burst())
         return "\n".join(text) + "\n"
@@ -182,10 +181,8 @@ def write(options):
     met, never, strange = write_kit(options.folder, options, {"domain", *verbs})
     print(f"{options.scripts} scripts in {options.folder}")
     print(f"answers met: {len(met)} of {len(met) + len(never)}")
-    for verb, answer in sorted(never):
-        print(f"never met: {verb} {answer}")
-    for verb, answer in sorted(strange):
-        print(f"not in the list: {verb} {answer}")
+    for what, found in (("never met", never), ("not in the list", strange)):
+        print("".join(f"{what}: {verb} {answer}\n" for verb, answer in sorted(found)), end="")
     return bool(strange)
 
 
@@ -236,9 +233,8 @@ def main():
     commands = parser.add_subparsers(required=True)
     writing = commands.add_parser("write", help="write scripts and their reports into a folder")
     writing.add_argument("folder", type=pathlib.Path)
-    writing.add_argument("--seed", type=int, default=1, help="the first script's seed")
-    writing.add_argument("--scripts", type=int, default=100, help="how many scripts")
-    writing.add_argument("--lines", type=int, default=150, help="how many commands in each, bursts aside")
+    for name, number, said in (("seed", 1, "the first script's seed"), ("scripts", 100, "how many"), ("lines", 150, "commands in each, bursts aside")):
+        writing.add_argument(f"--{name}", type=int, default=number, help=said)
     writing.add_argument("--only", help="the commands that a program has, with commas between")
     writing.set_defaults(act=write)
     running = commands.add_parser("run", help="run a program over the scripts of a folder")
