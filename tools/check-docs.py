@@ -69,8 +69,6 @@ USERS = ("README.md", "bench/README.md", "packaging/VERSIONS.md", "packaging/INS
          "docs/CHOOSING.md", "docs/SCRIPTS.md")
 EXPLAINING = ("docs/ARCHITECTURE.md", "docs/GUARANTEES.md", "docs/NETBSD.md", "docs/RATTLE.md")
 
-FORMS = {forms: [(re.compile(form, re.IGNORECASE), better) for form, better in forms] for forms in (BANNED, PRIVATE)}
-
 
 def tracked():
     """The files of the repository, new ones too. The tree may be another user's."""
@@ -83,14 +81,10 @@ def text_of(path):
     return path.read_text(encoding="utf-8", errors="replace")
 
 
-def slug(heading):
-    """The anchor that a heading has."""
-    kept = re.sub(r"[^\w\- ]", "", heading.replace("`", "").lower())
-    return kept.strip().replace(" ", "-")
-
-
 def anchors(path):
-    return {slug(heading) for heading in HEADING.findall(FENCED.sub("", text_of(path)))}
+    """The anchors that a page's headings have."""
+    headings = HEADING.findall(FENCED.sub("", text_of(path)).lower())
+    return {re.sub(r"[^\w\- ]", "", it).strip().replace(" ", "-") for it in headings}
 
 
 def broken(path, text):
@@ -129,31 +123,19 @@ def unlinked(text):
     return INLINE.sub(lambda link: link[0][: link[0].rindex("](")], without_code)
 
 
-def is_page(name, pattern):
-    """Whether the pattern names the page; its stars are for names, not for folders."""
-    return name.count("/") == pattern.count("/") and fnmatch(name, pattern)
-
-
 def held_to(name):
-    """The phrases that a page of that name may not have."""
-    if any(is_page(name, pattern) for pattern in USERS):
+    """The phrases that a page of that name may not have. The stars of a pattern are for names, not for folders."""
+    if any(name.count("/") == it.count("/") and fnmatch(name, it) for it in USERS):
         return BANNED + PRIVATE
     return BANNED if name in EXPLAINING else ()
 
 
-def places(prose, phrases=BANNED):
+def awkward(prose, phrases):
     """Each line of the prose that has one of the phrases: its number, the words, and what to write instead."""
-    forms = [form for forms in (BANNED, PRIVATE) if forms[0] in phrases for form in FORMS[forms]]
     for number, line in enumerate(prose.split("\n"), 1):
-        for form, better in forms:
-            found = form.search(line)
-            if found:
-                yield number, found[0], better
-
-
-def awkward(name, text):
-    """The phrases of a document that its page may not have."""
-    yield from (f"line {number}: '{words}': {better}" for number, words, better in places(unlinked(text), held_to(name)))
+        for form, better in phrases:
+            if found := re.search(form, line, re.IGNORECASE):
+                yield f"line {number}: '{found[0]}': {better}"
 
 
 def words_of(files):
@@ -174,7 +156,7 @@ def checks_of(path, words):
         yield "links", list(broken(path, prose))
         yield "names", sorted(set(unknown(prose, words)))
     if held_to(name):
-        yield "phrases", list(awkward(name, text))
+        yield "phrases", list(awkward(unlinked(text), held_to(name)))
 
 
 def main():

@@ -243,7 +243,7 @@ def is_of(goal, crate, function):
     """Whether a goal is one of the function's, or an answer of its proof files."""
     path, line = re.match(r"(?:note: )?(?:\./)?(\S+?):(\d+):", goal).groups()
     is_in_body = ROOT / "crates" / crate / path == function.path and function.first < int(line) <= function.last + 1
-    return path.startswith(proofs_of(crate, function)) or is_in_body
+    return is_in_body or path.startswith(proofs_of(crate, function))
 
 
 def check(crate, names, tree, seed):
@@ -315,17 +315,13 @@ def try_batch(edits, seed, whole):
     return [(edit, together.get(edit) or try_edit(edit, seed, whole)) for edit in edits]
 
 
-def lanes():
-    """How many to try side by side."""
-    return max(1, min(processors(), int(free_memory() // MEMORY)))
-
-
 def tried(edits, whole=False):
     """Tries the edits side by side, by their functions or by the whole crate; gives each with its result, in the order in which they end."""
     of = collections.defaultdict(list)
     for edit in edits:
         of[edit.crate].append(edit)
-    with tempfile.TemporaryDirectory() as room, ThreadPoolExecutor(lanes()) as pool:
+    at_once = max(1, min(processors(), int(free_memory() // MEMORY)))
+    with tempfile.TemporaryDirectory() as room, ThreadPoolExecutor(at_once) as pool:
         try:
             # They are submitted first, so all seeds are made before the first try.
             seeds = {pool.submit(seeded, crate, asked_for_all(found, whole), room): found for crate, found in of.items()}

@@ -79,12 +79,6 @@ def header(of):
     return HEAD + "".join(lines) + TAIL.format(build=build, version=version(), **of)
 
 
-def said(path, pattern):
-    """The number that the file says, or none."""
-    found = re.search(pattern, (ROOT / path).read_text())
-    return found and number(found[1])
-
-
 def faults():
     """For each comparison what is wrong, or ''."""
     of = limits()
@@ -92,7 +86,8 @@ def faults():
     for path in PLACED:
         yield "" if (ROOT / path).read_text() == made else f"{path} isn't what tools/limits-header.py makes of {LIMITS}: tools/limits-header.py >{path}"
     for name, path, pattern in PLACES:
-        found = said(path, pattern)
+        said = re.search(pattern, (ROOT / path).read_text())
+        found = said and number(said[1])
         yield "" if of[name] is not None and found == of[name] else f"{path}: {name} is {found} there, and {of[name]} in {LIMITS}"
     for name, wanted in {**DEFAULTS, **RANGES}.items():
         yield "" if of[name] == wanted else f"{LIMITS}: {name} is {of[name]}, and {wanted} in the default build"

@@ -37,19 +37,13 @@ def said(*words, cwd=ROOT):
 
 
 def sum_of(path):
-    return sum_of_bytes(pathlib.Path(path).read_bytes())
-
-
-def sum_of_bytes(of):
-    return hashlib.sha256(of).hexdigest()
+    return hashlib.sha256(pathlib.Path(path).read_bytes()).hexdigest()
 
 
 def proved():
     """The files that the archive is proved from."""
-    files = [ROOT / "crates.txt"]
-    for crate in sorted([LIBRARY, *below(LIBRARY)]):
-        files += [it for part in ("src", "specs", "proofs") for it in sorted((ROOT / "crates" / crate / part).rglob("*")) if it.is_file()]
-    return files
+    folders = [ROOT / "crates" / crate / part for crate in sorted([LIBRARY, *below(LIBRARY)]) for part in ("src", "specs", "proofs")]
+    return [ROOT / "crates.txt", *(it for folder in folders for it in sorted(folder.rglob("*")) if it.is_file())]
 
 
 def joined():
@@ -58,6 +52,7 @@ def joined():
 
 
 def sum_of_sources(limits):
+    """The sum of all that an archive with these limits is made from."""
     return sum_of_files([*proved(), *joined()], limits)
 
 
@@ -66,7 +61,7 @@ def sum_of_files(files, limits):
     whole = hashlib.sha256()
     for path in files:
         name = str(path.relative_to(ROOT))
-        whole.update(f"{name} {sum_of_bytes(limits.encode()) if name == chosen.LIMITS else sum_of(path)}\n".encode())
+        whole.update(f"{name} {hashlib.sha256(limits.encode()).hexdigest() if name == chosen.LIMITS else sum_of(path)}\n".encode())
     return whole.hexdigest()
 
 
@@ -110,18 +105,13 @@ def sum_in(archive):
     listed, whole = (subprocess.run(["ar", *words], capture_output=True) for words in (("t", archive), ("p", archive, "registry.o")))
     if listed.stdout.split() != [b"registry.o"] or whole.returncode != 0:
         raise Fault(f"{archive} has no object registry.o, or another one beside it")
-    return sum_of_bytes(whole.stdout)
+    return hashlib.sha256(whole.stdout).hexdigest()
 
 
 def flags(archive):
     """How tools/build-archive.sh is called for an archive that lies there: in out, in a folder of a processor's, in one of a build's, or in both."""
     names = str(archive.parent).rpartition("out")[2].split("/")[1:]
-    return "".join(f" {limits_in(it)}" if "-" in it else f" --for {it}" for it in names)
-
-
-def limits_in(folder):
-    """The words for the limits that a build's folder is named after."""
-    return re.sub(r"(?:^|-)([a-z]+)-(\d+)", r" --\1 \2", folder).strip()
+    return "".join(re.sub(r"(?:^|-)([a-z]+)-(\d+)", r" --\1 \2", it) if "-" in it else f" --for {it}" for it in names)
 
 
 def check(name):
@@ -141,12 +131,8 @@ def check(name):
         raise Fault(f"{archive} was made from other sources than those that stand: {remedy}")
 
 
-def parts():
-    print(*PARTS)
-
-
 def main(words):
-    uses = {"begin": (begin, 1), "write": (write, 5), "check": (check, 1), "parts": (parts, 0)}
+    uses = {"begin": (begin, 1), "write": (write, 5), "check": (check, 1), "parts": (lambda: print(*PARTS), 0)}
     if not words or words[0] not in uses or len(words) != 1 + uses[words[0]][1]:
         print("usage: proof-record.py begin LIMITS | write PROCESSOR LIMITS LOG COMPILED OBJECT | check ARCHIVE | parts", file=sys.stderr)
         return 2

@@ -16,7 +16,6 @@ edit changes, and the whole crate where that refused nothing. `tests` works on c
 `without`: a law has no body to change, and the method of a trait none either: it is listed, since its types' own methods are other functions. A call is
 known by its name alone, so a function may pass here for the edit of another with the name of one that it calls.
 """
-import contextlib
 import pathlib
 import re
 import shutil
@@ -27,23 +26,11 @@ from concurrent.futures import ThreadPoolExecutor
 
 from contracts import functions_of
 from edit_checks import results
-from edits import BY_HAND, GATE, ROOT, TESTS, apply, changes, chosen, edits_of
+from edits import BY_HAND, CRATES, GATE, ROOT, TESTS, apply, changes, chosen, edits_of
 from parts import ended
 
 # So many runs of tests are made side by side.
 TESTED_AT_ONCE = 2
-
-
-def by_gate(edits, anew):
-    """Each edit with whether a check of its functions refuses it, and what is said of it."""
-    for edit, result in results(edits, anew):
-        yield edit, result.is_refused, result.said
-
-
-def by_prover(edits, anew):
-    """Each edit with whether it is refused, and what is said of it. A search that found no proof refuses an edit, too: its reason names the clause."""
-    for edit, result in results(edits, anew, whole=True):
-        yield edit, result.said.startswith("refused"), result.said
 
 
 def failures(tree, crate):
@@ -58,23 +45,12 @@ def failures(tree, crate):
     return (True, "refused by " + ", ".join(failed)) if failed else (False, f"NOT TRIED: no test failed: {lines[-1]}")
 
 
-@contextlib.contextmanager
-def a_copy():
-    """A copy of the tree to write an edit into."""
-    with tempfile.TemporaryDirectory() as folder:
-        yield pathlib.Path(shutil.copytree(ROOT, f"{folder}/tree", ignore=shutil.ignore_patterns(".git", "out")))
-
-
 def by_test(edit):
-    """Runs the tests under the edit."""
-    with a_copy() as tree:
+    """Runs the tests under the edit, in a copy of the tree."""
+    with tempfile.TemporaryDirectory() as folder:
+        tree = pathlib.Path(shutil.copytree(ROOT, f"{folder}/tree", ignore=shutil.ignore_patterns(".git", "out")))
         _, misfit = apply(edit, tree)
         return edit, *((False, misfit) if misfit else failures(tree, edit.crate))
-
-
-def by_tests(edits):
-    with ThreadPoolExecutor(TESTED_AT_ONCE) as pool:
-        yield from pool.map(by_test, edits)
 
 
 def places(edit):
@@ -99,9 +75,8 @@ def covered(functions, changed):
 
 def without(names):
     """Lists the public functions of the crates without an edit."""
-    crates = names or sorted(path.name for path in (ROOT / "crates").iterdir() if path.is_dir())
     by_tests = [place for edit in chosen(TESTS, []) for place in places(edit)]
-    for crate in crates:
+    for crate in names or CRATES:
         folder = ROOT / "crates" / crate
         functions = [it for path in folder.glob("src/**/*.rt") if "tests" not in path.relative_to(folder).parts for it in functions_of(path)]
         changed = by_tests + [place for kind in (GATE, BY_HAND) for edit in edits_of(crate, kind) for place in places(edit)]
@@ -115,8 +90,13 @@ def without(names):
 def tries(kind, names, anew):
     """Each edit of the kind with whether it was refused, and what is said of it."""
     if kind == "tests":
-        return by_tests(chosen(TESTS, names))
-    return by_gate(list(chosen(GATE, names)), anew) if kind == "gate" else by_prover(list(chosen(BY_HAND, names)), anew)
+        with ThreadPoolExecutor(TESTED_AT_ONCE) as pool:
+            yield from pool.map(by_test, chosen(TESTS, names))
+    elif kind == "gate":
+        yield from ((edit, result.is_refused, result.said) for edit, result in results(list(chosen(GATE, names)), anew))
+    else:
+        # A search that found no proof refuses an edit, too: its reason names the clause.
+        yield from ((edit, it.said.startswith("refused"), it.said) for edit, it in results(list(chosen(BY_HAND, names)), anew, whole=True))
 
 
 def main():
