@@ -3,9 +3,9 @@
 
   tools/frames.py ARCHIVE [LIMIT]
 
-With a LIMIT it says which exports are above it, and ends with status 1 if there are any. The frames are read from the
-machine code: what a function pushes, and what it takes off the stack pointer, on whatever path; one that moves it otherwise is a fault. What the C library takes in `malloc` and its
-like isn't counted. A call through a pointer, and one that comes back to itself, is a fault; a jump through a pointer is that of a table.
+With a LIMIT it says which exports are above it, and ends with status 1 if there are any. The frames are read from the machine code: what a function pushes,
+and what it takes off the stack pointer, on whatever path; one that moves it otherwise is a fault. What the C library takes in `malloc` and its like isn't
+counted. A call through a pointer, and one that comes back to itself, is a fault; a jump through a pointer is that of a table.
 """
 import re
 import subprocess
@@ -31,10 +31,6 @@ class X86:
     calls = re.compile(r"\t(?P<by>call|jmp|j[a-z]+)\s+(?:[0-9a-f]+ <(?P<to>.*?)(?:\+0x[0-9a-f]+)?>|(?P<pointer>\*.*))$")
     call, refers = ("call",), re.compile(r"R_X86_64_(?:PLT32|PC32|GOTPCREL\w*)\s+(\S+?)([-+]0x[0-9a-f]+)?$")
 
-    @staticmethod
-    def pushed(_bytes):
-        return 8
-
 
 class Aarch64:
     """The same of aarch64, where a call takes no stack: the callee saves where it returns to."""
@@ -45,10 +41,6 @@ class Aarch64:
     moves = re.compile(r"\t(?!cmp|cmn|add\tsp, sp, #)(?P<by>\w+)\tsp, ")
     calls = re.compile(r"\t(?P<by>blr?|br|b\.\w+|cbn?z|tbn?z)\t(?:.*, )?(?:[0-9a-f]+ <(?P<to>.*?)(?:\+0x[0-9a-f]+)?>|(?P<pointer>x\d+))(?:\s+//.*)?$")
     call, refers = ("bl", "blr"), re.compile(r"R_AARCH64_(?:CALL26|JUMP26)\s+(\S+?)([-+]0x[0-9a-f]+)?$")
-
-    @staticmethod
-    def pushed(bytes_):
-        return int(bytes_)
 
 
 class Fault(Exception):
@@ -64,7 +56,7 @@ class Function:
 
     def take(self, found):
         if found["push"]:
-            self.frame += self.processor.pushed(found["push"])
+            self.frame += int(found["push"]) if found["push"].isdigit() else 8
             return
         if not self.paged:
             self.frame += int(found["size"], 16) << (12 if found["pages"] else 0)
@@ -96,17 +88,14 @@ class Function:
             self.call(found)
 
 
-def processor_of(archive):
-    """The processor whose code the archive has."""
-    said = subprocess.run(["readelf", "-h", archive], capture_output=True, text=True).stdout
-    return Aarch64 if "AArch64" in said else X86
+def said(*words):
+    return subprocess.run(words, check=True, capture_output=True, text=True).stdout
 
 
 def read(processor, archive):
     """The functions by their names."""
-    lines = subprocess.run([processor.objdump, "-dr", "--no-show-raw-insn", archive], check=True, capture_output=True, text=True).stdout.splitlines()
     functions, now = {}, None
-    for line in lines:
+    for line in said(processor.objdump, "-dr", "--no-show-raw-insn", archive).splitlines():
         if found := FUNCTION.match(line):
             now = functions[found[1]] = Function(found[1], processor)
         elif now:
@@ -127,7 +116,7 @@ def deepest(name, functions, processor, above=()):
 
 
 def main(archive, limit=None):
-    processor = processor_of(archive)
+    processor = Aarch64 if "AArch64" in said("readelf", "-h", archive) else X86
     functions = read(processor, archive)
     depths = sorted(((deepest(it, functions, processor), it) for it in functions if EXPORT.match(it)), reverse=True)
     if not depths:
