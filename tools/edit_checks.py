@@ -25,7 +25,7 @@ from concurrent.futures import ThreadPoolExecutor, as_completed
 from contracts import body_begins, functions_of, module_of
 from edits import ROOT, apply, changes
 from kit import below, built, kit, over_libraries
-from parts import GIGABYTE, free_memory, processors
+from parts import GIGABYTE, at_once
 
 # How many edits one check tries.
 IN_ONE_CHECK = 16
@@ -320,8 +320,7 @@ def tried(edits, whole=False):
     of = collections.defaultdict(list)
     for edit in edits:
         of[edit.crate].append(edit)
-    at_once = max(1, min(processors(), int(free_memory() // MEMORY)))
-    with tempfile.TemporaryDirectory() as room, ThreadPoolExecutor(at_once) as pool:
+    with tempfile.TemporaryDirectory() as room, ThreadPoolExecutor(at_once(MEMORY)) as pool:
         try:
             # They are submitted first, so all seeds are made before the first try.
             seeds = {pool.submit(seeded, crate, asked_for_all(found, whole), room): found for crate, found in of.items()}

@@ -323,8 +323,7 @@ def of_crate(_):
 
 
 def compile_c(file):
-    words = ["gcc", *C_FLAGS.partition("=")[2].split(), "-O2", "-g0", "-Ic/include", "-Icrates/registry_c/include", "-c", file, "-o", OBJECT]
-    return words, OBJECT
+    return ["gcc", *C_FLAGS.partition("=")[2].split(), "-O2", "-g0", "-Ic/include", "-Icrates/registry_c/include", "-c", file, "-o", OBJECT], OBJECT
 
 
 def compile_layer(file):
@@ -345,12 +344,6 @@ def files():
     return {str(path.relative_to(ROOT)): library for library in LIBRARIES for path in sorted(ROOT.glob(library.files))}
 
 
-def one_line(text):
-    """A text in one line, cut where it is long."""
-    line = " ".join(text.split())
-    return line if len(line) <= MOST_SHOWN else f"{line[:MOST_SHOWN]} .."
-
-
 @functools.cache
 def mutants_of(file):
     """All wrong bodies of a file."""
@@ -358,8 +351,8 @@ def mutants_of(file):
     for change in changes(text):
         first, last = text.rfind("\n", 0, change.start) + 1, text.find("\n", change.end)
         new = text[first:change.start] + change.new + text[change.end:last]
-        line = text.count("\n", 0, change.start) + 1
-        found.append(Mutant(file, line, change.rule, one_line(text[first:last]), one_line(new), text[:first] + new + text[last:]))
+        shown = (it if len(it) <= MOST_SHOWN else f"{it[:MOST_SHOWN]} .." for it in (" ".join(each.split()) for each in (text[first:last], new)))
+        found.append(Mutant(file, text.count("\n", 0, change.start) + 1, change.rule, *shown, text[:first] + new + text[last:]))
     return list(dict.fromkeys(found))
 
 
@@ -413,7 +406,7 @@ class Lane:
             found.append(run(test.run, self.folder, limit, test.memory)[0])
         return "" if 0 in found else "hung" if None in found else "killed"
 
-    def judge(self, library, mutant, tests, limits):
+    def judge(self, tests, limits):
         """What comes of the wrong body that is here, and by which test; `tests` in the order in which they run."""
         built = set()
         for test in tests:
@@ -435,7 +428,7 @@ class Lane:
             made = library.compiled and self.object(library, mutant.file)
             if library.compiled and made in (None, stands):
                 return "not built" if made is None else "same code", ""
-            return self.judge(library, mutant, tests, limits)
+            return self.judge(tests, limits)
         finally:
             path.write_text(before)
 
@@ -452,15 +445,13 @@ class Tried:
         for test in {it.name: it for tests in self.tests.values() for it in tests}.values():
             self.limits[test.name] = self.least + TIMES * lane.seconds(test)
 
-    def in_order(self, file):
-        """The tests of a file: the one that is called as the file comes first, until others saw more."""
-        stem, seen = pathlib.Path(file).stem, self.seen[file]
-        return sorted(self.tests[file], key=lambda it: (-seen[it.name] - it.name.endswith(stem), self.limits[it.name]))
-
     def one(self, lane, mutant):
-        outcome, by = lane.try_mutant(self.of_file[mutant.file], mutant, self.in_order(mutant.file), self.limits)
+        """Tries a wrong body. The test that is called as its file comes first, until others saw more."""
+        stem, seen = pathlib.Path(mutant.file).stem, self.seen[mutant.file]
+        tests = sorted(self.tests[mutant.file], key=lambda it: (-seen[it.name] - it.name.endswith(stem), self.limits[it.name]))
+        outcome, by = lane.try_mutant(self.of_file[mutant.file], mutant, tests, self.limits)
         self.came[mutant] = outcome
-        self.seen[mutant.file].update([by] if by else [])
+        seen.update([by] if by else [])
         print(f"{mutant.file}:{mutant.line}: {mutant.rule}: {mutant.new}: {outcome}{f' by {by}' if by else ''}", flush=True)
 
     def report(self):
@@ -493,12 +484,11 @@ def try_all(tried, jobs, room):
 
 def sampled(found, count, seed):
     """So many of them: of each file the same share, by chance. Those that come first are such a sample, too, where a run is cut off."""
-    of_files = collections.defaultdict(list)
-    for it in found:
-        of_files[it.file].append(it)
-    for file, bodies in of_files.items():
+    places = {}
+    for file in dict.fromkeys(it.file for it in found):
+        bodies = [it for it in found if it.file == file]
         random.Random(f"{seed} {file}").shuffle(bodies)
-    places = {it: (place + 0.5) / len(bodies) for bodies in of_files.values() for place, it in enumerate(bodies)}
+        places.update((it, (place + 0.5) / len(bodies)) for place, it in enumerate(bodies))
     return sorted(found, key=places.get)[:count]
 
 

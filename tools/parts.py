@@ -129,23 +129,9 @@ def free_memory():
     return free
 
 
-class Memory:
-    """Lets parts begin while their memory is free; one alone always may."""
-
-    def __init__(self):
-        self.left, self.users, self.changed = 0.85 * free_memory(), 0, threading.Condition()
-
-    @contextlib.contextmanager
-    def room(self, size):
-        with self.changed:
-            self.changed.wait_for(lambda: not self.users or size <= self.left)
-            self.left, self.users = self.left - size, self.users + 1
-        try:
-            yield
-        finally:
-            with self.changed:
-                self.left, self.users = self.left + size, self.users - 1
-                self.changed.notify_all()
+def at_once(memory):
+    """How many commands of this size may run beside each other: as many as there are processors and free memory for."""
+    return max(1, min(processors(), int(0.85 * free_memory() // memory)))
 
 
 def run_all(job, things, at_once):
@@ -160,17 +146,16 @@ def run_all(job, things, at_once):
 
 
 def run_beside(parts, tell):
-    """Runs parts beside each other, as many as there are processors and memory; `tell` gets each as it ends, one at a time. The longest come first."""
-    memory, telling = Memory(), threading.Lock()
+    """Runs parts beside each other, as many as there are processors and memory for the largest; `tell` gets each as it ends, one at a time."""
+    telling = threading.Lock()
 
     def one(part):
-        with memory.room(part.memory):
-            done = run(part)
+        done = run(part)
         with telling:
             tell(done)
         return done
 
-    return run_all(one, parts, processors())
+    return run_all(one, parts, at_once(max(it.memory for it in parts)) if parts else 1)
 
 
 def say(text):

@@ -33,10 +33,7 @@ refuse() {
             printf '%s, allocation %s\n%s\n' "$1" "$n" "$notes"
         fi
     done
-    if [[ $met -eq 0 ]]; then
-        echo "$1: no allocation was refused, from the ${from}th on"
-        return 1
-    fi
+    [[ $met -gt 0 ]] || { echo "$1: no allocation was refused, from the ${from}th on"; return 1; }
     echo "$1: allocations refused, from the ${from}th on: $met, the last the ${last}th, and every test passed"
 }
 
