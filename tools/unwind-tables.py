@@ -42,16 +42,7 @@ class X86:
     LOOP = (r"mov %rsp,%r11", r"sub \$(0x[0-9a-f]+)(),%r11", r"sub .*,%rsp", r"movq \$0x0,\(%rsp\)", r"cmp %r11,%rsp", r"jne .*")
     SIZES, SURE = 1, 0
     # The common part of all tables: the address is 8 above the stack pointer, and the return address lies right below it.
-    HEAD = """.sleb128 -8
-.uleb128 16
-.uleb128 1
-.byte 0x1b
-.byte 0x0c
-.uleb128 7
-.uleb128 8
-.byte 0x90
-.uleb128 1
-"""
+    HEAD = ".sleb128 -8\n.uleb128 16, 1\n.byte 0x1b, 0x0c\n.uleb128 7, 8\n.byte 0x90\n.uleb128 1\n"
 
     @staticmethod
     def after(name, operands, depth, saved):
@@ -91,14 +82,7 @@ class Aarch64:
     LOOP = (r"sub x9, sp, #(0x[0-9a-f]+)(, lsl #12)?", r"sub sp, sp, #0x1, lsl #12", r"cmp sp, x9", r"str xzr, \[sp\]", r"b\.ne .*")
     SIZES, SURE = 0, 1
     # The common part of all tables: the address is the stack pointer, and the return address is in x30.
-    HEAD = """.sleb128 -8
-.uleb128 30
-.uleb128 1
-.byte 0x1b
-.byte 0x0c
-.uleb128 31
-.uleb128 0
-"""
+    HEAD = ".sleb128 -8\n.uleb128 30, 1\n.byte 0x1b, 0x0c\n.uleb128 31, 0\n"
     # A move between one or two registers and the stack, whose pointer may move before it or after it.
     MOVED = re.compile(r"(?:(\w+), )?(\w+), \[sp(?:, #(-?\d+))?\](!?)(?:, #(-?\d+))?")
     SIZED = re.compile(r"sp, sp, #(0x[0-9a-f]+)(, lsl #12)?")
@@ -261,14 +245,9 @@ HEAD = """.section .note.GNU-stack,"",%progbits
 .asciz "zR"
 .uleb128 1
 """
-HEAD_END = """.balign 8
-.Lcie_end:
-"""
-
-
-def spoken(name, seen):
-    """The name by which a table speaks of a function: one of its own, local in the end, where a shared library may not speak of the function's."""
-    return f"unwound.{name}" if seen else name
+HEAD_END = ".balign 8\n.Lcie_end:\n"
+# Before the name by which a table speaks of a function that others see: one of its own, local in the end, as a shared library may not speak of the function's.
+OWN = "unwound."
 
 
 def table(machine, number, name, size, listing):
@@ -282,17 +261,17 @@ def main(path):
     text = HEAD.replace("%PROGBITS", machine.SECTION_TYPE) + machine.HEAD + HEAD_END
     for number, (name, size, seen) in enumerate(found):
         section = next(each for each in sections if each.endswith("." + name))
-        text += table(machine, number, spoken(name, seen), size, code(machine, path, section))
+        text += table(machine, number, OWN * seen + name, size, code(machine, path, section))
     objcopy = f"{machine.TOOLS}objcopy"
     with tempfile.TemporaryDirectory() as room:
         shown, tables, whole = (str(Path(room, each)) for each in ("shown.o", "tables.o", "whole.o"))
         local = [name for name, _, seen in found if not seen]
         added = [name for name, _, seen in found if seen]
         run(objcopy, *(f"--globalize-symbol={name}" for name in local),
-            *(f"--add-symbol={spoken(name, True)}=.text.{name}:0,function,global" for name in added), path, shown)
+            *(f"--add-symbol={OWN}{name}=.text.{name}:0,function,global" for name in added), path, shown)
         subprocess.run([f"{machine.TOOLS}as", "-o", tables], input=text, text=True, check=True)
         run(f"{machine.TOOLS}ld", "-r", "-o", whole, shown, tables)
-        run(objcopy, *(f"--localize-symbol={name}" for name in local), *(f"--localize-symbol={spoken(name, True)}" for name in added), whole, path)
+        run(objcopy, *(f"--localize-symbol={name}" for name in local), *(f"--localize-symbol={OWN}{name}" for name in added), whole, path)
     print(f"unwind tables for {len(found)} functions")
 
 
