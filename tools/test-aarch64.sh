@@ -43,11 +43,9 @@ install_missing() {
 }
 
 build_archive() {
-    if [ -n "$is_built" ] && [ -e "$library" ]; then
-        tools/build-archive.sh --for "$processor" "$library" "$out/proof.log"
-    else
-        tools/build-archive.sh --for "$processor"
-    fi
+    local given=()
+    [ -z "$is_built" ] || [ ! -e "$library" ] || given=("$library" "$out/proof.log")
+    tools/build-archive.sh --for "$processor" "${given[@]}"
 }
 
 # make_for FOLDER TARGET..: built for the processor, so that the emulator needs no library of it.
@@ -57,11 +55,6 @@ make_for() {
 
 emulated() {
     limited "$emulator" "$@"
-}
-
-# It counts what the library asks for. Where all is one program, it would count what the C library asks for as well: so it takes that as a shared one.
-make_refuse() {
-    make -s CC="${cross}gcc" "out/$processor/refuse"
 }
 
 # ordered NAME ARGUMENT..: a test of one thread, each of whose accesses to a table is looked at; the places of them are kept.
@@ -82,7 +75,8 @@ sees_weaker_step() {
 }
 
 test_clients() {
-    check "refuse is built over a shared C library" make_refuse
+    # It counts what the library asks for. Where all is one program, it would count what the C library asks for as well: so it takes that as a shared one.
+    check "refuse is built over a shared C library" make -s CC="${cross}gcc" "out/$processor/refuse"
     check "the clients in C are built, no warning" make_for . all "out/$processor/heap_stress-none-right"
     check "each allocation refused" emulated -L "/usr/$processor-linux-gnu" "$out/refuse"
     programs C: "" "emulated $out/" smallest row 'storm 1 100' 'storm 4 1000' 'storm 8 200' packet shared misuse built 'walk 200' 'entries 50' names \

@@ -27,12 +27,9 @@ made() {
     (umask 077 && make -s -C "$top" "$@" DESTDIR="$stage" PREFIX="$prefix" LIBDIR="$libdir")
 }
 
-version_of() {
-    sed -nE 's/^#define REGISTRY_VERSION_(MAJOR|MINOR|PATCH)[[:blank:]]+//p' "$1" | paste -sd .
-}
-
+# version [HEADER]: what the header says.
 version() {
-    version_of "$header"
+    sed -nE 's/^#define REGISTRY_VERSION_(MAJOR|MINOR|PATCH)[[:blank:]]+//p' "${1:-$header}" | paste -sd .
 }
 
 # abi [VERSION]: what the sonames have of it: below 1.0 the minor version too.
@@ -48,10 +45,6 @@ runs() {
 # has_soname LIBRARY: the shared library names itself without the least number.
 has_soname() {
     readelf -d "$stage$libdir/$1.so" | grep -F "Library soname: [$1.so.$(abi)]"
-}
-
-calls_of_headers() {
-    packaging/calls-of.sh "$stage$prefix"/include/kupaldiz/registry{,_limits,_waiting}.h
 }
 
 # A program of the pages' names that is compiled for other CPUs than the library has doesn't link, and the linker names them.
@@ -113,18 +106,15 @@ moved() {
 in_place() {
     # shellcheck disable=SC2046
     gcc -o "$room/in_place" c/tests/installed.c $(PKG_CONFIG_PATH=$stage$libdir/pkgconfig pkg-config --cflags --libs kupaldiz) &&
-        runs in_place "C, version $(version_of crates/registry_c/include/registry.h)"
+        runs in_place "C, version $(version crates/registry_c/include/registry.h)"
 }
 
 # The page of each call is found by its name, and is the one that names it.
 pages_are_found() {
     local call page
-    for call in $(calls_of_headers | grep -v '^registry_for_[0-9]'); do
+    for call in $(packaging/calls-of.sh "$stage$prefix"/include/kupaldiz/registry{,_limits,_waiting}.h | grep -v '^registry_for_[0-9]'); do
         page=$(MANPAGER=cat MANROFFOPT='' man -M "$stage$prefix/share/man" 3 "$call" 2>/dev/null | col -b)
-        if ! grep -q "$call" <<<"$page" || ! grep -qE '^NAME' <<<"$page"; then
-            echo "no page $call(3)"
-            return 1
-        fi
+        [[ $page = *"$call"* ]] && grep -qE '^NAME' <<<"$page" || { echo "no page $call(3)"; return 1; }
     done
 }
 
@@ -170,7 +160,7 @@ wanted_pages() {
     local page name
     for page in "$top"/man/registry{.3,_waiting.3,.7} "$top"/man/kupaldiz_*.[37]; do
         echo "${page##*/}"
-        [ "${page%.3}" != "$page" ] || continue
+        [[ $page = *.3 ]] || continue
         for name in $(sed -nE '/^\.Sh NAME/,/^\.Nd/s/^\.Nm ([A-Za-z_0-9]+).*/\1/p' "$page"); do
             [ "$name.3" = "${page##*/}" ] || echo "$name.3kupaldiz -> ${page##*/}"
         done
@@ -260,10 +250,6 @@ unnamed_call_is_told() {
     sed -i 's/^size_t registry_text(/uint32_t registry_unnamed(void);\n&/' "$header" && ! made symbols >"$room/said" 2>&1 && grep -x '< registry_unnamed' "$room/said"
 }
 
-make_later() {
-    sed -i -E 's/^(#define REGISTRY_VERSION_PATCH[[:blank:]]+).*/\17/' "$header"
-}
-
 check "install" made install
 check "each file, with its mode, owner and link" holds_files "$(version)"
 check "each manual page, and each name that leads to one" holds_pages
@@ -323,7 +309,7 @@ check "no stale object is linked: a changed archive" relinks registry_mark_of_ar
 check "no stale object is linked: changed waits" relinks registry_mark_of_waiting libkupaldiz mark "$top/c/src/waiting.c"
 check "no stale object is linked: changed names of the pages" relinks kupaldiz_mark libkupaldiz_netbsd mark "$top/netbsd/src/psref.c"
 check "no stale object is linked: a changed bench" relinks kupaldiz_mark_of_bench libkupaldiz_bench mark "$top/explorer/src/show.c"
-check "an upgrade: the later version" make_later
+check "an upgrade: the later version" sed -i -E 's/^(#define REGISTRY_VERSION_PATCH[[:blank:]]+).*/\17/' "$header"
 check "an upgrade: it is installed over the older one" made install
 check "an upgrade: each file, and none of the older version" holds_files "${older%.*}.7"
 check "an upgrade: uninstall" made uninstall

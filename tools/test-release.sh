@@ -80,10 +80,6 @@ tries() {
     sed -n 's/^done: /        /p' "$log"
 }
 
-sums_hold() {
-    (cd "$release" && sha256sum -c SHA256SUMS)
-}
-
 # again FOLDER: a release made in a clone in that folder, of the same commit and the same archives.
 again() {
     local kept
@@ -130,7 +126,7 @@ test_part() {
     esac
 }
 
-check "SHA256SUMS holds" sums_hold
+check "SHA256SUMS holds" env -C "$release" sha256sum -c SHA256SUMS
 for part in "${parts[@]}"; do
     test_part "$part"
 done
