@@ -3,12 +3,11 @@
 
     tools/archive-beside.py rt ci
 
-`rt ci` proves the static library registry_c and keeps nothing that it could be linked from. So as soon as it says that the libraries beneath are
-proved, `rattle build` proves registry_c over these same libraries and compiles it, on the processors that `rt ci` leaves idle. What it makes becomes the
-archive if no file that it was proved from was touched since; else, or where it was killed for want of memory, tools/build-archive.sh proves the
-archive once `rt ci` is done. The library for another processor is proved after it, and most of its proof is kept from there. It is left in
-out/PROCESSOR with what the proof said, for tools/build-archive.sh --for PROCESSOR, which needs that processor's compiler. The last line is
-that of `rt ci` with a check more for each processor.
+`rt ci` proves the static library registry_c and keeps nothing that it could be linked from. So as soon as it says that the libraries beneath are proved,
+`rattle build` proves registry_c over these same libraries and compiles it, on the processors that `rt ci` leaves idle. What it makes becomes the archive if no
+file that it was proved from was touched since; else, or where it was killed for want of memory, tools/build-archive.sh proves the archive once `rt ci` is done.
+The library for another processor is proved after it, and most of its proof is kept from there. It is left in out/PROCESSOR with what the proof said, for
+tools/build-archive.sh --for PROCESSOR, which needs that processor's compiler. The last line is that of `rt ci` with a check more for each processor.
 
 Where there are four processors or more, `rt ci` gets all but one: each check takes longer beside more others, and its longest chain of checks leaves some
 of them idle. On the last one `tools/try-edits.py gate` tries the edits of each crate that was proved, until `rt ci` ends. It keeps what is refused; nothing here

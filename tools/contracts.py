@@ -8,9 +8,8 @@ is named. A block says the type and the name of the function, not its crate, fil
 
   diff <(tools/contracts.py REVISION) <(tools/contracts.py)
 
-shows each contract that is new, gone or otherwise worded since. What the words of a clause mean stands in specs/ and isn't compared.
-Functions of a public trait count as public; `pub(crate)` ones don't. Other tools find here where each function begins and ends, and the name that the
-checker prints for it.
+shows each contract that is new, gone or otherwise worded since. What the words of a clause mean stands in specs/ and isn't compared. Functions of a public
+trait count as public; `pub(crate)` ones don't. Other tools find here where each function begins and ends, and the name that the checker prints for it.
 """
 import collections
 import io

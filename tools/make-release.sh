@@ -1,7 +1,6 @@
 #!/usr/bin/env bash
 # Makes a release for C and Rust out of what is proved, in release/: archives to unpack, the source around them, a crate, Debian packages, PROVED and
-# SHA256SUMS.
-# docs/RECIPES.md says how it is laid out. The same commit and the same archives make the same bytes.
+# SHA256SUMS. docs/RECIPES.md says how it is laid out. The same commit and the same archives make the same bytes.
 #
 #     tools/make-release.sh                  takes the archives in out and the program, as tools/build-archive.sh and tools/prove-program.sh left them
 #     tools/make-release.sh --prove          proves and builds all three first

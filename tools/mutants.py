@@ -7,13 +7,11 @@ The code is c/src/waiting.c, what is C of the archive, netbsd/src/*.c and rust/s
 in a copy of the tree, and the tests of the file's own library run until one fails. A body that the compiler makes the same code of isn't run. Those tests
 come first that saw most other wrong bodies of the file, and of these the shortest.
 
-A test that fails runs a second time: one failure on a busy machine kills nothing. Then it must pass on the tree as it stands, or the body is left untried,
-as `busy`. It hangs if it takes five times as long as on the tree as it stands,
-and --least seconds (5).
+A test that fails runs a second time: one failure on a busy machine kills nothing. Then it must pass on the tree as it stands, or the body is left untried, as
+`busy`. It hangs if it takes five times as long as on the tree as it stands, and --least seconds (5).
 
-`--only` takes the wrong bodies of a file, or of one line of it. `--sample` takes N of them by the seed (1 where none is given): the same share of
-each file. `--jobs` tries so many at a time (2). Where one survives, the status is 1: either a test is
-missing, or the body harms nobody, as one that costs time alone.
+`--only` takes the wrong bodies of a file, or of one line of it. `--sample` takes N of them by the seed (1 where none is given): the same share of each file.
+`--jobs` tries so many at a time (2). Where one survives, the status is 1: either a test is missing, or the body harms nobody, as one that costs time alone.
 """
 import argparse
 import collections

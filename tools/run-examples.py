@@ -1,13 +1,12 @@
 #!/usr/bin/env -S python3 -B
 """Runs the examples of the documents over both engines, and compares what the program says.
 
-An example is a fenced block `script`, and the next fenced block after it: `report`, what the program must print, with nothing on standard
-error and status 0; or `fault`, what it must say on standard error, with nothing printed and status 2. A block `session` has both, a command and
-after two spaces its line of the report. A file NAME.txt is one example, with its report as comments below `# It prints:`. Without file names the examples are those
-of README.md, docs/ and examples/. The program is
-./registry_run, or the one that --program names. It must be the proved one (tools/prove-program.sh),
-since without it ./registry_run says on standard error that nothing is proved. With --try nothing is proved either: `rt try` compiles the
-program anew for each engine. The last line counts the runs.
+An example is a fenced block `script`, and the next fenced block after it: `report`, what the program must print, with nothing on standard error and status 0;
+or `fault`, what it must say on standard error, with nothing printed and status 2. A block `session` has both, a command and after two spaces its line of the
+report. A file NAME.txt is one example, with its report as comments below `# It prints:`. Without file names the examples are those of README.md, docs/ and
+examples/. The program is ./registry_run, or the one that --program names. It must be the proved one (tools/prove-program.sh), since without it ./registry_run
+says on standard error that nothing is proved. With --try nothing is proved either: `rt try` compiles the program anew for each engine. The last line counts the
+runs.
 
 Code in the documents must be part of a source, up to blank lines; what isn't is said, and fails. A fenced block `rust` is looked for in
 crates/registry_examples/src and in rust/examples, a block `c` in c or netbsd/tests. A block `LANGUAGE PATH` is looked for

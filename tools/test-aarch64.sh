@@ -7,10 +7,9 @@
 #     tools/test-aarch64.sh --rust     takes the archive as it stands, and runs the tests of the Rust crate alone. Debian's compiler and its standard
 #                                      library for both processors are fetched for it, 110 megabytes, and unpacked below out/aarch64. Not in the gate
 #
-# qemu runs on this machine's processor, whose memory order is a stronger one: no run here can show an order that is too weak. Two things can be
-# shown. In runs of one thread each instruction that comes to a registry's table is one of the four that aarch64 has for sequentially
-# consistent steps (c/tests/ordered.c). And the archive has no other atomic instruction (tools/atomics.py). A plain load or store of the
-# table on a path that no run takes would go unseen.
+# qemu runs on this machine's processor, whose memory order is a stronger one: no run here can show an order that is too weak. Two things can be shown. In runs
+# of one thread each instruction that comes to a registry's table is one of the four that aarch64 has for sequentially consistent steps (c/tests/ordered.c). And
+# the archive has no other atomic instruction (tools/atomics.py). A plain load or store of the table on a path that no run takes would go unseen.
 set -uo pipefail
 cd "$(dirname "$0")/.."
 # shellcheck source=tools/checks.sh

@@ -1,8 +1,7 @@
 #!/usr/bin/env bash
-# Builds the bench, explorer, and runs its tests: small programs whose schedules are counted, and whose outcomes are compared with the reduction and
-# without; the seven drivers in every order; faults planted in them; one case for each thing that it finds or refuses; its picture; real threads
-# beside it. Plain, with the sanitizers of addresses and undefined behaviour, and some under valgrind. out/libregistry.a stands already. The
-# last line is 'N passed, M failed'.
+# Builds the bench, explorer, and runs its tests: small programs whose schedules are counted, and whose outcomes are compared with the reduction and without;
+# the seven drivers in every order; faults planted in them; one case for each thing that it finds or refuses; its picture; real threads beside it. Plain, with
+# the sanitizers of addresses and undefined behaviour, and some under valgrind. out/libregistry.a stands already. The last line is 'N passed, M failed'.
 set -uo pipefail
 cd "$(dirname "$0")/.." || exit
 folder=explorer

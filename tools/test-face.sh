@@ -1,7 +1,6 @@
 #!/usr/bin/env bash
-# Builds the archive of the C face and everything that stands outside of it, and runs it all: the manual page, the clients in C and in Rust.
-# What is missing is installed by apt: gcc, g++, make, ar, cargo, mandoc, man, pkg-config, valgrind. Each step says what it does; the last line is
-# 'N passed, M failed'.
+# Builds the archive of the C face and everything that stands outside of it, and runs it all: the manual page, the clients in C and in Rust. What is missing is
+# installed by apt: gcc, g++, make, ar, cargo, mandoc, man, pkg-config, valgrind. Each step says what it does; the last line is 'N passed, M failed'.
 #
 #     tools/test-face.sh                      proves and builds the archive first
 #     tools/test-face.sh --built              takes out/libregistry.a as it stands
