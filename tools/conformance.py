@@ -13,6 +13,7 @@ M failed'. The program is crates/registry_run/out/registry_run where it stands, 
 import argparse
 import pathlib
 import random
+import re
 import sys
 import tempfile
 
@@ -143,20 +144,18 @@ def answer_of(line):
     return words[1] if words[0] == "refused" else words[0]
 
 
-def slot_of(line):
-    """The slot of an audit's line; -1 of any other."""
-    words = line.split()
-    return int(words[1]) if words[0] == "slot" else -1
-
-
 def answers_of(script, report):
     """Each command of a script with its answer. An audit's has a line for each slot, the least first."""
     lines = report.splitlines()
     for command in script.splitlines():
-        verb, line = command.split()[0], lines.pop(0)
-        yield verb, answer_of(line)
-        while verb == "audit" and lines and slot_of(lines[0]) > slot_of(line):
-            line = lines.pop(0)
+        verb, slot = command.split()[0], -1
+        yield verb, answer_of(lines[0])
+        while True:
+            found = re.match(r"slot (\d+)", lines.pop(0))
+            slot = int(found[1]) if found else -1
+            following = re.match(r"slot (\d+)", lines[0]) if verb == "audit" and lines else None
+            if not following or int(following[1]) <= slot:
+                break
 
 
 def write_kit(folder, options, verbs):
@@ -188,11 +187,9 @@ def write(options):
 
 def first_difference(report, found):
     """Where two reports part."""
-    wanted, said = report.splitlines(), found.splitlines()
-    for place, (one, other) in enumerate(zip([*wanted, "(the end)"], [*said, "(the end)"]), 1):
-        if one != other:
-            return f"line {place} is '{other}' and not '{one}'"
-    return "another end of line"
+    pairs = zip([*report.splitlines(), "(the end)"], [*found.splitlines(), "(the end)"])
+    parted = (f"line {place} is '{other}' and not '{one}'" for place, (one, other) in enumerate(pairs, 1) if one != other)
+    return next(parted, "another end of line")
 
 
 def failures_of(folder, program):

@@ -139,12 +139,6 @@ def place_in(path, text):
     return line, found[-1] if found else None
 
 
-def name_of(crate, function):
-    """What names the function to a check. A method has its type's path, wherever its `impl` stands: its end names it."""
-    is_method = "::" in function.name
-    return function.name if is_method else "::".join(filter(None, (module_of(function.path, ROOT / "crates" / crate / "src"), function.name)))
-
-
 def named_by(edit):
     """The functions that the edit names."""
     named = re.search(r"^only: (.+)$", edit.text, re.M)
@@ -153,11 +147,14 @@ def named_by(edit):
 
 def asked_for(edit, whole):
     """The functions to check: those that the edit names, or the one in which its first text stands; or else WHOLE."""
-    if whole:
-        return WHOLE
+    if whole or named_by(edit):
+        return WHOLE if whole else named_by(edit)
     path, old, _ = next(changes(edit))
     _, function = place_in(path, old)
-    return named_by(edit) or ([name_of(edit.crate, function)] if function else [])
+    if not function or "::" in function.name:
+        # A method has its type's path, wherever its `impl` stands: its end names it.
+        return [function.name] if function else []
+    return ["::".join(filter(None, (module_of(path, ROOT / "crates" / edit.crate / "src"), function.name)))]
 
 
 def body_changed(edit):
@@ -207,12 +204,6 @@ def untried(ran):
     return "" if ran.returncode == 1 and ended and not unread else next(iter([*unread, *lines[-1:]]), f"status {ran.returncode}")[:300]
 
 
-def unproved(ran):
-    """What the check says where no goal of it is open: of which function it has no proof, or what it wants to be written."""
-    lines = ran.stdout.splitlines()
-    return next((it for it in lines if ": no proof: " in it or it.startswith("help: write ")), lines[-1])
-
-
 def refused(found):
     """What says that these goals refuse an edit."""
     return Try(True, f"refused: {found[0].removeprefix('note: ')[:160]}")
@@ -224,9 +215,11 @@ def judged(ran, names):
         return Try(False, f"NOT REFUSED: {', '.join(names)} still proved")
     if untried(ran):
         return Try(False, f"NOT TRIED: {untried(ran)}")
-    found = goals(ran)
+    found, lines = goals(ran), ran.stdout.splitlines()
     if not found:
-        return Try(False, f"refused, only because no proof was found: {unproved(ran)[:200]}")
+        # It says of which function it has no proof, or what it wants to be written.
+        unproved = next((it for it in lines if ": no proof: " in it or it.startswith("help: write ")), lines[-1])
+        return Try(False, f"refused, only because no proof was found: {unproved[:200]}")
     if not telling(found):
         return Try(False, f"refused only because a proof names what the edit took away: {found[0][:200]}")
     return refused(telling(found))
@@ -291,13 +284,6 @@ def check_edited(edits, names, seed):
         return check(edits[0].crate, names, tree, Seed(over, seed.names)), ""
 
 
-def try_edit(edit, seed, whole):
-    """Tries one edit alone."""
-    names = asked_for(edit, whole)
-    ran, misfit = check_edited([edit], names, seed)
-    return judged(ran, names) if ran else Try(False, f"NOT TRIED: {misfit}")
-
-
 def try_together(edits, seed):
     """Tries edits of several bodies in one check; gives those that it refuses, with what refuses them."""
     functions = {edit: body_changed(edit) for edit in edits}
@@ -311,8 +297,12 @@ def try_batch(edits, seed, whole):
     """Tries the edits together, and alone those that this doesn't refuse; gives each with its result."""
     if seed is None:
         return [(edit, UNPROVED) for edit in edits]
-    together = try_together(edits, seed) if len(edits) > 1 else {}
-    return [(edit, together.get(edit) or try_edit(edit, seed, whole)) for edit in edits]
+    came = try_together(edits, seed) if len(edits) > 1 else {}
+    for edit in (it for it in edits if it not in came):
+        names = asked_for(edit, whole)
+        ran, misfit = check_edited([edit], names, seed)
+        came[edit] = judged(ran, names) if ran else Try(False, f"NOT TRIED: {misfit}")
+    return [(edit, came[edit]) for edit in edits]
 
 
 def tried(edits, whole=False):

@@ -68,19 +68,14 @@ def examples(path):
         sys.exit(f"{path.name}:{waiting[0]}: a script without a report or a fault after it")
 
 
-def sources_of(word):
-    """The texts of the sources that a block with this word is part of; None for a block that isn't code of ours."""
-    _, _, path = word.partition(" ")
-    files = [ROOT / path] if path else SOURCES.get(word)
-    return None if files is None else [file.read_text() for file in files if file.is_file()]
-
-
 def strayed():
     """What is said of each part of code in the documents that is in no source."""
     for page in PAGES:
         for line, word, text in blocks(page.read_text()):
-            sources = sources_of(word)
-            for part in [] if sources is None else text.split("\n\n"):
+            path = word.partition(" ")[2]
+            files = [ROOT / path] if path else SOURCES.get(word, [])
+            sources = [file.read_text() for file in files if file.is_file()]
+            for part in text.split("\n\n") if path or word in SOURCES else []:
                 if not any(part.strip("\n") in source for source in sources):
                     yield f"{page.name}:{line}: no example has this code\n{part}"
 
