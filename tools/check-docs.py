@@ -104,23 +104,11 @@ def broken(path, text):
             yield f"no heading {target}"
 
 
-def named(quoted):
-    """The names in a piece in backquotes. What has dots or capitals in place of a part stands for many names, and isn't looked for."""
-    if ".." in quoted or quoted.startswith("-"):
-        return []
-    return [name for name in WORD.findall(quoted) if len(name) > 2 and not name.startswith("_") and not name.endswith("_") and not name.isupper()]
-
-
 def unknown(text, words):
-    """The names in backquotes that nothing has."""
-    for quoted in QUOTED.findall(text):
-        yield from (f"`{quoted}`: {name}" for name in named(quoted) if name not in words and name not in FOREIGN_WORDS)
-
-
-def unlinked(text):
-    """The prose with code blanked and without the targets of links, line by line as it was."""
-    without_code = FENCED.sub(lambda block: "\n" * block[0].count("\n"), text)
-    return INLINE.sub(lambda link: link[0][: link[0].rindex("](")], without_code)
+    """The names in backquotes that nothing has. What has dots or capitals in place of a part stands for many names, and isn't looked for."""
+    for quoted in (it for it in QUOTED.findall(text) if ".." not in it and not it.startswith("-")):
+        names = (it for it in WORD.findall(quoted) if len(it) > 2 and it.strip("_") == it and not it.isupper())
+        yield from (f"`{quoted}`: {name}" for name in names if name not in words and name not in FOREIGN_WORDS)
 
 
 def held_to(name):
@@ -130,8 +118,10 @@ def held_to(name):
     return BANNED if name in EXPLAINING else ()
 
 
-def awkward(prose, phrases):
-    """Each line of the prose that has one of the phrases: its number, the words, and what to write instead."""
+def awkward(text, phrases):
+    """Each line that has one of the phrases, except in code and in the targets of links: its number, the words, and what to write instead."""
+    without_code = FENCED.sub(lambda block: "\n" * block[0].count("\n"), text)
+    prose = INLINE.sub(lambda link: link[0][: link[0].rindex("](")], without_code)
     for number, line in enumerate(prose.split("\n"), 1):
         for form, better in phrases:
             if found := re.search(form, line, re.IGNORECASE):
@@ -156,7 +146,7 @@ def checks_of(path, words):
         yield "links", list(broken(path, prose))
         yield "names", sorted(set(unknown(prose, words)))
     if held_to(name):
-        yield "phrases", list(awkward(unlinked(text), held_to(name)))
+        yield "phrases", list(awkward(text, held_to(name)))
 
 
 def main():

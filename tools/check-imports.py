@@ -15,11 +15,6 @@ IMPORT = re.compile(r"^ *(?:pub |ghost )*use ([\w.]+)\.\{([^}]*)\};?$", re.M)
 PASSING = ("specs/Common.antt", "specs/Types.antt")
 
 
-def imports(path):
-    """The names that the file imports, each with its module."""
-    return [(module, name.strip()) for module, names in IMPORT.findall(path.read_text()) for name in names.split(",")]
-
-
 def module_of(path):
     return "Rattle." + ".".join(path.relative_to(CRATES).with_suffix("").parts)
 
@@ -44,7 +39,8 @@ def faults(path, passed_on, importers):
 
 def main():
     files = [it for kind in ("*/src/**/*.rt", "*/specs/**/*.antt", "*/proofs/**/*.antt") for it in CRATES.glob(kind)]
-    imported = {it: imports(it) for it in files}
+    # The names that each file imports, each with its module.
+    imported = {it: [(module, name.strip()) for module, names in IMPORT.findall(it.read_text()) for name in names.split(",")] for it in files}
     importers = collections.defaultdict(list)
     for path, found in imported.items():
         for item in found:

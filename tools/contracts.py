@@ -41,12 +41,6 @@ def sources(revision):
                 yield member.name, tar.extractfile(member).read().decode().split("\n")
 
 
-def joined(lines):
-    """Lines as one: a list that stands on lines of its own reads as one that doesn't."""
-    text = re.sub(r"\s+", " ", " ".join(lines)).strip()
-    return re.sub(r",? ([)\]])", r"\1", re.sub(r"([(\[]) ", r"\1", text))
-
-
 def contract(lines, indent):
     """The head of the function that begins here and its clauses, up to its body."""
     parts = []
@@ -59,7 +53,9 @@ def contract(lines, indent):
         parts[-1].append(line[:-1].rstrip() if last else line)
         if last:
             break
-    return [joined(part) for part in parts]
+    # A list that stands on lines of its own reads as one that doesn't.
+    texts = (" ".join(" ".join(part).split()) for part in parts)
+    return [re.sub(r",? ([)\]])", r"\1", re.sub(r"([(\[]) ", r"\1", it)) for it in texts]
 
 
 def heads(lines):

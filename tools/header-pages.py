@@ -127,17 +127,14 @@ def quoted(text):
     return f'"{text}"' if " " in text else text
 
 
-def declared(call):
-    one_line = " ".join([f".Fn {call.name}", *map(quoted, call.parameters)])
-    several = [f".Fo {call.name}", *(f".Fa {quoted(it)}" for it in call.parameters), ".Fc"]
-    return [f".Ft {quoted(call.result)}", *([one_line] if len(one_line) <= WIDTH else several)]
-
-
 def synopsis(header):
     lines = []
     for title, _, calls in groups_of(header):
         lines += [f".Ss {title}"] * bool(title)
-        lines += [line for call in calls for line in declared(call)]
+        for call in calls:
+            one_line = " ".join([f".Fn {call.name}", *map(quoted, call.parameters)])
+            several = [f".Fo {call.name}", *(f".Fa {quoted(it)}" for it in call.parameters), ".Fc"]
+            lines += [f".Ft {quoted(call.result)}", *([one_line] if len(one_line) <= WIDTH else several)]
     return lines
 
 

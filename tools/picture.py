@@ -22,19 +22,14 @@ def lacking(lines, texts):
     return next((line for line in lines if line not in left), "")
 
 
-def parts(text):
-    """The commands of a script, and the lines of its report."""
-    script, _, report = text.partition("\n# It prints:\n")
-    return [it for it in script.splitlines() if it and not it.startswith("#")], [it.removeprefix("# ") for it in report.splitlines()]
-
-
 def examples():
     """What is wrong with each picture of examples/."""
     for path in sorted((ROOT / "examples").glob("*.svg")):
         texts = [html.unescape(it) for it in re.findall(r"<text[^>]*>([^<]*)</text>", path.read_text())]
         script = path.with_suffix(".txt")
-        commands, report = parts(script.read_text() if script.is_file() else f"there is no {script.name}")
-        missing = lacking(commands, texts) or lacking(report, texts)
+        said, _, report = (script.read_text() if script.is_file() else f"there is no {script.name}").partition("\n# It prints:\n")
+        commands = [it for it in said.splitlines() if it and not it.startswith("#")]
+        missing = lacking(commands, texts) or lacking([it.removeprefix("# ") for it in report.splitlines()], texts)
         yield f"examples/{path.name}: it should say: {missing}" if missing else ""
 
 

@@ -46,14 +46,10 @@ def proved():
     return [ROOT / "crates.txt", *(it for folder in folders for it in sorted(folder.rglob("*")) if it.is_file())]
 
 
-def joined():
-    """The headers, and the files in C that are joined with what is proved."""
-    return [*sorted((ROOT / "crates" / LIBRARY / "include").glob("*.h")), *(ROOT / f"c/src/{part}.c" for part in PARTS)]
-
-
 def sum_of_sources(limits):
-    """The sum of all that an archive with these limits is made from."""
-    return sum_of_files([*proved(), *joined()], limits)
+    """The sum of all that an archive with these limits is made from: also the headers, and the files in C that are joined with what is proved."""
+    headers = sorted((ROOT / "crates" / LIBRARY / "include").glob("*.h"))
+    return sum_of_files([*proved(), *headers, *(ROOT / f"c/src/{part}.c" for part in PARTS)], limits)
 
 
 def sum_of_files(files, limits):

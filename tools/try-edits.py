@@ -41,7 +41,7 @@ def failures(tree, crate):
         return False, "it doesn't compile: " + " ".join(lines[:4])
     if ran.returncode == 0:
         return False, "NOT REFUSED: all tests pass"
-    failed = [line.split()[1] for line in lines if line.startswith("test ") and line.endswith(" FAILED")]
+    failed = re.findall(r"^test (\S+).* FAILED$", ran.stdout, re.M)
     return (True, "refused by " + ", ".join(failed)) if failed else (False, f"NOT TRIED: no test failed: {lines[-1]}")
 
 
