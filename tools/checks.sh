@@ -72,6 +72,11 @@ storm_says() {
     says "$log.wanted" "$@" "$cpus" "$turns"
 }
 
+# apt_install WORD..: what these words of apt-get name, without asking.
+apt_install() {
+    { apt-get update && DEBIAN_FRONTEND=noninteractive apt-get -o DPkg::Lock::Timeout=300 install -y "$@"; } </dev/null
+}
+
 # programs KIND HOW BEFORE PROGRAM..: each program with its words; what is before its name runs it. Three say what they did.
 # shellcheck disable=SC2086
 programs() {

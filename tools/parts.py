@@ -134,9 +134,9 @@ def at_once(memory):
     return max(1, min(processors(), int(0.85 * free_memory() // memory)))
 
 
-def run_all(job, things, at_once):
+def run_all(job, things, many):
     """What the job makes of each thing, so many of them beside each other. Where it is cut off, all that runs ends."""
-    with ThreadPoolExecutor(at_once) as pool:
+    with ThreadPoolExecutor(many) as pool:
         try:
             return list(pool.map(job, things))
         except BaseException:

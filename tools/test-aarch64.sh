@@ -33,7 +33,7 @@ install_missing() {
     mapfile -t missing < <(missing_packages)
     [ "${#missing[@]}" -gt 0 ] || return 0
     echo "installing ${missing[*]}"
-    { apt-get update && DEBIAN_FRONTEND=noninteractive apt-get -o DPkg::Lock::Timeout=300 install -y --no-install-recommends "${missing[@]}"; } >"$log" 2>&1 </dev/null
+    apt_install --no-install-recommends "${missing[@]}" >"$log" 2>&1
     mapfile -t missing < <(missing_packages)
     if [ "${#missing[@]}" -gt 0 ]; then
         echo "test-aarch64: without ${missing[*]} nothing runs: apt-get install ${missing[*]}" >&2

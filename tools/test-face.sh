@@ -22,11 +22,9 @@ install_missing() {
     for pair in gcc:gcc g++:g++ make:make ar:binutils cargo:cargo mandoc:mandoc man:man-db pkg-config:pkg-config valgrind:valgrind; do
         command -v "${pair%%:*}" >/dev/null || missing+=("${pair##*:}")
     done
-    if [ "${#missing[@]}" -gt 0 ]; then
-        echo "installing ${missing[*]}"
-        { apt-get update && DEBIAN_FRONTEND=noninteractive apt-get -o DPkg::Lock::Timeout=300 install -y "${missing[@]}"; } >"$log" 2>&1 </dev/null
-        judge "installed ${missing[*]}" $?
-    fi
+    [ "${#missing[@]}" -gt 0 ] || return 0
+    echo "installing ${missing[*]}"
+    check "installed ${missing[*]}" apt_install "${missing[@]}"
 }
 
 # names HEADER PAGE: the page names each call of the header, and no other.
