@@ -3,7 +3,7 @@ import os
 
 from limits import LIMITS
 
-from .trees import Case, of
+from .trees import Case, Fault, of
 
 GATE = """#!/usr/bin/env python3
 import sys
@@ -156,10 +156,10 @@ def archive():
     faults = (
         *of("ci", ("a library beneath that isn't proved", "the archive is not built", "low proved", "low NOT PROVED"),
             *((f"{path} is touched meanwhile", "a file that it is proved from was touched", "sleep", f"touch {path}; sleep") for path in TOUCHED),
-            ("a library that isn't there", "No such file or directory", "sleep", f"rm {low}/format; rmdir {low}; sleep"),
             ("a failure of rt ci", "6 passed, 2 failed", "5 passed, 0", "4 passed, 2"),
             ("another status of rt ci", "7 passed, 1 failed", "0 failed\n", "0 failed\nexit 2\n"),
             ("rt ci without its count", "nothing", "echo 5 passed, 0 failed", "echo nothing")),
+        Fault("a library that isn't there", "No such file or directory", ((f"{low}/format", "low", None), ("ci", "sleep", f"rmdir {low}; sleep"))),
         *of("kit/bin/rattle", ("a proof that fails", f"the archive is {unproved}not proved", made, "echo not proved; exit 1"),
             ("a proof that is killed", "its proof was killed", made, "kill -KILL $$"),
             ("a proof for aarch64 that fails", f"the library for aarch64 is {unproved}not there", made,
