@@ -11,6 +11,7 @@ registry, tools/other_registry.py, and then once more with each of its faults, w
 M failed'. The program is crates/registry_run/out/registry_run where it stands, else the same sources, compiled by `rt try` without a proof.
 """
 import argparse
+import collections
 import pathlib
 import random
 import re
@@ -23,44 +24,34 @@ from parts import counted, ended
 
 PROGRAM = ROOT / "crates/registry_run/out/registry_run"
 
-# What each command may answer. NotHeld isn't among it: a label stands only for a reference that its CPU holds.
 ATTACHES = "attached Inside NeedsDriver NameTaken NoSlot HistoryFull"
-ANSWERS = {
-    "domain": "domain",
-    "limits": "limits",
-    "attach": ATTACHES,
-    "plug": f"{ATTACHES} no-label",
-    "detach": "retired Inside NotFound",
-    "enter": "inside TooDeep SectionsSpent",
-    "exit": "inside outside not-inside",
-    "find": "found none not-inside",
-    "ref": "ref label-taken NothingFound PassiveFull",
-    "copy": "ref no-label label-taken WrongCpu PassiveFull",
-    "held": "yes no no-label",
-    "read": "read no-label WrongCpu",
-    "drop": "dropped no-label WrongCpu",
-    "count": "count label-taken NothingFound LocalFull",
-    "peek": "peek no-label",
-    "uncount": "uncounted no-label",
-    "advance": "grace passive local freed NotRetired",
-    "destroy": "destroyed Inside NotRetired StillHeld",
-    "perform": "performed Inside Waiting",
-    "audit": "slot empty",
+# Of each command how often it comes, its arguments, by the methods of a Writer that choose them, and what it may answer. NotHeld isn't among that: a label
+# stands only for a reference that its CPU holds.
+Command = collections.namedtuple("Command", "weight arguments answers")
+COMMANDS = {
+    "domain": Command(0, "", "domain"),
+    "limits": Command(0, "", "limits"),
+    "attach": Command(8, "cpu kind name number", ATTACHES),
+    "plug": Command(9, "cpu plugged number label", f"{ATTACHES} no-label"),
+    "detach": Command(9, "cpu entry", "retired Inside NotFound"),
+    "enter": Command(3, "cpu", "inside TooDeep SectionsSpent"),
+    "exit": Command(22, "cpu", "inside outside not-inside"),
+    "find": Command(3, "cpu entry", "found none not-inside"),
+    "ref": Command(2, "cpu label", "ref label-taken NothingFound PassiveFull"),
+    "copy": Command(3, "cpu label label", "ref no-label label-taken WrongCpu PassiveFull"),
+    "held": Command(3, "cpu label", "yes no no-label"),
+    "read": Command(4, "cpu label", "read no-label WrongCpu"),
+    "drop": Command(16, "cpu label", "dropped no-label WrongCpu"),
+    "count": Command(2, "cpu label", "count label-taken NothingFound LocalFull"),
+    "peek": Command(3, "label", "peek no-label"),
+    "uncount": Command(14, "cpu label", "uncounted no-label"),
+    "advance": Command(20, "number", "grace passive local freed NotRetired"),
+    "destroy": Command(5, "cpu number turns", "destroyed Inside NotRetired StillHeld"),
+    "perform": Command(3, "cpu turns", "performed Inside Waiting"),
+    "audit": Command(4, "", "slot empty"),
 }
 NO_CALL = ("no label", "label taken", "not inside")
 KINDS = ("driver", "iface")
-# How often each command comes.
-WEIGHTS = {
-    "attach": 8, "plug": 9, "detach": 9, "enter": 3, "exit": 22, "find": 3, "ref": 2, "copy": 3, "held": 3, "read": 4, "drop": 16, "count": 2,
-    "peek": 3, "uncount": 14, "advance": 20, "destroy": 5, "perform": 3, "audit": 4,
-}
-
-
-# The arguments of each command, by the methods of a Writer that choose them; of any other a CPU and a label.
-ARGUMENTS = {
-    "attach": "cpu kind name number", "plug": "cpu plugged number label", "detach": "cpu entry", "find": "cpu entry", "copy": "cpu label label", "peek": "label",
-    "advance": "number", "destroy": "cpu number turns", "perform": "cpu turns", "enter": "cpu", "exit": "cpu", "audit": "",
-}
 
 
 class Writer:
@@ -68,7 +59,7 @@ class Writer:
 
     def __init__(self, rng, verbs):
         self.rng, self.cpus, self.changes = rng, rng.randint(1, 4), 0
-        self.verbs, self.allowed = [verb for verb in WEIGHTS if verb in verbs], verbs
+        self.verbs, self.allowed = [verb for verb, it in COMMANDS.items() if it.weight and verb in verbs], verbs
 
     def cpu(self):
         return str(self.rng.randrange(self.cpus))
@@ -100,7 +91,7 @@ class Writer:
 
     def command(self, verb):
         self.changes += verb in ("attach", "plug", "detach")
-        return " ".join([verb, *(getattr(self, it)() for it in ARGUMENTS.get(verb, "cpu label").split())])
+        return " ".join([verb, *(getattr(self, it)() for it in COMMANDS[verb].arguments.split())])
 
     def burst(self):
         """A section on one CPU in which something is looked up and referred to, as far as these commands go."""
@@ -119,7 +110,7 @@ class Writer:
 
     def script(self, lines):
         rng, text = self.rng, list(self.head())
-        for verb in rng.choices(self.verbs, [WEIGHTS[verb] for verb in self.verbs], k=lines):
+        for verb in rng.choices(self.verbs, [COMMANDS[verb].weight for verb in self.verbs], k=lines):
             text.append(self.command(verb))
             if rng.random() < 0.25:
                 text.extend(self.burst())
@@ -168,13 +159,13 @@ def write_kit(folder, options, verbs):
         (folder / f"{place:04}.txt").write_text(script)
         (folder / f"{place:04}.report").write_text(report)
     met = {answer for script, report in zip(scripts, reports) for answer in answers_of(script, report)}
-    wanted = {(verb, answer) for verb in verbs for answer in ANSWERS[verb].split()}
+    wanted = {(verb, answer) for verb in verbs for answer in COMMANDS[verb].answers.split()}
     return met & wanted, wanted - met, met - wanted
 
 
 def write(options):
-    verbs = options.only.split(",") if options.only else list(ANSWERS)
-    unknown = set(verbs) - set(ANSWERS)
+    verbs = options.only.split(",") if options.only else list(COMMANDS)
+    unknown = set(verbs) - set(COMMANDS)
     if unknown:
         sys.exit(f"no commands: {' '.join(sorted(unknown))}")
     met, never, strange = write_kit(options.folder, options, {"domain", *verbs})
@@ -216,7 +207,7 @@ def test(_):
     options = argparse.Namespace(seed=1, scripts=150, lines=150)
     with tempfile.TemporaryDirectory() as name:
         folder = pathlib.Path(name)
-        _, never, strange = write_kit(folder, options, set(ANSWERS))
+        _, never, strange = write_kit(folder, options, set(COMMANDS))
         checks = {"the scripts meet each answer": not never and not strange, "another registry has each report": not is_told(folder)}
         checks.update((f"a fault is found: {fault}", is_told(folder, fault)) for fault in FAULTS)
     for check, passed in checks.items():
