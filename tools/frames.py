@@ -57,17 +57,15 @@ class Function:
     def take(self, found):
         if found["push"]:
             self.frame += int(found["push"]) if found["push"].isdigit() else 8
-            return
-        if not self.paged:
-            self.frame += int(found["size"], 16) << (12 if found["pages"] else 0)
-        self.paged = found["to"] == self.processor.bound
+        else:
+            self.frame += 0 if self.paged else int(found["size"], 16) << (12 if found["pages"] else 0)
+            self.paged = found["to"] == self.processor.bound
 
     def call(self, found):
         is_call = found["by"] in self.processor.call
-        if found["pointer"]:
-            if is_call:
-                raise Fault(f"{self.name} calls through a pointer")
-        elif is_call or found["to"] != self.name:
+        if is_call and found["pointer"]:
+            raise Fault(f"{self.name} calls through a pointer")
+        if not found["pointer"] and (is_call or found["to"] != self.name):
             self.calls.add(found["to"])
         self.last, self.printed = found["by"], found["to"]
 

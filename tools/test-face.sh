@@ -237,16 +237,13 @@ test_rust() {
     counted "Rust: the docs' examples" cargo test --offline --doc
     check "Rust: the examples are built" cargo build --offline --release --examples
     cd .. || return
-    check "Rust: smallest" smallest_says "$examples/smallest"
     for example in "${rust_examples[@]}"; do
         check "Rust: ${example%%:*}" says_last "${example#*: }" "$examples/${example%%:*}"
     done
     check "Rust: compiled for other limits, nothing is opened" refuses_other_limits
     check "Rust: over an archive of another version, nothing is compiled" refuses_other_version
     check "Rust: who_holds says what the README shows" who_holds_says "$examples/who_holds"
-    check "Rust: speed, briefly" "$examples/speed" 2 8 1000
-    check "Rust: changes, briefly" "$examples/changes" 20
-    check "Rust: drops, briefly" "$examples/drops" 2000
+    programs Rust: "" "$examples/" smallest 'speed 2 8 1000' 'changes 20' 'drops 2000'
     check "Rust: the stress where a yield does nothing" ends_without_yields
 }
 

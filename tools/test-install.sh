@@ -250,9 +250,19 @@ unnamed_call_is_told() {
     sed -i 's/^size_t registry_text(/uint32_t registry_unnamed(void);\n&/' "$header" && ! made symbols >"$room/said" 2>&1 && grep -x '< registry_unnamed' "$room/said"
 }
 
-check "install" made install
-check "each file, with its mode, owner and link" holds_files "$(version)"
-check "each manual page, and each name that leads to one" holds_pages
+# comes NAME: it is installed there, and goes NAME: it is uninstalled.
+comes() {
+    check "$1install" made install
+    check "$1each file, with its mode, owner and link" holds_files "$(version)"
+    check "$1each manual page, and each name that leads to one" holds_pages
+}
+
+goes() {
+    check "$1uninstall" made uninstall
+    check "$1uninstall leaves nothing" leaves_nothing
+}
+
+comes ""
 check "pages and folders are open to all" open_to_all
 check "nothing names the place that it was built in" names_no_place
 check "what kupaldiz.pc says" pc_says "-lkupaldiz" "-lkupaldiz -pthread"
@@ -278,42 +288,34 @@ if command -v cmake >/dev/null; then
 fi
 check "each call has a page" pages_are_found
 check "the change log names the version" grep -q "^## $(version)\$" "$stage$prefix/share/doc/kupaldiz/VERSIONS.md"
-check "uninstall" made uninstall
-check "uninstall leaves nothing" leaves_nothing
+goes ""
 
-# comes_and_goes NAME: it is installed there, found and used, and uninstalled. pkg-config takes no root with a blank, but a package may be made in one.
-comes_and_goes() {
-    check "$1: install" made install
-    check "$1: each file" holds_files "$(version)"
-    check "$1: each manual page" holds_pages
+# place NAME PREFIX LIBDIR ROOT: it is installed there, found and used, and uninstalled. pkg-config takes no root with a blank, but a package may be made in one.
+place() {
+    prefix=$2 libdir=$3 stage=$room/$4
+    comes "$1: "
     [[ $stage = *\ * ]] || counted "$1: programs" made installcheck
-    check "$1: uninstall" made uninstall
-    check "$1: uninstall leaves nothing" leaves_nothing
+    goes "$1: "
 }
 
-prefix=/usr libdir=/usr/lib/x86_64-linux-gnu stage=$room/debian
-comes_and_goes "a folder of Debian's"
-prefix="/usr/a place" libdir="/usr/a place/lib" stage=$room/blanks
-comes_and_goes "a path with blanks"
-prefix=/usr libdir=/usr/lib stage="$room/a root"
-comes_and_goes "a root with blanks"
+place "a folder of Debian's" /usr /usr/lib/x86_64-linux-gnu debian
+place "a path with blanks" "/usr/a place" "/usr/a place/lib" blanks
+place "a root with blanks" /usr /usr/lib "a root"
 
 prefix=/usr libdir=/usr/lib stage=$room/later
 older=$(version)
 check "an upgrade: the older version" copy_top
 check "the words of a distribution are taken" flags_are_taken
-check "an upgrade: it is installed" made install
-check "an upgrade: each of its files" holds_files "$older"
+comes "an upgrade: "
 check "the licence is told once it is chosen" licence_is_told
 check "no stale object is linked: a changed archive" relinks registry_mark_of_archive libkupaldiz mark_archive
 check "no stale object is linked: changed waits" relinks registry_mark_of_waiting libkupaldiz mark "$top/c/src/waiting.c"
 check "no stale object is linked: changed names of the pages" relinks kupaldiz_mark libkupaldiz_netbsd mark "$top/netbsd/src/psref.c"
 check "no stale object is linked: a changed bench" relinks kupaldiz_mark_of_bench libkupaldiz_bench mark "$top/explorer/src/show.c"
 check "an upgrade: the later version" sed -i -E 's/^(#define REGISTRY_VERSION_PATCH[[:blank:]]+).*/\17/' "$header"
-check "an upgrade: it is installed over the older one" made install
-check "an upgrade: each file, and none of the older version" holds_files "${older%.*}.7"
-check "an upgrade: uninstall" made uninstall
-check "an upgrade: uninstall leaves nothing" leaves_nothing
+check "an upgrade: the later version's number" test "$(version)" = "${older%.*}.7"
+comes "an upgrade, over the older one: "
+goes "an upgrade: "
 
 check "a call that no map names is told" unnamed_call_is_told
 
