@@ -77,7 +77,7 @@ exit $status
 
 def record(tree, built):
     """A record of the archive, as tools/proof-record.py writes it."""
-    summed = subprocess.run(["python3", "-c", "import sys; sys.path.insert(0, 'tools'); sys.dont_write_bytecode = True\nimport importlib, limits\n"
+    summed = subprocess.run(["python3", "-B", "-c", "import sys; sys.path.insert(0, 'tools')\nimport importlib, limits\n"
                              "print(importlib.import_module('proof-record').sum_of_sources(limits.file({})))"],
                             cwd=tree, capture_output=True, text=True, check=True).stdout.strip()
     return (f"processor: x86_64\nlimits: --cpus 64\nkit: kit\nverdict: logic=proved functions=1\nsources: {summed}\ncommit: none\ncompiled: 0\n"
