@@ -63,6 +63,14 @@ def changes(edit, tree=ROOT):
             yield Change(path, old, text)
 
 
+def places(edit):
+    """The file and the line of each text that the edit changes."""
+    for path, old, _ in changes(edit):
+        before, found, _ = path.read_text().partition(old) if path.is_file() else ("", "", "")
+        if found:
+            yield path, before.count("\n")
+
+
 def apply(edit, tree):
     """Applies the edit to `tree`; returns its files' text as it was, and why the edit doesn't fit, if so."""
     before = {}

@@ -14,7 +14,7 @@ import sys
 
 import contracts
 from contracts import contract
-from edits import BY_HAND, GATE, ROOT, changes, chosen, file_of
+from edits import BY_HAND, GATE, ROOT, chosen, file_of, places
 from parts import ended
 
 PAGE = ROOT / "docs/MODEL.md"
@@ -112,14 +112,6 @@ def operation(path, line):
     return None
 
 
-def places():
-    """Each edit for the prover, with each place in a source file that it changes."""
-    for edit in (it for kind in (GATE, BY_HAND) for it in chosen(kind, [])):
-        for path, old, _ in changes(edit):
-            before, found, _ = path.read_text().partition(old) if path.suffix == ".rt" and path.is_file() else ("", "", "")
-            yield from [(edit, path, before.count("\n"))] if found else ()
-
-
 @functools.cache
 def functions_of(path):
     """The functions of a file, which is read once."""
@@ -143,7 +135,9 @@ def quoted(names):
 
 def rows():
     """All rows, in the order of the events: the cells of each."""
-    known, tried = events(), list(places())
+    known, edits = events(), (edit for kind in (GATE, BY_HAND) for edit in chosen(kind, []))
+    # Each edit for the prover, with each place in a source file that it changes.
+    tried = [(edit, path, line) for edit in edits for path, line in places(edit) if path.suffix == ".rt"]
     made = list(steps(known))
     for event, does in known.items():
         for step in (it for it in made if it.event == event):

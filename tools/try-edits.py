@@ -26,7 +26,7 @@ from concurrent.futures import ThreadPoolExecutor
 
 from contracts import functions_of
 from edit_checks import results
-from edits import BY_HAND, CRATES, GATE, ROOT, TESTS, apply, changes, chosen, edits_of
+from edits import BY_HAND, CRATES, GATE, ROOT, TESTS, apply, chosen, edits_of, places
 from parts import ended
 
 # So many runs of tests are made side by side.
@@ -51,15 +51,6 @@ def by_test(edit):
         tree = pathlib.Path(shutil.copytree(ROOT, f"{folder}/tree", ignore=shutil.ignore_patterns(".git", "out")))
         _, misfit = apply(edit, tree)
         return edit, *((False, misfit) if misfit else failures(tree, edit.crate))
-
-
-def places(edit):
-    """The file and the line of each text that the edit changes."""
-    for path, old, _ in changes(edit):
-        if path.is_file():
-            before, found, _ = path.read_text().partition(old)
-            if found:
-                yield path, before.count("\n")
 
 
 def covered(functions, changed):
