@@ -1,11 +1,9 @@
-#!/usr/bin/env python3
+#!/usr/bin/env -S python3 -B
 """Prints the crates that stand on others, directly or through crates between: what `rt ci` proves again after a change of those.
 
     tools/above.py CRATE..    one a line, each after those that it stands on itself
 """
 import sys
-
-sys.dont_write_bytecode = True
 
 from kit import below, listed
 

@@ -1,37 +1,34 @@
-#!/usr/bin/env python3
+#!/usr/bin/env -S python3 -B
 """Runs `rt ci`, and beside it proves and builds the archive for C, out/libregistry.a, proves its library for aarch64, and tries edits.
 
     tools/archive-beside.py rt ci
 
-`rt ci` proves the static library registry_c and keeps nothing that it could be linked from. So as soon as it says that the libraries beneath are
-proved, `rattle build` proves registry_c over these same libraries and compiles it, on the processors that `rt ci` leaves idle. What it makes becomes the
-archive if no file that it was proved from was touched since; else, or where it was killed for want of memory, tools/build-archive.sh proves the
-archive once `rt ci` is done. The library for another processor is proved after it, and most of its proof is kept from there. It is left in
-out/PROCESSOR with what the proof said, for tools/build-archive.sh --for PROCESSOR, which needs that processor's compiler. The last line is
-that of `rt ci` with a check more for each processor.
+`rt ci` proves the static library registry_c and keeps nothing that it could be linked from. So as soon as it says that the libraries beneath are proved,
+`rattle build` proves registry_c over these same libraries and compiles it, on the processors that `rt ci` leaves idle. What it makes becomes the archive if no
+file that it was proved from was touched since; else, or where it was killed for want of memory, tools/build-archive.sh proves the archive once `rt ci` is done.
+The library for another processor is proved after it, and most of its proof is kept from there. It is left in out/PROCESSOR with what the proof said, for
+tools/build-archive.sh --for PROCESSOR, which needs that processor's compiler. The last line is that of `rt ci` with a check more for each processor.
 
 Where there are four processors or more, `rt ci` gets all but one: each check takes longer beside more others, and its longest chain of checks leaves some
 of them idle. On the last one `tools/try-edits.py gate` tries the edits of each crate that was proved, until `rt ci` ends. It keeps what is refused; nothing here
 is said of it, and the gate tries the others afterwards.
 """
+import collections
 import contextlib
 import os
 import pathlib
-import queue
 import re
 import shutil
 import signal
 import subprocess
 import sys
 import tempfile
-import threading
 import time
-
-sys.dont_write_bytecode = True
+from concurrent.futures import ThreadPoolExecutor
 
 from kit import below, kit, over_libraries
 from limits import LIMITS
-from parts import GIGABYTE, LAST_LINE, ROOT, ended, free_memory, guard, minutes, running, say, stop_running
+from parts import GIGABYTE, LAST_LINE, ROOT, ended, free_memory, guard, minutes, say, started, stop_running
 
 LIBRARY = "registry_c"
 OUT = ROOT / "out"
@@ -47,16 +44,21 @@ STANDS = re.compile(rf"^rt: (\w+) ({PROVED}$|is kept: )")
 FAILED = re.compile(r"^rt: (\w+) NOT PROVED")
 # A check of the library takes at most this; it waits until so much is free.
 NEEDS = 2 * GIGABYTE
-NICENESS = 10
+NICE = ["nice", "-n", "10"]
 # With so many processors or more `rt ci` leaves one to edits.
 MANY = 4
+# What came of the library for a processor: the status of its proof, how long it took, what it said and what it made.
+Proof = collections.namedtuple("Proof", "status seconds log made")
+
+
+def folders_of(crate):
+    """The folders with what a crate is proved from."""
+    return [it for it in (ROOT / "crates" / crate / part for part in ("src", "specs", "proofs")) if it.is_dir()]
 
 
 def state():
     """What changes when a file that the archive is proved from is touched."""
-    files = [ROOT / "crates.txt"]
-    for crate in [LIBRARY, *below(LIBRARY)]:
-        files += [it for part in ("src", "specs", "proofs") for it in (ROOT / "crates" / crate / part).rglob("*")]
+    files = [ROOT / "crates.txt", *(it for crate in [LIBRARY, *below(LIBRARY)] for folder in folders_of(crate) for it in folder.rglob("*"))]
     found = [(it, it.lstat()) for it in sorted(files)]
     return [(it, stat.st_ino, stat.st_size, stat.st_mtime_ns, stat.st_ctime_ns) for it, stat in found]
 
@@ -69,98 +71,48 @@ def link_or_copy(one, other):
         shutil.copy2(one, other)
 
 
-class Proof(threading.Thread):
-    """The proof of the archive's library over what `rt ci` has proved, in a folder of its own."""
+def take(room):
+    """Copies what is proved and what it is proved over: `rt ci` puts its folders out/ back as they were when it ends."""
+    for folder in folders_of(LIBRARY):
+        shutil.copytree(folder, room / LIBRARY / folder.name)
+    for name in below(LIBRARY):
+        made = f"{name}.rlib"
+        shutil.copytree(ROOT / "crates" / name / "out/rlib" / made, room / made, copy_function=link_or_copy)
 
-    def __init__(self, room):
-        super().__init__(daemon=True)
-        self.room, self.status, self.seconds = room, {}, {}
-        self.began = subprocess.run(["tools/proof-record.py", "begin", LIMITS], cwd=ROOT, stdout=subprocess.PIPE, check=True).stdout
 
-    def log(self, processor):
-        return self.room / f"{processor}.log"
+def build(processor, room, said, made):
+    """Proves and compiles the library once there is memory for it; the status of that."""
+    while free_memory() < NEEDS:
+        time.sleep(1)
+    KEPT.mkdir(parents=True, exist_ok=True)
+    made.parent.mkdir(exist_ok=True)
+    words = [*NICE, kit() / "bin/rattle", "build", *over_libraries(LIBRARY, room), "--jobs", "1", *PROCESSORS[processor]]
+    words += ["--incremental", KEPT, "--toolchain", kit() / "toolchain", "--backend", "llvm", "-o", made]
+    with started(words, cwd=room / LIBRARY, stdout=said, stderr=said) as ran:
+        # Where memory runs out, this is what ends, and no check of rt ci.
+        with contextlib.suppress(OSError):
+            pathlib.Path(f"/proc/{ran.pid}/oom_score_adj").write_text("1000")
+        return ran.wait()
 
-    def made(self, processor):
-        return self.room / processor / f"lib{LIBRARY}.a"
 
-    def take(self):
-        """Copies what is proved and what it is proved over: `rt ci` puts its folders out/ back as they were when it ends."""
-        for part in ("src", "specs", "proofs"):
-            if (ROOT / "crates" / LIBRARY / part).is_dir():
-                shutil.copytree(ROOT / "crates" / LIBRARY / part, self.room / LIBRARY / part)
-        for name in below(LIBRARY):
-            made = f"{name}.rlib"
-            shutil.copytree(ROOT / "crates" / name / "out/rlib" / made, self.room / made, copy_function=link_or_copy)
-
-    def run(self):
-        """Proves for one processor after the other, until one isn't proved."""
-        for processor in PROCESSORS:
-            began = time.monotonic()
+def prove(room, began):
+    """Proves the library over what `rt ci` has proved, for one processor after the other until one isn't proved; what came of each."""
+    came = {}
+    for processor in PROCESSORS:
+        start, log, made = time.monotonic(), room / f"{processor}.log", room / processor / f"lib{LIBRARY}.a"
+        with open(log, "wb", buffering=0) as said:
+            said.write(began)
             try:
                 if processor == FIRST:
-                    self.take()
-                self.status[processor] = self.build(processor)
+                    take(room)
+                status = build(processor, room, said, made)
             except OSError as fault:
-                self.log(processor).write_text(f"{fault}\n")
-                self.status[processor] = 1
-            self.seconds[processor] = time.monotonic() - began
-            if self.status[processor] != 0:
-                break
-
-    def build(self, processor):
-        """Proves and compiles the library once there is memory for it; the status of that."""
-        while free_memory() < NEEDS:
-            time.sleep(1)
-        KEPT.mkdir(parents=True, exist_ok=True)
-        self.made(processor).parent.mkdir(exist_ok=True)
-        words = ["nice", "-n", str(NICENESS), kit() / "bin/rattle", "build", *over_libraries(LIBRARY, self.room), "--jobs", "1"]
-        words += [*PROCESSORS[processor], "--incremental", KEPT, "--toolchain", kit() / "toolchain", "--backend", "llvm", "-o", self.made(processor)]
-        with open(self.log(processor), "wb", buffering=0) as log:
-            log.write(self.began)
-            ran = subprocess.Popen(words, cwd=self.room / LIBRARY, stdin=subprocess.DEVNULL, stdout=log, stderr=log, start_new_session=True)
-            running.add(ran.pid)
-            # Where memory runs out, this is what ends, and no check of rt ci.
-            with contextlib.suppress(OSError):
-                pathlib.Path(f"/proc/{ran.pid}/oom_score_adj").write_text("1000")
-            status = ran.wait()
-            running.discard(ran.pid)
-        return status
-
-
-class Edits(threading.Thread):
-    """Tries the gate's edits of one crate after the other, on one processor."""
-
-    def __init__(self, processor):
-        super().__init__(daemon=True)
-        self.processor, self.crates, self.starting, self.is_over = processor, queue.SimpleQueue(), threading.Lock(), False
-
-    def run(self):
-        for crate in iter(self.crates.get, None):
-            ran = self.start_on(crate)
-            if not ran:
-                return
-            ran.wait()
-            running.discard(ran.pid)
-
-    def start_on(self, crate):
-        """Starts on a crate, unless it is over."""
-        words = ["nice", "-n", str(NICENESS), *on([self.processor]), "tools/try-edits.py", "gate", crate]
-        with self.starting:
-            if self.is_over:
-                return None
-            ran = subprocess.Popen(words, cwd=ROOT, stdin=subprocess.DEVNULL, stdout=subprocess.DEVNULL, stderr=subprocess.DEVNULL, start_new_session=True)
-            running.add(ran.pid)
-            return ran
-
-    def end(self):
-        """From now on it starts on no crate."""
-        with self.starting:
-            self.is_over = True
-
-    def take(self, crate):
-        """Takes a crate that was proved, if it has edits."""
-        if (ROOT / "crates" / crate / "edits/gate.edits").is_file():
-            self.crates.put(crate)
+                said.write(f"{fault}\n".encode())
+                status = 1
+        came[processor] = Proof(status, time.monotonic() - start, log, made)
+        if status != 0:
+            break
+    return came
 
 
 def on(processors):
@@ -168,61 +120,43 @@ def on(processors):
     return ["taskset", "-c", ",".join(map(str, processors))]
 
 
-def beside(command, proof, edits):
-    """Runs the command, and starts the proof and the edits as soon as they can be; the command's last line, and its status."""
+def try_edits(crate, processor):
+    """Tries the gate's edits of a crate on one processor."""
+    words = [*NICE, *on([processor]), "tools/try-edits.py", "gate", crate]
+    with started(words, cwd=ROOT, stdout=subprocess.DEVNULL, stderr=subprocess.DEVNULL) as ran:
+        ran.wait()
+
+
+def beside(command, proved, may_prove):
+    """Runs the command. Calls `proved` with each crate that it proves, and `may_prove` once all beneath the library are; the last line, and the status."""
     waits, failed, held = set(below(LIBRARY)), False, ""
-    ran = subprocess.Popen(command, cwd=ROOT, stdin=subprocess.DEVNULL, stdout=subprocess.PIPE, text=True, errors="replace", start_new_session=True)
-    running.add(ran.pid)
-    for line in ran.stdout:
-        say(held)
-        held = line
-        failed = failed or bool(FAILED.match(line)) and FAILED.match(line)[1] in waits
-        stands = STANDS.match(line)
-        if edits and stands and stands[2] == PROVED:
-            edits.take(stands[1])
-        if stands and stands[1] in waits:
-            waits.discard(stands[1])
-            if not waits and not failed:
-                proof.start()
-    status = ran.wait()
-    running.discard(ran.pid)
-    return held, status
+    with started(command, cwd=ROOT, stdout=subprocess.PIPE, text=True, errors="replace") as ran:
+        for line in ran.stdout:
+            say(held)
+            held = line
+            failed = failed or bool(FAILED.match(line)) and FAILED.match(line)[1] in waits
+            stands = STANDS.match(line)
+            if stands and stands[2] == PROVED:
+                proved(stands[1])
+            if stands and stands[1] in waits:
+                waits.discard(stands[1])
+                if not waits and not failed:
+                    may_prove()
+        return held, ran.wait()
 
 
-def archive(proof, before):
+def archive(proof, waited, before):
     """Whether the archive stands, made of what was proved beside `rt ci` or proved now."""
-    if proof.ident is None:
-        say("the archive is not built: a library beneath it is not proved\n")
-        return False
-    began = time.monotonic()
-    proof.join()
-    waited, status = time.monotonic() - began, proof.status[FIRST]
-    if status == 0 and state() == before:
-        say(f"the archive: proved beside rt ci in {minutes(proof.seconds[FIRST])} minutes; rt ci had ended {minutes(waited)} minutes before\n")
-        command = ["tools/build-archive.sh", proof.made(FIRST), proof.log(FIRST)]
-    elif status in (0, -signal.SIGKILL):
-        say(f"the archive is proved again: {'a file that it is proved from was touched' if status == 0 else 'its proof was killed'}\n")
+    if proof.status == 0 and state() == before:
+        say(f"the archive: proved beside rt ci in {minutes(proof.seconds)} minutes; rt ci had ended {minutes(waited)} minutes before\n")
+        command = ["tools/build-archive.sh", proof.made, proof.log]
+    elif proof.status in (0, -signal.SIGKILL):
+        say(f"the archive is proved again: {'its proof was killed' if proof.status else 'a file that it is proved from was touched'}\n")
         command = ["tools/build-archive.sh"]
     else:
-        say(f"the archive is not proved, status {status}:\n{proof.log(FIRST).read_text(errors='replace')}")
+        say(f"the archive is not proved, status {proof.status}:\n{proof.log.read_text(errors='replace')}")
         return False
     return subprocess.run(command, cwd=ROOT).returncode == 0
-
-
-def other(proof, processor, before):
-    """Whether the library is proved for another processor, and left for its archive; None where what needs it has to prove it."""
-    status = proof.status.get(processor)
-    if status in (None, -signal.SIGKILL) or state() != before:
-        say(f"the library for {processor} is left to be proved\n")
-        return None
-    if status != 0:
-        say(f"the library for {processor} is not proved, status {status}:\n{proof.log(processor).read_text(errors='replace')}")
-        return False
-    (OUT / processor).mkdir(parents=True, exist_ok=True)
-    shutil.copy2(proof.log(processor), OUT / processor / "proof.log")
-    shutil.copy2(proof.made(processor), library_of(processor))
-    say(f"the library for {processor}: proved beside rt ci in {minutes(proof.seconds[processor])} minutes\n")
-    return True
 
 
 def library_of(processor):
@@ -230,14 +164,40 @@ def library_of(processor):
     return OUT / processor / f"lib{LIBRARY}.a"
 
 
-def shared_out(command):
-    """The command, and what tries edits beside it: on a processor of their own, if there are many."""
+def other(proof, processor, before):
+    """Whether the library is proved for another processor, and left for its archive; None where what needs it has to prove it."""
+    if proof is None or proof.status == -signal.SIGKILL or state() != before:
+        say(f"the library for {processor} is left to be proved\n")
+        return None
+    if proof.status != 0:
+        say(f"the library for {processor} is not proved, status {proof.status}:\n{proof.log.read_text(errors='replace')}")
+        return False
+    (OUT / processor).mkdir(parents=True, exist_ok=True)
+    shutil.copy2(proof.log, OUT / processor / "proof.log")
+    shutil.copy2(proof.made, library_of(processor))
+    say(f"the library for {processor}: proved beside rt ci in {minutes(proof.seconds)} minutes\n")
+    return True
+
+
+def run_all(command, room, edits, proofs):
+    """Runs the command with all that is done beside it: its last line, its status, and of each check beside whether it passed."""
     *most, last = sorted(os.sched_getaffinity(0))
-    if len(most) + 1 < MANY:
-        return command, None
-    edits = Edits(last)
-    edits.start()
-    return [*on(most), *command], edits
+    has_many, proving, before = len(most) + 1 >= MANY, [], state()
+    began = subprocess.run(["tools/proof-record.py", "begin", LIMITS], cwd=ROOT, stdout=subprocess.PIPE, check=True).stdout
+
+    def proved(crate):
+        if has_many and (ROOT / "crates" / crate / "edits/gate.edits").is_file():
+            edits.submit(try_edits, crate, last)
+
+    line, status = beside([*on(most), *command] if has_many else command, proved, lambda: proving.append(proofs.submit(prove, room, began)))
+    if not proving:
+        say("the archive is not built: a library beneath it is not proved\n")
+    start = time.monotonic()
+    came = proving[0].result() if proving else {}
+    waited = time.monotonic() - start
+    checks = {"the archive, proved and built": bool(proving) and archive(came[FIRST], waited, before)}
+    checks.update((f"the library for {processor}, proved", other(came.get(processor), processor, before)) for processor in OTHERS)
+    return line, status, {name: stands for name, stands in checks.items() if stands is not None}
 
 
 def main():
@@ -247,21 +207,17 @@ def main():
     guard()
     for path in (ARCHIVE, *map(library_of, OTHERS)):
         path.unlink(missing_ok=True)
-    command, edits = shared_out(command)
+    pools = ThreadPoolExecutor(1), ThreadPoolExecutor(1)
     with tempfile.TemporaryDirectory(prefix="archive-") as folder:
         try:
-            proof, before = Proof(pathlib.Path(folder)), state()
-            last, status = beside(command, proof, edits)
-            checks = {"the archive, proved and built": archive(proof, before)}
-            checks.update((f"the library for {processor}, proved", other(proof, processor, before)) for processor in OTHERS)
+            last, status, checks = run_all(command, pathlib.Path(folder), *pools)
         finally:
-            if edits:
-                edits.end()
+            for pool in pools:
+                pool.shutdown(wait=False, cancel_futures=True)
             stop_running()
     counted = LAST_LINE.match(last)
     if not counted:
         sys.exit(last)
-    checks = {name: stands for name, stands in checks.items() if stands is not None}
     for name, stands in checks.items():
         say(f"{'ok     ' if stands else 'FAILED '} {name}\n")
     good = sum(checks.values())

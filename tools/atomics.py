@@ -1,4 +1,4 @@
-#!/usr/bin/env python3
+#!/usr/bin/env -S python3 -B
 """Whether each atomic instruction of the archive for aarch64 is one of sequentially consistent steps, and most were met by a test.
 
     tools/atomics.py ARCHIVE PROGRAM..
@@ -20,19 +20,11 @@ FUNCTION = re.compile(r"^([0-9a-f]+) <(.*)>:$")
 INSTRUCTION = re.compile(r"^\s+([0-9a-f]+):\s+([a-z][\w.]*)")
 
 
-class Fault(Exception):
-    pass
-
-
 def code(path):
     """The instructions of an object or a program: place, function, distance from its beginning, name."""
     words = ["aarch64-linux-gnu-objdump", "-d", "--no-show-raw-insn", path]
-    try:
-        lines = subprocess.run(words, check=True, capture_output=True, text=True).stdout.splitlines()
-    except (OSError, subprocess.CalledProcessError) as fault:
-        raise Fault(f"{path} can't be read: {fault}") from fault
     function = begins = None
-    for line in lines:
+    for line in subprocess.run(words, check=True, capture_output=True, text=True).stdout.splitlines():
         if found := FUNCTION.match(line):
             begins, function = int(found[1], 16), found[2]
         elif function and (found := INSTRUCTION.match(line)):
@@ -65,6 +57,6 @@ if __name__ == "__main__":
         sys.exit(2)
     try:
         sys.exit(main(*sys.argv[1:]))
-    except (Fault, OSError) as fault:
+    except (subprocess.CalledProcessError, OSError) as fault:
         print(f"atomics: {fault}", file=sys.stderr)
         sys.exit(2)

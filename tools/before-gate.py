@@ -1,4 +1,4 @@
-#!/usr/bin/env python3
+#!/usr/bin/env -S python3 -B
 """A look before the gate, in a copy of the tree: what the gate would refuse for its form alone, and say at its end.
 
     tools/before-gate.py                      each file as rt fmt writes it; each edit (docs/RECIPES.md) fits its file
@@ -13,12 +13,8 @@ import subprocess
 import sys
 import tempfile
 
-sys.dont_write_bytecode = True
-
-from edits import KINDS, ROOT, TESTS, apply, edits_of, restore
-from parts import ended
-
-CRATES = sorted(it.name for it in (ROOT / "crates").iterdir() if it.is_dir())
+from edits import CRATES, KINDS, ROOT, TESTS, apply, edits_of, restore
+from parts import counted
 
 
 def rt(tree, crate, *words):
@@ -30,17 +26,6 @@ def format_faults(tree, crate):
     """What isn't as rt fmt writes it, or can't be read."""
     status, lines = rt(tree, crate, "fmt")
     return lines if status else [line.removeprefix("rt: ") for line in lines if line.startswith("rt: formatted ")]
-
-
-def edits(crate, *kinds):
-    return [edit for kind in kinds for edit in edits_of(crate, kind)]
-
-
-def misfit(tree, edit):
-    """Why the edit doesn't fit the tree, or what it lacks, if so."""
-    before, why = apply(edit, tree)
-    restore(before)
-    return why or ("" if edit.has_reason else "it has no reason, a line # below its name")
 
 
 def compile_fault(tree, crate, edit):
@@ -56,16 +41,19 @@ def looks(tree):
     """The look without a compiler: of each thing its name and what is wrong with it."""
     for crate in CRATES:
         yield crate, "; ".join(format_faults(tree, crate))
-        for edit in edits(crate, *KINDS):
-            yield edit, misfit(tree, edit)
-        names = collections.Counter(it.name for it in edits(crate, *KINDS))
+        edits = [edit for kind in KINDS for edit in edits_of(crate, kind)]
+        for edit in edits:
+            before, misfit = apply(edit, tree)
+            restore(before)
+            yield edit, misfit or ("" if edit.has_reason else "it has no reason, a line # below its name")
+        names = collections.Counter(it.name for it in edits)
         yield crate, "; ".join(f"two edits are called {name}" for name, count in names.items() if count > 1)
 
 
 def compiles(tree, crates):
     """The look of the compiler, at the edits for the prover."""
     for crate in crates or CRATES:
-        for edit in edits(crate, *(it for it in KINDS if it != TESTS)):
+        for edit in (edit for kind in KINDS if kind != TESTS for edit in edits_of(crate, kind)):
             yield edit, compile_fault(tree, crate, edit)
 
 
@@ -74,15 +62,11 @@ def main():
     if words and words[0] != "compile" or set(words[1:]) - set(CRATES):
         sys.exit(__doc__)
     kept = shutil.ignore_patterns(".git") if words else shutil.ignore_patterns("out", ".git")
-    passed = failed = 0
     with tempfile.TemporaryDirectory() as folder:
         tree = pathlib.Path(folder) / "tree"
         shutil.copytree(ROOT, tree, ignore=kept)
-        for name, fault in compiles(tree, words[1:]) if words else looks(tree):
-            passed, failed = passed + (not fault), failed + bool(fault)
-            if fault:
-                print(f"{name}: {fault}", flush=True)
-    sys.exit(ended(passed, failed))
+        found = compiles(tree, words[1:]) if words else looks(tree)
+        sys.exit(counted(f"{name}: {fault}" if fault else "" for name, fault in found))
 
 
 main()

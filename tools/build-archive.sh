@@ -51,49 +51,35 @@ command -v "${tools}ld" >/dev/null || refuse "there is no ${tools}ld: apt-get in
 room=$(mktemp -d)
 trap 'rm -rf "$room"' EXIT
 
-# The crates in a copy that has these limits.
-copy_crates() {
-    mkdir "$room/tree"
-    tar -c --exclude=out crates crates.txt HANDLES | tar -x -C "$room/tree"
-    cp "$room/limits.rt" "$room/tree/crates/registry_values/src"
-}
-
-# Proves the library for the processor and the limits, where it wasn't given.
+# Proves the library for the processor and the limits, where it wasn't given: with other limits in a copy of the crates that has them.
 prove() {
     local target=() tree=$PWD
     [ "$processor" = x86_64 ] || target=(--target "$processor-unknown-linux-gnu")
     if [ -n "$name" ]; then
-        copy_crates
         tree=$room/tree
+        mkdir "$tree"
+        tar -c --exclude=out crates crates.txt HANDLES | tar -x -C "$tree"
+        cp "$room/limits.rt" "$tree/crates/registry_values/src"
     fi
     log=$room/log library=$tree/crates/registry_c/out/libregistry_c.a
     tools/proof-record.py begin "$room/limits.rt" >"$log"
     (cd "$tree/crates/registry_c" && rt lib "${target[@]}") 2>&1 | tee -a "$log"
 }
 
-# The headers that a client of this archive includes, in one folder.
-lay_headers() {
-    mkdir "$room/include"
-    cp crates/registry_c/include/*.h "$room/include"
-    tools/limits-header.py "$room/limits.rt" >"$room/include/registry_limits.h"
-}
-
-# What is C of the archive, as objects: the functions of the heap, the calls of the header that are made of its others, and those that tell the build.
-compile() {
-    local part
-    for part in $parts; do
-        "${tools}gcc" -std=c11 -O2 -fPIC -ffunction-sections -ffile-prefix-map="$PWD"=. -I"$room/include" -c -o "$room/$part.o" "c/src/$part.c"
-    done
-}
-
 tools/limits.py file "${chosen[@]}" >"$room/limits.rt"
-lay_headers
+# The headers that a client of this archive includes, in one folder.
+mkdir "$room/include"
+cp crates/registry_c/include/*.h "$room/include"
+tools/limits-header.py "$room/limits.rt" >"$room/include/registry_limits.h"
 [ -n "$library" ] || prove
 (cd "$room" && ar x "$library")
 cp "$room/registry_c.o" "$room/compiled.o"
 tools/unwind-tables.py "$room/registry_c.o"
+# What is C of the archive, as objects: the functions of the heap, the calls of the header that are made of its others, and those that tell the build.
 parts=$(tools/proof-record.py parts)
-compile
+for part in $parts; do
+    "${tools}gcc" -std=c11 -O2 -fPIC -ffunction-sections -ffile-prefix-map="$PWD"=. -I"$room/include" -c -o "$room/$part.o" "c/src/$part.c"
+done
 # shellcheck disable=SC2086
 (cd "$room" && "${tools}ld" -r -o whole.o registry_c.o ${parts// /.o }.o)
 packaging/calls-of.sh "$room"/include/registry{,_limits}.h >"$room/calls"

@@ -1,4 +1,4 @@
-#!/usr/bin/env python3
+#!/usr/bin/env -S python3 -B
 """Finds what the documents name and the tree doesn't have: links to files and headings, and names in backquotes. Also tables that a line cuts off, and
 turns of phrase that readers stumble over (BANNED), and our private words on a page for users (PRIVATE).
 
@@ -7,17 +7,12 @@ turns of phrase that readers stumble over (BANNED), and our private words on a p
 For each document there is a check of its links and one of its names, and for a page that USERS or EXPLAINING lists, a header or a manual page too, one of
 its phrases. A name counts if it is a word of some file that isn't a document, or of a path, or if FOREIGN lists it with its origin.
 """
-import pathlib
 import re
 import subprocess
 import sys
 from fnmatch import fnmatch
 
-sys.dont_write_bytecode = True
-
-from parts import ended
-
-ROOT = pathlib.Path(__file__).resolve().parent.parent
+from parts import ROOT, counted
 
 # Words in backquotes that no file of this repository has, by where they come from.
 FOREIGN = {
@@ -74,8 +69,6 @@ USERS = ("README.md", "bench/README.md", "packaging/VERSIONS.md", "packaging/INS
          "docs/CHOOSING.md", "docs/SCRIPTS.md")
 EXPLAINING = ("docs/ARCHITECTURE.md", "docs/GUARANTEES.md", "docs/NETBSD.md", "docs/RATTLE.md")
 
-FORMS = {forms: [(re.compile(form, re.IGNORECASE), better) for form, better in forms] for forms in (BANNED, PRIVATE)}
-
 
 def tracked():
     """The files of the repository, new ones too. The tree may be another user's."""
@@ -88,14 +81,10 @@ def text_of(path):
     return path.read_text(encoding="utf-8", errors="replace")
 
 
-def slug(heading):
-    """The anchor that a heading has."""
-    kept = re.sub(r"[^\w\- ]", "", heading.replace("`", "").lower())
-    return kept.strip().replace(" ", "-")
-
-
 def anchors(path):
-    return {slug(heading) for heading in HEADING.findall(FENCED.sub("", text_of(path)))}
+    """The anchors that a page's headings have."""
+    headings = HEADING.findall(FENCED.sub("", text_of(path)).lower())
+    return {re.sub(r"[^\w\- ]", "", it).strip().replace(" ", "-") for it in headings}
 
 
 def broken(path, text):
@@ -115,50 +104,28 @@ def broken(path, text):
             yield f"no heading {target}"
 
 
-def named(quoted):
-    """The names in a piece in backquotes. What has dots or capitals in place of a part stands for many names, and isn't looked for."""
-    if ".." in quoted or quoted.startswith("-"):
-        return []
-    return [name for name in WORD.findall(quoted) if len(name) > 2 and not name.startswith("_") and not name.endswith("_") and not name.isupper()]
-
-
 def unknown(text, words):
-    """The names in backquotes that nothing has."""
-    for quoted in QUOTED.findall(text):
-        yield from (f"`{quoted}`: {name}" for name in named(quoted) if name not in words and name not in FOREIGN_WORDS)
-
-
-def unlinked(text):
-    """The prose with code blanked and without the targets of links, line by line as it was."""
-    without_code = FENCED.sub(lambda block: "\n" * block[0].count("\n"), text)
-    return INLINE.sub(lambda link: link[0][: link[0].rindex("](")], without_code)
-
-
-def is_page(name, pattern):
-    """Whether the pattern names the page; its stars are for names, not for folders."""
-    return name.count("/") == pattern.count("/") and fnmatch(name, pattern)
+    """The names in backquotes that nothing has. What has dots or capitals in place of a part stands for many names, and isn't looked for."""
+    for quoted in (it for it in QUOTED.findall(text) if ".." not in it and not it.startswith("-")):
+        names = (it for it in WORD.findall(quoted) if len(it) > 2 and it.strip("_") == it and not it.isupper())
+        yield from (f"`{quoted}`: {name}" for name in names if name not in words and name not in FOREIGN_WORDS)
 
 
 def held_to(name):
-    """The phrases that a page of that name may not have."""
-    if any(is_page(name, pattern) for pattern in USERS):
+    """The phrases that a page of that name may not have. The stars of a pattern are for names, not for folders."""
+    if any(name.count("/") == it.count("/") and fnmatch(name, it) for it in USERS):
         return BANNED + PRIVATE
     return BANNED if name in EXPLAINING else ()
 
 
-def places(prose, phrases=BANNED):
-    """Each line of the prose that has one of the phrases: its number, the words, and what to write instead."""
-    forms = [form for forms in (BANNED, PRIVATE) if forms[0] in phrases for form in FORMS[forms]]
+def awkward(text, phrases):
+    """Each line that has one of the phrases, except in code and in the targets of links: its number, the words, and what to write instead."""
+    without_code = FENCED.sub(lambda block: "\n" * block[0].count("\n"), text)
+    prose = INLINE.sub(lambda link: link[0][: link[0].rindex("](")], without_code)
     for number, line in enumerate(prose.split("\n"), 1):
-        for form, better in forms:
-            found = form.search(line)
-            if found:
-                yield number, found[0], better
-
-
-def awkward(name, text):
-    """The phrases of a document that its page may not have."""
-    yield from (f"line {number}: '{words}': {better}" for number, words, better in places(unlinked(text), held_to(name)))
+        for form, better in phrases:
+            if found := re.search(form, line, re.IGNORECASE):
+                yield f"line {number}: '{found[0]}': {better}"
 
 
 def words_of(files):
@@ -166,7 +133,7 @@ def words_of(files):
     words = set()
     for path in files:
         words.update(WORD.findall(str(path.relative_to(ROOT))))
-        if path.suffix != ".md" and path.resolve() != pathlib.Path(__file__).resolve():
+        if path.suffix != ".md" and path != ROOT / "tools/check-docs.py":
             words.update(WORD.findall(text_of(path)))
     return words
 
@@ -179,19 +146,14 @@ def checks_of(path, words):
         yield "links", list(broken(path, prose))
         yield "names", sorted(set(unknown(prose, words)))
     if held_to(name):
-        yield "phrases", list(awkward(name, text))
+        yield "phrases", list(awkward(text, held_to(name)))
 
 
 def main():
     files = tracked()
     words = words_of(files)
-    passed = failed = 0
-    for path in files:
-        for kind, found in checks_of(path, words):
-            passed, failed = passed + (not found), failed + bool(found)
-            for line in found:
-                print(f"{path.relative_to(ROOT)}: {kind}: {line}")
-    sys.exit(ended(passed, failed))
+    checks = ((path, kind, found) for path in files for kind, found in checks_of(path, words))
+    sys.exit(counted("\n".join(f"{path.relative_to(ROOT)}: {kind}: {line}" for line in found) for path, kind, found in checks))
 
 
 main()

@@ -1,26 +1,18 @@
-#!/usr/bin/env python3
+#!/usr/bin/env -S python3 -B
 """Holds imports against what a crate's specs/Common.antt and specs/Types.antt pass on (docs/PROOFS.md, "Where names come from").
 
     tools/check-imports.py      says which name is passed on and imported by no one, and which file imports one from where it is defined;
                                 ends with 'N passed, M failed': one check for each of these files
 """
 import collections
-import pathlib
 import re
 import sys
 
-sys.dont_write_bytecode = True
+from parts import ROOT, counted
 
-from parts import ended
-
-CRATES = pathlib.Path(__file__).resolve().parent.parent / "crates"
+CRATES = ROOT / "crates"
 IMPORT = re.compile(r"^ *(?:pub |ghost )*use ([\w.]+)\.\{([^}]*)\};?$", re.M)
 PASSING = ("specs/Common.antt", "specs/Types.antt")
-
-
-def imports(path):
-    """The names that the file imports, each with its module."""
-    return [(module, name.strip()) for module, names in IMPORT.findall(path.read_text()) for name in names.split(",")]
 
 
 def module_of(path):
@@ -47,18 +39,14 @@ def faults(path, passed_on, importers):
 
 def main():
     files = [it for kind in ("*/src/**/*.rt", "*/specs/**/*.antt", "*/proofs/**/*.antt") for it in CRATES.glob(kind)]
-    imported = {it: imports(it) for it in files}
+    # The names that each file imports, each with its module.
+    imported = {it: [(module, name.strip()) for module, names in IMPORT.findall(it.read_text()) for name in names.split(",")] for it in files}
     importers = collections.defaultdict(list)
     for path, found in imported.items():
         for item in found:
             importers[item].append(path)
     paths = sorted(it for name in PASSING for it in CRATES.glob(f"*/{name}"))
-    failed = 0
-    for path in paths:
-        found = list(faults(path, imported[path], importers))
-        failed += bool(found)
-        print(*found, sep="\n", end="\n" if found else "")
-    return ended(len(paths) - failed, failed)
+    return counted("\n".join(faults(path, imported[path], importers)) for path in paths)
 
 
 sys.exit(main())

@@ -36,6 +36,17 @@ check() {
     judge "$name" $?
 }
 
+negated() {
+    ! "$@"
+}
+
+# prints_nothing COMMAND..: the command finds nothing to print.
+prints_nothing() {
+    local said
+    said=$("$@")
+    [ -z "$said" ] || { echo "$said"; return 1; }
+}
+
 # says FILE COMMAND..: the command's status is 0, and it prints what is in the file.
 says() {
     local wanted=$1
@@ -59,6 +70,24 @@ storm_says() {
     shift 2
     printf 'storm %d %d\nlookups %d\nreferences %d\nwrong 0\nheld 0\n' "$cpus" "$turns" $((2 * cpus * turns)) $((cpus * turns)) >"$log.wanted"
     says "$log.wanted" "$@" "$cpus" "$turns"
+}
+
+# apt_install WORD..: what these words of apt-get name, without asking.
+apt_install() {
+    { apt-get update && DEBIAN_FRONTEND=noninteractive apt-get -o DPkg::Lock::Timeout=300 install -y "$@"; } </dev/null
+}
+
+# programs KIND HOW BEFORE PROGRAM..: each program with its words; what is before its name runs it. Three say what they did.
+# shellcheck disable=SC2086
+programs() {
+    local kind=$1 how=$2 before=$3 program
+    for program in "${@:4}"; do
+        case $program in
+        smallest | row) check "$kind $program$how" ${program}_says $before$program ;;
+        storm*) check "$kind $program$how" storm_says ${program#storm } ${before}storm ;;
+        *) check "$kind $program$how" $before$program ;;
+        esac
+    done
 }
 
 # counted NAME COMMAND..: a command that counts its own checks in lines with 'N passed, M failed' or 'N passed; M failed'.

@@ -1,4 +1,4 @@
-#!/usr/bin/env python3
+#!/usr/bin/env -S python3 -B
 """A conformance kit: scripts from a seed with their reports, for whoever builds the protocol elsewhere.
 
     tools/conformance.py write FOLDER [--seed N] [--scripts N] [--lines N] [--only COMMAND,..]
@@ -11,61 +11,55 @@ registry, tools/other_registry.py, and then once more with each of its faults, w
 M failed'. The program is crates/registry_run/out/registry_run where it stands, else the same sources, compiled by `rt try` without a proof.
 """
 import argparse
+import collections
 import pathlib
 import random
+import re
 import sys
 import tempfile
 
-sys.dont_write_bytecode = True
-
 from engines import ROOT, ran, said_when_tried
 from other_registry import FAULTS, report_of
-from parts import ended
+from parts import counted, ended
 
 PROGRAM = ROOT / "crates/registry_run/out/registry_run"
 
-# What each command may answer. NotHeld isn't among it: a label stands only for a reference that its CPU holds.
 ATTACHES = "attached Inside NeedsDriver NameTaken NoSlot HistoryFull"
-ANSWERS = {
-    "domain": "domain",
-    "limits": "limits",
-    "attach": ATTACHES,
-    "plug": f"{ATTACHES} no-label",
-    "detach": "retired Inside NotFound",
-    "enter": "inside TooDeep SectionsSpent",
-    "exit": "inside outside not-inside",
-    "find": "found none not-inside",
-    "ref": "ref label-taken NothingFound PassiveFull",
-    "copy": "ref no-label label-taken WrongCpu PassiveFull",
-    "held": "yes no no-label",
-    "read": "read no-label WrongCpu",
-    "drop": "dropped no-label WrongCpu",
-    "count": "count label-taken NothingFound LocalFull",
-    "peek": "peek no-label",
-    "uncount": "uncounted no-label",
-    "advance": "grace passive local freed NotRetired",
-    "destroy": "destroyed Inside NotRetired StillHeld",
-    "perform": "performed Inside Waiting",
-    "audit": "slot empty",
+# Of each command how often it comes, its arguments, by the methods of a Writer that choose them, and what it may answer. NotHeld isn't among that: a label
+# stands only for a reference that its CPU holds.
+Command = collections.namedtuple("Command", "weight arguments answers")
+COMMANDS = {
+    "domain": Command(0, "", "domain"),
+    "limits": Command(0, "", "limits"),
+    "attach": Command(8, "cpu kind name number", ATTACHES),
+    "plug": Command(9, "cpu plugged number label", f"{ATTACHES} no-label"),
+    "detach": Command(9, "cpu entry", "retired Inside NotFound"),
+    "enter": Command(3, "cpu", "inside TooDeep SectionsSpent"),
+    "exit": Command(22, "cpu", "inside outside not-inside"),
+    "find": Command(3, "cpu entry", "found none not-inside"),
+    "ref": Command(2, "cpu label", "ref label-taken NothingFound PassiveFull"),
+    "copy": Command(3, "cpu label label", "ref no-label label-taken WrongCpu PassiveFull"),
+    "held": Command(3, "cpu label", "yes no no-label"),
+    "read": Command(4, "cpu label", "read no-label WrongCpu"),
+    "drop": Command(16, "cpu label", "dropped no-label WrongCpu"),
+    "count": Command(2, "cpu label", "count label-taken NothingFound LocalFull"),
+    "peek": Command(3, "label", "peek no-label"),
+    "uncount": Command(14, "cpu label", "uncounted no-label"),
+    "advance": Command(20, "number", "grace passive local freed NotRetired"),
+    "destroy": Command(5, "cpu number turns", "destroyed Inside NotRetired StillHeld"),
+    "perform": Command(3, "cpu turns", "performed Inside Waiting"),
+    "audit": Command(4, "", "slot empty"),
 }
 NO_CALL = ("no label", "label taken", "not inside")
 KINDS = ("driver", "iface")
-# How often each command comes.
-WEIGHTS = {
-    "attach": 8, "plug": 9, "detach": 9, "enter": 3, "exit": 22, "find": 3, "ref": 2, "copy": 3, "held": 3, "read": 4, "drop": 16, "count": 2,
-    "peek": 3, "uncount": 14, "advance": 20, "destroy": 5, "perform": 3, "audit": 4,
-}
 
 
 class Writer:
     """Writes one script of these commands. One in eight nests a section too deep."""
 
     def __init__(self, rng, verbs):
-        self.rng = rng
-        self.cpus = rng.randint(1, 4)
-        self.changes = 0
-        self.verbs = [verb for verb in WEIGHTS if verb in verbs]
-        self.allowed = verbs
+        self.rng, self.cpus, self.changes = rng, rng.randint(1, 4), 0
+        self.verbs, self.allowed = [verb for verb, it in COMMANDS.items() if it.weight and verb in verbs], verbs
 
     def cpu(self):
         return str(self.rng.randrange(self.cpus))
@@ -73,11 +67,20 @@ class Writer:
     def name(self):
         return self.rng.choice(("wm", "wm", "vga", "wm0", "wm0"))
 
-    def kind_and_name(self):
-        """Of an entry that may be there: an interface is called wm0, mostly."""
+    def plugged(self):
+        return "wm0"
+
+    def kind(self):
+        return self.rng.choice(KINDS[:1] * 9 + KINDS[1:])
+
+    def turns(self):
+        return str(self.rng.randint(1, 3))
+
+    def entry(self):
+        """The kind and the name of an entry that may be there: an interface is called wm0, mostly."""
         name = self.name()
         kind = KINDS[name == "wm0"] if self.rng.random() < 0.9 else self.rng.choice(KINDS)
-        return [kind, name]
+        return f"{kind} {name}"
 
     def label(self):
         return self.rng.choice("abc")
@@ -86,28 +89,14 @@ class Writer:
         """Of an entry that may be there."""
         return str(self.rng.randint(max(1, self.changes // 4 - 7), self.changes // 4 + 1))
 
-    def words(self, verb):
-        rng, cpu, label = self.rng, self.cpu, self.label
+    def command(self, verb):
         self.changes += verb in ("attach", "plug", "detach")
-        return {
-            "attach": lambda: [cpu(), rng.choice(KINDS[:1] * 9 + KINDS[1:]), self.name(), self.number()],
-            "plug": lambda: [cpu(), "wm0", self.number(), label()],
-            "detach": lambda: [cpu(), *self.kind_and_name()],
-            "find": lambda: [cpu(), *self.kind_and_name()],
-            "copy": lambda: [cpu(), label(), label()],
-            "peek": lambda: [label()],
-            "advance": lambda: [self.number()],
-            "destroy": lambda: [cpu(), self.number(), str(rng.randint(1, 3))],
-            "perform": lambda: [cpu(), str(rng.randint(1, 3))],
-            "enter": lambda: [cpu()],
-            "exit": lambda: [cpu()],
-            "audit": lambda: [],
-        }.get(verb, lambda: [cpu(), label()])()
+        return " ".join([verb, *(getattr(self, it)() for it in COMMANDS[verb].arguments.split())])
 
     def burst(self):
         """A section on one CPU in which something is looked up and referred to, as far as these commands go."""
         cpu = self.cpu()
-        lines = [f"enter {cpu}", " ".join(["find", cpu, *self.kind_and_name()]), f"{self.rng.choice(('ref', 'count'))} {cpu} {self.label()}"]
+        lines = [f"enter {cpu}", f"find {cpu} {self.entry()}", f"{self.rng.choice(('ref', 'count'))} {cpu} {self.label()}"]
         lines += [f"exit {cpu}"] if self.rng.random() < 0.9 else []
         return [line for line in lines if line.split()[0] in self.allowed]
 
@@ -121,8 +110,8 @@ class Writer:
 
     def script(self, lines):
         rng, text = self.rng, list(self.head())
-        for verb in rng.choices(self.verbs, [WEIGHTS[verb] for verb in self.verbs], k=lines):
-            text.append(" ".join([verb, *self.words(verb)]))
+        for verb in rng.choices(self.verbs, [COMMANDS[verb].weight for verb in self.verbs], k=lines):
+            text.append(self.command(verb))
             if rng.random() < 0.25:
                 text.extend(self.burst())
         return "\n".join(text) + "\n"
@@ -146,20 +135,18 @@ def answer_of(line):
     return words[1] if words[0] == "refused" else words[0]
 
 
-def slot_of(line):
-    """The slot of an audit's line; -1 of any other."""
-    words = line.split()
-    return int(words[1]) if words[0] == "slot" else -1
-
-
 def answers_of(script, report):
     """Each command of a script with its answer. An audit's has a line for each slot, the least first."""
     lines = report.splitlines()
     for command in script.splitlines():
-        verb, line = command.split()[0], lines.pop(0)
-        yield verb, answer_of(line)
-        while verb == "audit" and lines and slot_of(lines[0]) > slot_of(line):
-            line = lines.pop(0)
+        verb, slot = command.split()[0], -1
+        yield verb, answer_of(lines[0])
+        while True:
+            found = re.match(r"slot (\d+)", lines.pop(0))
+            slot = int(found[1]) if found else -1
+            following = re.match(r"slot (\d+)", lines[0]) if verb == "audit" and lines else None
+            if not following or int(following[1]) <= slot:
+                break
 
 
 def write_kit(folder, options, verbs):
@@ -172,51 +159,43 @@ def write_kit(folder, options, verbs):
         (folder / f"{place:04}.txt").write_text(script)
         (folder / f"{place:04}.report").write_text(report)
     met = {answer for script, report in zip(scripts, reports) for answer in answers_of(script, report)}
-    wanted = {(verb, answer) for verb in verbs for answer in ANSWERS[verb].split()}
+    wanted = {(verb, answer) for verb in verbs for answer in COMMANDS[verb].answers.split()}
     return met & wanted, wanted - met, met - wanted
 
 
 def write(options):
-    verbs = options.only.split(",") if options.only else list(ANSWERS)
-    unknown = set(verbs) - set(ANSWERS)
+    verbs = options.only.split(",") if options.only else list(COMMANDS)
+    unknown = set(verbs) - set(COMMANDS)
     if unknown:
         sys.exit(f"no commands: {' '.join(sorted(unknown))}")
     met, never, strange = write_kit(options.folder, options, {"domain", *verbs})
     print(f"{options.scripts} scripts in {options.folder}")
     print(f"answers met: {len(met)} of {len(met) + len(never)}")
-    for verb, answer in sorted(never):
-        print(f"never met: {verb} {answer}")
-    for verb, answer in sorted(strange):
-        print(f"not in the list: {verb} {answer}")
+    for what, found in (("never met", never), ("not in the list", strange)):
+        print("".join(f"{what}: {verb} {answer}\n" for verb, answer in sorted(found)), end="")
     return bool(strange)
 
 
 def first_difference(report, found):
     """Where two reports part."""
-    wanted, said = report.splitlines(), found.splitlines()
-    for place, (one, other) in enumerate(zip([*wanted, "(the end)"], [*said, "(the end)"]), 1):
-        if one != other:
-            return f"line {place} is '{other}' and not '{one}'"
-    return "another end of line"
+    pairs = zip([*report.splitlines(), "(the end)"], [*found.splitlines(), "(the end)"])
+    parted = (f"line {place} is '{other}' and not '{one}'" for place, (one, other) in enumerate(pairs, 1) if one != other)
+    return next(parted, "another end of line")
 
 
 def failures_of(folder, program):
-    """Each script of which a program doesn't print the report, and where it parts from it."""
+    """Of each script where a program parts from its report, '' where it prints that."""
     for path in sorted(folder.glob("*.txt")):
         report = path.with_suffix(".report").read_text()
         status, found, _ = ran(program, path.read_text())
         if status != 0:
             yield f"{path.name}: status {status}"
-        elif found != report:
-            yield f"{path.name}: {first_difference(report, found)}"
+        else:
+            yield f"{path.name}: {first_difference(report, found)}" if found != report else ""
 
 
 def run(options):
-    failures = list(failures_of(options.folder, options.program))
-    for failure in failures:
-        print(failure)
-    count = len(list(options.folder.glob("*.txt")))
-    return ended(count - len(failures), len(failures))
+    return counted(failures_of(options.folder, options.program))
 
 
 def is_told(folder, fault=None):
@@ -228,7 +207,7 @@ def test(_):
     options = argparse.Namespace(seed=1, scripts=150, lines=150)
     with tempfile.TemporaryDirectory() as name:
         folder = pathlib.Path(name)
-        _, never, strange = write_kit(folder, options, set(ANSWERS))
+        _, never, strange = write_kit(folder, options, set(COMMANDS))
         checks = {"the scripts meet each answer": not never and not strange, "another registry has each report": not is_told(folder)}
         checks.update((f"a fault is found: {fault}", is_told(folder, fault)) for fault in FAULTS)
     for check, passed in checks.items():
@@ -242,9 +221,8 @@ def main():
     commands = parser.add_subparsers(required=True)
     writing = commands.add_parser("write", help="write scripts and their reports into a folder")
     writing.add_argument("folder", type=pathlib.Path)
-    writing.add_argument("--seed", type=int, default=1, help="the first script's seed")
-    writing.add_argument("--scripts", type=int, default=100, help="how many scripts")
-    writing.add_argument("--lines", type=int, default=150, help="how many commands in each, bursts aside")
+    for name, number, said in (("seed", 1, "the first script's seed"), ("scripts", 100, "how many"), ("lines", 150, "commands in each, bursts aside")):
+        writing.add_argument(f"--{name}", type=int, default=number, help=said)
     writing.add_argument("--only", help="the commands that a program has, with commas between")
     writing.set_defaults(act=write)
     running = commands.add_parser("run", help="run a program over the scripts of a folder")

@@ -1,4 +1,4 @@
-#!/usr/bin/env python3
+#!/usr/bin/env -S python3 -B
 """Prints the contract of each public function: its head and its clauses, a block each, sorted.
 
   tools/contracts.py [REVISION | . [CRATE..]]
@@ -8,9 +8,8 @@ is named. A block says the type and the name of the function, not its crate, fil
 
   diff <(tools/contracts.py REVISION) <(tools/contracts.py)
 
-shows each contract that is new, gone or otherwise worded since. What the words of a clause mean stands in specs/ and isn't compared.
-Functions of a public trait count as public; `pub(crate)` ones don't. Other tools find here where each function begins and ends, and the name that the
-checker prints for it.
+shows each contract that is new, gone or otherwise worded since. What the words of a clause mean stands in specs/ and isn't compared. Functions of a public
+trait count as public; `pub(crate)` ones don't. Other tools find here where each function begins and ends, and the name that the checker prints for it.
 """
 import collections
 import io
@@ -35,19 +34,11 @@ def sources(revision):
         for path in ROOT.glob("crates/*/src/**/*.rt"):
             yield path.relative_to(ROOT).as_posix(), path.read_text().split("\n")
         return
-    archive = subprocess.run(
-        ["git", "-C", ROOT, "archive", revision, "crates"], check=True, capture_output=True
-    ).stdout
+    archive = subprocess.run(["git", "-C", ROOT, "archive", revision, "crates"], check=True, capture_output=True).stdout
     with tarfile.open(fileobj=io.BytesIO(archive)) as tar:
         for member in tar:
             if re.match(r"crates/[^/]+/src/.*\.rt$", member.name):
                 yield member.name, tar.extractfile(member).read().decode().split("\n")
-
-
-def joined(lines):
-    """Lines as one: a list that stands on lines of its own reads as one that doesn't."""
-    text = re.sub(r"\s+", " ", " ".join(lines)).strip()
-    return re.sub(r",? ([)\]])", r"\1", re.sub(r"([(\[]) ", r"\1", text))
 
 
 def contract(lines, indent):
@@ -57,24 +48,21 @@ def contract(lines, indent):
         if line in (indent + "{", indent + "{}"):
             break
         last = line.endswith(";") or line.endswith(" {") and not re.match(r"\s*(requires|ensures)\b", line)
-        text = line[:-1].rstrip() if last else line
-        if parts and re.match(indent + r"    (requires|ensures|\w+ \{)", line):
-            parts.append([text])
-        elif parts:
-            parts[-1].append(text)
-        else:
-            parts.append([text])
+        if not parts or re.match(indent + r"    (requires|ensures|\w+ \{)", line):
+            parts.append([])
+        parts[-1].append(line[:-1].rstrip() if last else line)
         if last:
             break
-    return [joined(part) for part in parts]
+    # A list that stands on lines of its own reads as one that doesn't.
+    texts = (" ".join(" ".join(part).split()) for part in parts)
+    return [re.sub(r",? ([)\]])", r"\1", re.sub(r"([(\[]) ", r"\1", it)) for it in texts]
 
 
 def heads(lines):
     """Where a function may begin: each line's number, its text, the type that it stands in, as `Type::`, and whether that is a public trait."""
     owner, is_trait = "", False
     for number, line in enumerate(lines):
-        found = OWNER.match(line)
-        if found:
+        if found := OWNER.match(line):
             owner = re.sub(r"<.*", "", found[2].split(" for ")[-1]) + "::"
             is_trait = line.startswith("pub trait")
         elif line == "}":
@@ -108,26 +96,17 @@ def end_of(lines, first, indent):
     return len(lines) - 1
 
 
-def traits(lines):
-    """For each line the trait whose methods for a type it stands in, or ''."""
-    trait = ""
-    for line in lines:
-        found = METHODS.match(line)
-        trait = found[1] if found else "" if line == "}" else trait
-        yield trait
-
-
 def functions_of(path):
     """The functions of a file, public and private."""
-    lines = path.read_text().split("\n")
-    for (number, line, owner, is_trait), trait in zip(heads(lines), traits(lines)):
-        public = FUNCTION.match(line)
-        head = public or PRIVATE.match(line)
-        if head:
+    lines, trait = path.read_text().split("\n"), ""
+    for number, line, owner, is_trait in heads(lines):
+        methods, public = METHODS.match(line), FUNCTION.match(line)
+        # The trait whose methods for a type these are.
+        trait = methods[1] if methods else "" if line == "}" else trait
+        if head := public or PRIVATE.match(line):
             last = end_of(lines, number, head[1])
-            name = owner.replace("::", f"{trait}::") + (public[3] if public else head[2])
-            is_public = bool(public and (public[2] or is_trait))
-            yield Function(path, name, is_public, number, last, "\n".join(lines[number + 1:last]))
+            name = owner.replace("::", f"{trait}::") + head[3 if public else 2]
+            yield Function(path, name, bool(public and (public[2] or is_trait)), number, last, "\n".join(lines[number + 1:last]))
 
 
 def module_of(path, source):

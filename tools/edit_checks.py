@@ -11,7 +11,6 @@ is refused there if a goal of its own function is. One that isn't is tried once 
 Refusals are kept by the sum of all that decided them: a later run on this machine tries what has changed.
 """
 import collections
-import concurrent.futures
 import functools
 import hashlib
 import os
@@ -21,11 +20,12 @@ import shutil
 import subprocess
 import sys
 import tempfile
+from concurrent.futures import ThreadPoolExecutor, as_completed
 
 from contracts import body_begins, functions_of, module_of
 from edits import ROOT, apply, changes
 from kit import below, built, kit, over_libraries
-from parts import GIGABYTE, free_memory, processors
+from parts import GIGABYTE, at_once
 
 # How many edits one check tries.
 IN_ONE_CHECK = 16
@@ -82,12 +82,10 @@ def is_named(path, names):
 
 def may_be_assumed(function, types):
     """Whether it is a function with a body of several lines, whose statement says no more than its head; no method of a trait."""
-    lines = function.path.read_text().split("\n")
-    head = " ".join(lines[function.first:body_begins(function) + 1])
-    before = lines[max(0, function.first - 3):function.first]
-    owner = function.name.rpartition("::")[0]
-    is_plain = "-> impl " not in head and "const fn" not in head and not any("#[cycle" in it for it in before)
-    return is_plain and (not owner or owner in types) and body_begins(function) + 1 < function.last
+    lines, begins, owner = function.path.read_text().split("\n"), body_begins(function), function.name.rpartition("::")[0]
+    head, before = " ".join(lines[function.first:begins + 1]), " ".join(lines[max(0, function.first - 3):function.first])
+    is_plain = "-> impl " not in head and "const fn" not in head and "#[cycle" not in before
+    return is_plain and (not owner or owner in types) and begins + 1 < function.last
 
 
 def assume(crate, home, names):
@@ -125,30 +123,20 @@ def is_proved(said, holes):
     return bool(ended) and int(ended[1]) == len(places) and places <= set(holes) and all(stands(it, holes) for it in STATE.findall(said))
 
 
-def assuming(ran, holes):
-    """What a check came to that was given these holes."""
-    if not holes or ran.returncode != 1:
-        return Checked(ran.returncode, ran.stdout)
-    if set(FAULT.findall(ran.stdout)) & set(holes):
-        return Checked(UNTOLD, ran.stdout)
-    return Checked(0 if is_proved(ran.stdout, holes) else 1, ran.stdout)
+def assuming(status, said, holes):
+    """What a check that said this came to, which was given these holes."""
+    if not holes or status != 1:
+        return Checked(status, said)
+    if set(FAULT.findall(said)) & set(holes):
+        return Checked(UNTOLD, said)
+    return Checked(0 if is_proved(said, holes) else 1, said)
 
 
-def line_of(path, text):
-    """The line of the file on which the text begins."""
-    return path.read_text().partition(text)[0].count("\n")
-
-
-def function_at(path, line):
-    """The function of a source file in which a line stands."""
+def place_in(path, text):
+    """The line of a source file on which the text begins, and the function in which that stands, if it does."""
+    line = path.read_text().partition(text)[0].count("\n")
     found = [it for it in functions_of(path) if it.first <= line <= it.last] if path.suffix == ".rt" else []
-    return found[-1] if found else None
-
-
-def name_of(crate, function):
-    """What names the function to a check. A method has its type's path, wherever its `impl` stands: its end names it."""
-    is_method = "::" in function.name
-    return function.name if is_method else "::".join(filter(None, (module_of(function.path, ROOT / "crates" / crate / "src"), function.name)))
+    return line, found[-1] if found else None
 
 
 def named_by(edit):
@@ -159,21 +147,22 @@ def named_by(edit):
 
 def asked_for(edit, whole):
     """The functions to check: those that the edit names, or the one in which its first text stands; or else WHOLE."""
-    if whole:
-        return WHOLE
+    if whole or named_by(edit):
+        return WHOLE if whole else named_by(edit)
     path, old, _ = next(changes(edit))
-    function = function_at(path, line_of(path, old))
-    return named_by(edit) or ([name_of(edit.crate, function)] if function else [])
+    _, function = place_in(path, old)
+    if not function or "::" in function.name:
+        # A method has its type's path, wherever its `impl` stands: its end names it.
+        return [function.name] if function else []
+    return ["::".join(filter(None, (module_of(path, ROOT / "crates" / edit.crate / "src"), function.name)))]
 
 
 def body_changed(edit):
     """The function whose body is all that the edit changes, if it is so and the edit names no others."""
-    places = [(path, line_of(path, old)) for path, old, _ in changes(edit)]
-    functions = {function_at(*it) for it in places}
-    if named_by(edit) or len(functions) != 1 or None in functions:
-        return None
-    function = functions.pop()
-    return function if all(body_begins(function) < line for _, line in places) else None
+    places = [place_in(path, old) for path, old, _ in changes(edit)]
+    (_, function), *_ = places
+    is_one = function and not named_by(edit) and all(it == function for _, it in places)
+    return function if is_one and all(body_begins(function) < line for line, _ in places) else None
 
 
 def asked_for_all(edits, whole):
@@ -183,16 +172,12 @@ def asked_for_all(edits, whole):
 
 def batches(edits, whole):
     """The edits, as they are tried: those of several bodies of a crate together, each of another function."""
-    if whole:
-        return [[edit] for edit in edits]
-    rounds = collections.defaultdict(list)
-    seen = collections.Counter()
+    rounds, seen = collections.defaultdict(list), collections.Counter()
     for edit in edits:
-        function = body_changed(edit)
+        function = None if whole else body_changed(edit)
         # The edits of a function go into rounds of their own; a change of anything else goes alone.
-        key = (edit.crate, function) if function else edit
-        rounds[edit.crate, seen[key] if function else edit].append(edit)
-        seen[key] += 1
+        rounds[edit.crate, seen[edit.crate, function] if function else edit].append(edit)
+        seen[edit.crate, function] += 1
     return [of[at:at + IN_ONE_CHECK] for of in rounds.values() for at in range(0, len(of), IN_ONE_CHECK)]
 
 
@@ -219,12 +204,6 @@ def untried(ran):
     return "" if ran.returncode == 1 and ended and not unread else next(iter([*unread, *lines[-1:]]), f"status {ran.returncode}")[:300]
 
 
-def unproved(ran):
-    """What the check says where no goal of it is open: of which function it has no proof, or what it wants to be written."""
-    lines = ran.stdout.splitlines()
-    return next((it for it in lines if ": no proof: " in it or it.startswith("help: write ")), lines[-1])
-
-
 def refused(found):
     """What says that these goals refuse an edit."""
     return Try(True, f"refused: {found[0].removeprefix('note: ')[:160]}")
@@ -236,9 +215,11 @@ def judged(ran, names):
         return Try(False, f"NOT REFUSED: {', '.join(names)} still proved")
     if untried(ran):
         return Try(False, f"NOT TRIED: {untried(ran)}")
-    found = goals(ran)
+    found, lines = goals(ran), ran.stdout.splitlines()
     if not found:
-        return Try(False, f"refused, only because no proof was found: {unproved(ran)[:200]}")
+        # It says of which function it has no proof, or what it wants to be written.
+        unproved = next((it for it in lines if ": no proof: " in it or it.startswith("help: write ")), lines[-1])
+        return Try(False, f"refused, only because no proof was found: {unproved[:200]}")
     if not telling(found):
         return Try(False, f"refused only because a proof names what the edit took away: {found[0][:200]}")
     return refused(telling(found))
@@ -255,7 +236,7 @@ def is_of(goal, crate, function):
     """Whether a goal is one of the function's, or an answer of its proof files."""
     path, line = re.match(r"(?:note: )?(?:\./)?(\S+?):(\d+):", goal).groups()
     is_in_body = ROOT / "crates" / crate / path == function.path and function.first < int(line) <= function.last + 1
-    return path.startswith(proofs_of(crate, function)) or is_in_body
+    return is_in_body or path.startswith(proofs_of(crate, function))
 
 
 def check(crate, names, tree, seed):
@@ -264,8 +245,9 @@ def check(crate, names, tree, seed):
     only = [] if names == WHOLE else [word for it in names for word in ("--only", it)]
     holes = {} if names == WHOLE else assume(crate, tree / "crates" / crate, seed.names)
     words = [kit() / "bin/rattle", "check", *over_libraries(crate), "--jobs", "1", *only, *(["--allow-holes"] if holes else []), "--incremental", seed.kept]
-    said = {"stdin": subprocess.DEVNULL, "stdout": subprocess.PIPE, "stderr": subprocess.STDOUT, "text": True, "errors": "replace"}
-    return assuming(subprocess.run(words, cwd=tree / "crates" / crate, **said), holes)
+    streams = {"stdin": subprocess.DEVNULL, "stdout": subprocess.PIPE, "stderr": subprocess.STDOUT, "text": True, "errors": "replace"}
+    ran = subprocess.run(words, cwd=tree / "crates" / crate, **streams)
+    return assuming(ran.returncode, ran.stdout, holes)
 
 
 def copied(crate, room):
@@ -302,13 +284,6 @@ def check_edited(edits, names, seed):
         return check(edits[0].crate, names, tree, Seed(over, seed.names)), ""
 
 
-def try_edit(edit, seed, whole):
-    """Tries one edit alone."""
-    names = asked_for(edit, whole)
-    ran, misfit = check_edited([edit], names, seed)
-    return judged(ran, names) if ran else Try(False, f"NOT TRIED: {misfit}")
-
-
 def try_together(edits, seed):
     """Tries edits of several bodies in one check; gives those that it refuses, with what refuses them."""
     functions = {edit: body_changed(edit) for edit in edits}
@@ -322,13 +297,12 @@ def try_batch(edits, seed, whole):
     """Tries the edits together, and alone those that this doesn't refuse; gives each with its result."""
     if seed is None:
         return [(edit, UNPROVED) for edit in edits]
-    together = try_together(edits, seed) if len(edits) > 1 else {}
-    return [(edit, together.get(edit) or try_edit(edit, seed, whole)) for edit in edits]
-
-
-def lanes():
-    """How many to try side by side."""
-    return max(1, min(processors(), int(free_memory() // MEMORY)))
+    came = try_together(edits, seed) if len(edits) > 1 else {}
+    for edit in (it for it in edits if it not in came):
+        names = asked_for(edit, whole)
+        ran, misfit = check_edited([edit], names, seed)
+        came[edit] = judged(ran, names) if ran else Try(False, f"NOT TRIED: {misfit}")
+    return [(edit, came[edit]) for edit in edits]
 
 
 def tried(edits, whole=False):
@@ -336,17 +310,13 @@ def tried(edits, whole=False):
     of = collections.defaultdict(list)
     for edit in edits:
         of[edit.crate].append(edit)
-    with tempfile.TemporaryDirectory() as room, concurrent.futures.ThreadPoolExecutor(lanes()) as pool:
-        seeds = {pool.submit(seeded, crate, asked_for_all(found, whole), room): found for crate, found in of.items()}
-        tries = set()
+    with tempfile.TemporaryDirectory() as room, ThreadPoolExecutor(at_once(MEMORY)) as pool:
         try:
-            while seeds or tries:
-                for it in concurrent.futures.wait([*seeds, *tries], return_when=concurrent.futures.FIRST_COMPLETED).done:
-                    if it in seeds:
-                        tries |= {pool.submit(try_batch, batch, it.result(), whole) for batch in batches(seeds.pop(it), whole)}
-                    else:
-                        tries.remove(it)
-                        yield from it.result()
+            # They are submitted first, so all seeds are made before the first try.
+            seeds = {pool.submit(seeded, crate, asked_for_all(found, whole), room): found for crate, found in of.items()}
+            tries = [pool.submit(try_batch, batch, seed.result(), whole) for seed in as_completed(seeds) for batch in batches(seeds[seed], whole)]
+            for it in as_completed(tries):
+                yield from it.result()
         finally:
             pool.shutdown(wait=False, cancel_futures=True)
 
@@ -386,13 +356,13 @@ def results(wanted, anew, whole=False):
             sys.exit(f"{crate} uses {unbuilt[0]}, which isn't built: run rt ci first")
     kept = [it for it in wanted if not anew and place_of(it).is_file()]
     yield from ((it, Try(True, f"{place_of(it).read_text()} (kept)")) for it in kept)
-    left = []
-    for edit, result in tried([it for it in wanted if it not in kept]):
-        if whole and not result.is_refused:
-            left.append(edit)
-        else:
-            keep(edit, result)
-            yield edit, result
-    for edit, result in tried(left, whole=True) if left else ():
-        keep(edit, result)
-        yield edit, result
+    left = [it for it in wanted if it not in kept]
+    for by_whole in (False, True) if whole else (False,):
+        again = []
+        for edit, result in tried(left, by_whole):
+            if whole and not by_whole and not result.is_refused:
+                again.append(edit)
+            else:
+                keep(edit, result)
+                yield edit, result
+        left = again

@@ -26,6 +26,9 @@ class Edit(collections.namedtuple("Edit", "crate kind name text")):
         return re.sub(r"^#.*\n?", "", self.text, flags=re.M)
 
 
+CRATES = sorted(it.name for it in (ROOT / "crates").iterdir() if it.is_dir())
+
+
 def file_of(crate, kind):
     return ROOT / "crates" / crate / "edits" / f"{kind}.edits"
 
@@ -47,22 +50,25 @@ def chosen(kind, words):
         yield from edits_of(crate, kind, name) or sys.exit(f"no edit {word} in {kind}.edits")
 
 
-def base_of(edit, tree):
-    """The folder of `tree` from which the edit names its files."""
-    return tree if edit.kind == TESTS else tree / "crates" / edit.crate
-
-
 def changes(edit, tree=ROOT):
-    """The changes of an edit, in order."""
-    path = old = None
+    """The changes of an edit, in order. It names its files from the top of the tree if it is for the tests, else from its crate's folder."""
+    base, path, old = tree if edit.kind == TESTS else tree / "crates" / edit.crate, None, None
     for line in edit.text.splitlines():
         key, _, text = line.partition(": ")
         if key == "file":
-            path = base_of(edit, tree) / text
+            path = base / text
         elif key == "old":
             old = text
         elif key.rstrip(":") == "new":
             yield Change(path, old, text)
+
+
+def places(edit):
+    """The file and the line of each text that the edit changes."""
+    for path, old, _ in changes(edit):
+        before, found, _ = path.read_text().partition(old) if path.is_file() else ("", "", "")
+        if found:
+            yield path, before.count("\n")
 
 
 def apply(edit, tree):

@@ -1,4 +1,4 @@
-#!/usr/bin/env python3
+#!/usr/bin/env -S python3 -B
 """Makes the table of docs/MODEL.md from the sources: for each event its step, its contract, its lemmas and its wrong bodies.
 
     tools/event-table.py make     writes the table into docs/MODEL.md
@@ -12,12 +12,10 @@ import functools
 import re
 import sys
 
-sys.dont_write_bytecode = True
-
+import contracts
 from contracts import contract
+from edits import BY_HAND, GATE, ROOT, chosen, file_of, places
 from parts import ended
-from edits import BY_HAND, GATE, ROOT, changes, chosen, file_of
-from contracts import functions_of
 
 PAGE = ROOT / "docs/MODEL.md"
 BEGIN, END = "<!-- tools/event-table.py make -->\n\n", "\n<!-- end -->\n"
@@ -114,52 +112,38 @@ def operation(path, line):
     return None
 
 
-def is_single(path):
-    """Whether the file holds operations of one step each."""
-    return path.parent == WORDS / "src/operations" and path.stem not in SEVERAL
-
-
-def places():
-    """Each edit for the prover, with each place in a source file that it changes."""
-    for edit in (it for kind in (GATE, BY_HAND) for it in chosen(kind, [])):
-        for path, old, _ in changes(edit):
-            before, found, _ = path.read_text().partition(old) if path.suffix == ".rt" and path.is_file() else ("", "", "")
-            yield from [(edit, path, before.count("\n"))] if found else ()
-
-
 @functools.cache
-def functions_in(path):
+def functions_of(path):
     """The functions of a file, which is read once."""
-    return list(functions_of(path))
+    return list(contracts.functions_of(path))
 
 
 def edits_of(step, tried):
     """The edits of the step's body or of its operation; where there are none, those of the function of `passive_list` that calls it."""
     body, text = step.function, step.function.text
     own = [edit for edit, path, line in tried if path == body.path and body.first <= line <= body.last]
-    own += [edit for edit, path, line in tried if is_single(path) and (operation(path, line) or "?") in text]
+    single = (it for it in tried if it[1].parent == WORDS / "src/operations" and it[1].stem not in SEVERAL)
+    own += [edit for edit, path, line in single if (operation(path, line) or "?") in text]
     above = [edit for edit, path, line in tried if path.parent == LIST and any(
-        it.first <= line <= it.last and re.search(rf"\b{body.name}\(", it.text) for it in functions_in(path))]
+        it.first <= line <= it.last and re.search(rf"\b{body.name}\(", it.text) for it in functions_of(path))]
     return [link(it.name, file_of(it.crate, it.kind)) + (" *" if it.kind == BY_HAND else "") for it in dict.fromkeys(own or above)]
 
 
-def row(event, does, step, tried):
-    """The cells of a row."""
-    return [f"`{event}`", does, ", ".join(f"`{it}`" for it in definitions(event)), link(step.function.name, step.function.path), ", ".join(cited(step)),
-            ", ".join(step_lemma(step) + [f"`{it}`" for it in keeping(event)]), ", ".join(f"`{it}`" for it in method(event)), ", ".join(edits_of(step, tried))]
+def quoted(names):
+    return [f"`{it}`" for it in names]
 
 
 def rows():
-    """All rows, in the order of the events."""
-    known, tried = events(), list(places())
+    """All rows, in the order of the events: the cells of each."""
+    known, edits = events(), (edit for kind in (GATE, BY_HAND) for edit in chosen(kind, []))
+    # Each edit for the prover, with each place in a source file that it changes.
+    tried = [(edit, path, line) for edit in edits for path, line in places(edit) if path.suffix == ".rt"]
     made = list(steps(known))
     for event, does in known.items():
         for step in (it for it in made if it.event == event):
-            yield row(event, does, step, tried)
-
-
-def table(found):
-    return "\n".join([HEAD, "|---" * 8 + "|", *("| " + " | ".join(cells) + " |" for cells in found)]) + "\n"
+            found = (quoted(definitions(event)), [link(step.function.name, step.function.path)], cited(step), step_lemma(step) + quoted(keeping(event)),
+                     quoted(method(event)), edits_of(step, tried))
+            yield [f"`{event}`", does, *map(", ".join, found)]
 
 
 def faults(found):
@@ -176,7 +160,7 @@ def main():
     if sys.argv[1:] not in (["make"], ["check"]):
         sys.exit(__doc__)
     page, found = PAGE.read_text(), list(rows())
-    made = table(found)
+    made = "\n".join([HEAD, "|---" * 8 + "|", *("| " + " | ".join(cells) + " |" for cells in found)]) + "\n"
     if sys.argv[1] == "make":
         page = TABLE.sub(lambda _: BEGIN + made + END, page)
         PAGE.write_text(page)

@@ -1,11 +1,11 @@
-#!/usr/bin/env python3
+#!/usr/bin/env -S python3 -B
 """Prints what stack each export of the static library takes at most, with all that it calls in the library, in bytes, the deepest first.
 
   tools/frames.py ARCHIVE [LIMIT]
 
-With a LIMIT it says which exports are above it, and ends with status 1 if there are any. The frames are read from the
-machine code: what a function pushes, and what it takes off the stack pointer, on whatever path; one that moves it otherwise is a fault. What the C library takes in `malloc` and its
-like isn't counted. A call through a pointer, and one that comes back to itself, is a fault; a jump through a pointer is that of a table.
+With a LIMIT it says which exports are above it, and ends with status 1 if there are any. The frames are read from the machine code: what a function pushes,
+and what it takes off the stack pointer, on whatever path; one that moves it otherwise is a fault. What the C library takes in `malloc` and its like isn't
+counted. A call through a pointer, and one that comes back to itself, is a fault; a jump through a pointer is that of a table.
 """
 import re
 import subprocess
@@ -31,10 +31,6 @@ class X86:
     calls = re.compile(r"\t(?P<by>call|jmp|j[a-z]+)\s+(?:[0-9a-f]+ <(?P<to>.*?)(?:\+0x[0-9a-f]+)?>|(?P<pointer>\*.*))$")
     call, refers = ("call",), re.compile(r"R_X86_64_(?:PLT32|PC32|GOTPCREL\w*)\s+(\S+?)([-+]0x[0-9a-f]+)?$")
 
-    @staticmethod
-    def pushed(_bytes):
-        return 8
-
 
 class Aarch64:
     """The same of aarch64, where a call takes no stack: the callee saves where it returns to."""
@@ -45,10 +41,6 @@ class Aarch64:
     moves = re.compile(r"\t(?!cmp|cmn|add\tsp, sp, #)(?P<by>\w+)\tsp, ")
     calls = re.compile(r"\t(?P<by>blr?|br|b\.\w+|cbn?z|tbn?z)\t(?:.*, )?(?:[0-9a-f]+ <(?P<to>.*?)(?:\+0x[0-9a-f]+)?>|(?P<pointer>x\d+))(?:\s+//.*)?$")
     call, refers = ("bl", "blr"), re.compile(r"R_AARCH64_(?:CALL26|JUMP26)\s+(\S+?)([-+]0x[0-9a-f]+)?$")
-
-    @staticmethod
-    def pushed(bytes_):
-        return int(bytes_)
 
 
 class Fault(Exception):
@@ -64,18 +56,16 @@ class Function:
 
     def take(self, found):
         if found["push"]:
-            self.frame += self.processor.pushed(found["push"])
-            return
-        if not self.paged:
-            self.frame += int(found["size"], 16) << (12 if found["pages"] else 0)
-        self.paged = found["to"] == self.processor.bound
+            self.frame += int(found["push"]) if found["push"].isdigit() else 8
+        else:
+            self.frame += 0 if self.paged else int(found["size"], 16) << (12 if found["pages"] else 0)
+            self.paged = found["to"] == self.processor.bound
 
     def call(self, found):
         is_call = found["by"] in self.processor.call
-        if found["pointer"]:
-            if is_call:
-                raise Fault(f"{self.name} calls through a pointer")
-        elif is_call or found["to"] != self.name:
+        if is_call and found["pointer"]:
+            raise Fault(f"{self.name} calls through a pointer")
+        if not found["pointer"] and (is_call or found["to"] != self.name):
             self.calls.add(found["to"])
         self.last, self.printed = found["by"], found["to"]
 
@@ -96,17 +86,14 @@ class Function:
             self.call(found)
 
 
-def processor_of(archive):
-    """The processor whose code the archive has."""
-    said = subprocess.run(["readelf", "-h", archive], capture_output=True, text=True).stdout
-    return Aarch64 if "AArch64" in said else X86
+def said(*words):
+    return subprocess.run(words, check=True, capture_output=True, text=True).stdout
 
 
 def read(processor, archive):
     """The functions by their names."""
-    lines = subprocess.run([processor.objdump, "-dr", "--no-show-raw-insn", archive], check=True, capture_output=True, text=True).stdout.splitlines()
     functions, now = {}, None
-    for line in lines:
+    for line in said(processor.objdump, "-dr", "--no-show-raw-insn", archive).splitlines():
         if found := FUNCTION.match(line):
             now = functions[found[1]] = Function(found[1], processor)
         elif now:
@@ -127,7 +114,7 @@ def deepest(name, functions, processor, above=()):
 
 
 def main(archive, limit=None):
-    processor = processor_of(archive)
+    processor = Aarch64 if "AArch64" in said("readelf", "-h", archive) else X86
     functions = read(processor, archive)
     depths = sorted(((deepest(it, functions, processor), it) for it in functions if EXPORT.match(it)), reverse=True)
     if not depths:

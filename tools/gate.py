@@ -1,12 +1,10 @@
-#!/usr/bin/env python3
+#!/usr/bin/env -S python3 -B
 """The merge gate: the README's test command. docs/CONTRIBUTING.md says what each part does and what it may take.
 
 The groups come one after the other, the parts of a group beside each other. The last line, 'N passed, M failed', counts all of it; the status is 0
 where nothing failed.
 """
 import sys
-
-sys.dont_write_bytecode = True
 
 from parts import STATUS, Part, gate
 

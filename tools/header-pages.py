@@ -1,4 +1,4 @@
-#!/usr/bin/env python3
+#!/usr/bin/env -S python3 -B
 """Makes the manual pages of the calls for C from their headers, which alone say what a call does.
 
     tools/header-pages.py make      writes man/PAGE.3, which git doesn't keep, from man/PAGE.3.in and its header, for each page
@@ -16,17 +16,13 @@ A page's frame, PAGE.3.in, is mdoc with lines that stand for parts of the header
 A comment is in paragraphs and lists of lines that begin with '- '. In it names of calls, constants, `parameters` and other pages are marked up.
 """
 import os
-import pathlib
 import re
 import sys
 import textwrap
 from typing import NamedTuple
 
-sys.dont_write_bytecode = True
+from parts import ROOT, counted
 
-from parts import ended
-
-ROOT = pathlib.Path(__file__).resolve().parent.parent
 PAGES = {"registry": "crates/registry_c/include/registry.h", "registry_waiting": "c/include/waiting.h"}
 WIDTH = 80
 
@@ -61,19 +57,18 @@ def uncommented(lines):
     return re.sub(r"^ \*(?: |$)", "", lines, flags=re.M).strip("\n")
 
 
-def call_of(found):
-    name, comment, declared = found.groups()
-    summary, _, rest = uncommented(comment).partition("\n\n")
-    result, _, parameters = DECLARATION.match(plain(ATTRIBUTE.sub("", declared))).groups()
-    return Call(name, plain(summary), rest, result.strip(), [plain(it) for it in parameters.split(",")])
+def calls_in(text):
+    for name, comment, declared in CALL.findall(text):
+        summary, _, rest = uncommented(comment).partition("\n\n")
+        result, _, parameters = DECLARATION.match(plain(ATTRIBUTE.sub("", declared))).groups()
+        yield Call(name, plain(summary), rest, result.strip(), [plain(it) for it in parameters.split(",")])
 
 
 def groups_of(header):
     """Each group of calls: its title, what is said of all of them, and its calls. Calls before the first group have no title."""
     parts = GROUP.split(header)
     for title, text in zip([""] + parts[1::2], parts[0::2]):
-        calls = [call_of(it) for it in CALL.finditer(text)]
-        if calls:
+        if calls := list(calls_in(text)):
             head, _, rest = title.partition(". ")
             yield head.rstrip("."), rest, calls
 
@@ -95,12 +90,10 @@ def filled(text):
     return ["\\&" + it if it[0] in ".'" else it for it in lines]
 
 
-def sentences(text):
-    return re.split(r"(?<=[.?!])\s+(?=[A-Z`{(]|registry_)", plain(text))
-
-
 def prose(text):
-    return [line for sentence in sentences(text) if sentence for line in marked_up(sentence)]
+    """The lines of a text, each sentence on lines of its own."""
+    sentences = re.split(r"(?<=[.?!])\s+(?=[A-Z`{(]|registry_)", plain(text))
+    return [line for it in sentences if it for line in marked_up(it)]
 
 
 def blocks(comment):
@@ -134,33 +127,26 @@ def quoted(text):
     return f'"{text}"' if " " in text else text
 
 
-def declared(call):
-    one_line = " ".join([f".Fn {call.name}", *map(quoted, call.parameters)])
-    several = [f".Fo {call.name}", *(f".Fa {quoted(it)}" for it in call.parameters), ".Fc"]
-    return [f".Ft {quoted(call.result)}", *([one_line] if len(one_line) <= WIDTH else several)]
-
-
 def synopsis(header):
     lines = []
     for title, _, calls in groups_of(header):
         lines += [f".Ss {title}"] * bool(title)
-        lines += [line for call in calls for line in declared(call)]
+        for call in calls:
+            one_line = " ".join([f".Fn {call.name}", *map(quoted, call.parameters)])
+            several = [f".Fo {call.name}", *(f".Fa {quoted(it)}" for it in call.parameters), ".Fc"]
+            lines += [f".Ft {quoted(call.result)}", *([one_line] if len(one_line) <= WIDTH else several)]
     return lines
 
 
-def described(call):
-    """What a call's comment says, under its name and its parameters' names."""
-    words = [re.split(r"[ *]+", it)[-1] for it in call.parameters]
-    summary = call.summary if call.summary.startswith("registry_") else call.summary[0].upper() + call.summary[1:]
-    return [" ".join([".It Fn", call.name, *words]), *prose(summary + "."),
-            *[".Pp"] * bool(call.comment), *paragraphs(call.comment)]
-
-
 def calls(header):
+    """What each call's comment says, under its name and its parameters' names."""
     lines = []
     for title, common, members in groups_of(header):
         lines += [f".Ss {title}"] * bool(title) + prose(common) + [".Bl -tag -width Ds"]
-        lines += [line for call in members for line in described(call)]
+        for call in members:
+            names = [re.split(r"[ *]+", it)[-1] for it in call.parameters]
+            summary = call.summary if call.summary.startswith("registry_") else call.summary[0].upper() + call.summary[1:]
+            lines += [" ".join([".It Fn", call.name, *names]), *prose(f"{summary}."), *[".Pp"] * bool(call.comment), *paragraphs(call.comment)]
         lines.append(".El")
     return lines
 
@@ -184,18 +170,14 @@ def types(header, *chosen):
     for name in chosen:
         comment, body = only(rf"/\*((?:(?!\*/).)*)\*/\nstruct {name} {{\n(.*?)^}};", header).groups()
         lines += [f".It Vt struct {name}", *paragraphs(uncommented(comment).strip()), ".Bl -tag -width Ds -compact"]
-        for member, said in members(body):
-            lines += [".It Vt " + quoted(member), *prose(said)]
-        lines.append(".El")
+        lines += [line for member, said in members(body) for line in (".It Vt " + quoted(member), *prose(said))] + [".El"]
     return lines + [".El"]
 
 
 def constants(header, first):
     body = only(rf"^enum {{\n(\s*{first}\b.*?)^}};", header)[1]
-    lines = [".Bl -tag -width REGISTRY_SECTIONS_SPENT -offset indent -compact"]
-    for member, said in members(body):
-        lines += [f".It Dv {member.split(' = ')[0]}", *prose(said)]
-    return lines + [".El"]
+    items = [line for member, said in members(body) for line in (f".It Dv {member.split(' = ')[0]}", *prose(said))]
+    return [".Bl -tag -width REGISTRY_SECTIONS_SPENT -offset indent -compact", *items, ".El"]
 
 
 def example(_, file, name):
@@ -233,15 +215,10 @@ def write(page):
         os.replace(path.with_suffix(f".{os.getpid()}"), path)
 
 
-def main():
-    if sys.argv[1:] == ["make"]:
-        for page in PAGES:
-            write(page)
-    elif sys.argv[1:] == ["check"]:
-        sys.exit(ended(len([made(page) for page in PAGES]), 0))
-    else:
-        sys.exit(__doc__)
-
-
-if __name__ == "__main__":
-    main()
+if sys.argv[1:] == ["make"]:
+    for page in PAGES:
+        write(page)
+elif sys.argv[1:] == ["check"]:
+    sys.exit(counted("" for page in PAGES if made(page)))
+else:
+    sys.exit(__doc__)

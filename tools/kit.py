@@ -26,11 +26,6 @@ def listed():
     return {head[0]: names for head, names in lines()}
 
 
-def is_static(crate):
-    """Whether it is a static library."""
-    return [crate, "staticlib"] in [head for head, _ in lines()]
-
-
 def below(crate):
     """The crates of this repository that a crate stands on, each after those that it stands on itself."""
     found = []
@@ -57,18 +52,14 @@ def built(crate):
     return ROOT / "crates" / crate / "out/rlib" / f"{crate}.rlib"
 
 
-def root_of(crate):
-    """The crate's first source, from its folder."""
-    return next(it for it in ("src/main.rt", "src/lib.rt") if (ROOT / "crates" / crate / it).is_file())
-
-
 def over_libraries(crate, folder=None):
     """What names a crate and the libraries beneath it to `rattle`: each of these is folder/NAME.rlib, or where rt makes it."""
     at = {name: folder / f"{name}.rlib" if folder else built(name) for name in below(crate)}
-    words = ["--crate-name", crate, root_of(crate), *externs(libraries_of_kit(crate)), "-L", f"dependency={kit()}/rlibs"]
+    root = next(it for it in ("src/main.rt", "src/lib.rt") if (ROOT / "crates" / crate / it).is_file())
+    words = ["--crate-name", crate, root, *externs(libraries_of_kit(crate)), "-L", f"dependency={kit()}/rlibs"]
     words += [word for name in listed()[crate] if name in at for word in ("--extern", f"{name}={at[name]}")]
     words += [word for path in dict.fromkeys(it.parent for it in at.values()) for word in ("-L", f"dependency={path}")]
-    return [*words, *logic(), "--links", f"{crate}=", *(["--crate-type", "staticlib"] if is_static(crate) else [])]
+    return [*words, *logic(), "--links", f"{crate}=", *(["--crate-type", "staticlib"] if ([crate, "staticlib"], listed()[crate]) in lines() else [])]
 
 
 def over_sources(crate):

@@ -1,4 +1,4 @@
-#!/usr/bin/env python3
+#!/usr/bin/env -S python3 -B
 """Makes registry_limits.h, the header for C with the limits of a build, and compares the limits with each place outside of Rattle that says them again.
 
     tools/limits-header.py [LIMITS.rt] >registry_limits.h      without a file: those of crates/registry_values/src/limits.rt
@@ -10,10 +10,8 @@ Where the file lacks a limit, one line says which, the status is 2, and nothing 
 import re
 import sys
 
-sys.dont_write_bytecode = True
-
 from limits import DEFAULTS, LIMITS, RANGES, ROOT, limits, number, version
-from parts import ended
+from parts import counted
 
 HEAD = """\
 /*
@@ -81,12 +79,6 @@ def header(of):
     return HEAD + "".join(lines) + TAIL.format(build=build, version=version(), **of)
 
 
-def said(path, pattern):
-    """The number that the file says, or none."""
-    found = re.search(pattern, (ROOT / path).read_text())
-    return found and number(found[1])
-
-
 def faults():
     """For each comparison what is wrong, or ''."""
     of = limits()
@@ -94,18 +86,11 @@ def faults():
     for path in PLACED:
         yield "" if (ROOT / path).read_text() == made else f"{path} isn't what tools/limits-header.py makes of {LIMITS}: tools/limits-header.py >{path}"
     for name, path, pattern in PLACES:
-        found = said(path, pattern)
+        said = re.search(pattern, (ROOT / path).read_text())
+        found = said and number(said[1])
         yield "" if of[name] is not None and found == of[name] else f"{path}: {name} is {found} there, and {of[name]} in {LIMITS}"
     for name, wanted in {**DEFAULTS, **RANGES}.items():
         yield "" if of[name] == wanted else f"{LIMITS}: {name} is {of[name]}, and {wanted} in the default build"
-
-
-def check():
-    found = list(faults())
-    wrong = list(filter(None, found))
-    for fault in wrong:
-        print(fault)
-    return ended(len(found) - len(wrong), len(wrong))
 
 
 def main(words):
@@ -114,7 +99,7 @@ def main(words):
         return 2
     try:
         if words == ["check"]:
-            return check()
+            return counted(faults())
         of = limits(*words)
         lacking = [name for name in DEFAULTS if of[name] is None]
         if lacking:

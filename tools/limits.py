@@ -1,4 +1,4 @@
-#!/usr/bin/env python3
+#!/usr/bin/env -S python3 -B
 """The limits of a build, as the proved code says them, and the version: for the tools that write them again or compare them. As a command it says what
 limits a build is to have: what `tools/build-archive.sh --cpus N --slots N` is proved and built from.
 
@@ -12,8 +12,6 @@ is read from `LimitsLeaveRoom`, which each build proves. Words that aren't right
 import pathlib
 import re
 import sys
-
-sys.dont_write_bytecode = True
 
 ROOT = pathlib.Path(__file__).resolve().parent.parent
 LIMITS = "crates/registry_values/src/limits.rt"
@@ -50,12 +48,10 @@ def limits(path=ROOT / LIMITS):
 
 def version():
     """What a program and its library have in common: the major and the minor version, or from 1 on the major one."""
-    text = (ROOT / HEADER).read_text()
-    numbers = [re.search(rf"^#define REGISTRY_VERSION_{part}\t(\d+)$", text, re.M) for part in ("MAJOR", "MINOR")]
-    if not all(numbers):
+    numbers = dict(re.findall(r"^#define REGISTRY_VERSION_(\w+)\t(\d+)$", (ROOT / HEADER).read_text(), re.M))
+    if not {"MAJOR", "MINOR"} <= set(numbers):
         raise ValueError(f"{HEADER} says no version")
-    major, minor = (found[1] for found in numbers)
-    return f"{major}_{minor}" if major == "0" else major
+    return "{MAJOR}_{MINOR}".format(**numbers) if numbers["MAJOR"] == "0" else numbers["MAJOR"]
 
 
 class Fault(Exception):
@@ -68,9 +64,8 @@ def given(text):
     return found and int(found[1]) ** int(found[2] or 1)
 
 
-def within(word, text):
+def within(word, constant, text):
     """The number of that limit, if it is in its range."""
-    constant = CHOSEN[word]
     found = re.search(rf"\((\w+) ≤ {constant}\) × \({constant} ≤ (.*)\)", (ROOT / ROOM).read_text())
     if not found:
         raise Fault(f"{ROOM} says no range of {constant}")
@@ -92,7 +87,7 @@ def wanted(words):
             raise Fault(f"--{word} has no number")
         if CHOSEN[word] in found:
             raise Fault(f"--{word} is given twice")
-        found[CHOSEN[word]] = within(word, text)
+        found[CHOSEN[word]] = within(word, CHOSEN[word], text)
     return found
 
 
@@ -123,16 +118,16 @@ def file(of):
     return text
 
 
-def main(words):
+def main(use=None, *words):
     uses = {"name": lambda of: f"{name(of)}\n", "file": file}
-    if not words or words[0] not in uses:
+    if use not in uses:
         raise Fault("it takes name WORD.. or file WORD..")
-    print(uses[words[0]](wanted(words[1:])), end="")
+    print(uses[use](wanted(words)), end="")
 
 
 if __name__ == "__main__":
     try:
-        main(sys.argv[1:])
+        main(*sys.argv[1:])
     except (Fault, OSError) as fault:
         print(f"limits: {fault}", file=sys.stderr)
         sys.exit(2)

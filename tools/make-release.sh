@@ -1,7 +1,6 @@
 #!/usr/bin/env bash
 # Makes a release for C and Rust out of what is proved, in release/: archives to unpack, the source around them, a crate, Debian packages, PROVED and
-# SHA256SUMS.
-# docs/RECIPES.md says how it is laid out. The same commit and the same archives make the same bytes.
+# SHA256SUMS. docs/RECIPES.md says how it is laid out. The same commit and the same archives make the same bytes.
 #
 #     tools/make-release.sh                  takes the archives in out and the program, as tools/build-archive.sh and tools/prove-program.sh left them
 #     tools/make-release.sh --prove          proves and builds all three first
@@ -54,14 +53,10 @@ need_commit() {
     [ -z "$(git status --porcelain)" ] || refuse "the tree has changes that are in no commit: git status names them, git commit takes them in"
 }
 
-is_release() {
-    [ -f "$1/SHA256SUMS" ] && [ -f "$1/PROVED" ]
-}
-
 # What the folder has is taken away in the end: so it isn't there yet, or is empty, or has an older release.
 need_place() {
     local above=$to
-    if [ -n "$(ls -A "$to" 2>/dev/null)" ] && ! is_release "$to"; then
+    if [ -n "$(ls -A "$to" 2>/dev/null)" ] && ! { [ -f "$to/SHA256SUMS" ] && [ -f "$to/PROVED" ]; }; then
         refuse "there is a $to already, and it is no release: --to names another folder"
     fi
     while [ ! -e "$above" ]; do
@@ -79,16 +74,11 @@ prove_all() {
     tools/prove-program.sh
 }
 
-# Whether there is an archive for aarch64.
-has_aarch64() {
-    [ -e out/aarch64/libregistry.a ]
-}
-
 need_proved() {
     grep -qx "version = \"$version\"" rust/Cargo.toml || refuse "rust/Cargo.toml has another version than registry.h, which has $version"
     tools/proof-record.py check out/libregistry.a || exit 2
     ./registry_run --proved >/dev/null || refuse "there is no proved registry_run of the sources that stand: tools/prove-program.sh proves and builds it"
-    if has_aarch64; then
+    if [ -e out/aarch64/libregistry.a ]; then
         tools/proof-record.py check out/aarch64/libregistry.a || exit 2
         need aarch64-linux-gnu-gcc gcc-aarch64-linux-gnu
         need_library aarch64-linux-gnu-gcc libc6-dev-arm64-cross
@@ -180,7 +170,7 @@ quietly packaging/dist.sh --lay "$room/$source_name"
 packaging/pack.sh "$room" "$source_name" "$SOURCE_DATE_EPOCH" >"$made/$source_name.tar.xz"
 binaries x86_64
 packages amd64 -b
-if has_aarch64; then
+if [ -e out/aarch64/libregistry.a ]; then
     binaries aarch64
     # By the cross compiler, whose packages aren't those that dpkg-buildpackage looks for.
     packages arm64 -B -aarm64 -d
@@ -194,9 +184,7 @@ new=$(mktemp -d "$to.XXXXXX")
 trap 'rm -rf "$room" "$new"' EXIT
 chmod 755 "$new"
 cp "$made"/* "$new"
-if [ -e "$to" ]; then
-    mv "$to" "$room/older"
-fi
+[ ! -e "$to" ] || mv "$to" "$room/older"
 mv "$new" "$to"
 (cd "$to" && sed 's/^/made    /' SHA256SUMS)
 if [ -z "$(make -s licence)" ]; then

@@ -1,4 +1,4 @@
-#!/usr/bin/env python3
+#!/usr/bin/env -S python3 -B
 """Makes small wrong bodies of the code that nothing proves, and says which of them every test accepts.
 
     tools/mutants.py [--only FILE[:LINE]].. [--sample N] [--seed N] [--jobs N] [--least N]
@@ -7,13 +7,11 @@ The code is c/src/waiting.c, what is C of the archive, netbsd/src/*.c and rust/s
 in a copy of the tree, and the tests of the file's own library run until one fails. A body that the compiler makes the same code of isn't run. Those tests
 come first that saw most other wrong bodies of the file, and of these the shortest.
 
-A test that fails runs a second time: one failure on a busy machine kills nothing. Then it must pass on the tree as it stands, or the body is left untried,
-as `busy`. It hangs if it takes five times as long as on the tree as it stands,
-and --least seconds (5).
+A test that fails runs a second time: one failure on a busy machine kills nothing. Then it must pass on the tree as it stands, or the body is left untried, as
+`busy`. It hangs if it takes five times as long as on the tree as it stands, and --least seconds (5).
 
-`--only` takes the wrong bodies of a file, or of one line of it. `--sample` takes N of them by the seed (1 where none is given): the same share of
-each file. `--jobs` tries so many at a time (2). Where one survives, the status is 1: either a test is
-missing, or the body harms nobody, as one that costs time alone.
+`--only` takes the wrong bodies of a file, or of one line of it. `--sample` takes N of them by the seed (1 where none is given): the same share of each file.
+`--jobs` tries so many at a time (2). Where one survives, the status is 1: either a test is missing, or the body harms nobody, as one that costs time alone.
 """
 import argparse
 import collections
@@ -30,11 +28,8 @@ import subprocess
 import sys
 import tempfile
 import time
-from concurrent.futures import ThreadPoolExecutor
 
-sys.dont_write_bytecode = True
-
-from parts import ROOT, guard, of_session, running, stop_running
+from parts import ROOT, end_all, guard, of_session, run_all, started
 
 # ---- The rules: each changes one thing of a text and leaves the rest. ----
 #
@@ -47,11 +42,10 @@ Token = collections.namedtuple("Token", "kind text start end")
 
 SKIPPED = r"""//[^\n]*|/\*.*?\*/|b?"(?:\\.|[^"\\])*"|b?'(?:\\.|[^'\\])'|\#!?\[[^\n]*\]$|^[ \t]*\#(?:\\\n|[^\n])*"""
 TOKENS = re.compile(
-    rf"(?P<skipped>{SKIPPED})"
+    rf"(?P<skipped>{SKIPPED}|\s+)"
     r"|(?P<number>\b0[xX][0-9a-fA-F_]+[a-zA-Z0-9]*|\b[0-9][0-9_]*[a-zA-Z0-9]*)"
     r"|(?P<word>[A-Za-z_]\w*!?(?=\()|[A-Za-z_]\w*)"
-    r"|(?P<sign>->|=>|::|\.\.=?|\+\+|--|<<=|>>=|&&|\|\||[=!<>+\-*/%&|^]=|<<|>>|[^\s\w])"
-    r"|(?P<space>\s+)",
+    r"|(?P<sign>->|=>|::|\.\.=?|\+\+|--|<<=|>>=|&&|\|\||[=!<>+\-*/%&|^]=|<<|>>|[^\s\w])",
     re.MULTILINE | re.DOTALL,
 )
 UNIT_TESTS = re.compile(r"^#\[cfg\((?:all\()?test\b[^\n]*\]\nmod \w+ \{.*", re.MULTILINE | re.DOTALL)
@@ -59,15 +53,10 @@ NUMBER = re.compile(r"(0[xX][0-9a-fA-F]+|[0-9]+)([uUlL]*|[ui](?:8|16|32|64|128|s
 
 COMPARED = {"==": ["!="], "!=": ["=="], "<": ["<=", ">="], "<=": ["<", ">"], ">": [">=", "<="], ">=": [">", "<"]}
 JOINED = {"&&": ["||"], "||": ["&&"]}
-COUNTED = {
-    "+": ["-"], "-": ["+"], "*": ["+"], "/": ["*"], "%": ["+"], "+=": ["-="], "-=": ["+="], "<<": [">>"], ">>": ["<<"], "&": ["|"], "|": ["&"], "^": ["&"],
-    "|=": ["&="], "&=": ["|="],
-}
-WORDS = {
-    "true": ["false"], "false": ["true"], "break": ["continue"], "continue": ["break"], "min": ["max"], "max": ["min"], "is_some": ["is_none"],
-    "is_none": ["is_some"], "is_ok": ["is_err"], "is_err": ["is_ok"], "any": ["all"], "all": ["any"],
-}
+COUNTED = dict(zip("+ - * / % += -= << >> & | ^ |= &=".split(), ([it] for it in "- + + * + -= += >> << | & & &= |=".split())))
 RULES = {"comparison": COMPARED, "connective": JOINED, "arithmetic": COUNTED}
+PAIRS = [it.split("/") for it in "true/false break/continue min/max is_some/is_none is_ok/is_err any/all".split()]
+WORDS = {one: other for pair in PAIRS for one, other in (pair, pair[::-1])}
 # Answers: those of registry.h, of Linux, and of the crate. Each is swapped with another one, a refusal with the first of these where there is one.
 ANSWER = re.compile(r"REGISTRY_[A-Z_]+$|E[A-Z]{3,}$")
 ANSWERS = tuple(f"REGISTRY_{it}" for it in """
@@ -82,126 +71,6 @@ BODIES = {"()": ("",), "bool": ("true", "false"), "Option": ("None",), "Result<(
 HEADS = ("if", "while", "for", "switch")
 NO_STATEMENT = set("""return break continue goto case default let use struct enum typedef static const extern pub impl type mod fn do""".split())
 STORES = {"=", "+=", "-=", "|=", "&=", "*=", "/=", "^=", "<<=", ">>="}
-OPENING, CLOSING = {"(": ")", "[": "]", "{": "}"}, {")": "(", "]": "[", "}": "{"}
-
-
-def tokens_of(text):
-    """The tokens of a text, without what is between them. The crate's own tests at the end of a file are no part of it."""
-    text = UNIT_TESTS.sub("", text)
-    return [Token(found.lastgroup, found[0], *found.span()) for found in TOKENS.finditer(text) if found.lastgroup not in ("skipped", "space")]
-
-
-def partners(tokens):
-    """For each bracket that is opened the place of the one that closes it, and the other way round."""
-    opened, found = [], {}
-    for place, token in enumerate(tokens):
-        if token.text in OPENING and token.kind == "sign":
-            opened.append(place)
-        elif token.text in CLOSING and token.kind == "sign" and opened:
-            found[place] = opened.pop()
-            found[found[place]] = place
-    return found
-
-
-def is_between(text, token):
-    """Whether blanks are on both sides of a sign."""
-    return text[token.start - 1:token.start].isspace() and text[token.end:token.end + 1].isspace()
-
-
-def of_sign(text, tokens, place):
-    """What becomes of an operator."""
-    token, before = tokens[place], tokens[place - 1].text
-    if token.text in ("++", "--"):
-        yield Change("arithmetic", token.start, token.end, "--" if token.text == "++" else "++")
-    elif token.text == "!" and before in ("(", "&&", "||", "=", "if", "while", "return", ",") and tokens[place + 1].text not in ("(", "["):
-        yield Change("negation left out", token.start, token.end, "")
-    elif is_between(text, token):
-        for rule, table in RULES.items():
-            yield from (Change(rule, token.start, token.end, new) for new in table.get(token.text, ()))
-
-
-def of_number(tokens, place):
-    """A constant one greater, and 1 also as 0. How large a buffer is, is left as it is: a larger one does the same."""
-    token = tokens[place]
-    found = NUMBER.match(token.text.replace("_", ""))
-    if found and not (tokens[place - 1].text == "[" and int(found[1], 0) >= 16):
-        value = int(found[1], 0)
-        yield from (Change("constant", token.start, token.end, f"{new}{found[2]}") for new in ((value + 1,) if value != 1 else (0, 2)))
-
-
-def of_word(tokens, place):
-    """What becomes of a word that is an answer, or one of a pair."""
-    token = tokens[place]
-    yield from (Change("word", token.start, token.end, new) for new in WORDS.get(token.text, ()))
-    if token.text in ANSWERS:
-        yield Change("answer", token.start, token.end, ANSWERS[1] if token.text == ANSWERS[0] else ANSWERS[0])
-    elif ANSWER.match(token.text) and tokens[place - 1].text in ("return", "?", ":"):
-        yield Change("answer", token.start, token.end, "0")
-    elif token.text == "Refusal" and tokens[place + 1].text == "::" and tokens[place + 2].text[0].isupper():
-        name = tokens[place + 2]
-        yield Change("answer", name.start, name.end, "NotFound" if name.text != "NotFound" else "NoSlot")
-
-
-def condition(tokens, place, closed):
-    """The first and the last place of the condition behind `if` or `while`: in C in brackets, in Rust up to the block."""
-    if tokens[place + 1].text == "(" and place + 1 in closed and tokens[closed[place + 1] + 1].text not in (".", "&&", "||", "as"):
-        return place + 1, closed[place + 1]
-    block = next((it for it in range(place + 1, len(tokens)) if tokens[it].text == "{"), None)
-    return None if block is None else (place + 1, block - 1)
-
-
-def of_head(text, tokens, place, closed):
-    """A branch or a loop whose condition is negated. One comparison alone is turned by another rule."""
-    found = condition(tokens, place, closed)
-    words = {it.text for it in tokens[found[0]:found[1] + 1]} if found else {"let"}
-    if "let" in words or words & set(COMPARED) and not words & set(JOINED):
-        return
-    first, last = tokens[found[0]].start, tokens[found[1]].end
-    yield Change("branch negated", first, last, f"(!{text[first:last]})" if text[first] == "(" else f"!({text[first:last]})")
-
-
-def tokenwise(text, tokens, closed):
-    """The wrong bodies that change one token, or one condition."""
-    for place, token in enumerate(tokens[:-2]):
-        if place == 0:
-            continue
-        if token.kind == "sign":
-            yield from of_sign(text, tokens, place)
-        elif token.kind == "number":
-            yield from of_number(tokens, place)
-        else:
-            yield from of_word(tokens, place)
-            if token.text in ("if", "while"):
-                yield from of_head(text, tokens, place, closed)
-
-
-def first_of(tokens, closed, end):
-    """The place where the statement begins that ends before this one, with the head of a branch or a loop that it is the body of."""
-    place = end - 1
-    while place > 0:
-        if tokens[place].text in (")", "]") or place == end - 1 and tokens[place].text == "}":
-            place = closed.get(place, 0)
-        elif tokens[place].text in (";", "{", "}", ","):
-            return place + 1
-        place -= 1
-    return 0
-
-
-def body_of(tokens, closed, first, end):
-    """Where the statement itself begins, behind the heads of branches and loops."""
-    while first < end and tokens[first].text in (*HEADS, "else", "do"):
-        first = closed[first + 1] + 1 if tokens[first].text in HEADS and tokens[first + 1].text == "(" else first + 1
-    return first
-
-
-def statements(tokens, closed):
-    """Each statement that ends with a semicolon, as its first place with heads, its own first place, and its end."""
-    depth = 0
-    for place, token in enumerate(tokens):
-        depth += (token.text in ("(", "[")) - (token.text in (")", "]"))
-        if token.text == ";" and depth == 0:
-            first = first_of(tokens, closed, place)
-            yield first, body_of(tokens, closed, first, place), place
 
 
 def declares(words):
@@ -220,71 +89,158 @@ def is_store(words):
     return not declares(words) and (any(it.text in STORES for it in words) or bool({words[0].text, words[-1].text} & {"++", "--"}))
 
 
-def name_called(tokens, first, end):
-    """The name of the function that a statement calls."""
-    place = next((it for it in range(first, end) if tokens[it].text == "("), first)
-    return tokens[place - 1].text
+class Body:
+    """The wrong bodies of a text, by its tokens. `at` is the text of each; `closed` has for each bracket the place of its other one."""
 
+    def __init__(self, text):
+        # The crate's own tests at the end of a file are no part of it.
+        found = TOKENS.finditer(UNIT_TESTS.sub("", text))
+        self.text, self.tokens = text, [Token(it.lastgroup, it[0], *it.span()) for it in found if it.lastgroup != "skipped"]
+        self.at = [it.text for it in self.tokens]
+        self.closed, opened = {}, []
+        for place, it in enumerate(self.at):
+            if it in ("(", "[", "{"):
+                opened.append(place)
+            elif it in (")", "]", "}") and opened:
+                self.closed[place] = opened.pop()
+                self.closed[self.closed[place]] = place
 
-def before(tokens, closed, first):
-    """The first place of the statement or block that ends just before this place, within the same block."""
-    if first < 2 or tokens[first - 1].text not in (";", "}"):
-        return None
-    start = closed[first - 1] if tokens[first - 1].text == "}" else first - 1
-    found = first_of(tokens, closed, start)
-    return found if found < first and tokens[found].text not in NO_STATEMENT else None
+    def changed(self, rule, first, last, new):
+        """The wrong body that has another text from the first place to the last."""
+        return Change(rule, self.tokens[first].start, self.tokens[last].end, new)
 
+    def first_in(self, texts, places):
+        return next((it for it in places if self.at[it] in texts), None)
 
-def early(text, tokens, closed, first, own, end):
-    """A release that comes before the statement which it follows."""
-    start = before(tokens, closed, first)
-    if start is None or own != first or not RELEASES.search(name_called(tokens, own, end)):
-        return
-    from_, to = tokens[start].start, tokens[end].end
-    moved, passed = text[tokens[first].start:to], text[from_:tokens[first].start].rstrip()
-    yield Change("released early", from_, to, f"{moved} {passed}")
+    def of_sign(self, place):
+        """What becomes of an operator."""
+        token, sign, before, after = self.tokens[place], self.at[place], self.at[place - 1], self.at[place + 1]
+        if sign in ("++", "--"):
+            yield self.changed("arithmetic", place, place, "--" if sign == "++" else "++")
+        elif sign == "!" and before in ("(", "&&", "||", "=", "if", "while", "return", ",") and after not in ("(", "["):
+            yield self.changed("negation left out", place, place, "")
+        elif self.text[token.start - 1:token.start].isspace() and self.text[token.end:token.end + 1].isspace():
+            yield from (self.changed(rule, place, place, new) for rule, table in RULES.items() for new in table.get(sign, ()))
 
+    def of_number(self, place):
+        """A constant one greater, and 1 also as 0. How large a buffer is, is left as it is: a larger one does the same."""
+        found = NUMBER.match(self.at[place].replace("_", ""))
+        if found and not (self.at[place - 1] == "[" and int(found[1], 0) >= 16):
+            value = int(found[1], 0)
+            yield from (self.changed("constant", place, place, f"{new}{found[2]}") for new in ((value + 1,) if value != 1 else (0, 2)))
 
-def statementwise(text, tokens, closed):
-    """The wrong bodies that leave a statement out, or move it."""
-    for first, own, end in statements(tokens, closed):
-        if own >= end:
-            continue
-        if is_call(tokens[own:end]):
-            yield Change("call left out", tokens[own].start, tokens[end].start, "")
-            yield from early(text, tokens, closed, first, own, end)
-        elif is_store(tokens[own:end]):
-            yield Change("store left out", tokens[own].start, tokens[end].start, "")
-        elif tokens[own].text == "let" and tokens[own + 1].text.startswith("_") and tokens[own + 1].text != "_" and tokens[own + 2].text == "=":
-            yield Change("guard dropped at once", tokens[own + 1].start, tokens[own + 1].end, "_")
+    def of_word(self, place):
+        """What becomes of a word that is an answer, one of a pair, or the head of a branch or a loop."""
+        word, after = self.at[place], self.at[place + 1:place + 3]
+        if word in WORDS:
+            yield self.changed("word", place, place, WORDS[word])
+        if word in ANSWERS:
+            yield self.changed("answer", place, place, ANSWERS[word == ANSWERS[0]])
+        elif ANSWER.match(word) and self.at[place - 1] in ("return", "?", ":"):
+            yield self.changed("answer", place, place, "0")
+        elif word == "Refusal" and after[0] == "::" and after[1][0].isupper():
+            yield self.changed("answer", place + 2, place + 2, "NotFound" if after[1] != "NotFound" else "NoSlot")
+        if word in ("if", "while"):
+            yield from self.of_head(place)
 
+    def condition(self, place):
+        """The first and the last place of the condition behind `if` or `while`: in C in brackets, in Rust up to the block."""
+        end = self.closed.get(place + 1)
+        if self.at[place + 1] == "(" and end and self.at[end + 1] not in (".", "&&", "||", "as"):
+            return place + 1, end
+        block = self.first_in("{", range(place + 1, len(self.at)))
+        return block and (place + 1, block - 1)
 
-def result_of(tokens, closed, place):
-    """The type that a function of Rust answers, by its first word, and the place where its body is opened, if it has one."""
-    end = next((it for it in range(place, len(tokens)) if tokens[it].text in ("{", ";") and it in closed or tokens[it].text == ";"), None)
-    if end is None or tokens[end].text == ";":
-        return "", None
-    arrow = next((it for it in range(end, place, -1) if tokens[it].text == "->"), None)
-    inner = arrow is not None and any(tokens[it].text == "where" for it in range(place, arrow))
-    words = [] if arrow is None or inner else [it.text for it in tokens[arrow + 1:end]]
-    return "Result<()>" if words[:4] == ["Result", "<", "(", ")"] else words[0] if words else "()", end
+    def of_head(self, place):
+        """A branch or a loop whose condition is negated. One comparison alone is turned by another rule."""
+        found = self.condition(place)
+        words = set(self.at[found[0]:found[1] + 1]) if found else {"let"}
+        if "let" not in words and (not words & set(COMPARED) or words & set(JOINED)):
+            text = self.text[self.tokens[found[0]].start:self.tokens[found[1]].end]
+            yield self.changed("branch negated", *found, f"(!{text})" if text[0] == "(" else f"!({text})")
 
+    def tokenwise(self):
+        """The wrong bodies that change one token, or one condition."""
+        kinds = {"sign": self.of_sign, "number": self.of_number, "word": self.of_word}
+        for place in range(1, len(self.at) - 2):
+            yield from kinds[self.tokens[place].kind](place)
 
-def bodywise(text, tokens, closed):
-    """The functions of Rust that do nothing, and answer always the same."""
-    for place, token in enumerate(tokens[:-1]):
-        if token.text == "fn" and tokens[place + 1].kind == "word":
-            result, opened = result_of(tokens, closed, place)
-            if opened is not None and closed[opened] > opened + 1:
-                yield from (Change("body left out", tokens[opened].start, tokens[closed[opened]].end, f"{{ {new} }}") for new in BODIES.get(result, ()))
+    def first_of(self, end):
+        """The place where the statement begins that ends before this one, with the head of a branch or a loop that it is the body of."""
+        place = end - 1
+        while place > 0:
+            if self.at[place] in (")", "]") or place == end - 1 and self.at[place] == "}":
+                place = self.closed.get(place, 0)
+            elif self.at[place] in (";", "{", "}", ","):
+                return place + 1
+            place -= 1
+        return 0
+
+    def own_of(self, first, end):
+        """Where the statement itself begins, behind the heads of branches and loops."""
+        while first < end and self.at[first] in (*HEADS, "else", "do"):
+            first = self.closed[first + 1] + 1 if self.at[first] in HEADS and self.at[first + 1] == "(" else first + 1
+        return first
+
+    def statements(self):
+        """Each statement that ends with a semicolon, as its first place with heads, its own first place, and its end."""
+        depth = 0
+        for place, it in enumerate(self.at):
+            depth += (it in ("(", "[")) - (it in (")", "]"))
+            if it == ";" and depth == 0:
+                first = self.first_of(place)
+                yield first, self.own_of(first, place), place
+
+    def before(self, first):
+        """The first place of the statement or block that ends just before this place, within the same block."""
+        if first < 2 or self.at[first - 1] not in (";", "}"):
+            return None
+        found = self.first_of(self.closed[first - 1] if self.at[first - 1] == "}" else first - 1)
+        return found if found < first and self.at[found] not in NO_STATEMENT else None
+
+    def early(self, first, own, end):
+        """A release that comes before the statement which it follows."""
+        start = self.before(first)
+        called = self.at[(self.first_in("(", range(own, end)) or own) - 1]
+        if start is not None and own == first and RELEASES.search(called):
+            at = self.tokens[first].start
+            moved, passed = self.text[at:self.tokens[end].end], self.text[self.tokens[start].start:at].rstrip()
+            yield self.changed("released early", start, end, f"{moved} {passed}")
+
+    def statementwise(self):
+        """The wrong bodies that leave a statement out, or move it."""
+        for first, own, end in self.statements():
+            words, at = self.tokens[own:end], self.at[own:own + 3]
+            if words and is_call(words):
+                yield self.changed("call left out", own, end, ";")
+                yield from self.early(first, own, end)
+            elif words and is_store(words):
+                yield self.changed("store left out", own, end, ";")
+            elif words and at[0] == "let" and at[1].startswith("_") and at[1] != "_" and at[2] == "=":
+                yield self.changed("guard dropped at once", own + 1, own + 1, "_")
+
+    def result_of(self, place):
+        """The type that a function of Rust answers, by its first word, and the place where its body is opened, if it has one."""
+        end = self.first_in(("{", ";"), range(place, len(self.at)))
+        if end is None or self.at[end] == ";":
+            return "", None
+        arrow = self.first_in(("->",), range(end, place, -1))
+        words = self.at[arrow + 1:end] if arrow and "where" not in self.at[place:arrow] else ["()"]
+        return "Result<()>" if words[:4] == ["Result", "<", "(", ")"] else words[0], end
+
+    def bodywise(self):
+        """The functions of Rust that do nothing, and answer always the same."""
+        for place in (it for it, word in enumerate(self.at[:-1]) if word == "fn" and self.tokens[it + 1].kind == "word"):
+            result, opened = self.result_of(place)
+            if opened is not None and self.closed[opened] > opened + 1:
+                yield from (self.changed("body left out", opened, self.closed[opened], f"{{ {new} }}") for new in BODIES.get(result, ()))
 
 
 def changes(text):
     """All wrong bodies of a text, in its order."""
-    tokens = tokens_of(text)
-    closed = partners(tokens)
-    found = [*tokenwise(text, tokens, closed), *statementwise(text, tokens, closed), *bodywise(text, tokens, closed)]
-    return sorted(set(found), key=lambda it: (it.start, it.rule, it.new))
+    body = Body(text)
+    found = {*body.tokenwise(), *body.statementwise(), *body.bodywise()}
+    return sorted(found, key=lambda it: (it.start, it.rule, it.new))
 
 
 # ---- What is built and run. ----
@@ -365,8 +321,7 @@ def of_crate(_):
 
 
 def compile_c(file):
-    words = ["gcc", *C_FLAGS.partition("=")[2].split(), "-O2", "-g0", "-Ic/include", "-Icrates/registry_c/include", "-c", file, "-o", OBJECT]
-    return words, OBJECT
+    return ["gcc", *C_FLAGS.partition("=")[2].split(), "-O2", "-g0", "-Ic/include", "-Icrates/registry_c/include", "-c", file, "-o", OBJECT], OBJECT
 
 
 def compile_layer(file):
@@ -387,12 +342,6 @@ def files():
     return {str(path.relative_to(ROOT)): library for library in LIBRARIES for path in sorted(ROOT.glob(library.files))}
 
 
-def one_line(text):
-    """A text in one line, cut where it is long."""
-    line = " ".join(text.split())
-    return line if len(line) <= MOST_SHOWN else f"{line[:MOST_SHOWN]} .."
-
-
 @functools.cache
 def mutants_of(file):
     """All wrong bodies of a file."""
@@ -400,8 +349,8 @@ def mutants_of(file):
     for change in changes(text):
         first, last = text.rfind("\n", 0, change.start) + 1, text.find("\n", change.end)
         new = text[first:change.start] + change.new + text[change.end:last]
-        line = text.count("\n", 0, change.start) + 1
-        found.append(Mutant(file, line, change.rule, one_line(text[first:last]), one_line(new), text[:first] + new + text[last:]))
+        shown = (it if len(it) <= MOST_SHOWN else f"{it[:MOST_SHOWN]} .." for it in (" ".join(each.split()) for each in (text[first:last], new)))
+        found.append(Mutant(file, text.count("\n", 0, change.start) + 1, change.rule, *shown, text[:first] + new + text[last:]))
     return list(dict.fromkeys(found))
 
 
@@ -410,16 +359,12 @@ def run(words, folder, seconds, memory=None):
     environment = {it: text for it, text in os.environ.items() if it not in ("CARGO_TARGET_DIR", "REGISTRY_LIB_DIR")} | {"CARGO_BUILD_JOBS": "1"}
     limits = ["prlimit", "--core=0", f"--fsize={MOST_BYTES}", *([f"--data={memory}"] if memory else [])]
     with tempfile.TemporaryFile() as said:
-        process = subprocess.Popen([*limits, *words], cwd=folder, env=environment, stdin=subprocess.DEVNULL, stdout=said, stderr=said, start_new_session=True)
-        running.add(process.pid)
-        with contextlib.suppress(subprocess.TimeoutExpired):
-            process.wait(seconds)
-        status = process.poll()
-        for pid in of_session(process.pid):
-            with contextlib.suppress(ProcessLookupError):
-                os.kill(pid, signal.SIGKILL)
-        process.wait()
-        running.discard(process.pid)
+        with started([*limits, *words], cwd=folder, env=environment, stdout=said, stderr=said) as process:
+            with contextlib.suppress(subprocess.TimeoutExpired):
+                process.wait(seconds)
+            status = process.poll()
+            end_all(of_session(process.pid), signal.SIGKILL)
+            process.wait()
         said.seek(max(0, said.tell() - 4000))
         return status, said.read().decode(errors="replace")
 
@@ -459,7 +404,7 @@ class Lane:
             found.append(run(test.run, self.folder, limit, test.memory)[0])
         return "" if 0 in found else "hung" if None in found else "killed"
 
-    def judge(self, library, mutant, tests, limits):
+    def judge(self, tests, limits):
         """What comes of the wrong body that is here, and by which test; `tests` in the order in which they run."""
         built = set()
         for test in tests:
@@ -481,7 +426,7 @@ class Lane:
             made = library.compiled and self.object(library, mutant.file)
             if library.compiled and made in (None, stands):
                 return "not built" if made is None else "same code", ""
-            return self.judge(library, mutant, tests, limits)
+            return self.judge(tests, limits)
         finally:
             path.write_text(before)
 
@@ -498,15 +443,13 @@ class Tried:
         for test in {it.name: it for tests in self.tests.values() for it in tests}.values():
             self.limits[test.name] = self.least + TIMES * lane.seconds(test)
 
-    def in_order(self, file):
-        """The tests of a file: the one that is called as the file comes first, until others saw more."""
-        stem, seen = pathlib.Path(file).stem, self.seen[file]
-        return sorted(self.tests[file], key=lambda it: (-seen[it.name] - it.name.endswith(stem), self.limits[it.name]))
-
     def one(self, lane, mutant):
-        outcome, by = lane.try_mutant(self.of_file[mutant.file], mutant, self.in_order(mutant.file), self.limits)
+        """Tries a wrong body. The test that is called as its file comes first, until others saw more."""
+        stem, seen = pathlib.Path(mutant.file).stem, self.seen[mutant.file]
+        tests = sorted(self.tests[mutant.file], key=lambda it: (-seen[it.name] - it.name.endswith(stem), self.limits[it.name]))
+        outcome, by = lane.try_mutant(self.of_file[mutant.file], mutant, tests, self.limits)
         self.came[mutant] = outcome
-        self.seen[mutant.file].update([by] if by else [])
+        seen.update([by] if by else [])
         print(f"{mutant.file}:{mutant.line}: {mutant.rule}: {mutant.new}: {outcome}{f' by {by}' if by else ''}", flush=True)
 
     def report(self):
@@ -534,23 +477,16 @@ def try_all(tried, jobs, room):
         finally:
             free.put(lane)
 
-    with ThreadPoolExecutor(jobs) as pool:
-        try:
-            collections.deque(pool.map(one, tried.bodies), maxlen=0)
-        except BaseException:
-            pool.shutdown(wait=False, cancel_futures=True)
-            stop_running()
-            raise
+    run_all(one, tried.bodies, jobs)
 
 
 def sampled(found, count, seed):
     """So many of them: of each file the same share, by chance. Those that come first are such a sample, too, where a run is cut off."""
-    of_files = collections.defaultdict(list)
-    for it in found:
-        of_files[it.file].append(it)
-    for file, bodies in of_files.items():
+    places = {}
+    for file in dict.fromkeys(it.file for it in found):
+        bodies = [it for it in found if it.file == file]
         random.Random(f"{seed} {file}").shuffle(bodies)
-    places = {it: (place + 0.5) / len(bodies) for bodies in of_files.values() for place, it in enumerate(bodies)}
+        places.update((it, (place + 0.5) / len(bodies)) for place, it in enumerate(bodies))
     return sorted(found, key=places.get)[:count]
 
 

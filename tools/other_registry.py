@@ -1,4 +1,4 @@
-#!/usr/bin/env python3
+#!/usr/bin/env -S python3 -B
 """A registry that shares nothing with this repository's, written after docs/SCRIPTS.md: tools/conformance.py tries it as a program of somebody's own.
 
     tools/other_registry.py [FAULT] <SCRIPT
@@ -6,7 +6,7 @@
 It prints the report of a script that has no fault. With one of FAULTS it is wrong in that way, which the scripts of the kit have to find.
 """
 import sys
-from dataclasses import dataclass, field
+from dataclasses import dataclass
 
 FAULTS = {
     "no-grace": "an entry's slot doesn't wait for the sections that may hold it",
@@ -47,14 +47,6 @@ class Cpu:
     found: object = None
 
 
-@dataclass
-class Labels:
-    """The references that labels name: the CPU and the entry of each passive one, the entry of each local one."""
-
-    passive: dict = field(default_factory=dict)
-    local: dict = field(default_factory=dict)
-
-
 class Line(Exception):
     """The line of a command that changes nothing."""
 
@@ -63,11 +55,25 @@ def refuse(name):
     raise Line(f"refused {name}")
 
 
+def filled(labels, label):
+    if label not in labels:
+        raise Line("no label")
+    return labels[label]
+
+
+def vacant(labels, label):
+    if label in labels:
+        raise Line("label taken")
+
+
 class Registry:
-    """The registry of one script. A method named as a command carries it out, and returns its line."""
+    """The registry of one script. A method named as a command carries it out, and returns its line.
+
+    Labels name references: the CPU and the entry of each passive one, the entry of each local one.
+    """
 
     def __init__(self, fault=None):
-        self.fault, self.changes, self.entries, self.labels = fault, 0, [], Labels()
+        self.fault, self.changes, self.entries, self.passives, self.locals = fault, 0, [], {}, {}
         self.change_limit, self.section_limit, self.passive_limit, self.count_limit = 1000, 1000, 100, 100
 
     def domain(self, cpus, slots):
@@ -85,20 +91,11 @@ class Registry:
 
     def passive(self, entry, cpu):
         """How many passive references the CPU has to the entry."""
-        return sum(it == (cpu, entry) for it in self.labels.passive.values())
+        return sum(it == (cpu, entry) for it in self.passives.values())
 
     def local(self, entry):
         """How many local references to the entry are held, by labels and by slots."""
-        return sum(it is entry for it in self.labels.local.values()) + sum(it.kept is entry for it in self.entries)
-
-    def filled(self, labels, label):
-        if label not in labels:
-            raise Line("no label")
-        return labels[label]
-
-    def vacant(self, labels, label):
-        if label in labels:
-            raise Line("label taken")
+        return sum(it is entry for it in self.locals.values()) + sum(it.kept is entry for it in self.entries)
 
     def inside(self, cpu):
         if not self.cpus[cpu].depth:
@@ -145,12 +142,12 @@ class Registry:
         return self.publish(kind, name, value)
 
     def plug(self, cpu, name, value, label):
-        driver = self.filled(self.labels.local, label)
+        driver = filled(self.locals, label)
         self.outside(cpu)
         if driver.kind != "driver":
             refuse("NeedsDriver")
         line = self.publish("iface", name, value)
-        self.entries[-1].kept = self.labels.local.pop(label)
+        self.entries[-1].kept = self.locals.pop(label)
         return line
 
     def publish(self, kind, name, value):
@@ -178,24 +175,24 @@ class Registry:
     def refer(self, cpu, label, entry):
         if self.passive(entry, cpu) >= self.passive_limit:
             refuse("PassiveFull")
-        self.labels.passive[label] = cpu, entry
+        self.passives[label] = cpu, entry
         return f"ref {label} {entry.number}"
 
     def own(self, cpu, label):
-        owner, entry = self.filled(self.labels.passive, label)
+        owner, entry = filled(self.passives, label)
         return entry if owner == cpu else refuse("WrongCpu")
 
     def ref(self, cpu, label):
-        self.vacant(self.labels.passive, label)
+        vacant(self.passives, label)
         return self.refer(cpu, label, self.cpus[cpu].found or refuse("NothingFound"))
 
     def copy(self, cpu, label, second):
-        self.filled(self.labels.passive, label)
-        self.vacant(self.labels.passive, second)
+        filled(self.passives, label)
+        vacant(self.passives, second)
         return self.refer(cpu, second, self.own(cpu, label))
 
     def held(self, cpu, label):
-        return "yes" if self.passive(self.filled(self.labels.passive, label)[1], cpu) else "no"
+        return "yes" if self.passive(filled(self.passives, label)[1], cpu) else "no"
 
     def read(self, cpu, label):
         entry = self.own(cpu, label)
@@ -203,27 +200,27 @@ class Registry:
 
     def drop(self, cpu, label):
         entry = self.own(cpu, label)
-        del self.labels.passive[label]
+        del self.passives[label]
         return f"dropped {label} {entry.number}"
 
     # Local references.
 
     def count(self, cpu, label):
-        self.vacant(self.labels.local, label)
+        vacant(self.locals, label)
         entry = self.cpus[cpu].found or refuse("NothingFound")
         if entry.net[cpu] >= self.count_limit:
             refuse("LocalFull")
         entry.net[cpu] += 1
-        self.labels.local[label] = entry
+        self.locals[label] = entry
         return f"count {label} {entry.number}"
 
     def peek(self, label):
-        entry = self.filled(self.labels.local, label)
+        entry = filled(self.locals, label)
         return f"peek {entry.number} value {entry.value}"
 
     def uncount(self, cpu, label):
-        entry = self.filled(self.labels.local, label)
-        del self.labels.local[label]
+        entry = filled(self.locals, label)
+        del self.locals[label]
         entry.net[cpu] -= 1
         return f"uncounted {label} {entry.number}"
 

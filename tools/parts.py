@@ -32,8 +32,21 @@ STATUS = None
 Part = collections.namedtuple("Part", "name command count folder memory", defaults=(LAST_LINE, ROOT, GIGABYTE // 4))
 Ended = collections.namedtuple("Ended", "name passed failed clock processor text")
 
-running = set()
+# The processes that lead a session of their own, and whether no other one may start any more.
+running, is_over, starting = set(), threading.Event(), threading.Lock()
 ENDINGS = (signal.SIGTERM, signal.SIGHUP, signal.SIGINT)
+
+
+@contextlib.contextmanager
+def started(words, **streams):
+    """A process that leads a session of its own, reads nothing, and ends with this one; also where what is done with it here is cut off."""
+    with starting:
+        if is_over.is_set():
+            raise RuntimeError("nothing starts any more")
+        process = subprocess.Popen(list(map(str, words)), stdin=subprocess.DEVNULL, start_new_session=True, **streams)
+        running.add(process.pid)
+    yield process
+    running.discard(process.pid)
 
 
 def of_session(leader):
@@ -44,13 +57,20 @@ def of_session(leader):
                 yield int(folder.name)
 
 
+def end_all(processes, number):
+    """Sends each process this signal, if it still runs."""
+    for pid in processes:
+        with contextlib.suppress(ProcessLookupError):
+            os.kill(pid, number)
+
+
 def stop_running():
     """Ends the parts that run, with all that they started: first by asking, so that a part can end what it keeps in sessions of its own."""
+    with starting:
+        is_over.set()
     for number, seconds in ((signal.SIGTERM, 2), (signal.SIGKILL, 0)):
         left = [pid for leader in list(running) for pid in of_session(leader)]
-        for pid in left:
-            with contextlib.suppress(ProcessLookupError):
-                os.kill(pid, number)
+        end_all(left, number)
         time.sleep(seconds if left else 0)
 
 
@@ -80,16 +100,13 @@ def judged(part, text, status):
 def run(part, say=None):
     """Runs a part to its end. `say` gets each line of standard output as it comes, except the count; without it standard error is kept with the rest."""
     began, lines = time.monotonic(), []
-    command = shlex.split(part.command) if isinstance(part.command, str) else list(map(str, part.command))
-    streams = {"stdin": subprocess.DEVNULL, "stdout": subprocess.PIPE, "stderr": None if say else subprocess.STDOUT}
-    process = subprocess.Popen(command, cwd=part.folder, errors="replace", text=True, start_new_session=True, **streams)
-    running.add(process.pid)
-    for line in process.stdout:
-        if say and lines:
-            say(lines[-1])
-        lines.append(line)
-    _, status, used = os.wait4(process.pid, 0)
-    running.discard(process.pid)
+    command = shlex.split(part.command) if isinstance(part.command, str) else part.command
+    with started(command, cwd=part.folder, errors="replace", text=True, stdout=subprocess.PIPE, stderr=None if say else subprocess.STDOUT) as process:
+        for line in process.stdout:
+            if say and lines:
+                say(lines[-1])
+            lines.append(line)
+        _, status, used = os.wait4(process.pid, 0)
     process.returncode = os.waitstatus_to_exitcode(status)
     text = "".join(lines)
     passed, failed = judged(part, text, process.returncode)
@@ -112,43 +129,33 @@ def free_memory():
     return free
 
 
-class Memory:
-    """Lets parts begin while their memory is free; one alone always may."""
+def at_once(memory):
+    """How many commands of this size may run beside each other: as many as there are processors and free memory for."""
+    return max(1, min(processors(), int(0.85 * free_memory() // memory)))
 
-    def __init__(self):
-        self.left, self.users, self.changed = 0.85 * free_memory(), 0, threading.Condition()
 
-    @contextlib.contextmanager
-    def room(self, size):
-        with self.changed:
-            self.changed.wait_for(lambda: not self.users or size <= self.left)
-            self.left, self.users = self.left - size, self.users + 1
+def run_all(job, things, many):
+    """What the job makes of each thing, so many of them beside each other. Where it is cut off, all that runs ends."""
+    with ThreadPoolExecutor(many) as pool:
         try:
-            yield
-        finally:
-            with self.changed:
-                self.left, self.users = self.left + size, self.users - 1
-                self.changed.notify_all()
-
-
-def run_beside(parts, tell):
-    """Runs parts beside each other, as many as there are processors and memory; `tell` gets each as it ends, one at a time. The longest come first."""
-    memory, telling = Memory(), threading.Lock()
-
-    def one(part):
-        with memory.room(part.memory):
-            done = run(part)
-        with telling:
-            tell(done)
-        return done
-
-    with ThreadPoolExecutor(processors()) as pool:
-        try:
-            return list(pool.map(one, parts))
+            return list(pool.map(job, things))
         except BaseException:
             pool.shutdown(wait=False, cancel_futures=True)
             stop_running()
             raise
+
+
+def run_beside(parts, tell):
+    """Runs parts beside each other, as many as there are processors and memory for the largest; `tell` gets each as it ends, one at a time."""
+    telling = threading.Lock()
+
+    def one(part):
+        done = run(part)
+        with telling:
+            tell(done)
+        return done
+
+    return run_all(one, parts, at_once(max(it.memory for it in parts)) if parts else 1)
 
 
 def say(text):
@@ -203,6 +210,16 @@ def ended(passed, failed):
     failed = failed or int(passed == 0)
     print(f"{passed} passed, {failed} failed", flush=True)
     return int(failed > 0)
+
+
+def counted(faults):
+    """Prints the fault of each check as it comes, '' where there is none, and the count; the status that goes with it."""
+    passed = failed = 0
+    for fault in faults:
+        passed, failed = passed + (not fault), failed + bool(fault)
+        if fault:
+            print(fault, flush=True)
+    return ended(passed, failed)
 
 
 def count(parts):

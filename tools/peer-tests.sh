@@ -50,18 +50,14 @@ fetch() {
 
 # build_torture NAME FLAG..: rcutorture over our sections.
 build_torture() {
-    local name=$1
-    shift
-    gcc -std=gnu11 -D_GNU_SOURCE -O2 "$@" -DRCU_MB "${include[@]}" -I"$work/urcu/include" -I"$work/urcu/tests/common" -I"$work/urcu/tests/utils" \
-        -o "$work/$name" "$work/urcu/tests/regression/urcutorture.c" "$work/urcu/tests/utils/tap.c" netbsd/peers/urcu.c "${library[@]}"
+    gcc -std=gnu11 -D_GNU_SOURCE -O2 "${@:2}" -DRCU_MB "${include[@]}" -I"$work/urcu/include" -I"$work/urcu/tests/common" -I"$work/urcu/tests/utils" \
+        -o "$work/$1" "$work/urcu/tests/regression/urcutorture.c" "$work/urcu/tests/utils/tap.c" netbsd/peers/urcu.c "${library[@]}"
 }
 
 # build_epoch TEST NAME FLAG..: one of ck's epoch tests over our sections, with the address sanitizer.
 build_epoch() {
-    local test=$1 name=$2
-    shift 2
-    gcc -std=gnu11 -D_GNU_SOURCE -O1 -g -fsanitize=address "$@" -DCORES="$(nproc)" "${include[@]}" -I"$work/ck/include" \
-        -o "$work/$name" "$work/ck/regressions/ck_epoch/validate/$test.c" "${library[@]}"
+    gcc -std=gnu11 -D_GNU_SOURCE -O1 -g -fsanitize=address "${@:3}" -DCORES="$(nproc)" "${include[@]}" -I"$work/ck/include" \
+        -o "$work/$2" "$work/ck/regressions/ck_epoch/validate/$1.c" "${library[@]}"
 }
 
 # Runs rcutorture's stress, and shows what it counted.
@@ -77,24 +73,30 @@ counts() {
         END { exit columns != 11 || (wanted == "stale") != stale }' "$work/stress.log"
 }
 
-test_torture() {
-    local readers
+build_both_tortures() {
     build_torture torture && build_torture torture-without-wait -DWITHOUT_WAIT
-    judge "rcutorture is built, unchanged" $?
-    for readers in 3 7; do
-        stress torture "$readers" && grep -q 'n_mberror: 0$' "$work/stress.log" && counts clean
-        judge "rcutorture: stress with $readers readers" $?
-    done
+}
+
+is_clean() {
+    stress torture "$1" && grep -q 'n_mberror: 0$' "$work/stress.log" && counts clean
+}
+
+finds_no_wait() {
     stress torture-without-wait 3
     counts stale
-    judge "rcutorture finds a wait that does nothing" $?
+}
+
+test_torture() {
+    check "rcutorture is built, unchanged" build_both_tortures
+    for readers in 3 7; do
+        check "rcutorture: stress with $readers readers" is_clean $readers
+    done
+    check "rcutorture finds a wait that does nothing" finds_no_wait
 }
 
 # epoch NAME ARGUMENT..: a test of ck's ends by itself with status 0. These tests keep what they allocated to the end.
 epoch() {
-    local name=$1
-    shift
-    ASAN_OPTIONS=detect_leaks=0 timeout 300 "$work/$name" "$@" >"$work/$name.log" 2>&1
+    ASAN_OPTIONS=detect_leaks=0 timeout 300 "$work/$1" "${@:2}" >"$work/$1.log" 2>&1
 }
 
 # finds NAME ARGUMENT..: a test of ck's meets memory that was freed, in one of so many runs: in a run the readers may come too late.
@@ -106,29 +108,24 @@ finds() {
     return 1
 }
 
-test_epochs() {
+build_both_epochs() {
     local size=(-DPAIRS=20000 -DPAIRS_S=200 -DITERATE_S=3)
-    local test
+    build_epoch "$1" "$1" "${size[@]}" && build_epoch "$1" "$1-without-wait" "${size[@]}" -DWITHOUT_WAIT
+}
+
+# The first number of each is that of its readers, or of its threads, the second that of its writers.
+test_epochs() {
     for test in ck_epoch_section ck_epoch_call ck_epoch_synchronize ck_epoch_poll ck_stack; do
-        build_epoch $test $test "${size[@]}" && build_epoch $test $test-without-wait "${size[@]}" -DWITHOUT_WAIT
-        judge "$test is built, unchanged" $?
+        check "$test is built, unchanged" build_both_epochs $test
     done
-    epoch ck_epoch_section
-    judge "ck_epoch_section" $?
-    epoch ck_epoch_call
-    judge "ck_epoch_call" $?
-    epoch ck_epoch_synchronize 3 3 1
-    judge "ck_epoch_synchronize: 3 readers, 3 writers" $?
-    epoch ck_epoch_poll 3 3 1
-    judge "ck_epoch_poll: 3 readers, 3 writers" $?
-    epoch ck_stack 4 1
-    judge "ck_stack: 4 threads" $?
-    finds ck_epoch_synchronize-without-wait 3 3 1
-    judge "ck_epoch_synchronize finds a wait that does nothing" $?
-    finds ck_epoch_poll-without-wait 3 3 1
-    judge "ck_epoch_poll finds a wait that does nothing" $?
-    finds ck_stack-without-wait 4 1
-    judge "ck_stack finds a wait that does nothing" $?
+    check "ck_epoch_section" epoch ck_epoch_section
+    check "ck_epoch_call" epoch ck_epoch_call
+    for words in "ck_epoch_synchronize 3 3 1" "ck_epoch_poll 3 3 1" "ck_stack 4 1"; do
+        # shellcheck disable=SC2086
+        check "$words" epoch $words
+        # shellcheck disable=SC2086
+        check "${words%% *} finds a wait that does nothing" finds ${words/ /-without-wait }
+    done
 }
 
 if [ ! -e out/libregistry.a ]; then
@@ -136,8 +133,7 @@ if [ ! -e out/libregistry.a ]; then
     exit 1
 fi
 mkdir -p "$work"
-fetch
-judge "the source packages are fetched" $?
+check "the source packages are fetched" fetch
 test_torture
 test_epochs
 finish

@@ -1,4 +1,4 @@
-#!/usr/bin/env python3
+#!/usr/bin/env -S python3 -B
 """Compares pictures that are drawn by hand with what they show.
 
     tools/picture.py check
@@ -9,15 +9,11 @@
 The last line is 'N passed, M failed', and the status is 1 where one failed.
 """
 import html
-import pathlib
 import re
 import sys
 
-sys.dont_write_bytecode = True
-
-from parts import ended
-
-ROOT = pathlib.Path(__file__).resolve().parent.parent
+from kit import listed
+from parts import ROOT, counted
 
 
 def lacking(lines, texts):
@@ -26,20 +22,15 @@ def lacking(lines, texts):
     return next((line for line in lines if line not in left), "")
 
 
-def parts(text):
-    """The commands of a script, and the lines of its report."""
-    script, _, report = text.partition("\n# It prints:\n")
-    return [it for it in script.splitlines() if it and not it.startswith("#")], [it.removeprefix("# ") for it in report.splitlines()]
-
-
 def examples():
     """What is wrong with each picture of examples/."""
     for path in sorted((ROOT / "examples").glob("*.svg")):
         texts = [html.unescape(it) for it in re.findall(r"<text[^>]*>([^<]*)</text>", path.read_text())]
         script = path.with_suffix(".txt")
-        commands, report = parts(script.read_text() if script.is_file() else f"there is no {script.name}")
-        missing = lacking(commands, texts) or lacking(report, texts)
-        yield f"examples/{path.name}", f"it should say: {missing}" if missing else ""
+        said, _, report = (script.read_text() if script.is_file() else f"there is no {script.name}").partition("\n# It prints:\n")
+        commands = [it for it in said.splitlines() if it and not it.startswith("#")]
+        missing = lacking(commands, texts) or lacking([it.removeprefix("# ") for it in report.splitlines()], texts)
+        yield f"examples/{path.name}: it should say: {missing}" if missing else ""
 
 
 def nearest(crates):
@@ -49,26 +40,15 @@ def nearest(crates):
 
 def layers():
     """What the picture of the layers lacks, or has too much of."""
-    crates = {}
-    for line in (ROOT / "crates.txt").read_text().splitlines():
-        if line and not line.startswith("#"):
-            crate, below = line.split(":")
-            crates[crate.split()[0]] = below.split()
+    crates = listed()
     drawing = (ROOT / "docs/layers.svg").read_text()
     boxes = set(re.findall(r'data-crate="(\w+)"', drawing))
     arrows = set(re.findall(r'data-from="(\w+)" data-to="(\w+)"', drawing))
     ours = {(crate, on) for crate, on in nearest(crates) if on in crates}
-    yield "docs/layers.svg, crates", " ".join(sorted(boxes ^ set(crates)))
-    yield "docs/layers.svg, arrows", " ".join(sorted(f"{crate}-{on}" for crate, on in arrows ^ ours))
+    for kind, odd in (("crates", boxes ^ set(crates)), ("arrows", {f"{crate}-{on}" for crate, on in arrows ^ ours})):
+        yield f"docs/layers.svg, {kind}: {' '.join(sorted(odd))}" if odd else ""
 
 
-def main():
-    if sys.argv[1:] != ["check"]:
-        sys.exit(__doc__)
-    found = [*examples(), *layers()]
-    print("".join(f"{name}: {fault}\n" for name, fault in found if fault), end="")
-    failed = sum(bool(fault) for _, fault in found)
-    return ended(len(found) - failed, failed)
-
-
-sys.exit(main())
+if sys.argv[1:] != ["check"]:
+    sys.exit(__doc__)
+sys.exit(counted([*examples(), *layers()]))

@@ -1,4 +1,4 @@
-#!/usr/bin/env python3
+#!/usr/bin/env -S python3 -B
 """The record of an archive's proof, which lies beside the archive as libregistry.proved.
 
     tools/proof-record.py begin LIMITS                                  prints the first line of a LOG, before a proof begins: the sum of what is to be proved
@@ -14,8 +14,6 @@ import pathlib
 import re
 import subprocess
 import sys
-
-sys.dont_write_bytecode = True
 
 import limits as chosen
 from kit import ROOT, below
@@ -39,28 +37,19 @@ def said(*words, cwd=ROOT):
 
 
 def sum_of(path):
-    return sum_of_bytes(pathlib.Path(path).read_bytes())
-
-
-def sum_of_bytes(of):
-    return hashlib.sha256(of).hexdigest()
+    return hashlib.sha256(pathlib.Path(path).read_bytes()).hexdigest()
 
 
 def proved():
     """The files that the archive is proved from."""
-    files = [ROOT / "crates.txt"]
-    for crate in sorted([LIBRARY, *below(LIBRARY)]):
-        files += [it for part in ("src", "specs", "proofs") for it in sorted((ROOT / "crates" / crate / part).rglob("*")) if it.is_file()]
-    return files
-
-
-def joined():
-    """The headers, and the files in C that are joined with what is proved."""
-    return [*sorted((ROOT / "crates" / LIBRARY / "include").glob("*.h")), *(ROOT / f"c/src/{part}.c" for part in PARTS)]
+    folders = [ROOT / "crates" / crate / part for crate in sorted([LIBRARY, *below(LIBRARY)]) for part in ("src", "specs", "proofs")]
+    return [ROOT / "crates.txt", *(it for folder in folders for it in sorted(folder.rglob("*")) if it.is_file())]
 
 
 def sum_of_sources(limits):
-    return sum_of_files([*proved(), *joined()], limits)
+    """The sum of all that an archive with these limits is made from: also the headers, and the files in C that are joined with what is proved."""
+    headers = sorted((ROOT / "crates" / LIBRARY / "include").glob("*.h"))
+    return sum_of_files([*proved(), *headers, *(ROOT / f"c/src/{part}.c" for part in PARTS)], limits)
 
 
 def sum_of_files(files, limits):
@@ -68,7 +57,7 @@ def sum_of_files(files, limits):
     whole = hashlib.sha256()
     for path in files:
         name = str(path.relative_to(ROOT))
-        whole.update(f"{name} {sum_of_bytes(limits.encode()) if name == chosen.LIMITS else sum_of(path)}\n".encode())
+        whole.update(f"{name} {hashlib.sha256(limits.encode()).hexdigest() if name == chosen.LIMITS else sum_of(path)}\n".encode())
     return whole.hexdigest()
 
 
@@ -112,18 +101,13 @@ def sum_in(archive):
     listed, whole = (subprocess.run(["ar", *words], capture_output=True) for words in (("t", archive), ("p", archive, "registry.o")))
     if listed.stdout.split() != [b"registry.o"] or whole.returncode != 0:
         raise Fault(f"{archive} has no object registry.o, or another one beside it")
-    return sum_of_bytes(whole.stdout)
+    return hashlib.sha256(whole.stdout).hexdigest()
 
 
 def flags(archive):
     """How tools/build-archive.sh is called for an archive that lies there: in out, in a folder of a processor's, in one of a build's, or in both."""
     names = str(archive.parent).rpartition("out")[2].split("/")[1:]
-    return "".join(f" {limits_in(it)}" if "-" in it else f" --for {it}" for it in names)
-
-
-def limits_in(folder):
-    """The words for the limits that a build's folder is named after."""
-    return re.sub(r"(?:^|-)([a-z]+)-(\d+)", r" --\1 \2", folder).strip()
+    return "".join(re.sub(r"(?:^|-)([a-z]+)-(\d+)", r" --\1 \2", it) if "-" in it else f" --for {it}" for it in names)
 
 
 def check(name):
@@ -143,12 +127,8 @@ def check(name):
         raise Fault(f"{archive} was made from other sources than those that stand: {remedy}")
 
 
-def parts():
-    print(*PARTS)
-
-
 def main(words):
-    uses = {"begin": (begin, 1), "write": (write, 5), "check": (check, 1), "parts": (parts, 0)}
+    uses = {"begin": (begin, 1), "write": (write, 5), "check": (check, 1), "parts": (lambda: print(*PARTS), 0)}
     if not words or words[0] not in uses or len(words) != 1 + uses[words[0]][1]:
         print("usage: proof-record.py begin LIMITS | write PROCESSOR LIMITS LOG COMPILED OBJECT | check ARCHIVE | parts", file=sys.stderr)
         return 2

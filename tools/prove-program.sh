@@ -2,10 +2,7 @@
 # Proves the program with all crates below it, and builds it: from then on ./registry_run runs what was proved.
 # From nothing it takes about ten minutes on four processors; over kept work, what has changed.
 set -euo pipefail
-if ! command -v rt >/dev/null; then
-    echo "prove-program: there is no rt, the command of the Rattle kit: the kit comes from whoever gives you Rattle" >&2
-    exit 2
-fi
+command -v rt >/dev/null || { echo "prove-program: there is no rt, the command of the Rattle kit: the kit comes from whoever gives you Rattle" >&2; exit 2; }
 cd "$(dirname "${BASH_SOURCE[0]}")/../crates/registry_run"
 program=out/registry_run
 log=$(mktemp)

@@ -2,12 +2,10 @@
 # Refuses each allocation of the memory tests in turn, the 1st, the 2nd and so on. The call must say that memory ran out, and change
 # nothing; made again, it must return what it would have returned at first.
 #
-# The merge gate can't refuse memory, so it doesn't run this; run it by hand after a change of what allocates. Without arguments it goes
-# over each crate that has memory tests; else over the crates named. An allocation takes half a minute: FROM=45 goes on from the 45th, where a run
-# had come to.
-# Each test runs in a process of its own, with a count of its own, and notes a refusal that it met. Some refusals meet nobody: a list that is
-# collected and is refused room for as many as it expects asks again, for one. Such come few in a row, so many runs without a note are past the
-# last allocation of every test.
+# The merge gate can't refuse memory, so it doesn't run this; run it by hand after a change of what allocates. Without arguments it goes over each crate that
+# has memory tests; else over the crates named. An allocation takes half a minute: FROM=45 goes on from the 45th, where a run had come to. Each test runs in a
+# process of its own, with a count of its own, and notes a refusal that it met. Some refusals meet nobody: a list that is collected and is refused room for as
+# many as it expects asks again, for one. Such come few in a row, so many runs without a note are past the last allocation of every test.
 set -u
 cd "$(dirname "$0")/../crates" || exit 2
 [[ $# -gt 0 ]] || set -- core_tests call_tests script_tests
@@ -33,10 +31,7 @@ refuse() {
             printf '%s, allocation %s\n%s\n' "$1" "$n" "$notes"
         fi
     done
-    if [[ $met -eq 0 ]]; then
-        echo "$1: no allocation was refused, from the ${from}th on"
-        return 1
-    fi
+    [[ $met -gt 0 ]] || { echo "$1: no allocation was refused, from the ${from}th on"; return 1; }
     echo "$1: allocations refused, from the ${from}th on: $met, the last the ${last}th, and every test passed"
 }
 

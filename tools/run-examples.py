@@ -1,13 +1,12 @@
-#!/usr/bin/env python3
+#!/usr/bin/env -S python3 -B
 """Runs the examples of the documents over both engines, and compares what the program says.
 
-An example is a fenced block `script`, and the next fenced block after it: `report`, what the program must print, with nothing on standard
-error and status 0; or `fault`, what it must say on standard error, with nothing printed and status 2. A block `session` has both, a command and
-after two spaces its line of the report. A file NAME.txt is one example, with its report as comments below `# It prints:`. Without file names the examples are those
-of README.md, docs/ and examples/. The program is
-./registry_run, or the one that --program names. It must be the proved one (tools/prove-program.sh),
-since without it ./registry_run says on standard error that nothing is proved. With --try nothing is proved either: `rt try` compiles the
-program anew for each engine. The last line counts the runs.
+An example is a fenced block `script`, and the next fenced block after it: `report`, what the program must print, with nothing on standard error and status 0;
+or `fault`, what it must say on standard error, with nothing printed and status 2. A block `session` has both, a command and after two spaces its line of the
+report. A file NAME.txt is one example, with its report as comments below `# It prints:`. Without file names the examples are those of README.md, docs/ and
+examples/. The program is ./registry_run, or the one that --program names. It must be the proved one (tools/prove-program.sh), since without it ./registry_run
+says on standard error that nothing is proved. With --try nothing is proved either: `rt try` compiles the program anew for each engine. The last line counts the
+runs.
 
 Code in the documents must be part of a source, up to blank lines; what isn't is said, and fails. A fenced block `rust` is looked for in
 crates/registry_examples/src and in rust/examples, a block `c` in c or netbsd/tests. A block `LANGUAGE PATH` is looked for
@@ -18,10 +17,8 @@ import pathlib
 import re
 import sys
 
-sys.dont_write_bytecode = True
-
 from engines import ROOT, ran, said_when_tried
-from parts import ended
+from parts import counted
 
 ENGINES = ("core", "live")
 # What is above the report in a file of its script.
@@ -61,7 +58,7 @@ def examples(path):
             pairs = [re.split(" {2,}", pair, maxsplit=1) for pair in text.splitlines()]
             yield f"{path.stem.lower()}-{line}", "".join(f"{pair[0]}\n" for pair in pairs), "report", "".join(f"{pair[-1]}\n" for pair in pairs)
         if waiting and word not in WANTED:
-            sys.exit(f"{path.name}:{waiting[0]}: a script without a report or a fault after it")
+            break
         if waiting:
             yield f"{path.stem.lower()}-{waiting[0]}", waiting[1], word, text
         elif word in WANTED:
@@ -71,21 +68,26 @@ def examples(path):
         sys.exit(f"{path.name}:{waiting[0]}: a script without a report or a fault after it")
 
 
-def sources_of(word):
-    """The texts of the sources that a block with this word is part of; None for a block that isn't code of ours."""
-    _, _, path = word.partition(" ")
-    files = [ROOT / path] if path else SOURCES.get(word)
-    return None if files is None else [file.read_text() for file in files if file.is_file()]
-
-
 def strayed():
-    """The place and the text of each part of code in the documents that is in no source."""
+    """What is said of each part of code in the documents that is in no source."""
     for page in PAGES:
         for line, word, text in blocks(page.read_text()):
-            sources = sources_of(word)
-            for part in [] if sources is None else text.split("\n\n"):
+            path = word.partition(" ")[2]
+            files = [ROOT / path] if path else SOURCES.get(word, [])
+            sources = [file.read_text() for file in files if file.is_file()]
+            for part in text.split("\n\n") if path or word in SOURCES else []:
                 if not any(part.strip("\n") in source for source in sources):
-                    yield f"{page.name}:{line}", part
+                    yield f"{page.name}:{line}: no example has this code\n{part}"
+
+
+def runs(found, program):
+    """What is wrong with each example, by each engine of the program, or of the one that `rt try` compiles; '' where nothing is."""
+    scripts = {place: script for place, script, _, _ in found}
+    for engine in ENGINES:
+        answers = (ran([program, engine], script) for _, script, _, _ in found) if program else said_when_tried(engine, scripts)
+        for (place, _, word, text), (status, printed, complained) in zip(found, answers):
+            is_right = (status, printed, complained) == WANTED[word](text)
+            yield "" if is_right else f"{place} {engine}: status {status}, and it said\n{printed}{complained}and not\n{text}".rstrip("\n")
 
 
 def main():
@@ -94,24 +96,8 @@ def main():
     parser.add_argument("--try", dest="tried", action="store_true", help="compile by rt try, without proofs")
     parser.add_argument("files", nargs="*", type=pathlib.Path, default=FILES)
     options = parser.parse_args()
-    program = options.program.resolve()
     found = [example for path in options.files for example in examples(path)]
-    passed = failed = 0
-    for place, part in strayed():
-        failed += 1
-        print(f"{place}: no example has this code\n{part}")
-    for engine in ENGINES:
-        scripts = {place: script for place, script, _, _ in found}
-        answers = said_when_tried(engine, scripts) if options.tried else (ran([program, engine], script) for _, script, _, _ in found)
-        for (place, _, word, text), answer in zip(found, answers):
-            if answer == WANTED[word](text):
-                passed += 1
-            else:
-                failed += 1
-                status, printed, complained = answer
-                print(f"{place} {engine}: status {status}, and it said\n{printed}{complained}and not\n{text}", end="")
-    sys.exit(ended(passed, failed))
+    sys.exit(counted([*strayed(), *runs(found, None if options.tried else options.program.resolve())]))
 
 
-if __name__ == "__main__":
-    main()
+main()

@@ -7,10 +7,9 @@
 #     tools/test-aarch64.sh --rust     takes the archive as it stands, and runs the tests of the Rust crate alone. Debian's compiler and its standard
 #                                      library for both processors are fetched for it, 110 megabytes, and unpacked below out/aarch64. Not in the gate
 #
-# qemu runs on this machine's processor, whose memory order is a stronger one: no run here can show an order that is too weak. Two things can be
-# shown. In runs of one thread each instruction that comes to a registry's table is one of the four that aarch64 has for sequentially
-# consistent steps (c/tests/ordered.c). And the archive has no other atomic instruction (tools/atomics.py). A plain load or store of the
-# table on a path that no run takes would go unseen.
+# qemu runs on this machine's processor, whose memory order is a stronger one: no run here can show an order that is too weak. Two things can be shown. In runs
+# of one thread each instruction that comes to a registry's table is one of the four that aarch64 has for sequentially consistent steps (c/tests/ordered.c). And
+# the archive has no other atomic instruction (tools/atomics.py). A plain load or store of the table on a path that no run takes would go unseen.
 set -uo pipefail
 cd "$(dirname "$0")/.."
 # shellcheck source=tools/checks.sh
@@ -34,7 +33,7 @@ install_missing() {
     mapfile -t missing < <(missing_packages)
     [ "${#missing[@]}" -gt 0 ] || return 0
     echo "installing ${missing[*]}"
-    { apt-get update && DEBIAN_FRONTEND=noninteractive apt-get -o DPkg::Lock::Timeout=300 install -y --no-install-recommends "${missing[@]}"; } >"$log" 2>&1 </dev/null
+    apt_install --no-install-recommends "${missing[@]}" >"$log" 2>&1
     mapfile -t missing < <(missing_packages)
     if [ "${#missing[@]}" -gt 0 ]; then
         echo "test-aarch64: without ${missing[*]} nothing runs: apt-get install ${missing[*]}" >&2
@@ -43,11 +42,9 @@ install_missing() {
 }
 
 build_archive() {
-    if [ -n "$is_built" ] && [ -e "$library" ]; then
-        tools/build-archive.sh --for "$processor" "$library" "$out/proof.log"
-    else
-        tools/build-archive.sh --for "$processor"
-    fi
+    local given=()
+    [ -z "$is_built" ] || [ ! -e "$library" ] || given=("$library" "$out/proof.log")
+    tools/build-archive.sh --for "$processor" "${given[@]}"
 }
 
 # make_for FOLDER TARGET..: built for the processor, so that the emulator needs no library of it.
@@ -57,11 +54,6 @@ make_for() {
 
 emulated() {
     limited "$emulator" "$@"
-}
-
-# It counts what the library asks for. Where all is one program, it would count what the C library asks for as well: so it takes that as a shared one.
-make_refuse() {
-    make -s CC="${cross}gcc" "out/$processor/refuse"
 }
 
 # ordered NAME ARGUMENT..: a test of one thread, each of whose accesses to a table is looked at; the places of them are kept.
@@ -82,29 +74,13 @@ sees_weaker_step() {
 }
 
 test_clients() {
-    local storm
-    check "refuse is built over a shared C library" make_refuse
+    # It counts what the library asks for. Where all is one program, it would count what the C library asks for as well: so it takes that as a shared one.
+    check "refuse is built over a shared C library" make -s CC="${cross}gcc" "out/$processor/refuse"
     check "the clients in C are built, no warning" make_for . all "out/$processor/heap_stress-none-right"
-    check "smallest" smallest_says emulated "$out/smallest"
-    check "row" row_says emulated "$out/row"
-    for storm in "1 100" "4 1000" "8 200"; do
-        # shellcheck disable=SC2086
-        check "storm $storm" storm_says $storm emulated "$out/storm"
-    done
-    check "packet" emulated "$out/packet"
-    check "shared" emulated "$out/shared"
-    check "misuse is answered" emulated "$out/misuse"
     check "each allocation refused" emulated -L "/usr/$processor-linux-gnu" "$out/refuse"
-    check "the build's version and limits" emulated "$out/built"
+    programs C: "" "emulated $out/" smallest row 'storm 1 100' 'storm 4 1000' 'storm 8 200' packet shared misuse built 'walk 200' 'entries 50' names \
+        "turns emulated" 'deferred 200 1' 'forwarder 200' 'device_switch 20' 'heap_stress-none-right 100'
     counted "programs compiled for other limits" env CC="${cross}gcc" RUN="$emulator" packaging/other-limits.sh crates/registry_c/include "$out/libregistry.a"
-    check "walk" emulated "$out/walk" 200
-    check "entries" emulated "$out/entries" 50
-    check "names and answers as text" emulated "$out/names"
-    check "turns, each step of a wait" emulated "$out/turns" emulated
-    check "deferred, beside a model" emulated "$out/deferred" 200 1
-    check "forwarder" emulated "$out/forwarder" 200
-    check "device_switch" emulated "$out/device_switch" 20
-    check "heap_stress" emulated "$out/heap_stress-none-right" 100
 }
 
 test_netbsd() {

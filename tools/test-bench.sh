@@ -1,8 +1,7 @@
 #!/usr/bin/env bash
-# Builds the bench, explorer, and runs its tests: small programs whose schedules are counted, and whose outcomes are compared with the reduction and
-# without; the seven drivers in every order; faults planted in them; one case for each thing that it finds or refuses; its picture; real threads
-# beside it. Plain, with the sanitizers of addresses and undefined behaviour, and some under valgrind. out/libregistry.a stands already. The
-# last line is 'N passed, M failed'.
+# Builds the bench, explorer, and runs its tests: small programs whose schedules are counted, and whose outcomes are compared with the reduction and without;
+# the seven drivers in every order; faults planted in them; one case for each thing that it finds or refuses; its picture; real threads beside it. Plain, with
+# the sanitizers of addresses and undefined behaviour, and some under valgrind. out/libregistry.a stands already. The last line is 'N passed, M failed'.
 set -uo pipefail
 cd "$(dirname "$0")/.." || exit
 folder=explorer
@@ -51,11 +50,6 @@ faults_as_told() {
     tail -n 60 "$room/faults"
 }
 
-# At least so many switches a second, by the bench's own count.
-is_fast() {
-    "$out/plain/speed" 100000
-}
-
 # The bench by clang, with what it compiles of the layer, and two of its small programs.
 with_clang() {
     make -s -C $folder CC=clang OUT="$room/clang" ARCHIVE="$PWD/out/libregistry.a" "$room/clang/plain/counts" "$room/clang/plain/finds" &&
@@ -64,9 +58,7 @@ with_clang() {
 
 # On another processor the compiler says what the bench is for.
 is_for_one_processor() {
-    local said
-    said=$(gcc -U__x86_64__ -fsyntax-only "$folder/src/routine.c" 2>&1) && return 1
-    grep -q 'error.*the bench is for x86-64 alone' <<<"$said"
+    ! gcc -U__x86_64__ -fsyntax-only "$folder/src/routine.c" >"$log.said" 2>&1 && grep -q 'error.*the bench is for x86-64 alone' "$log.said"
 }
 
 # plain_program WORD..: compiles and links a program of one thread by these words, and runs it.
@@ -86,9 +78,8 @@ names_unseen_file() {
 }
 
 refuses_linked_sanitizer() {
-    local said
-    said=$(plain_program -fsanitize=thread)
-    [ $? -eq 2 ] && grep -F "the program is linked with -fsanitize=thread" <<<"$said"
+    plain_program -fsanitize=thread >"$log.said"
+    [ $? -eq 2 ] && grep -F "the program is linked with -fsanitize=thread" "$log.said"
 }
 
 watched() {
@@ -125,7 +116,7 @@ check "another processor is refused at compile time" is_for_one_processor
 check "a file without -fsanitize=thread is named" names_unseen_file
 check "a program that is linked with it is refused" refuses_linked_sanitizer
 check "a picture" is_picture
-check "100,000 switches a second" is_fast
+check "100,000 switches a second" "$out/plain/speed" 100000
 if command -v valgrind >/dev/null; then
     check "counts, under valgrind" watched "$out/plain/counts"
     check "a driver, under valgrind" watched "$out/plain/drivers" bridge

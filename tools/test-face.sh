@@ -1,7 +1,6 @@
 #!/usr/bin/env bash
-# Builds the archive of the C face and everything that stands outside of it, and runs it all: the manual page, the clients in C and in Rust.
-# What is missing is installed by apt: gcc, g++, make, ar, cargo, mandoc, man, pkg-config, valgrind. Each step says what it does; the last line is
-# 'N passed, M failed'.
+# Builds the archive of the C face and everything that stands outside of it, and runs it all: the manual page, the clients in C and in Rust. What is missing is
+# installed by apt: gcc, g++, make, ar, cargo, mandoc, man, pkg-config, valgrind. Each step says what it does; the last line is 'N passed, M failed'.
 #
 #     tools/test-face.sh                      proves and builds the archive first
 #     tools/test-face.sh --built              takes out/libregistry.a as it stands
@@ -23,11 +22,9 @@ install_missing() {
     for pair in gcc:gcc g++:g++ make:make ar:binutils cargo:cargo mandoc:mandoc man:man-db pkg-config:pkg-config valgrind:valgrind; do
         command -v "${pair%%:*}" >/dev/null || missing+=("${pair##*:}")
     done
-    if [ "${#missing[@]}" -gt 0 ]; then
-        echo "installing ${missing[*]}"
-        { apt-get update && DEBIAN_FRONTEND=noninteractive apt-get -o DPkg::Lock::Timeout=300 install -y "${missing[@]}"; } >"$log" 2>&1 </dev/null
-        judge "installed ${missing[*]}" $?
-    fi
+    [ "${#missing[@]}" -gt 0 ] || return 0
+    echo "installing ${missing[*]}"
+    check "installed ${missing[*]}" apt_install "${missing[@]}"
 }
 
 # names HEADER PAGE: the page names each call of the header, and no other.
@@ -138,26 +135,11 @@ test_page() {
 }
 
 test_c() {
-    local each
-    check "C: smallest" smallest_says "$out/smallest"
-    check "C: row" row_says "$out/row"
-    for each in packet 'shared 2000' misuse refuse allocs blocks built turns deferred together interrupted reclaims lent history 'largest 30000 1 long' planted 'walk 5000' 'entries 1000' names \
-        recalls 'crowd 1000' forwarder device_switch 'speed 2 8 1000' 'changes 20' 'changes 20 2 4' 'changes 20 64 255'; do
-        # shellcheck disable=SC2086
-        check "C: $each" "$out"/$each
-    done
-    for each in '1 1000' '2 3' '4 20000' '64 600'; do
-        # shellcheck disable=SC2086
-        check "C: storm $each" storm_says $each "$out/storm"
-    done
-    check "C: checked" "$out/checked"
-    check "C: smallest in the checking build" smallest_says "$out/checked-smallest"
-    check "C: row in the checking build" row_says "$out/checked-row"
-    check "C: storm 4 2000 in the checking build" storm_says 4 2000 "$out/checked-storm"
-    for each in packet 'shared 500' 'walk 500' 'crowd 200' 'forwarder 200' 'device_switch 20' 'together 20'; do
-        # shellcheck disable=SC2086
-        check "C: $each in the checking build" "$out"/checked-$each
-    done
+    programs C: "" "$out/" smallest row 'storm 1 1000' 'storm 2 3' 'storm 4 20000' 'storm 64 600' packet 'shared 2000' misuse refuse allocs blocks built turns \
+        deferred together interrupted reclaims lent history 'largest 30000 1 long' planted 'walk 5000' 'entries 1000' names recalls 'crowd 1000' forwarder \
+        device_switch 'speed 2 8 1000' 'changes 20' 'changes 20 2 4' 'changes 20 64 255' checked
+    programs C: " in the checking build" "$out/checked-" smallest row 'storm 4 2000' packet 'shared 500' 'walk 500' 'crowd 200' 'forwarder 200' \
+        'device_switch 20' 'together 20'
     counted "C: programs compiled for other limits" packaging/other-limits.sh "${header%/*}" "$out/libregistry.a"
     counted "C: installed, used by pkg-config alone, and uninstalled" tools/test-install.sh
     counted "C: built as users build" tools/test-builds.sh
@@ -165,31 +147,21 @@ test_c() {
 
 # The same programs, where each access of the client's, or of all, is watched.
 test_watched() {
-    local each
-    check "C: smallest under valgrind" smallest_says guarded "$out/smallest"
-    check "C: row under valgrind" row_says guarded "$out/row"
-    check "C: storm 4 100 under valgrind" storm_says 4 100 guarded "$out/storm"
-    for each in packet 'shared 20' misuse built 'together 5' interrupted reclaims lent 'walk 50' 'entries 50' names 'crowd 20' refuse; do
-        # shellcheck disable=SC2086
-        check "C: $each under valgrind" guarded "$out"/$each
-    done
-    check "C: smallest with sanitizers" smallest_says "$out/sanitized-smallest"
-    check "C: row with sanitizers" row_says "$out/sanitized-row"
-    check "C: storm 8 1000 with sanitizers" storm_says 8 1000 "$out/sanitized-storm"
-    for each in misuse packet 'shared 500' built 'together 50' reclaims lent 'walk 1000' 'entries 300' names 'crowd 300' forwarder device_switch; do
-        # shellcheck disable=SC2086
-        check "C: $each with sanitizers" "$out"/sanitized-$each
-    done
+    programs C: " under valgrind" "guarded $out/" smallest row 'storm 4 100' packet 'shared 20' misuse built 'together 5' interrupted reclaims lent 'walk 50' \
+        'entries 50' names 'crowd 20' refuse
+    programs C: " with sanitizers" "$out/sanitized-" smallest row 'storm 8 1000' misuse packet 'shared 500' built 'together 50' reclaims lent 'walk 1000' \
+        'entries 300' names 'crowd 300' forwarder device_switch
 }
 
 # Objects of the heap behind entries, freed once nobody holds them, under three checkers; each of them catches what frees a turn too early.
 test_heap() {
-    local when
+    local when each
     check "C: heap_stress with the address sanitizer" "$out/heap_stress-address-right" 500
     check "C: heap_stress with the thread sanitizer" "$out/heap_stress-thread-right" 200
-    check "C: together with the thread sanitizer" "$out/raced-together" 50
-    check "C: reclaims with the thread sanitizer" "$out/raced-reclaims"
-    check "C: interrupted with the thread sanitizer" "$out/raced-interrupted"
+    for each in 'together 50' reclaims interrupted; do
+        # shellcheck disable=SC2086
+        check "C: ${each% *} with the thread sanitizer" "$out"/raced-$each
+    done
     check "C: heap_stress under valgrind" guarded "$out/heap_stress-none-right" 20
     for when in early unperformed; do
         check "C: freed $when: the address sanitizer sees it" catches heap-use-after-free "$out/heap_stress-address-$when" 500
@@ -222,23 +194,26 @@ test_bench() {
     grep '^in 60 seconds' "$log"
 }
 
+# refused_over FOLDER TEXT: over the archive in that folder of out no example of the crate is run, and it says why.
+refused_over() {
+    ! (cd rust && REGISTRY_LIB_DIR=$PWD/../$out/$1 CARGO_TARGET_DIR=$PWD/../$out/$1/target cargo run -q --offline --example smallest) >"$log.said" 2>&1 &&
+        grep -q "$2" "$log.said"
+}
+
 # A program over the crate that is compiled for other limits than the archive's opens nothing.
 refuses_other_limits() {
-    local room=$PWD/$out/other-limits
-    mkdir -p "$room" && cp "$out/libregistry.a" "$room" &&
-        sed -E 's/^(#define REGISTRY_MOST_CHANGES[[:blank:]]+)(.*)/\1(\2 + 1)/' "${header%.h}_limits.h" >"$room/registry_limits.h" || return 1
-    ! (cd rust && REGISTRY_LIB_DIR=$room CARGO_TARGET_DIR=$room/target cargo run -q --offline --example smallest) >"$log.said" 2>&1 &&
-        grep -q OtherLimits "$log.said"
+    mkdir -p "$out/other-limits" && cp "$out/libregistry.a" "$out/other-limits" &&
+        sed -E 's/^(#define REGISTRY_MOST_CHANGES[[:blank:]]+)(.*)/\1(\2 + 1)/' "${header%.h}_limits.h" >"$out/other-limits/registry_limits.h" &&
+        refused_over other-limits OtherLimits
 }
 
 # Over an archive of another version the crate doesn't compile, and says which.
 refuses_other_version() {
-    local room=$PWD/$out/other-version name
+    local to=$out/other-version name other
     name=$(sed -nE 's/^#define REGISTRY_BUILT_FOR[[:blank:]]+//p' "${header%.h}_limits.h")
-    mkdir -p "$room" && objcopy --redefine-sym "$name=${name%_v*}_v0_99" "$out/libregistry.a" "$room/libregistry.a" &&
-        sed "s/$name/${name%_v*}_v0_99/" "${header%.h}_limits.h" >"$room/registry_limits.h" || return 1
-    ! (cd rust && REGISTRY_LIB_DIR=$room CARGO_TARGET_DIR=$room/target cargo run -q --offline --example smallest) >"$log.said" 2>&1 &&
-        grep -q "${name%_v*}_v0_99, of another version than this crate" "$log.said"
+    other=${name%_v*}_v0_99
+    mkdir -p "$to" && objcopy --redefine-sym "$name=$other" "$out/libregistry.a" "$to/libregistry.a" &&
+        sed "s/$name/$other/" "${header%.h}_limits.h" >"$to/registry_limits.h" && refused_over other-version "$other, of another version than this crate"
 }
 
 test_rust() {
@@ -262,16 +237,13 @@ test_rust() {
     counted "Rust: the docs' examples" cargo test --offline --doc
     check "Rust: the examples are built" cargo build --offline --release --examples
     cd .. || return
-    check "Rust: smallest" smallest_says "$examples/smallest"
     for example in "${rust_examples[@]}"; do
         check "Rust: ${example%%:*}" says_last "${example#*: }" "$examples/${example%%:*}"
     done
     check "Rust: compiled for other limits, nothing is opened" refuses_other_limits
     check "Rust: over an archive of another version, nothing is compiled" refuses_other_version
     check "Rust: who_holds says what the README shows" who_holds_says "$examples/who_holds"
-    check "Rust: speed, briefly" "$examples/speed" 2 8 1000
-    check "Rust: changes, briefly" "$examples/changes" 20
-    check "Rust: drops, briefly" "$examples/drops" 2000
+    programs Rust: "" "$examples/" smallest 'speed 2 8 1000' 'changes 20' 'drops 2000'
     check "Rust: the stress where a yield does nothing" ends_without_yields
 }
 

@@ -27,17 +27,9 @@ made() {
     (umask 077 && make -s -C "$top" "$@" DESTDIR="$stage" PREFIX="$prefix" LIBDIR="$libdir")
 }
 
-# Like a user's own pkg-config, which finds what is below the scratch folder.
-config() {
-    PKG_CONFIG_PATH=$stage$libdir/pkgconfig PKG_CONFIG_SYSROOT_DIR=$stage pkg-config "$@" "$module"
-}
-
-version_of() {
-    sed -nE 's/^#define REGISTRY_VERSION_(MAJOR|MINOR|PATCH)[[:blank:]]+//p' "$1" | paste -sd .
-}
-
+# version [HEADER]: what the header says.
 version() {
-    version_of "$header"
+    sed -nE 's/^#define REGISTRY_VERSION_(MAJOR|MINOR|PATCH)[[:blank:]]+//p' "${1:-$header}" | paste -sd .
 }
 
 # abi [VERSION]: what the sonames have of it: below 1.0 the minor version too.
@@ -55,10 +47,6 @@ has_soname() {
     readelf -d "$stage$libdir/$1.so" | grep -F "Library soname: [$1.so.$(abi)]"
 }
 
-calls_of_headers() {
-    packaging/calls-of.sh "$stage$prefix"/include/kupaldiz/registry{,_limits,_waiting}.h
-}
-
 # A program of the pages' names that is compiled for other CPUs than the library has doesn't link, and the linker names them.
 refused_by_linker() {
     ! gcc -DKUPALDIZ_CPUS=15 -o "$room/for_other" -I"$stage$prefix/include/kupaldiz/netbsd" c/tests/installed_netbsd.c -L"$stage$libdir" -lkupaldiz_netbsd -lkupaldiz -pthread >"$room/said" 2>&1 &&
@@ -67,7 +55,7 @@ refused_by_linker() {
 
 # An #include of a plain name, as <cpu.h>, finds nothing of these libraries: what the folders for the compiler offer is in folders of its own.
 offers_no_plain_name() {
-    [ -z "$(find "$stage$prefix/include" "$stage$prefix/include/kupaldiz/netbsd" -maxdepth 1 -type f)" ]
+    prints_nothing find "$stage$prefix/include" "$stage$prefix/include/kupaldiz/netbsd" -maxdepth 1 -type f
 }
 
 # is_hardened LIBRARY: its relocations are done and read-only from the start on, its stack isn't run, and it stays loaded.
@@ -83,34 +71,24 @@ takes_shadow_stack() {
     readelf -nW "$stage$libdir/$1.so" | grep SHSTK
 }
 
-takes_none() {
-    ! takes_shadow_stack "$1"
-}
+# What is built over each library, and what it says.
+declare -A sources=([kupaldiz]=installed [netbsd]=installed_netbsd [bench]=installed_bench)
+declare -A says=([kupaldiz]="C, version" [netbsd]="C, by the pages' names" [bench]="C, in every order")
 
 # A project of CMake's that knows the libraries by find_package alone, shared and static.
 found_by_cmake() {
-    mkdir -p "$room/cmake" && cp c/tests/installed{,_netbsd,_bench}.c "$room/cmake" && cat >"$room/cmake/CMakeLists.txt" <<'PROJECT'
-cmake_minimum_required(VERSION 3.13)
-project(installed C)
-find_package(kupaldiz 0.1 REQUIRED)
-foreach(kind kupaldiz static)
-  add_executable(registry-${kind} installed.c)
-  target_link_libraries(registry-${kind} PRIVATE kupaldiz::${kind})
-endforeach()
-foreach(kind netbsd netbsd_static)
-  add_executable(names-${kind} installed_netbsd.c)
-  target_link_libraries(names-${kind} PRIVATE kupaldiz::${kind})
-endforeach()
-foreach(kind bench bench_static)
-  add_executable(orders-${kind} installed_bench.c)
-  target_link_libraries(orders-${kind} PRIVATE kupaldiz::${kind})
-endforeach()
-PROJECT
+    local library kind kinds=(kupaldiz:kupaldiz static:kupaldiz {netbsd,netbsd_static}:netbsd {bench,bench_static}:bench)
+    mkdir -p "$room/cmake" && cp c/tests/installed{,_netbsd,_bench}.c "$room/cmake" &&
+        printf '%s\n' 'cmake_minimum_required(VERSION 3.13)' 'project(installed C)' 'find_package(kupaldiz 0.1 REQUIRED)' >"$room/cmake/CMakeLists.txt" || return
+    for kind in "${kinds[@]}"; do
+        printf 'add_executable(of-%s %s.c)\ntarget_link_libraries(of-%s PRIVATE kupaldiz::%s)\n' "${kind%:*}" "${sources[${kind#*:}]}" "${kind%:*}" "${kind%:*}"
+    done >>"$room/cmake/CMakeLists.txt"
     cmake -S "$room/cmake" -B "$room/cmake/out" -DCMAKE_PREFIX_PATH="$stage$prefix" -DCMAKE_C_FLAGS="-Wall -Wextra -Werror" &&
-        cmake --build "$room/cmake/out" &&
-        runs cmake/out/registry-kupaldiz "C, version $(version)" && runs cmake/out/registry-static "C, version $(version)" &&
-        runs cmake/out/names-netbsd "C, by the pages' names" && runs cmake/out/names-netbsd_static "C, by the pages' names" &&
-        runs cmake/out/orders-bench "C, in every order" && runs cmake/out/orders-bench_static "C, in every order"
+        cmake --build "$room/cmake/out" || return
+    for kind in "${kinds[@]}"; do
+        library=${kind#*:}
+        runs "cmake/out/of-${kind%:*}" "${says[$library]}$([ "$library" != kupaldiz ] || echo " $(version)")" || return
+    done
 }
 
 # Another version is asked for than the one that is there.
@@ -122,24 +100,21 @@ refused_by_cmake() {
 
 # What is installed with a .pc file that names no place, and moved: programs are built where it is now.
 moved() {
-    made install PC_PREFIX='$${pcfiledir}/../..' && mv "$stage$prefix" "$room/moved" &&
-        stage=$room/moved prefix='' libdir=/lib PKG_CONFIG_SYSROOT_DIR='' in_place
+    made install PC_PREFIX='$${pcfiledir}/../..' && mv "$stage$prefix" "$room/moved" && stage=$room/moved prefix='' libdir=/lib PKG_CONFIG_SYSROOT_DIR='' in_place
 }
 
 in_place() {
     # shellcheck disable=SC2046
-    LD_LIBRARY_PATH=$stage$libdir gcc -o "$room/in_place" c/tests/installed.c $(PKG_CONFIG_PATH=$stage$libdir/pkgconfig pkg-config --cflags --libs kupaldiz) && runs in_place "C, version $(version_of crates/registry_c/include/registry.h)"
+    gcc -o "$room/in_place" c/tests/installed.c $(PKG_CONFIG_PATH=$stage$libdir/pkgconfig pkg-config --cflags --libs kupaldiz) &&
+        runs in_place "C, version $(version crates/registry_c/include/registry.h)"
 }
 
 # The page of each call is found by its name, and is the one that names it.
 pages_are_found() {
     local call page
-    for call in $(calls_of_headers | grep -v '^registry_for_[0-9]'); do
+    for call in $(packaging/calls-of.sh "$stage$prefix"/include/kupaldiz/registry{,_limits,_waiting}.h | grep -v '^registry_for_[0-9]'); do
         page=$(MANPAGER=cat MANROFFOPT='' man -M "$stage$prefix/share/man" 3 "$call" 2>/dev/null | col -b)
-        if ! grep -q "$call" <<<"$page" || ! grep -qE '^NAME' <<<"$page"; then
-            echo "no page $call(3)"
-            return 1
-        fi
+        [[ $page = *"$call"* ]] && grep -qE '^NAME' <<<"$page" || { echo "no page $call(3)"; return 1; }
     done
 }
 
@@ -185,7 +160,7 @@ wanted_pages() {
     local page name
     for page in "$top"/man/registry{.3,_waiting.3,.7} "$top"/man/kupaldiz_*.[37]; do
         echo "${page##*/}"
-        [ "${page%.3}" != "$page" ] || continue
+        [[ $page = *.3 ]] || continue
         for name in $(sed -nE '/^\.Sh NAME/,/^\.Nd/s/^\.Nm ([A-Za-z_0-9]+).*/\1/p' "$page"); do
             [ "$name.3" = "${page##*/}" ] || echo "$name.3kupaldiz -> ${page##*/}"
         done
@@ -211,9 +186,7 @@ holds_pages() {
 
 # Pages and folders can be read by everyone.
 open_to_all() {
-    local shut
-    shut=$(find "$stage$prefix" \( -type d -not -perm 755 \) -o \( -type f -path '*/share/man/*' -not -perm 644 \))
-    [ -z "$shut" ] || { echo "$shut"; return 1; }
+    prints_nothing find "$stage$prefix" \( -type d -not -perm 755 \) -o \( -type f -path '*/share/man/*' -not -perm 644 \)
 }
 
 # Nothing that is read names the scratch folder or the repository.
@@ -233,23 +206,17 @@ pc_says() {
 }
 
 leaves_nothing() {
-    local left
-    left=$(find "$stage" \( -type f -o -type l \) -o -type d -path '*/include/kupaldiz*' -o -type d -path '*/cmake/kupaldiz*' -o -type d -path '*/doc/kupaldiz*')
-    [ -z "$left" ] || { echo "$left"; return 1; }
+    prints_nothing find "$stage" \( -type f -o -type l \) -o -type d -path '*/include/kupaldiz*' -o -type d -path '*/cmake/kupaldiz*' -o -type d -path '*/doc/kupaldiz*'
 }
 
 # has NAME FILE WORDS..: `nm` with these words lists a function of this name. It is read to its end: nm would fail where nobody reads on.
 has() {
-    local name=$1
-    shift
-    nm "$@" 2>/dev/null | grep -E " T $name(@|\$)" >/dev/null
+    nm "${@:2}" 2>/dev/null | grep -E " T $1(@|\$)" >/dev/null
 }
 
 # relinks MARK LIBRARY COMMAND..: once the command has put a function MARK into a source, what is installed has it, static and shared.
 relinks() {
-    local name=$1 library=$2
-    shift 2
-    "$@" "$name" && made install && has "$name" "$stage$libdir/$library.a" && has "$name" -D "$stage$libdir/$library.so"
+    "${@:3}" "$1" && made install && has "$1" "$stage$libdir/$2.a" && has "$1" -D "$stage$libdir/$2.so"
 }
 
 # A copy of what is installed, which is changed as the work on it goes on: from here on it is what is installed from.
@@ -267,20 +234,9 @@ mark() {
     printf '\nvoid %s(void);\nvoid %s(void)\n{\n}\n' "$2" "$2" >>"$1"
 }
 
-change_archive() {
+# What is in the archive: a function more, as an object beside its own.
+mark_archive() {
     : >"$room/mark.c" && mark "$room/mark.c" "$1" && gcc -fPIC -c -o "$room/mark.o" "$room/mark.c" && ar r "$top/out/libregistry.a" "$room/mark.o"
-}
-
-change_waiting() {
-    mark "$top/c/src/waiting.c" "$1"
-}
-
-change_bench() {
-    mark "$top/explorer/src/show.c" "$1"
-}
-
-change_layer() {
-    mark "$(find "$top/netbsd/src" -name '*.c' | sort | head -n 1)" "$1"
 }
 
 # The licence goes into each .pc file, and none is named as long as none is chosen.
@@ -294,14 +250,19 @@ unnamed_call_is_told() {
     sed -i 's/^size_t registry_text(/uint32_t registry_unnamed(void);\n&/' "$header" && ! made symbols >"$room/said" 2>&1 && grep -x '< registry_unnamed' "$room/said"
 }
 
-make_later() {
-    sed -i -E 's/^(#define REGISTRY_VERSION_PATCH[[:blank:]]+).*/\17/' "$header"
+# comes NAME: it is installed there, and goes NAME: it is uninstalled.
+comes() {
+    check "$1install" made install
+    check "$1each file, with its mode, owner and link" holds_files "$(version)"
+    check "$1each manual page, and each name that leads to one" holds_pages
 }
 
-check "install" made install
-check "the version is the header's" test "$(config --modversion)" = "$(version)"
-check "each file, with its mode, owner and link" holds_files "$(version)"
-check "each manual page, and each name that leads to one" holds_pages
+goes() {
+    check "$1uninstall" made uninstall
+    check "$1uninstall leaves nothing" leaves_nothing
+}
+
+comes ""
 check "pages and folders are open to all" open_to_all
 check "nothing names the place that it was built in" names_no_place
 check "what kupaldiz.pc says" pc_says "-lkupaldiz" "-lkupaldiz -pthread"
@@ -315,9 +276,10 @@ for library in libkupaldiz libkupaldiz_netbsd libkupaldiz_bench; do
     check "$library names its soname" has_soname "$library"
     check "$library is hardened" is_hardened "$library"
 done
-check "libkupaldiz takes a shadow stack" takes_shadow_stack libkupaldiz
-check "libkupaldiz_netbsd takes a shadow stack" takes_shadow_stack libkupaldiz_netbsd
-check "libkupaldiz_bench, which switches stacks, takes none" takes_none libkupaldiz_bench
+for library in libkupaldiz libkupaldiz_netbsd; do
+    check "$library takes a shadow stack" takes_shadow_stack $library
+done
+check "libkupaldiz_bench, which switches stacks, takes none" negated takes_shadow_stack libkupaldiz_bench
 check "a program of the pages' names for other CPUs doesn't link" refused_by_linker
 counted "programs over what is installed" made installcheck
 if command -v cmake >/dev/null; then
@@ -326,42 +288,34 @@ if command -v cmake >/dev/null; then
 fi
 check "each call has a page" pages_are_found
 check "the change log names the version" grep -q "^## $(version)\$" "$stage$prefix/share/doc/kupaldiz/VERSIONS.md"
-check "uninstall" made uninstall
-check "uninstall leaves nothing" leaves_nothing
+goes ""
 
-# comes_and_goes NAME: it is installed there, found and used, and uninstalled. pkg-config takes no root with a blank, but a package may be made in one.
-comes_and_goes() {
-    check "$1: install" made install
-    check "$1: each file" holds_files "$(version)"
-    check "$1: each manual page" holds_pages
+# place NAME PREFIX LIBDIR ROOT: it is installed there, found and used, and uninstalled. pkg-config takes no root with a blank, but a package may be made in one.
+place() {
+    prefix=$2 libdir=$3 stage=$room/$4
+    comes "$1: "
     [[ $stage = *\ * ]] || counted "$1: programs" made installcheck
-    check "$1: uninstall" made uninstall
-    check "$1: uninstall leaves nothing" leaves_nothing
+    goes "$1: "
 }
 
-prefix=/usr libdir=/usr/lib/x86_64-linux-gnu stage=$room/debian
-comes_and_goes "a folder of Debian's"
-prefix="/usr/a place" libdir="/usr/a place/lib" stage=$room/blanks
-comes_and_goes "a path with blanks"
-prefix=/usr libdir=/usr/lib stage="$room/a root"
-comes_and_goes "a root with blanks"
+place "a folder of Debian's" /usr /usr/lib/x86_64-linux-gnu debian
+place "a path with blanks" "/usr/a place" "/usr/a place/lib" blanks
+place "a root with blanks" /usr /usr/lib "a root"
 
 prefix=/usr libdir=/usr/lib stage=$room/later
 older=$(version)
 check "an upgrade: the older version" copy_top
 check "the words of a distribution are taken" flags_are_taken
-check "an upgrade: it is installed" made install
-check "an upgrade: each of its files" holds_files "$older"
+comes "an upgrade: "
 check "the licence is told once it is chosen" licence_is_told
-check "no stale object is linked: a changed archive" relinks registry_mark_of_archive libkupaldiz change_archive
-check "no stale object is linked: changed waits" relinks registry_mark_of_waiting libkupaldiz change_waiting
-check "no stale object is linked: changed names of the pages" relinks kupaldiz_mark libkupaldiz_netbsd change_layer
-check "no stale object is linked: a changed bench" relinks kupaldiz_mark_of_bench libkupaldiz_bench change_bench
-check "an upgrade: the later version" make_later
-check "an upgrade: it is installed over the older one" made install
-check "an upgrade: each file, and none of the older version" holds_files "${older%.*}.7"
-check "an upgrade: uninstall" made uninstall
-check "an upgrade: uninstall leaves nothing" leaves_nothing
+check "no stale object is linked: a changed archive" relinks registry_mark_of_archive libkupaldiz mark_archive
+check "no stale object is linked: changed waits" relinks registry_mark_of_waiting libkupaldiz mark "$top/c/src/waiting.c"
+check "no stale object is linked: changed names of the pages" relinks kupaldiz_mark libkupaldiz_netbsd mark "$top/netbsd/src/psref.c"
+check "no stale object is linked: a changed bench" relinks kupaldiz_mark_of_bench libkupaldiz_bench mark "$top/explorer/src/show.c"
+check "an upgrade: the later version" sed -i -E 's/^(#define REGISTRY_VERSION_PATCH[[:blank:]]+).*/\17/' "$header"
+check "an upgrade: the later version's number" test "$(version)" = "${older%.*}.7"
+comes "an upgrade, over the older one: "
+goes "an upgrade: "
 
 check "a call that no map names is told" unnamed_call_is_told
 

@@ -10,37 +10,10 @@ out=out/netbsd
 . tools/checks.sh
 trap forget_log EXIT
 
-make_layer() {
-    make -s -C $folder "$@"
-}
-
-# The cases of a program that counts them in its last line.
-count_cases() {
-    limited "$2" >"$log" 2>&1
-    local words
-    read -ra words < <(tail -n 1 "$log")
-    if [ "${words[1]-}" != passed, ] || [ "${words[3]-}" != failed ]; then
-        words=(0 passed, 1 failed)
-    fi
-    passed=$((passed + words[0]))
-    failed=$((failed + words[2]))
-    if [ "${words[2]}" -eq 0 ]; then
-        echo "ok      $1: ${words[0]}"
-    else
-        echo "FAILED  $1: ${words[2]}"
-        head -n -1 "$log"
-    fi
-}
-
-# Whether a program counts its cases, as stops.h does and some do by themselves.
-counts() {
-    find $folder/tests -name "$1.c" -exec grep -qE 'run_cases\(|passed, %' {} +
-}
-
-# A program, with its words, of a way in which the Makefile builds it.
+# A program of a way in which the Makefile builds it. Some count their cases, as stops.h does.
 try_program() {
-    if counts "$1"; then
-        count_cases "each case of $1, $2" "$out/$2/$1"
+    if find $folder/tests -name "$1.c" -exec grep -qE 'run_cases\(|passed, %' {} +; then
+        counted "each case of $1, $2" "$out/$2/$1"
     else
         check "$1, $2" "$out/$2/$1"
     fi
@@ -73,8 +46,8 @@ done
 counted "each line of the layer is in a test" netbsd/tests/lines.py
 counted "each name that a driver may use, for the layer and for the bench" netbsd/tests/names.py gcc
 for way in plain sanitized raced small wide busy; do
-    check "the layer and its tests are built, no warning: $way" make_layer $way
-    for test in $(make_layer list-$way); do
+    check "the layer and its tests are built, no warning: $way" make -s -C $folder $way
+    for test in $(make -s -C $folder list-$way); do
         try_program "$test" $way
     done
 done
@@ -86,7 +59,7 @@ check "each call has an entry in a manual page" $folder/pages.py check
 if command -v mandoc >/dev/null; then
     check "mandoc finds no fault in them" lints
 fi
-check "the layer is built into a shared object that is closed" make_layer unloaded
+check "the layer is built into a shared object that is closed" make -s -C $folder unloaded
 check "a thread ends after its layer was closed" "$out/unloaded" "$out/plugin.so"
 if command -v valgrind >/dev/null; then
     check "model, under valgrind" watched "$out/plain/model" 1 300

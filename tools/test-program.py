@@ -1,4 +1,4 @@
-#!/usr/bin/env python3
+#!/usr/bin/env -S python3 -B
 """Runs the built program and compares its status, standard output and standard error with what they must be.
 
     tools/test-program.py [PROGRAM]..    crates/registry_run/out/registry_run, which tools/prove-program.sh makes; beside it what
@@ -8,27 +8,24 @@
 Scripts with and without faults, storms, wrong arguments, a standard output that is full, closed or gone, a standard input that can't be read, and
 address spaces in which there is too little memory. The last line counts the runs.
 """
+import contextlib
 import os
 import pathlib
 import subprocess
 import sys
 import tempfile
 
-sys.dont_write_bytecode = True
+from parts import ROOT, ended
 
-from parts import ended
-
-ROOT = pathlib.Path(__file__).resolve().parent.parent
 COMMAND = str(ROOT / "registry_run")
 USAGE = b"usage: registry_run core | live | storm C T\n"
 SCRIPT = b"domain 2 2\nattach 0 driver wm 7\nenter 0\nfind 0 driver wm\n"
 REPORT = b"domain 2 2\nattached 1 slot 0\ninside\nfound 1 slot 0 value 7\n"
-STORM = "storm {0} {1}\nlookups {2}\nreferences {3}\nwrong 0\nheld 0\n"
 
 
 def storm(cpus, turns):
     """What a storm prints: two lookups and one reference for each turn of each CPU."""
-    return STORM.format(cpus, turns, 2 * cpus * turns, cpus * turns).encode()
+    return f"storm {cpus} {turns}\nlookups {2 * cpus * turns}\nreferences {cpus * turns}\nwrong 0\nheld 0\n".encode()
 
 
 def script_fault(line, cause):
@@ -56,24 +53,22 @@ RUNS = [
 ]
 
 
-def closed_pipe():
-    """The end of a pipe that nobody reads any more."""
-    reader, writer = os.pipe()
-    os.close(reader)
-    return writer
-
-
+@contextlib.contextmanager
 def opened(path, flags):
-    return lambda: os.open(path, flags)
+    """A file that is open; without a path, the end of a pipe that nobody reads any more."""
+    reader, file = (None, os.open(path, flags)) if path else os.pipe()
+    if reader is not None:
+        os.close(reader)
+    yield file
+    os.close(file)
 
 
-# A standard output that takes nothing: the arguments, what it is, the status and standard error.
-ENDS = [(words, output, 3, b"write fault\n") for words in (["core"], ["live"], ["storm", "1", "1"]) for output in (
-    ("full", opened("/dev/full", os.O_WRONLY)), ("a closed pipe", closed_pipe), ("open for reading alone", opened("/dev/null", os.O_RDONLY)))]
+# A standard output that takes nothing.
+ENDS = {"full": ("/dev/full", os.O_WRONLY), "a closed pipe": (None, 0), "open for reading alone": ("/dev/null", os.O_RDONLY)}
 
 
 def said(program, words, **streams):
-    ran = subprocess.run([program, *words], stderr=subprocess.PIPE, timeout=120, **streams)
+    ran = subprocess.run([program, *words], timeout=120, **{"stderr": subprocess.PIPE, **streams})
     return ran.returncode, ran.stdout, ran.stderr
 
 
@@ -91,11 +86,10 @@ def usual(program):
 
 
 def with_ends(program):
-    for words, (name, output), status, error in ENDS:
-        file = output()
-        found = said(program, words, input=SCRIPT, stdout=file)
-        os.close(file)
-        yield judged(f"{' '.join(words)}, standard output {name}", (status, None, error), found)
+    for words in (["core"], ["live"], ["storm", "1", "1"]):
+        for name, output in ENDS.items():
+            with opened(*output) as file:
+                yield judged(f"{' '.join(words)}, standard output {name}", (3, None, b"write fault\n"), said(program, words, input=SCRIPT, stdout=file))
 
 
 def with_closed_streams(program):
@@ -117,14 +111,12 @@ def with_closed_streams(program):
 
 def with_unread_input(program):
     for engine in ("core", "live"):
-        folder = os.open("/", os.O_RDONLY)
-        found = said(program, [engine], stdin=folder, stdout=subprocess.PIPE)
-        os.close(folder)
+        with opened("/", os.O_RDONLY) as folder:
+            found = said(program, [engine], stdin=folder, stdout=subprocess.PIPE)
         yield judged(f"{engine}, standard input a folder", (3, b"", b"read fault\n"), found)
-    full = os.open("/dev/full", os.O_WRONLY)
-    found = subprocess.run([program, "core"], input=b"att", stdout=subprocess.PIPE, stderr=full, timeout=120)
-    os.close(full)
-    yield judged("core, standard error full", (2, b""), (found.returncode, found.stdout))
+    with opened("/dev/full", os.O_WRONLY) as full:
+        found = said(program, ["core"], input=b"att", stdout=subprocess.PIPE, stderr=full)
+    yield judged("core, standard error full", (2, b"", None), found)
 
 
 def part_of_report(program):

@@ -80,10 +80,6 @@ tries() {
     sed -n 's/^done: /        /p' "$log"
 }
 
-sums_hold() {
-    (cd "$release" && sha256sum -c SHA256SUMS)
-}
-
 # again FOLDER: a release made in a clone in that folder, of the same commit and the same archives.
 again() {
     local kept
@@ -99,28 +95,14 @@ same_twice() {
     again "$room/one" && again "$room/another folder" && diff -r "$room/one/release" "$room/another folder/release"
 }
 
-test_twice() {
-    check "made twice, in two folders: the same to the byte" same_twice
+# test_root PART NAME PACKAGE..: a root with these packages is made, and the part is tried in it.
+test_root() {
+    check "a root with ${*:3}" root "$1" "${@:3}"
+    tries "$2" "$1"
 }
 
-test_packet() {
-    check "a root with gcc and make" root packet gcc libc6-dev make xz-utils
-    tries "gcc and make alone" packet
-}
-
-test_c() {
-    check "a root with gcc, make and pkg-config" root c gcc libc6-dev make pkg-config xz-utils diffutils
-    tries "gcc, make and pkg-config" c
-}
-
-test_cmake() {
-    check "a root with gcc, make and cmake" root cmake gcc libc6-dev make cmake xz-utils
-    tries "cmake" cmake
-}
-
-test_cargo() {
-    check "a root with cargo" root cargo cargo xz-utils
-    tries "Debian's cargo" cargo
+# Once more with the newest cargo.
+test_newer_cargo() {
     rust=$(rustc --print sysroot 2>/dev/null)
     if [ -n "$rust" ] && [ "$rust" != /usr ]; then
         tries "$(rustc --version)" cargo
@@ -130,20 +112,22 @@ test_cargo() {
     rust=
 }
 
-test_apt() {
-    check "a root with gcc, make, pkg-config and cargo" root apt gcc libc6-dev make pkg-config cargo
-    tries "the Debian packages" apt
+# Each part has what it needs in its root, and nothing else.
+test_part() {
+    local c=(gcc libc6-dev make)
+    case $1 in
+    twice) check "made twice, in two folders: the same to the byte" same_twice ;;
+    packet) test_root packet "gcc and make alone" "${c[@]}" xz-utils ;;
+    c) test_root c "gcc, make and pkg-config" "${c[@]}" pkg-config xz-utils diffutils ;;
+    cmake) test_root cmake "cmake" "${c[@]}" cmake xz-utils ;;
+    cargo) test_root cargo "Debian's cargo" cargo xz-utils && test_newer_cargo ;;
+    apt) test_root apt "the Debian packages" "${c[@]}" pkg-config cargo ;;
+    arm64) architectures=amd64,arm64 test_root arm64 "the Debian packages for arm64" gcc-aarch64-linux-gnu libc6-dev:arm64 make pkg-config qemu-user-static ;;
+    esac
 }
 
-test_arm64() {
-    local architectures=amd64,arm64
-    check "a root with a cross compiler, and packages of arm64 beside its own" \
-        root arm64 gcc-aarch64-linux-gnu libc6-dev:arm64 make pkg-config qemu-user-static
-    tries "the Debian packages for arm64" arm64
-}
-
-check "SHA256SUMS holds" sums_hold
+check "SHA256SUMS holds" env -C "$release" sha256sum -c SHA256SUMS
 for part in "${parts[@]}"; do
-    "test_$part"
+    test_part "$part"
 done
 finish

@@ -1,4 +1,4 @@
-#!/usr/bin/env python3
+#!/usr/bin/env -S python3 -B
 """Tries the tools of the gate: each on a tree that it finds good, and on the same tree with one planted fault of each kind that it is to find.
 
     tools/test-tools.py [WORD]..    the tools whose names have one of the words, or all
@@ -13,8 +13,6 @@ import sys
 import tempfile
 from concurrent.futures import ThreadPoolExecutor
 
-sys.dont_write_bytecode = True
-
 from parts import ended
 from tests import documents, gates, libraries, programs, refusals, releases, sources
 from tests.trees import WRITING, lay, said_by, spoil
@@ -23,25 +21,19 @@ MODULES = (programs, documents, sources, gates, refusals, libraries, releases)
 COUNT = re.compile(r"^(\d+) passed, (\d+) failed\s*\Z", re.MULTILINE)
 
 
-def try_good(case, tree):
-    """What is wrong with what the tool says of the good tree, if anything is."""
-    status, said = said_by(case.command, tree)
-    counted = COUNT.search(said)
-    if status != 0:
-        return f"status {status}: {said}"
-    if case.counts and not (counted and int(counted[1]) > 0 and int(counted[2]) == 0):
-        return f"it doesn't count what passed: {said}"
-    return ""
-
-
-def try_fault(case, fault, tree):
-    """What is wrong with what the tool says of the fault, if anything is."""
+def wrong_with(case, fault, tree):
+    """What is wrong with what the tool says of the good tree, or of the fault, if anything is."""
     with WRITING:
-        misfit = spoil(fault, tree)
+        misfit = spoil(fault, tree) if fault else ""
     if misfit:
         return misfit
-    status, said = said_by(fault.command or case.command, tree)
+    status, said = said_by(fault and fault.command or case.command, tree)
     counted = COUNT.search(said)
+    if fault is None:
+        if status != 0:
+            return f"status {status}: {said}"
+        is_counted = counted and int(counted[1]) > 0 and int(counted[2]) == 0
+        return "" if is_counted or not case.counts else f"it doesn't count what passed: {said}"
     if status == 0:
         return f"NOT TOLD: {said}"
     if fault.said not in said:
@@ -59,9 +51,7 @@ def run(job):
         with WRITING:
             lay(case, tree)
             case.prepare(tree)
-        if fault is None:
-            return f"{case.name}: the good tree", try_good(case, tree)
-        return f"{case.name}: {fault.name}", try_fault(case, fault, tree)
+        return f"{case.name}: {fault.name if fault else 'the good tree'}", wrong_with(case, fault, tree)
 
 
 def main():

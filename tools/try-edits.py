@@ -1,4 +1,4 @@
-#!/usr/bin/env python3
+#!/usr/bin/env -S python3 -B
 """Tries wrong bodies (docs/RECIPES.md): the prover, or a test, must refuse each.
 
     tools/try-edits.py gate   [--anew] [CRATE | CRATE/EDIT]..    crates/CRATE/edits/gate.edits:    the prover must refuse each; the gate tries them
@@ -16,7 +16,6 @@ edit changes, and the whole crate where that refused nothing. `tests` works on c
 `without`: a law has no body to change, and the method of a trait none either: it is listed, since its types' own methods are other functions. A call is
 known by its name alone, so a function may pass here for the edit of another with the name of one that it calls.
 """
-import contextlib
 import pathlib
 import re
 import shutil
@@ -25,27 +24,13 @@ import sys
 import tempfile
 from concurrent.futures import ThreadPoolExecutor
 
-sys.dont_write_bytecode = True
-
 from contracts import functions_of
 from edit_checks import results
-from edits import BY_HAND, GATE, ROOT, TESTS, apply, changes, chosen, edits_of
+from edits import BY_HAND, CRATES, GATE, ROOT, TESTS, apply, chosen, edits_of, places
 from parts import ended
 
 # So many runs of tests are made side by side.
 TESTED_AT_ONCE = 2
-
-
-def by_gate(edits, anew):
-    """Each edit with whether a check of its functions refuses it, and what is said of it."""
-    for edit, result in results(edits, anew):
-        yield edit, result.is_refused, result.said
-
-
-def by_prover(edits, anew):
-    """Each edit with whether it is refused, and what is said of it. A search that found no proof refuses an edit, too: its reason names the clause."""
-    for edit, result in results(edits, anew, whole=True):
-        yield edit, result.said.startswith("refused"), result.said
 
 
 def failures(tree, crate):
@@ -56,36 +41,16 @@ def failures(tree, crate):
         return False, "it doesn't compile: " + " ".join(lines[:4])
     if ran.returncode == 0:
         return False, "NOT REFUSED: all tests pass"
-    failed = [line.split()[1] for line in lines if line.startswith("test ") and line.endswith(" FAILED")]
+    failed = re.findall(r"^test (\S+).* FAILED$", ran.stdout, re.M)
     return (True, "refused by " + ", ".join(failed)) if failed else (False, f"NOT TRIED: no test failed: {lines[-1]}")
 
 
-@contextlib.contextmanager
-def a_copy():
-    """A copy of the tree to write an edit into."""
-    with tempfile.TemporaryDirectory() as folder:
-        yield pathlib.Path(shutil.copytree(ROOT, f"{folder}/tree", ignore=shutil.ignore_patterns(".git", "out")))
-
-
 def by_test(edit):
-    """Runs the tests under the edit."""
-    with a_copy() as tree:
+    """Runs the tests under the edit, in a copy of the tree."""
+    with tempfile.TemporaryDirectory() as folder:
+        tree = pathlib.Path(shutil.copytree(ROOT, f"{folder}/tree", ignore=shutil.ignore_patterns(".git", "out")))
         _, misfit = apply(edit, tree)
         return edit, *((False, misfit) if misfit else failures(tree, edit.crate))
-
-
-def by_tests(edits):
-    with ThreadPoolExecutor(TESTED_AT_ONCE) as pool:
-        yield from pool.map(by_test, edits)
-
-
-def places(edit):
-    """The file and the line of each text that the edit changes."""
-    for path, old, _ in changes(edit):
-        if path.is_file():
-            before, found, _ = path.read_text().partition(old)
-            if found:
-                yield path, before.count("\n")
 
 
 def covered(functions, changed):
@@ -101,9 +66,8 @@ def covered(functions, changed):
 
 def without(names):
     """Lists the public functions of the crates without an edit."""
-    crates = names or sorted(path.name for path in (ROOT / "crates").iterdir() if path.is_dir())
     by_tests = [place for edit in chosen(TESTS, []) for place in places(edit)]
-    for crate in crates:
+    for crate in names or CRATES:
         folder = ROOT / "crates" / crate
         functions = [it for path in folder.glob("src/**/*.rt") if "tests" not in path.relative_to(folder).parts for it in functions_of(path)]
         changed = by_tests + [place for kind in (GATE, BY_HAND) for edit in edits_of(crate, kind) for place in places(edit)]
@@ -117,8 +81,13 @@ def without(names):
 def tries(kind, names, anew):
     """Each edit of the kind with whether it was refused, and what is said of it."""
     if kind == "tests":
-        return by_tests(chosen(TESTS, names))
-    return by_gate(list(chosen(GATE, names)), anew) if kind == "gate" else by_prover(list(chosen(BY_HAND, names)), anew)
+        with ThreadPoolExecutor(TESTED_AT_ONCE) as pool:
+            yield from pool.map(by_test, chosen(TESTS, names))
+    elif kind == "gate":
+        yield from ((edit, result.is_refused, result.said) for edit, result in results(list(chosen(GATE, names)), anew))
+    else:
+        # A search that found no proof refuses an edit, too: its reason names the clause.
+        yield from ((edit, it.said.startswith("refused"), it.said) for edit, it in results(list(chosen(BY_HAND, names)), anew, whole=True))
 
 
 def main():

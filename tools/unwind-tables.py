@@ -1,4 +1,4 @@
-#!/usr/bin/env python3
+#!/usr/bin/env -S python3 -B
 """Adds unwind tables (.eh_frame) to an object of the compiler that has none: unwind-tables.py OBJECT, which is written anew.
 
 The tables are read off the finished code. Of each function every path is followed from its first instruction: what moves the stack pointer says how deep
@@ -13,8 +13,6 @@ import subprocess
 import sys
 import tempfile
 from pathlib import Path
-
-sys.dont_write_bytecode = True
 
 LINE = re.compile(r"^\s+([0-9a-f]+):\t(\S+)(?:\s+(.*))?$")
 OUT = "out"
@@ -37,54 +35,14 @@ class X86:
     STACK, PROBED = 7, 11
     # The return address lies on the stack.
     AT_ENTRY = 8
-    ENDS = ("ret", "retq", "ud2")
-    PADDING = ("nop", "nopl", "nopw", "int3", "data16", "cs", "xchg")
+    # A jump to a place, one by a table, a return, what the next instruction doesn't follow, and what fills up.
+    JUMP, TABLE, RETURN, ENDS = map(re.compile, (r"j\w+ (?!\*)", r"jmp\w* \*", r"retq?\b", r"(jmpq?|retq?|ud2)\b"))
+    PADDING = re.compile(r"(nop[lw]?|int3|data16|cs|xchg)\b")
+    # The loop that makes a large frame: of these the instruction SIZES says how large, and from the instruction SURE on it can be nothing else.
+    LOOP = (r"mov %rsp,%r11", r"sub \$(0x[0-9a-f]+)(),%r11", r"sub .*,%rsp", r"movq \$0x0,\(%rsp\)", r"cmp %r11,%rsp", r"jne .*")
+    SIZES, SURE = 1, 0
     # The common part of all tables: the address is 8 above the stack pointer, and the return address lies right below it.
-    HEAD = """.sleb128 -8
-.uleb128 16
-.uleb128 1
-.byte 0x1b
-.byte 0x0c
-.uleb128 7
-.uleb128 8
-.byte 0x90
-.uleb128 1
-"""
-
-    @staticmethod
-    def is_jump(name, operands):
-        """A jump to a place, not by a table."""
-        return name.startswith("j") and not operands.startswith("*")
-
-    @staticmethod
-    def is_table_jump(name, operands):
-        return name.startswith("jmp") and operands.startswith("*")
-
-    @staticmethod
-    def goes_on(name):
-        """The next instruction may follow this one."""
-        return name not in ("jmp", "jmpq", *X86.ENDS)
-
-    @staticmethod
-    def target(operands):
-        return int(operands.split()[0], 16)
-
-    @staticmethod
-    def is_return(name):
-        return name in ("ret", "retq")
-
-    @staticmethod
-    def probes(listing, place):
-        """How large a frame the loop makes that begins after the instruction at the place, and the places that follow that, up to the one past it; or nothing."""
-        if listing[place] != ("mov", "%rsp,%r11"):
-            return None
-        loop = [each for each in sorted(listing) if each >= place][1:7]
-        names = [listing[each] for each in loop]
-        found = re.fullmatch(r"\$(0x[0-9a-f]+),%r11", names[0][1])
-        assert found and names[0][0] == "sub" and names[1][0] == "sub" and names[1][1].endswith(",%rsp"), f"a loop at {place:x} isn't understood"
-        assert names[2] == ("movq", "$0x0,(%rsp)") and names[3] == ("cmp", "%r11,%rsp"), f"a loop at {place:x} isn't understood"
-        assert names[4][0] == "jne" and X86.target(names[4][1]) == loop[1], f"a loop at {place:x} isn't understood"
-        return int(found[1], 16), loop
+    HEAD = ".sleb128 -8\n.uleb128 16, 1\n.byte 0x1b, 0x0c\n.uleb128 7, 8\n.byte 0x90\n.uleb128 1\n"
 
     @staticmethod
     def after(name, operands, depth, saved):
@@ -115,65 +73,19 @@ class Aarch64:
     TOOLS = "aarch64-linux-gnu-"
     SECTION_TYPE = "%progbits"
     COMMENT = "//"
-    # DWARF's numbers: of the registers that a callee keeps, with the return address, of the stack pointer and of what says where a loop ends.
+    # As for x86-64, and with the return address.
     KEPT = {f"x{number}": number for number in range(19, 31)}
     STACK, PROBED = 31, 9
     AT_ENTRY = 0
-    ENDS = ("ret", "brk", "udf")
-    PADDING = ("nop", "udf", ".word", ".inst")
+    JUMP, TABLE, RETURN, ENDS = map(re.compile, (r"(b|b\.\w+|cbn?z|tbn?z) ", r"br ", r"ret\b", r"(b|br|ret|brk|udf)( |$)"))
+    PADDING = re.compile(r"(nop|udf|\.word|\.inst)\b")
+    LOOP = (r"sub x9, sp, #(0x[0-9a-f]+)(, lsl #12)?", r"sub sp, sp, #0x1, lsl #12", r"cmp sp, x9", r"str xzr, \[sp\]", r"b\.ne .*")
+    SIZES, SURE = 0, 1
     # The common part of all tables: the address is the stack pointer, and the return address is in x30.
-    HEAD = """.sleb128 -8
-.uleb128 30
-.uleb128 1
-.byte 0x1b
-.byte 0x0c
-.uleb128 31
-.uleb128 0
-"""
+    HEAD = ".sleb128 -8\n.uleb128 30, 1\n.byte 0x1b, 0x0c\n.uleb128 31, 0\n"
     # A move between one or two registers and the stack, whose pointer may move before it or after it.
     MOVED = re.compile(r"(?:(\w+), )?(\w+), \[sp(?:, #(-?\d+))?\](!?)(?:, #(-?\d+))?")
     SIZED = re.compile(r"sp, sp, #(0x[0-9a-f]+)(, lsl #12)?")
-
-    @staticmethod
-    def is_jump(name, _operands):
-        return name == "b" or name.startswith("b.") or name in ("cbz", "cbnz", "tbz", "tbnz")
-
-    @staticmethod
-    def is_table_jump(name, _operands):
-        return name == "br"
-
-    @staticmethod
-    def goes_on(name):
-        return name not in ("b", "br", *Aarch64.ENDS)
-
-    @staticmethod
-    def target(operands):
-        return int(operands.rsplit(", ", 1)[-1].split()[0], 16)
-
-    @staticmethod
-    def is_return(name):
-        return name == "ret"
-
-    @staticmethod
-    def size_of(operands):
-        """How many bytes the stack pointer is moved by, as `sp, sp, #0x1, lsl #12` says."""
-        found = Aarch64.SIZED.fullmatch(operands)
-        assert found, f"sp is moved by {operands}"
-        return int(found[1], 16) << (12 if found[2] else 0)
-
-    @staticmethod
-    def probes(listing, place):
-        """The loop that makes a frame page by page: as for x86-64. Here the first instruction says how large, so it is part of what it returns."""
-        name, operands = listing[place]
-        if name != "sub" or not re.match(r"x9, sp, #0x[0-9a-f]+", operands):
-            return None
-        loop = [each for each in sorted(listing) if each >= place][:6]
-        names = [listing[each] for each in loop]
-        if names[1] != ("sub", "sp, sp, #0x1, lsl #12"):
-            return None
-        assert names[2] == ("cmp", "sp, x9") and names[3] == ("str", "xzr, [sp]"), f"a loop at {place:x} isn't understood"
-        assert names[4][0] == "b.ne" and Aarch64.target(names[4][1]) == loop[1], f"a loop at {place:x} isn't understood"
-        return Aarch64.size_of(operands.replace("x9", "sp", 1)), loop
 
     @staticmethod
     def moved(name, found, depth, saved):
@@ -196,8 +108,9 @@ class Aarch64:
         if name in ("stp", "str", "ldp", "ldr") and (found := Aarch64.MOVED.fullmatch(operands)):
             return Aarch64.moved(name, found, depth, saved)
         if operands.startswith("sp, ") and name not in ("cmp", "cmn", "tst"):
-            assert name in ("add", "sub"), f"{name} {operands} isn't understood"
-            return depth + Aarch64.size_of(operands) * (1 if name == "sub" else -1), saved
+            found = Aarch64.SIZED.fullmatch(operands)
+            assert found and name in ("add", "sub"), f"{name} {operands} isn't understood"
+            return depth + size_of(found) * (1 if name == "sub" else -1), saved
         assert not re.search(r"\[sp.*\]!|\[sp\], ", operands), f"{name} {operands} isn't understood"
         return depth, saved
 
@@ -226,30 +139,47 @@ def functions(path):
 
 
 def code(machine, path, section):
-    """The instructions of a section: from the place of each to its name and operands, in their order. A jump that the linker is to direct leaves
-    the function, wherever it seems to lead: its operand is OUT."""
+    """The instructions of a section by their places, in their order, each with one blank behind its name. A jump that the linker is to direct leaves the
+    function, wherever it seems to lead: its operand is OUT."""
     listing = {}
     for line in run(f"{machine.TOOLS}objdump", "-d", "-r", "-w", "--no-show-raw-insn", "-j", section, path).splitlines():
-        found = LINE.match(line)
-        if found:
+        if found := LINE.match(line):
             operands, *relocation = (found[3] or "").split("\t")
-            operands = operands.split(machine.COMMENT)[0].strip()
-            leaves = relocation and machine.is_jump(found[2], operands)
-            listing[int(found[1], 16)] = (found[2], OUT if leaves else operands)
+            text = f"{found[2]} {operands.split(machine.COMMENT)[0].strip()}"
+            listing[int(found[1], 16)] = f"{found[2]} {OUT}" if relocation and machine.JUMP.match(text) else text
     return listing
 
 
-def onward(machine, listing, place, following, depth, saved):
-    """The places to which a path goes on from the instruction at the place, after which the stack is so deep."""
-    name, operands = listing[place]
-    at_entry = (depth, saved) == (machine.AT_ENTRY, {})
-    assert at_entry or not machine.is_return(name), f"a return at {place:x} with something on the stack"
-    if machine.is_jump(name, operands) and name not in machine.ENDS:
-        if operands != OUT and machine.target(operands) in listing:
-            yield machine.target(operands)
+def target(text):
+    """Where a jump leads."""
+    return int(re.split(r", | ", text.partition(" <")[0])[-1], 16)
+
+
+def size_of(found):
+    """How many bytes the stack pointer is moved by, as `#0x1, lsl #12` says."""
+    return int(found[1], 16) << (12 if found[2] else 0)
+
+
+def probed(machine, listing, places):
+    """How large a frame the loop makes that begins at the first of these places, and its places from where that is said, up to the one past it; or nothing."""
+    forms = [re.fullmatch(form, listing[it]) for form, it in zip(machine.LOOP, places)]
+    if not all(forms[:machine.SURE + 1]):
+        return None
+    loop = places[machine.SIZES:len(machine.LOOP) + 1]
+    assert len(forms) == len(machine.LOOP) and all(forms) and target(listing[loop[-2]]) == loop[1], f"a loop at {places[0]:x} isn't understood"
+    return size_of(forms[machine.SIZES]), loop
+
+
+def onward(machine, listing, place, following, state):
+    """The places to which a path goes on from the instruction at the place, after which the stack and the saved registers are so."""
+    text, at_entry = listing[place], state == (machine.AT_ENTRY, {})
+    assert at_entry or not machine.RETURN.match(text), f"a return at {place:x} with something on the stack"
+    if machine.JUMP.match(text):
+        if not text.endswith(f" {OUT}") and target(text) in listing:
+            yield target(text)
         else:
             assert at_entry, f"a jump out at {place:x} with something on the stack"
-    if machine.goes_on(name):
+    if not machine.ENDS.match(text):
         assert place in following, f"a path goes on behind the last instruction, at {place:x}"
         yield following[place]
 
@@ -257,37 +187,31 @@ def onward(machine, listing, place, following, depth, saved):
 def unreached(machine, listing, known, by_table):
     """What no path has come to is where a jump by a table leads: the first such place, at the depth of these jumps."""
     assert all(each == by_table[0] for each in by_table), "two depths at jumps by tables"
-    return [(place, *by_table[0]) for place in places_of(listing) if place not in known and listing[place][0] not in machine.PADDING][:1]
-
-
-def places_of(listing):
-    return sorted(listing)
+    return [(place, by_table[0]) for place in sorted(listing) if place not in known and not machine.PADDING.match(listing[place])][:1]
 
 
 def states(machine, listing):
     """The depth and the saved registers before each instruction that a path comes to; a negative depth is that of a loop that makes a frame."""
-    places = places_of(listing)
+    places = sorted(listing)
     following = dict(zip(places, places[1:]))
-    known, todo, by_table = {}, [(places[0], machine.AT_ENTRY, {})], []
+    known, todo, by_table = {}, [(places[0], (machine.AT_ENTRY, {}))], []
     while todo or (by_table and (todo := unreached(machine, listing, known, by_table))):
-        place, depth, saved = todo.pop()
+        place, state = todo.pop()
         if place in known:
-            assert known[place] == (depth, saved), f"two depths at {place:x}"
+            assert known[place] == state, f"two depths at {place:x}"
             continue
-        known[place] = (depth, saved)
-        probed = machine.probes(listing, place)
-        if probed:
-            size, (second, *loop, past) = probed
-            known[second] = (depth, saved)
+        known[place] = depth, saved = state
+        if found := probed(machine, listing, places[places.index(place):]):
+            size, (second, *loop, past) = found
+            known[second] = state
             known.update((each, (-depth - size, saved)) for each in loop)
-            todo.append((past, depth + size, saved))
+            todo.append((past, (depth + size, saved)))
             continue
-        name, operands = listing[place]
-        depth, saved = machine.after(name, operands, depth, saved)
-        if machine.is_table_jump(name, operands):
-            by_table.append((depth, saved))
+        state = machine.after(*listing[place].split(" ", 1), depth, saved)
+        if machine.TABLE.match(listing[place]):
+            by_table.append(state)
         else:
-            todo.extend((each, depth, saved) for each in onward(machine, listing, place, following, depth, saved))
+            todo.extend((each, state) for each in onward(machine, listing, place, following, state))
     return known
 
 
@@ -305,13 +229,11 @@ def change(machine, state, now):
 
 def rows(machine, listing):
     """What a table says at each place where it changes."""
-    known = states(machine, listing)
     last, state = 0, (machine.AT_ENTRY, {})
-    for place in sorted(known):
-        lines = list(change(machine, state, known[place]))
-        if lines:
-            yield [".byte 0x04", f".long {place - last}"] + lines
-            last, state = place, known[place]
+    for place, now in sorted(states(machine, listing).items()):
+        if lines := list(change(machine, state, now)):
+            yield from (".byte 0x04", f".long {place - last}", *lines)
+            last, state = place, now
 
 
 HEAD = """.section .note.GNU-stack,"",%progbits
@@ -323,21 +245,14 @@ HEAD = """.section .note.GNU-stack,"",%progbits
 .asciz "zR"
 .uleb128 1
 """
-HEAD_END = """.balign 8
-.Lcie_end:
-"""
-
-
-def spoken(name, seen):
-    """The name by which a table speaks of a function: one of its own, local in the end, where a shared library may not speak of the function's."""
-    return f"unwound.{name}" if seen else name
+HEAD_END = ".balign 8\n.Lcie_end:\n"
+# Before the name by which a table speaks of a function that others see: one of its own, local in the end, as a shared library may not speak of the function's.
+OWN = "unwound."
 
 
 def table(machine, number, name, size, listing):
     lines = [f".long .Lend{number} - .Lstart{number}", f".Lstart{number}: .long .Lstart{number} - .Lcie", f'.long "{name}" - .', f".long {size}", ".uleb128 0"]
-    for row in rows(machine, listing):
-        lines += row
-    return "\n".join(lines + [".balign 8", f".Lend{number}:", ""])
+    return "\n".join([*lines, *rows(machine, listing), ".balign 8", f".Lend{number}:", ""])
 
 
 def main(path):
@@ -346,17 +261,17 @@ def main(path):
     text = HEAD.replace("%PROGBITS", machine.SECTION_TYPE) + machine.HEAD + HEAD_END
     for number, (name, size, seen) in enumerate(found):
         section = next(each for each in sections if each.endswith("." + name))
-        text += table(machine, number, spoken(name, seen), size, code(machine, path, section))
+        text += table(machine, number, OWN * seen + name, size, code(machine, path, section))
     objcopy = f"{machine.TOOLS}objcopy"
     with tempfile.TemporaryDirectory() as room:
         shown, tables, whole = (str(Path(room, each)) for each in ("shown.o", "tables.o", "whole.o"))
         local = [name for name, _, seen in found if not seen]
         added = [name for name, _, seen in found if seen]
         run(objcopy, *(f"--globalize-symbol={name}" for name in local),
-            *(f"--add-symbol={spoken(name, True)}=.text.{name}:0,function,global" for name in added), path, shown)
+            *(f"--add-symbol={OWN}{name}=.text.{name}:0,function,global" for name in added), path, shown)
         subprocess.run([f"{machine.TOOLS}as", "-o", tables], input=text, text=True, check=True)
         run(f"{machine.TOOLS}ld", "-r", "-o", whole, shown, tables)
-        run(objcopy, *(f"--localize-symbol={name}" for name in local), *(f"--localize-symbol={spoken(name, True)}" for name in added), whole, path)
+        run(objcopy, *(f"--localize-symbol={name}" for name in local), *(f"--localize-symbol={OWN}{name}" for name in added), whole, path)
     print(f"unwind tables for {len(found)} functions")
 
 

@@ -2,7 +2,7 @@
 tools/picture.py."""
 import subprocess
 
-from .trees import Case, Fault, real
+from .trees import Case, Fault, of, real
 
 README = """# A tree
 
@@ -18,7 +18,7 @@ A [page](docs/page.md), its [part](docs/page.md#the-part), [another way][page] a
 """
 PAGE = """# A page
 
-Back to [the tree](../README.md).
+Back to [the tree](../README.md), and walk_all.
 
 ## The part
 
@@ -35,23 +35,19 @@ def listed(tree):
 
 
 def check_docs():
-    faults = (
-        Fault("a dead link", "README.md: links: no file docs/gone.md", (("README.md", "A [page](docs/page.md)", "A [page](docs/gone.md)"),)),
-        Fault("a dead heading", "no heading docs/page.md#the-part", (("docs/page.md", "## The part", "## A part"),)),
-        Fault("a label that is gone", "no link is called [page]", (("README.md", "[page]: docs/page.md\n", ""),)),
-        Fault("a name that is gone", "README.md: names: `walk_all`: walk_all", (("src/walk.c", "walk_all", "walk_some"),)),
-        Fault("a name that documents alone have", "names: `walk_some`: walk_some",
-              (("README.md", "`walk_all`", "`walk_some`"), ("docs/page.md", "Back to", "walk_some, back to"))),
-        Fault("a table that is cut off", "a table ends at:  | 1 2", (("README.md", "| 1 | 2 |", " | 1 2"),)),
-        Fault("a new page", "docs/new.md: links: no file gone.md", (("docs/new.md", None, "[gone](gone.md)\n"),)),
+    faults = [
+        *of("README.md", ("a dead link", "README.md: links: no file docs/gone.md", "A [page](docs/page.md)", "A [page](docs/gone.md)"),
+            ("a label that is gone", "no link is called [page]", "[page]: docs/page.md\n", ""),
+            ("a table that is cut off", "a table ends at:  | 1 2", "| 1 | 2 |", " | 1 2"),
+            ("a banned phrase", "README.md: phrases: line 3: 'but for': except", "is here.", "is here, but for one."),
+            ("a private word in a page for users", "line 3: 'seat': no private word", "is here.", "is here, by a seat.")),
+        *of("docs/page.md", ("a dead heading", "no heading docs/page.md#the-part", "## The part", "## A part")),
+        *of("src/walk.c", ("a name that documents alone have", "README.md: names: `walk_all`: walk_all", "walk_all", "walk_some")),
+        *of("docs/new.md", ("a new page", "docs/new.md: links: no file gone.md", None, "[gone](gone.md)\n")),
+        *of("netbsd/include/kupaldiz/walk.h", ("a banned phrase in a header", "walk.h: phrases: line 1: 'stands for': is in", None, "/* It stands for all. */\n")),
+        *of("man/kupaldiz_walk.7", ("a private word in a manual page", "walk.7: phrases: line 2: 'ledger': no", None, ".Sh NAME\nA ledger.\n")),
         Fault("no documents", "0 passed, 1 failed", (("README.md", README, None), ("docs/page.md", PAGE, None))),
-        Fault("a banned phrase", "README.md: phrases: line 3: 'but for': except", (("README.md", "is here.", "is here, but for one."),)),
-        Fault("a private word in a page for users", "line 3: 'seat': no private word", (("README.md", "is here.", "is here, by a seat."),)),
-        Fault("a banned phrase in a header", "netbsd/include/kupaldiz/walk.h: phrases: line 1: 'stands for': is in, contains, or means",
-              (("netbsd/include/kupaldiz/walk.h", None, "/* It stands for all. */\n"),)),
-        Fault("a private word in a manual page", "man/kupaldiz_walk.7: phrases: line 2: 'ledger': no private word",
-              (("man/kupaldiz_walk.7", None, ".Sh NAME\nA ledger.\n"),)),
-    )
+    ]
     return Case("check-docs", ["check-docs.py", "parts.py"], DOCUMENTS, ["tools/check-docs.py"], faults, prepare=listed)
 
 
@@ -113,18 +109,12 @@ PAGES = {
 }
 
 
-def program_fault(name, said, old, new):
-    return Fault(name, said, (("program", old, new),))
-
-
 def run_examples():
-    line_more = "printf 'domain 1 1\\ninside\\n'"
     faults = (
-        program_fault("another report", "status 0, and it said\ndomain 1 1\noutside", "\\ninside", "\\noutside"),
-        program_fault("a report with a line more", "and not", line_more, f"{line_more}; echo inside"),
-        program_fault("something on standard error", "and it said\ndomain 1 1\ninside\nnote", line_more, f"{line_more}; echo note >&2"),
-        program_fault("another status after a fault", "status 0, and it said", "exit 2", "exit 0"),
-        program_fault("another report of one engine", "inside live: status 0", "    printf 'domain", "    [ $1 = core ] || echo more; printf 'domain"),
+        *of("program", ("another report", "status 0, and it said\ndomain 1 1\noutside", "\\ninside", "\\noutside"),
+            ("something on standard error", "and it said\ndomain 1 1\ninside\nnote", "inside\\n'", "inside\\n'; echo note >&2"),
+            ("another status after a fault", "status 0, and it said", "exit 2", "exit 0"),
+            ("another report of one engine", "inside live: status 0", "    printf 'domain", "    [ $1 = core ] || echo more; printf 'domain")),
         Fault("another report of a session", "readme-19 core", (("README.md", "enter 0                inside", "enter 0                outside"),)),
         Fault("a script without a report", "a script without a report or a fault after it", (("README.md", "```report", "```text"),)),
         Fault("a report without a script", "a report without a script before it", (("docs/page.md", "# A page", "```report\ninside\n```"),)),
@@ -257,24 +247,20 @@ def picture():
         Fault("an arrow that is missing", "docs/layers.svg, arrows: high-low", (("docs/layers.svg", 'data-from="high" data-to="low"', ""),)),
         Fault("an arrow too many", "docs/layers.svg, arrows: low-high", (("docs/layers.svg", "<svg>", '<svg><path data-from="low" data-to="high"/>'),)),
     )
-    return [Case("picture", ["picture.py", "parts.py"], tree, ["tools/picture.py", "check"], faults)]
+    return [Case("picture", ["picture.py", "kit.py", "parts.py"], tree, ["tools/picture.py", "check"], faults)]
 
 
 def header_pages():
     tree = {FACE: HEADER, f"{PAGE}.in": FRAME, "wanted": MADE, CLIENT: PACKET, "make": MAKES,
             "c/include/waiting.h": WAITS, "man/registry_waiting.3.in": "@synopsis\n@calls\n", "wanted_of_waits": MADE_OF_WAITS}
     faults = (
-        Fault("another type of a parameter", '> .Fa "struct registry *it"', ((FACE, "struct registry *it,", "struct keeper *it,"),)),
-        Fault("another type of the result", "> .Ft registry_answer", ((FACE, "registry_answer registry_open", "uint32_t registry_open"),)),
-        Fault("another summary of a call", "> Make a registry.", ((FACE, "make a registry", "open a registry"),)),
-        Fault("another error", "> .Dv REGISTRY_DONE .", ((FACE, "Returns REGISTRY_DONE.", "Returns REGISTRY_NULL."),)),
-        Fault("another range of a member", "> 1 to 8", ((FACE, "1 to 8", "1 to 9"),)),
-        Fault("a call more", "< .Nm registry_close",
-              ((FACE, "REGISTRY_CHECKED;\n", "REGISTRY_CHECKED;\n\n/*\n * registry_close - close it\n */\nvoid registry_close(void);\n"),)),
-        Fault("another example", "< \treturn 2;", ((CLIENT, "return 1", "return 2"),)),
-        Fault("an example that is gone", "'@example c/examples/packet.c opened' of the frame names nothing", ((CLIENT, "opened", "closed"),)),
-        Fault("a struct that is gone", "'@types registry_settings' of the frame names nothing", ((FACE, "\nstruct registry_settings {", "\nstruct settings {"),)),
-        Fault("a part that isn't one", "'@call' of the frame names nothing", ((f"{PAGE}.in", "@calls", "@call"),)),
+        *of(FACE, ("another type of a parameter", '> .Fa "struct registry *it"', "struct registry *it,", "struct keeper *it,"),
+            ("another summary of a call", "> Make a registry.", "make a registry", "open a registry"),
+            ("a call more", "< .Nm registry_more", "REGISTRY_CHECKED;\n", "REGISTRY_CHECKED;\n\n/*\n * registry_more - one more\n */\nvoid registry_more(void);\n"),
+            ("a struct that is gone", "'@types registry_settings' of the frame names nothing", "\nstruct registry_settings {", "\nstruct settings {")),
+        *of(CLIENT, ("another example", "< \treturn 2;", "return 1", "return 2"),
+            ("an example that is gone", "'@example c/examples/packet.c opened' of the frame names nothing", "opened", "closed")),
+        *of(f"{PAGE}.in", ("a part that isn't one", "'@call' of the frame names nothing", "@calls", "@call")),
     )
     return Case("header-pages", ["header-pages.py", "parts.py"], tree, ["./make"], faults)
 

@@ -3,7 +3,7 @@ import os
 
 from limits import LIMITS
 
-from .trees import Case, Fault
+from .trees import Case, Fault, of
 
 GATE = """#!/usr/bin/env python3
 import sys
@@ -20,18 +20,17 @@ PASSES = "#!/bin/sh\necho begun\necho 3 passed, 0 failed\n"
 def parts():
     """A fault of the part that runs beside another one, and of the part that is alone."""
     tree = {"gate": GATE, "one": PASSES, "two": PASSES, "alone": PASSES}
-    faults = []
-    for part in ("one", "alone"):
-        faults += [
-            Fault(f"{part}: a failure", "8 passed, 1 failed", ((part, "3 passed, 0", "2 passed, 1"),)),
-            Fault(f"{part}: no check", "6 passed, 1 failed", ((part, "3 passed, 0", "0 passed, 0"),)),
-            Fault(f"{part}: no count", "6 passed, 1 failed", ((part, "echo 3 passed, 0 failed\n", ""),)),
-            Fault(f"{part}: a count that isn't last", "6 passed, 1 failed", ((part, "0 failed\n", "0 failed\necho more\n"),)),
-            Fault(f"{part}: another status", "9 passed, 1 failed", ((part, "0 failed\n", "0 failed\nexit 2\n"),)),
-            Fault(f"{part}: it is killed", "6 passed, 1 failed", ((part, "echo 3", "kill -KILL $$; echo 3"),)),
-            Fault(f"{part}: it isn't there", f"./{part}", ((part, PASSES, None),)),
-        ]
-    faults.append(Fault("no parts", "0 passed, 1 failed", (("gate", 'gate([Part("one", "./one"), Part("two", "./two")], [Part("alone", "./alone")])', "gate()"),)))
+    rows = (
+        ("a failure", "8 passed, 1 failed", "3 passed, 0", "2 passed, 1"),
+        ("no check", "6 passed, 1 failed", "3 passed, 0", "0 passed, 0"),
+        ("no count", "6 passed, 1 failed", "echo 3 passed, 0 failed\n", ""),
+        ("a count that isn't last", "6 passed, 1 failed", "0 failed\n", "0 failed\necho more\n"),
+        ("another status", "9 passed, 1 failed", "0 failed\n", "0 failed\nexit 2\n"),
+        ("it is killed", "6 passed, 1 failed", "echo 3", "kill -KILL $$; echo 3"),
+        ("it isn't there", "No such file or directory", PASSES, None),
+    )
+    faults = [fault for part in ("one", "alone") for fault in of(part, *((f"{part}: {name}", *rest) for name, *rest in rows))]
+    faults += of("gate", ("no parts", "0 passed, 1 failed", GATE, GATE.partition("gate([")[0] + "gate())\n"))
     return Case("parts", ["parts.py"], tree, ["./gate"], faults)
 
 
@@ -50,7 +49,7 @@ wait $limit
 
 def ending():
     tree = {"gate": WAITS, "one": PASSES, "two": "#!/bin/sh\n: >begun\nexec env WAITS=$PWD/wait sleep 20\n", "alone": PASSES, "ends": ENDS}
-    faults = (Fault("parts that aren't ended", "it does not end", (("tools/parts.py", "os.kill(pid, number)", "pass"),)),)
+    faults = of("tools/parts.py", ("parts that aren't ended", "it does not end", "os.kill(pid, number)", "pass"))
     return Case("ending", ["parts.py"], tree, ["./ends"], faults, counts=False)
 
 
@@ -79,23 +78,20 @@ for count, most in {6: 50, 4: 50, 3: 90, 2: 90, 1: 150}.items():
 
 
 def bounds():
-    faults = (
-        Fault("a bound for four processors alone", "on 6 processors", (("tools/parts.py", "it <= processors()", "it in (1, processors())"),)),
-        Fault("no bound for one processor", "on 1 processors", (("tools/parts.py", ", 1: 150}", ", 1: 151}"),)),
-        Fault("processor minutes without a bound", "on 6 processors", (("tools/parts.py", "if processor > 60 *", "if processor > 61 *"),)),
-    )
+    faults = of("tools/parts.py", ("a bound for four processors alone", "on 6 processors", "it <= processors()", "it in (1, processors())"),
+                ("no bound for one processor", "on 1 processors", ", 1: 150}", ", 1: 151}"),
+                ("processor minutes without a bound", "on 6 processors", "if processor > 60 *", "if processor > 61 *"))
     return Case("bounds", ["parts.py"], {"bounds": BOUNDS}, ["./bounds"], faults, counts=False)
 
 
 def shell():
-    check, counted = 'check "true is" test 1 = 1\n', 'counted "counts" ./one\n'
-    faults = (
-        Fault("a check that fails", "FAILED  true is", (("shell", "test 1 = 1", "test 1 = 2"),)),
-        Fault("a count with a failure", "FAILED  counts: 1 of 4", (("one", "0 failed", "1 failed"),)),
-        Fault("no count", "FAILED  counts", (("one", "echo 3 passed, 0 failed\n", ""),)),
-        Fault("another status", "FAILED  counts", (("one", "0 failed\n", "0 failed\nexit 1\n"),)),
-        Fault("no checks", "0 passed, 1 failed", (("shell", check, ""), ("shell", counted, ""))),
-    )
+    faults = [
+        *of("shell", ("a check that fails", "FAILED  true is", "test 1 = 1", "test 1 = 2"),
+            ("no checks", "0 passed, 1 failed", 'check "true is" test 1 = 1\ncounted "counts" ./one\n', "")),
+        *of("one", ("a count with a failure", "FAILED  counts: 1 of 4", "0 failed", "1 failed"),
+            ("no count", "FAILED  counts", "echo 3 passed, 0 failed\n", ""),
+            ("another status", "FAILED  counts", "0 failed\n", "0 failed\nexit 1\n")),
+    ]
     return Case("checks.sh", ["checks.sh"], {"shell": SHELL, "one": PASSES}, ["./shell"], faults)
 
 
@@ -148,27 +144,28 @@ exit $status
 def on_all_processors():
     """A tool that leaves no processor to edits, and one that forgets them, where there are processors enough to tell."""
     if len(os.sched_getaffinity(0)) >= 4:
-        yield Fault("rt ci on all processors", "7 passed, 1 failed", (("tools/archive-beside.py", "MANY = 4", "MANY = 4000"),))
-        yield Fault("edits that wait for rt ci", "edits that weren't tried", (("tools/archive-beside.py", "            edits.take(stands[1])", "            pass"),))
+        yield "rt ci on all processors", "7 passed, 1 failed", "MANY = 4", "MANY = 4000"
+        yield "edits that wait for rt ci", "edits that weren't tried", "edits.submit(try_edits, crate, last)", "pass"
 
 
 TOUCHED = ("crates.txt", "crates/low/src/lib.rt", "crates/low/specs/Lib.antt", "crates/low/proofs/Lib.antt", "crates/registry_c/specs/Lib.antt")
 
 
 def archive():
-    ci, rattle, made = "ci", "kit/bin/rattle", 'echo proved >"$made"'
+    made, unproved, low = 'echo proved >"$made"', f"not proved, status 1:\nbegin {LIMITS}\n", "crates/low/out/rlib/low.rlib"
     faults = (
-        Fault("a library beneath that isn't proved", "the archive is not built", ((ci, "low proved", "low NOT PROVED"),)),
-        Fault("a proof that fails", f"the archive is not proved, status 1:\nbegin {LIMITS}\nnot proved", ((rattle, made, "echo not proved; exit 1"),)),
-        Fault("a library that isn't there", "No such file or directory", (("crates/low/out/rlib/low.rlib/format", "low", None), (ci, "sleep", "rmdir crates/low/out/rlib/low.rlib; sleep"))),
-        *(Fault(f"{path} is touched meanwhile", "a file that it is proved from was touched", ((ci, "sleep", f"touch {path}; sleep"),)) for path in TOUCHED),
-        Fault("a log without the sources that the proof began with", "6 passed, 1 failed", (("tools/archive-beside.py", "            log.write(self.began)\n", ""),)),
-        Fault("a proof that is killed", "its proof was killed", ((rattle, made, "kill -KILL $$"),)),
-        Fault("a proof for aarch64 that fails", f"the library for aarch64 is not proved, status 1:\nbegin {LIMITS}\nnot there", ((rattle, made, f'case "$*" in *aarch64*) echo not there; exit 1;; esac; {made}'),)),
-        Fault("a failure of rt ci", "6 passed, 2 failed", ((ci, "5 passed, 0", "4 passed, 2"),)),
-        Fault("another status of rt ci", "7 passed, 1 failed", ((ci, "0 failed\n", "0 failed\nexit 2\n"),)),
-        Fault("rt ci without its count", "nothing", ((ci, "echo 5 passed, 0 failed", "echo nothing"),)),
-        *on_all_processors(),
+        *of("ci", ("a library beneath that isn't proved", "the archive is not built", "low proved", "low NOT PROVED"),
+            *((f"{path} is touched meanwhile", "a file that it is proved from was touched", "sleep", f"touch {path}; sleep") for path in TOUCHED),
+            ("a failure of rt ci", "6 passed, 2 failed", "5 passed, 0", "4 passed, 2"),
+            ("another status of rt ci", "7 passed, 1 failed", "0 failed\n", "0 failed\nexit 2\n"),
+            ("rt ci without its count", "nothing", "echo 5 passed, 0 failed", "echo nothing")),
+        Fault("a library that isn't there", "No such file or directory", ((f"{low}/format", "low", None), ("ci", "sleep", f"rmdir {low}; sleep"))),
+        *of("kit/bin/rattle", ("a proof that fails", f"the archive is {unproved}not proved", made, "echo not proved; exit 1"),
+            ("a proof that is killed", "its proof was killed", made, "kill -KILL $$"),
+            ("a proof for aarch64 that fails", f"the library for aarch64 is {unproved}not there", made,
+             f'case "$*" in *aarch64*) echo not there; exit 1;; esac; {made}')),
+        *of("tools/archive-beside.py", ("a log without the sources that the proof began with", "6 passed, 1 failed", "            said.write(began)\n", ""),
+            *on_all_processors()),
     )
     return Case("archive-beside", ["archive-beside.py", "kit.py", "limits.py", "parts.py"], BESIDE, ["./beside"], faults)
 

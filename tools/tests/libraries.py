@@ -1,6 +1,6 @@
 """Faults of libraries, of the archive for C and of the layer's pages: packaging/symbols.sh, netbsd/pages.py, tools/unwind-tables.py, tools/frames.py and
 tools/atomics.py."""
-from .trees import Case, Fault, real
+from .trees import Case, Fault, of, real
 
 # A library is a text here: what nm says of it.
 NM = '#!/bin/sh\nfor library; do :; done\ncat "$library"\n'
@@ -59,12 +59,10 @@ def symbols():
                    Fault(f"no {path}", told, ((path, tree[path], None),))]
     faults += [Fault(f"a call more in {path}", "< another", ((path, None, f"{tree[path]}int another(void);\n"),))
                for path in (*HEADERS, "explorer/bench.h")]
-    faults += [Fault("a call that isn't checked", "registry_check.h: other names than those of the headers\n< registry_waits",
-                     (("c/include/registry_check.h", "#define registry_waits() 0\n", ""),)),
-               Fault("a name less: libkupaldiz_check.a", "libkupaldiz_check.a: other names than those of the headers\n< registry_holders",
-                     (("out/libkupaldiz_check.a", "registry_holders", "less"),)),
-               Fault("a call more of the pages", "< kupaldiz_another", (("netbsd/include/kupaldiz/lwp.h", None, "int another(void);\n"),)),
-               ]
+    others = "other names than those of the headers\n<"
+    faults += [*of("c/include/registry_check.h", ("a call that isn't checked", f"check.h: {others} registry_waits", "#define registry_waits() 0\n", "")),
+               *of("out/libkupaldiz_check.a", ("a name less: libkupaldiz_check.a", f"check.a: {others} registry_holders", "registry_holders", "less")),
+               *of("netbsd/include/kupaldiz/lwp.h", ("a call more of the pages", "< kupaldiz_another", None, "int another(void);\n"))]
     return Case("symbols", [], tree, ["./look"], faults, counts=False)
 
 
@@ -77,14 +75,14 @@ SMALLEST = "netbsd/tests/smallest.c"
 def pages():
     shows = "kupaldiz_netbsd.7: doesn't show one program as it is"
     tree = real(PAGER, "netbsd/include/kupaldiz/*.h", OVERVIEW, SMALLEST)
-    faults = (
-        Fault("a call without a comment", "psref.h: psref_more has no entry",
-              ((PAGED, "__END_DECLS\n", "/* Nothing that describes it. */\nvoid psref_more(void);\n__END_DECLS\n"),)),
-        Fault("a prototype in two lines", "psref.h: psref_copy has no entry", ((PAGED, "void psref_copy(struct psref *to,", "void\npsref_copy(struct psref *to,"),)),
-        Fault("a header without a page", "lists.h: no page is made of it", (("netbsd/include/kupaldiz/lists.h", None, "void lists_more(void);\n"),)),
-        Fault("another call in the program's file", shows, ((SMALLEST, "\tpserialize_perform(psz);\n", ""),)),
-        Fault("a page that names no program", shows, ((OVERVIEW, f'.\\" {SMALLEST}\n', ""),)),
-    )
+    end = "__END_DECLS\n"
+    faults = [
+        *of(PAGED, ("a call without a comment", "psref.h: psref_more has no entry", end, f"/* Nothing that describes it. */\nvoid psref_more(void);\n{end}"),
+            ("a prototype in two lines", "psref.h: psref_copy has no entry", "void psref_copy(struct psref *to,", "void\npsref_copy(struct psref *to,")),
+        *of("netbsd/include/kupaldiz/lists.h", ("a header without a page", "lists.h: no page is made of it", None, "void lists_more(void);\n")),
+        *of(SMALLEST, ("another call in the program's file", shows, "\tpserialize_perform(psz);\n", "")),
+        *of(OVERVIEW, ("a page that names no program", shows, f'.\\" {SMALLEST}\n', "")),
+    ]
     return Case("pages", [], tree, [PAGER, "check"], faults, counts=False)
 
 
@@ -129,19 +127,18 @@ diff said rows
 
 
 def unwind_tables():
-    code, depth = "code.s", "tools/unwind-tables.py"
-    faults = (
-        Fault("a stack pointer that moves otherwise", "isn't understood", ((code, "add $0x10,%rsp", "lea 0x10(%rsp),%rsp"),)),
-        Fault("two depths", "two depths at", ((code, "pop %rbp\n1:\tret", "1:\ttest %rdi,%rdi\n\tpop %rbp\n\tret"),)),
-        Fault("a return with something on the stack", "a return at", ((code, "pop %rbx\n", ""),)),
-        Fault("a jump out with something on the stack", "a jump out at", ((code, "call other@PLT", "jmp other@PLT"),)),
-        Fault("a path behind the last instruction", "a path goes on behind the last instruction", ((code, "pop %rbx\n\tret", "pop %rbx"),)),
-        Fault("two functions in a section", "isn't at the head of its section", ((code, '.section .text.turns,"ax",@progbits\n', ""),)),
-        Fault("a push that isn't counted", "a return at", ((depth, "return depth + 8, saved", "return depth, saved"), (depth, "return depth - 8, saved", "return depth, saved"))),
-        Fault("a register that isn't told", "> rsp+16 c-16 c-8", ((depth, "saved = {**saved, operands: depth + 8}", "pass"),)),
+    depth = "tools/unwind-tables.py"
+    faults = [
+        *of("code.s", ("a stack pointer that moves otherwise", "isn't understood", "add $0x10,%rsp", "lea 0x10(%rsp),%rsp"),
+            ("two depths", "two depths at", "pop %rbp\n1:\tret", "1:\ttest %rdi,%rdi\n\tpop %rbp\n\tret"),
+            ("a return with something on the stack", "a return at", "pop %rbx\n", ""),
+            ("a jump out with something on the stack", "a jump out at", "call other@PLT", "jmp other@PLT"),
+            ("a path behind the last instruction", "a path goes on behind the last instruction", "pop %rbx\n\tret", "pop %rbx"),
+            ("two functions in a section", "isn't at the head of its section", '.section .text.turns,"ax",@progbits\n', "")),
+        *of(depth, ("a register that isn't told", "> rsp+16 c-16 c-8", "saved = {**saved, operands: depth + 8}", "pass"),
+            ("a register that isn't restored", "a return at", "if saved.get(operands) == depth:", "if False:")),
         Fault("assertions that aren't made", "unset PYTHONOPTIMIZE", command=["env", "PYTHONOPTIMIZE=1", "./look"]),
-        Fault("a register that isn't restored", "a return at", ((depth, "if saved.get(operands) == depth:", "if False:"),)),
-    )
+    ]
     return Case("unwind-tables", ["unwind-tables.py"], {"code.s": CODE, "rows": ROWS, "look": UNWOUND}, ["./look"], faults, counts=False)
 
 
@@ -160,12 +157,6 @@ __asm__(".text\n.globl registry_jumps\n.type registry_jumps,@function\nregistry_
 int registry_enter"""
 
 
-def archive(tree):
-    """Compiles the library once more: the change is in its source."""
-    (tree / "built").write_text(COMPILED)
-    (tree / "built").chmod(0o755)
-
-
 COMPILED = """#!/bin/sh
 gcc -O1 -fno-stack-protector -fcf-protection=none -fno-optimize-sibling-calls -c library.c -o library.o || exit 9
 rm -f library.a
@@ -176,15 +167,16 @@ exec tools/frames.py library.a "$@"
 
 def frames():
     call = "return fill(at) + 1;"
-    faults = (
-        Fault("a call above the limit", "above 512: registry_enter", (("library.c", "char room[100]", "char room[900]"),)),
-        Fault("what a call jumps to above it", "above 512: registry_jumps", (("library.c", "int registry_enter", JUMPS),)),
-        Fault("a call through a pointer", "registry_enter calls through a pointer", (("library.c", call, "int (*volatile f)(volatile char *) = fill; return f(at) + 1;"),)),
-        Fault("a call that comes back to itself", "registry_enter comes back to itself", (("library.c", call, "return at[1] ? registry_enter(at + 1) + fill(at) : 1;"),)),
-        Fault("a stack pointer that moves otherwise", "registry_enter moves the stack pointer by: and", (("library.c", call, "char room[64] __attribute__((aligned(64))); room[at[0] & 7] = 1; return fill(room);"),)),
+    faults = [
+        *of("library.c", ("a call above the limit", "above 512: registry_enter", "char room[100]", "char room[900]"),
+            ("what a call jumps to above it", "above 512: registry_jumps", "int registry_enter", JUMPS),
+            ("a call through a pointer", "calls through a pointer", call, "int (*volatile f)(volatile char *) = fill; return f(at) + 1;"),
+            ("a call that comes back to itself", "registry_enter comes back to itself", call, "return at[1] ? registry_enter(at + 1) + fill(at) : 1;"),
+            ("a stack pointer that moves otherwise", "registry_enter moves the stack pointer by: and", call,
+             "char room[64] __attribute__((aligned(64))); room[at[0] & 7] = 1; return fill(room);")),
         Fault("no exports", "library.a has no export", (("library.c", "int registry_enter", "int enter"), ("library.c", "int registry_exit", "int exit_"))),
-    )
-    return Case("frames", ["frames.py"], {"library.c": LIBRARY}, ["./built", "512"], faults, counts=False, prepare=archive)
+    ]
+    return Case("frames", ["frames.py"], {"library.c": LIBRARY, "built": COMPILED}, ["./built", "512"], faults, counts=False)
 
 
 # An archive's function as objdump shows it, and a program that has it elsewhere, with the places from where it came to a table.
@@ -203,17 +195,15 @@ LINKED = """0000000000400000 <other>:
   400108:\tldr\tx0, [x8]
   40010c:\tldar\tx0, [x8]
 """
-LOOK = """#!/bin/sh
-PATH=$PWD/bin:$PATH exec tools/atomics.py archive program
-"""
+LOOK = "#!/bin/sh\nPATH=$PWD/bin:$PATH exec tools/atomics.py archive program\n"
 
 
 def atomics():
     tree = {"archive.code": STEPS, "program.code": LINKED, "program.sites": "400100\n400104\n40010c\n", "look": LOOK,
             "bin/aarch64-linux-gnu-objdump": '#!/bin/sh\ncat "$3.code"\n'}
     faults = (
-        Fault("a weaker step", "another instruction: ldxr in enter+0", (("archive.code", "ldaxr", "ldxr"),)),
-        Fault("a weaker load", "another instruction: ldapr in enter+0xc", (("archive.code", "ldar", "ldapr"),)),
+        *of("archive.code", ("a weaker step", "another instruction: ldxr in enter+0", "ldaxr", "ldxr"),
+            ("a weaker load", "another instruction: ldapr in enter+0xc", "ldar", "ldapr")),
         Fault("a step that no program met", "met by no program: ldar in enter+0xc", (("program.sites", "40010c\n", ""),)),
         Fault("no steps at all", "ldar 0", (("archive.code", "ldaxr", "nop"), ("archive.code", "stlxr", "nop"), ("archive.code", "ldar", "nop"))),
     )

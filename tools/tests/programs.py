@@ -3,7 +3,7 @@ tools/before-gate.py, lines.py and names.py of netbsd/tests, told.py of explorer
 import subprocess
 import sys
 
-from .trees import ROOT, Case, Fault, real, said_by
+from .trees import ROOT, Case, Fault, of, real, said_by
 
 PROVED = ROOT / "crates/registry_run/out/registry_run"
 VERBS = "domain,limits,attach,detach,enter,exit,find,ref,copy,held,read,drop,advance"
@@ -21,66 +21,52 @@ def write_kit(tree):
     (tree / "empty").mkdir()
 
 
-def other(name, said, line):
-    """A program that does something else."""
-    return Fault(name, said, (("program", "exec tools/other_registry.py", line),))
-
-
 def conformance_run():
-    command = ["tools/conformance.py", "run", "kit"]
+    command, other = ["tools/conformance.py", "run", "kit"], "tools/other_registry.py"
     faults = (
-        other("a program that stops in the middle of a report", "0000.txt: line 21 is '(the end)'", "tools/other_registry.py | head -n 20"),
-        other("one that prints a line more", "is 'more' and not '(the end)'", "tools/other_registry.py; echo more"),
-        other("one with a wrong status", "0000.txt: status 3", "tools/other_registry.py; exit 3"),
+        *of("program", ("a program that stops in the middle of a report", "0000.txt: line 21 is '(the end)'", "exec tools/other_registry.py", f"{other} | head -n 20"),
+            ("one that prints a line more", "is 'more' and not '(the end)'", "exec tools/other_registry.py", f"{other}; echo more"),
+            ("one with a wrong status", "0000.txt: status 3", "exec tools/other_registry.py", f"{other}; exit 3")),
         Fault("a script without its report", "0002.report", (("kit/0002.report", "", None),)),
         Fault("an empty folder", "0 passed, 1 failed", command=["tools/conformance.py", "run", "empty", "./program"]),
     )
     return Case("conformance run", KIT, TREE, [*command, "./program"], faults, prepare=write_kit)
 
 
-def wrapped(name, said, line):
-    """The program of the repository behind a shell that changes something."""
-    return Fault(name, said, (("program", "exec program.proved", line),))
-
-
 def test_program(proved):
-    faults = (
-        wrapped("another status of a fault", "core, standard output full", 'program.proved "$@"; status=$?; [ $status = 3 ] && exit 1; exit $status'),
-        wrapped("another status of a script that isn't right", "['core']", 'program.proved "$@"; status=$?; [ $status = 2 ] && exit 1; exit $status'),
-        wrapped("a report with a line more", "['core']", 'program.proved "$@" || exit; [ "$1" = core ] && echo more; exit 0'),
-        wrapped("a storm with another count", "['storm', '2', '3']", 'if [ "$2" = 2 ]; then echo storm 2 3; exit; fi; exec program.proved'),
-        wrapped("a wrong argument that is taken", "['storm', '9', '1']", '[ "$2" != 9 ] || exit 0; exec program.proved'),
-        wrapped("another usage", "no arguments", '[ $# != 0 ] || { echo usage >&2; exit 2; }; exec program.proved'),
-        wrapped("a fault that goes to standard output", "script fault: line 2: BadCpu", 'program.proved "$@" 2>&1 </dev/stdin; exit'),
-        wrapped("a program that goes on without its reader", "core, a reader that leaves", 'program.proved "$@" | { cat; cat >/dev/null; }; exit 0'),
-        wrapped("want of memory that is told as another fault", "too little memory",
-                'program.proved "$@"; status=$?; [ $status = 4 ] && exit 3; exit $status'),
-        Fault("no program", "gone is missing", command=["tools/test-program.py", "gone"]),
+    another = f'{proved} "$@"; status=$?; [ $status = {{}} ] && exit {{}}; exit $status'
+    rows = (
+        ("another status of a fault", "core, standard output full", another.format(3, 1)),
+        ("another status of a script that isn't right", "['core']", another.format(2, 1)),
+        ("want of memory that is told as another fault", "too little memory", another.format(4, 3)),
+        ("a report with a line more", "['core']", f'{proved} "$@" || exit; [ "$1" = core ] && echo more; exit 0'),
+        ("a storm with another count", "['storm', '2', '3']", f'if [ "$2" = 2 ]; then echo storm 2 3; exit; fi; exec {proved}'),
+        ("a wrong argument that is taken", "['storm', '9', '1']", f'[ "$2" != 9 ] || exit 0; exec {proved}'),
+        ("another usage", "no arguments", f"[ $# != 0 ] || {{ echo usage >&2; exit 2; }}; exec {proved}"),
+        ("a fault that goes to standard output", "script fault: line 2: BadCpu", f'{proved} "$@" 2>&1 </dev/stdin; exit'),
+        ("a program that goes on without its reader", "core, a reader that leaves", f'{proved} "$@" | {{ cat; cat >/dev/null; }}; exit 0'),
     )
-    tree = {"program": '#!/bin/sh\nexec program.proved "$@"\n'.replace("program.proved", str(proved))}
-    faults = [fault._replace(changes=tuple((path, old.replace("program.proved", str(proved)), new.replace("program.proved", str(proved)))
-                                           for path, old, new in fault.changes)) for fault in faults]
+    faults = [Fault("no program", "gone is missing", command=["tools/test-program.py", "gone"])]
+    faults += of("program", *((name, said, f"exec {proved}", line) for name, said, line in rows))
+    tree = {"program": f'#!/bin/sh\nexec {proved} "$@"\n'}
     return Case("test-program", ["test-program.py", "parts.py"], tree, ["tools/test-program.py", "./program"], faults)
 
 
 LINES = "netbsd/tests/lines.py"
-ASKED = [f"netbsd/tests/{name}.c" for name in ("misuses", "lacks", "tells")]
 TESTS = "netbsd/tests/**/*.c"
-PSREF = "netbsd/src/psref.c"
 
 
 def lines():
-    faults = (
-        Fault("a line that no test wants", 'psref.c: no test wants "the target is gone"', ((PSREF, '"the target is not live"', '"the target is gone"'),)),
-        Fault("a line that no test wants any more", 'no test wants "the reference was written over"', ((ASKED[0], "the reference was written over", "the reference is wrong"),)),
-        Fault("a wait that no test lets last", 'localcount.c: no test wants "waits for a release that is under way"',
-              ((ASKED[2], "waits for a release that is under way", "waits for a release"),)),
-        Fault("a line that another file's test wants", 'callout.c: no test wants "the thread does not have the lock"',
-              ((ASKED[0], "callout_halt: the thread does not have the lock", "callout_halt: it is free"),)),
-        Fault("a line about what no row of calls is given", 'callout.c: no test wants "the timer was destroyed"',
-              (("netbsd/src/callout.c", "the callout was destroyed", "the timer was destroyed"),)),
-        Fault("a file of tests that is gone", "lacks isn't there", ((ASKED[1], "#include", None),)),
-    )
+    misuses, lacks, tells = (f"netbsd/tests/{name}.c" for name in ("misuses", "lacks", "tells"))
+    no, waits, halts = "no test wants", "waits for a release that is under way", "callout_halt: the thread does not have the lock"
+    faults = [
+        *of("netbsd/src/psref.c", ("a line that no test wants", f'psref.c: {no} "the target is gone"', '"the target is not live"', '"the target is gone"')),
+        *of("netbsd/src/callout.c", ("a line about what no row of calls is given", f'callout.c: {no} "the timer', "the callout was destroyed", "the timer was gone")),
+        *of(misuses, ("a line that no test wants any more", f'{no} "the reference was written over"', "the reference was written over", "the reference is wrong"),
+            ("a line that another file's test wants", f'callout.c: {no} "the thread does not have the lock"', halts, "callout_halt: it is free")),
+        *of(tells, ("a wait that no test lets last", f'localcount.c: {no} "{waits}"', waits, "waits for a release")),
+        *of(lacks, ("a file of tests that is gone", "lacks isn't there", "#include", None)),
+    ]
     return Case("lines", [], real(LINES, "netbsd/src/*.c", TESTS), [LINES], faults)
 
 
@@ -152,7 +138,6 @@ def table(kind, printed, faults):
 
 def tables():
     drivers = (
-        Fault("another number of schedules", "only the run says: growth, 6, 0, 237", (("printed", "growth: 5", "growth: 6"),)),
         Fault("schedules that are cut short", "only the run says: growth, 5, 1, 237", (("printed", "5 schedules, 0 cut", "5 schedules, 1 cut"),)),
         Fault("another number of points", "only the table says: bridge, 57, 0, 2252", ((TABLES, "2,251", "2,252"),)),
         Fault("a driver that isn't run", "only the table says: growth, 5, 0, 237", (("printed", "growth", "no growth"),)),

@@ -1,6 +1,6 @@
 """Faults of wrong bodies: of those that the prover or a test must refuse, tools/try-edits.py, over a kit of ours; and what
 tools/mutants.py makes of a small library, and says of those that its tests let through."""
-from .trees import Case, Fault
+from .trees import Case, Fault, of
 
 SOURCE = """//! One more.
 
@@ -153,28 +153,27 @@ def after_a_run(name, said, *lines, kind="", before=":"):
 
 
 def by_hand():
-    whole, proved = "NOT REFUSED: the whole crate still proved", ((HAND, "new:     0", "new:     x + 1 - 0"),)
-    return (
-        Fault("a wrong body by hand that is proved", f"one/nothing: {whole}", proved),
-        Fault("a wrong heading that the crate is proved under", f"one/heading: {whole}", ((HAND, "new: //! None", "new: //! One more than"),)),
+    whole = "NOT REFUSED: the whole crate still proved"
+    return [
+        *of(HAND, ("a wrong body by hand that is proved", f"one/nothing: {whole}", "new:     0", "new:     x + 1 - 0"),
+            ("a wrong heading that the crate is proved under", f"one/heading: {whole}", "new: //! None", "new: //! One more than")),
         after_a_run("a refusal by hand over another library", whole, f"echo strong >{LOW}", kind="prover"),
-        after_a_run("an edit whose text changed after the last run", whole, f"sed -i 's/^new:     0/new:     x + 1 - 0/' {HAND}", kind="prover"),
-    )
+    ]
 
 
 def by_tests():
-    return (
-        Fault("a wrong body that no test refuses", "NOT REFUSED: all tests pass", ((TESTED, "new:     x + x", "new:     x + 1 + 0"),)),
-        Fault("a run of the tests that is cut off", "NOT TRIED: no test failed: run=no-answer", (("bin/rt", 'echo "test more FAILED"', 'echo "run=no-answer"'),)),
-        Fault("an edit for the tests that doesn't fit", "stands 0 times in", ((TESTED, "old:     x + 1", "old:     y"),)),
-    )
+    return [
+        *of(TESTED, ("a wrong body that no test refuses", "NOT REFUSED: all tests pass", "new:     x + x", "new:     x + 1 + 0"),
+            ("an edit for the tests that doesn't fit", "stands 0 times in", "old:     x + 1", "old:     y")),
+        *of("bin/rt", ("a run of the tests that is cut off", "NOT TRIED: no test failed: run=no-answer", "test more FAILED", "run=no-answer")),
+    ]
 
 
 def by_prover():
+    proved = ((EDITS, "new:     x\n", "new:     x + 1 + 0\n"),)
     faults = (
-        Fault("a wrong body that is proved", "NOT REFUSED: more still proved", ((EDITS, "new:     x\n", "new:     x + 1 + 0\n"),)),
-        Fault("a wrong body that was proved before", "NOT REFUSED: more still proved", ((EDITS, "new:     x\n", "new:     x + 1 + 0\n"),),
-              ["sh", "-c", "./try >/dev/null; exec ./try"]),
+        Fault("a wrong body that is proved", "NOT REFUSED: more still proved", proved),
+        Fault("a wrong body that was proved before", "NOT REFUSED: more still proved", proved, ["sh", "-c", "./try >/dev/null; exec ./try"]),
         Fault("a right body that is tried beside a wrong one", "NOT REFUSED: less still proved", ((EDITS, "new:     x - 2", "new:     x - 1 - 0"),)),
         Fault("an edit that doesn't fit", "stands 0 times in", ((EDITS, "old:     x + 1\nnew:     x\n", "old:     y\nnew:     x\n"),)),
         Fault("an edit of no function", "it changes no function", ((EDITS, "old:     x + 1\nnew:     x\n", "old: //! One more.\nnew: //! None.\n"),)),

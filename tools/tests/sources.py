@@ -1,5 +1,5 @@
 """Faults of sources: tools/limits-header.py, tools/check-imports.py and tools/event-table.py."""
-from .trees import Case, Fault, real
+from .trees import Case, Fault, of, real
 
 # Each place that says a limit again: a part of the line, with its number.
 PLACES = (
@@ -24,12 +24,9 @@ def check_limits():
     faults += [Fault(f"another header: {old}", f"{HEADER} isn't what", ((HEADER, f"REGISTRY_{old}", "REGISTRY_OTHER 7"),)) for old in SAID]
     faults += [Fault(f"another copy: {path}", f"{path} isn't what", ((path, "MOST_CPUS\t64", "MOST_CPUS\t63"),)) for path in COPIES]
     faults.append(Fault("a comparison that isn't counted", "16 passed, 1 failed", ((COPIES[0], "MOST_CPUS\t64", "MOST_CPUS\t63"),)))
-    faults.append(Fault("a limit that Rattle doesn't say", "MOST_DEPTH is None", ((LIMITS, "const MOST_DEPTH", "const DEPTH"),)))
-    faults += [Fault(f"another {name} in Rattle", f"{name} is", ((LIMITS, f"const {name}: {kind} = {number};", f"const {name}: {kind} = 7;"),))
-               for name, kind, number in (("MOST_CPUS", "usize", "64"), ("MOST_SLOTS", "usize", "255"), ("MOST_CHANGES", "u64", "1 << 40"),
-                                          ("MOST_SECTIONS", "u64", "1 << 62"), ("MOST_COUNT", "u64", "1 << 40"), ("MOST_DEPTH", "u8", "255"),
-                                          ("USUAL_CPUS", "usize", "8"), ("USUAL_SLOTS", "usize", "32"), ("USUAL_CHANGES", "u64", "1_000_000"),
-                                          ("USUAL_SECTIONS", "u64", "1 << 40"), ("USUAL_COUNT", "u64", "1 << 40"))]
+    names = [f"{kind}_{it}" for kind in ("MOST", "USUAL") for it in ("CPUS", "SLOTS", "CHANGES", "SECTIONS", "COUNT")] + ["MOST_DEPTH"]
+    faults += of(LIMITS, ("a limit that Rattle doesn't say", "MOST_DEPTH is None", "const MOST_DEPTH", "const DEPTH"),
+                 *((f"another {it} in Rattle", f"{it} is", f"\npub const {it}:", f"\npub const {it}: u64 = 7;\nconst OTHER_{it}:") for it in names))
     everywhere = f"sed -i 's/1 << 62/7/' {LIMITS}; for it in {HEADER} {' '.join(COPIES)}; do tools/limits-header.py >$it; done; exec tools/limits-header.py check"
     faults.append(Fault("another default, in all headers, too", "MOST_SECTIONS is 7, and 4611686018427387904 in the default build", command=["sh", "-c", everywhere]))
     tree = real(LIMITS, VERSION, HEADER, *COPIES, *{path for path, _, _ in PLACES})
@@ -54,11 +51,8 @@ done
 
 
 def limits_header():
-    faults = [Fault(f"no {name}", f"limits-header: the file says no {name}", ((LIMITS, f"const {name}:", f"const SOME_{name}:"),))
-              for name in ("MOST_CPUS", "MOST_SLOTS", "MOST_CHANGES", "MOST_SECTIONS", "MOST_COUNT", "MOST_DEPTH")]
-    faults += [
-        Fault("no version", f"limits-header: {VERSION} says no version", ((VERSION, "REGISTRY_VERSION_MINOR\t1", "REGISTRY_VERSION_SMALL\t1"),)),
-    ]
+    faults = [*of(LIMITS, *((f"no {it}", f"limits-header: the file says no {it}", f"const {it}:", f"const SOME_{it}:") for it in ("MOST_CPUS", "MOST_DEPTH"))),
+              *of(VERSION, ("no version", f"limits-header: {VERSION} says no version", "REGISTRY_VERSION_MINOR\t1", "REGISTRY_VERSION_SMALL\t1"))]
     return Case("limits-header", ["limits-header.py", "limits.py", "parts.py"], {**real(LIMITS, VERSION), "try": MAKES}, ["./try"], faults, counts=False)
 
 
@@ -75,16 +69,15 @@ IMPORTS = {
 
 
 def check_imports():
-    faults = (
-        Fault("a name that no one takes", "one/specs/Common.antt: no one imports Word", (("crates/two/proofs/Lemma.antt", "use Rattle", "-- Rattle"),)),
-        Fault("a name that is taken past it", "two/src/lib.rt imports Count of Rattle.one.specs.Counts, which Rattle.one.specs.Common passes on",
-              (("crates/two/src/lib.rt", "ghost use", "ghost use Rattle.one.specs.Counts.{Count};\nghost use"),)),
-        Fault("a name of a lower crate that is taken past it", "two/proofs/Lemma.antt imports Word of Rattle.low.specs.Words",
-              (("crates/two/proofs/Lemma.antt", "use Rattle", "use Rattle.low.specs.Words.{Word};\nuse Rattle"),)),
-        Fault("a name of a lower crate that its own specs take past it", "one/specs/More.antt imports Word of Rattle.low.specs.Words",
-              (("crates/one/specs/More.antt", "use Rattle.one", "use Rattle.low.specs.Words.{Word};\nuse Rattle.one"),)),
-        Fault("nothing that passes names on", "0 passed, 1 failed", (("crates/one/specs/Common.antt", "pub use Rattle.one", None),)),
-    )
+    word = "use Rattle.low.specs.Words.{Word};\nuse"
+    faults = [
+        *of("crates/two/proofs/Lemma.antt", ("a name that no one takes", "one/specs/Common.antt: no one imports Word", "use Rattle", "-- Rattle"),
+            ("a name of a lower crate that is taken past it", "two/proofs/Lemma.antt imports Word of Rattle.low.specs.Words", "use", word)),
+        *of("crates/two/src/lib.rt", ("a name that is taken past it", "two/src/lib.rt imports Count of Rattle.one.specs.Counts, which Rattle.one.specs.Common",
+                                      "ghost use", "ghost use Rattle.one.specs.Counts.{Count};\nghost use")),
+        *of("crates/one/specs/More.antt", ("a name of a lower crate that its own specs take past it", "one/specs/More.antt imports Word of", "use", word)),
+        *of("crates/one/specs/Common.antt", ("nothing that passes names on", "0 passed, 1 failed", "pub use Rattle.one", None)),
+    ]
     return Case("check-imports", ["check-imports.py", "parts.py"], IMPORTS, ["tools/check-imports.py"], faults)
 
 
@@ -99,14 +92,15 @@ def event_table():
     page = "not as tools/event-table.py make writes it"
     event, definition = "crates/protocol/src/event.rt", "crates/protocol/specs/Events.antt"
     begins = "    /// The CPU begins a section."
-    faults = (
-        Fault("an event without a step", "Wink: no step makes it", ((event, begins, f"    /// It winks.\n    Wink(u8),\n{begins}"),)),
-        Fault("an edit that is gone", page, ((EDITS, "edit: enter_adds_two", "edit: enter_adds_three"),)),
-        Fault("a step without an edit", "no edit", (("crates/passive_list/edits/gate.edits", "old:     keeper.rows[slot as usize].state = SlotState::Vacant;", "old: gone"),)),
-        Fault("an event without a definition", "no definition", ((definition, "guard (may_enter s c) (some_outcome (after_enter s c) Done)", "None"),)),
-        Fault("an event that the machine doesn't make", "no method", (("crates/passive_core/src/machine/run.rt", "self.step_enter(c)", "enter(c)"),)),
-        Fault("another word in the table", page, (("docs/MODEL.md", "The CPU begins a section", "The CPU ends a section"),)),
-    )
+    vacates = "old:     keeper.rows[slot as usize].state = SlotState::Vacant;"
+    faults = [
+        *of(event, ("an event without a step", "Wink: no step makes it", begins, f"    /// It winks.\n    Wink(u8),\n{begins}")),
+        *of(EDITS, ("an edit that is gone", page, "edit: enter_adds_two", "edit: enter_adds_three")),
+        *of("crates/passive_list/edits/gate.edits", ("a step without an edit", "no edit", vacates, "old: gone")),
+        *of(definition, ("an event without a definition", "no definition", "guard (may_enter s c) (some_outcome (after_enter s c) Done)", "None")),
+        *of("crates/passive_core/src/machine/run.rt", ("an event that the machine doesn't make", "no method", "self.step_enter(c)", "enter(c)")),
+        *of("docs/MODEL.md", ("another word in the table", page, "The CPU begins a section", "The CPU ends a section")),
+    ]
     tools = ["event-table.py", "contracts.py", "parts.py", "edits.py"]
     return Case("event-table", tools, real(*TABLED), ["tools/event-table.py", "check"], faults)
 

@@ -20,6 +20,11 @@ Fault = collections.namedtuple("Fault", "name said changes command", defaults=((
 Case = collections.namedtuple("Case", "name tools tree command faults counts prepare", defaults=(True, lambda tree: None))
 
 
+def of(path, *rows):
+    """The faults of one file: of each its name, what the tool must say, the old text and the new one."""
+    return [Fault(name, said, ((path, old, new),)) for name, said, old, new in rows]
+
+
 def real(*patterns):
     """Files of this repository, by their paths."""
     return {str(path.relative_to(ROOT)): path.read_text() for pattern in patterns for path in sorted(ROOT.glob(pattern))}
