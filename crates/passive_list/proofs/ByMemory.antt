@@ -12,7 +12,7 @@ use Rattle.cpu_words.specs.Common.{HasWholePass, Named, did}
 use Rattle.cpu_words.proofs.shown.Passes.{attached_prefix}
 use Rattle.std.specs.Prelude.{is_some}
 use Rattle.passive_list.specs.declared.memory.Miss.{Miss}
-use Rattle.passive_list.specs.Common.{Memory, HasFound, HasFoundFromOutside, HasNumbered, HasRecalledHeadOn, HasRecalledOn, HasRefoundOn, OnCpu, OnPlainCpu, WasAbsent, entry_seen, may_begin, Seen, IsMiss, IsTrueMiss, Misses, hint_of, miss_at, with_miss, FindsAndRemembers, FindsWhatStays, HasFoundAnew, HasFoundInSection, HasFoundByMemory, HasRecalledAs, HasRecalledByMemory, HasRecalledInVain, HasSeen, IsAbsentAt, FindsAfterHead, FindsAfterWord, Recalls, RecallsBy, RecallsSeen, RefindsSeen, RemembersAnswer}
+use Rattle.passive_list.specs.Common.{Memory, Missed, HasFound, HasFoundFromOutside, HasNumbered, HasRecalledHeadOn, HasRecalledOn, HasRefoundOn, OnCpu, OnPlainCpu, WasAbsent, entry_seen, may_begin, Seen, IsMiss, IsTrueMiss, Misses, miss_of, with_miss, FindsAndRemembers, FindsWhatStays, HasFoundAnew, HasFoundInSection, HasFoundByMemory, HasRecalledAs, HasRecalledByMemory, HasRecalledInVain, HasSeen, IsAbsentAt, FindsAfterHead, FindsAfterWord, Recalls, RecallsBy, RecallsSeen, RefindsSeen, RemembersAnswer}
 use Rattle.passive_list.proofs.Memories.{ends_on, numbered_longer, length_longer, live_back}
 use Rattle.passive_list.proofs.Walking.{prefix_trans}
 
@@ -292,7 +292,7 @@ pub section_unmissed : (key : Key) (n : ℕ) (a l r : OnCpu) (answer : Option Se
 section_unmissed key n a l r answer had is remembers same unknown =
     record { finds = section_found key a l r answer had is remembers; missed = inr (unknown, same ∙ ap (λ (m : Memory). m.missed) (outside_memory key a l _ had)) }
 
-answer_stays : (key : Key) (m n : Memory) (l : List Miss) (answer : Option Seen) → RemembersAnswer key m n answer → RemembersAnswer key m (record n { missed = l }) answer
+answer_stays : (key : Key) (m n : Memory) (l : Missed) (answer : Option Seen) → RemembersAnswer key m n answer → RemembersAnswer key m (record n { missed = l }) answer
 answer_stays key m n l None had = had
 answer_stays key m n l (Some s) had = had
 
@@ -306,7 +306,7 @@ section_missed key n a l r b answer had is remembers same none known missed =
     let kept = subst (λ (k : Memory). RemembersAnswer key l.memory k answer) (sym m) (answer_stays key l.memory r.memory (with_miss r.memory key n).missed answer remembers) in
     record {
       finds = section_found key a l b answer had left kept;
-      missed = inl (none, known, ap (λ (k : Memory). k.missed) m ∙ ap (λ (k : List Miss). (with_miss (record r.memory { missed = k }) key n).missed) (same ∙ ap (λ (k : Memory). k.missed) (outside_memory key a l _ had)));
+      missed = inl (none, known, ap (λ (k : Memory). k.missed) m ∙ ap (λ (k : Missed). (with_miss (record r.memory { missed = k }) key n).missed) (same ∙ ap (λ (k : Memory). k.missed) (outside_memory key a l _ had)));
     }
 
 -- what a miss that is remembered says of its key
@@ -315,14 +315,14 @@ miss_absent h key n m so is =
     let same : m ≡ record { number = n; kind = key.kind; name = key.name } = λ i. record { number = is.number i; kind = is.kind i; name = is.name i } in
     subst (λ (x : Miss). WasAbsent h (record { kind = x.kind; name = x.name }) x.number) same (so (λ zero. is.some (sym is.number ∙ zero)))
 
-pub absent_anew : (key : Key) (t n w : ℕ) (a c d : OnCpu) (m : Miss) → HasRecalledHeadOn a c w → w ≡ suc t → HasRecalledOn t n c d true → m ≡ miss_at a.memory.missed (hint_of (length a.memory.missed) key.name)
+pub absent_anew : (key : Key) (t n w : ℕ) (a c d : OnCpu) (m : Miss) → HasRecalledHeadOn a c w → w ≡ suc t → HasRecalledOn t n c d true → m ≡ miss_of a.memory.missed key
     → IsTrueMiss a.view.pass m → IsMiss key n m → HasFoundAnew key a d None
 absent_anew key t n w a c d m heads head recalled at so is =
-    let misses : Misses c.memory key n = subst (IsMiss key n) (at ∙ ap (λ (x : OnCpu). miss_at x.memory.missed (hint_of (length x.memory.missed) key.name)) (sym heads.is)) is in
+    let misses : Misses c.memory key n = subst (IsMiss key n) (at ∙ ap (λ (x : OnCpu). miss_of x.memory.missed key) (sym heads.is)) is in
     record { head = w; at_head = c; heads = heads; finds = inr (t, n, d, head, recalled, inl (misses, still_absent key t n w a c d (miss_absent a.view.pass key n m so is) heads head recalled, refl)) }
 
 pub section_anew : (key : Key) (t n w : ℕ) (a c d b : OnCpu) (m : Miss) (answer : Option Seen) → HasRecalledHeadOn a c w → w ≡ suc t → HasRecalledOn t n c d true
-    → m ≡ miss_at a.memory.missed (hint_of (length a.memory.missed) key.name) → (IsMiss key n m → ⊥) → HasFoundInSection key n d b answer → HasFoundAnew key a b answer
+    → m ≡ miss_of a.memory.missed key → (IsMiss key n m → ⊥) → HasFoundInSection key n d b answer → HasFoundAnew key a b answer
 section_anew key t n w a c d b m answer heads head recalled at not found =
-    let none : Misses c.memory key n → ⊥ = λ misses. not (subst (IsMiss key n) (sym (at ∙ ap (λ (x : OnCpu). miss_at x.memory.missed (hint_of (length x.memory.missed) key.name)) (sym heads.is))) misses) in
+    let none : Misses c.memory key n → ⊥ = λ misses. not (subst (IsMiss key n) (sym (at ∙ ap (λ (x : OnCpu). miss_of x.memory.missed key) (sym heads.is))) misses) in
     record { head = w; at_head = c; heads = heads; finds = inr (t, n, d, head, recalled, inr (none, found)) }

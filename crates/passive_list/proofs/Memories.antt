@@ -1,9 +1,9 @@
 -- What a row that is remembered tells, what stays remembered, and what is remembered from then on.
-use Rattle.passive_list.specs.Common.{Memory, HasCleared, HasForgotten, HasNumbered, IsOfRow, IsRow, IsTrueMiss, KeepsOthers, Recalls, RecallsAt, Remembers, Seen, WasAbsent, IsCount, entry_of, hint_of, hinted, memo_at, memo_of, miss_at, no_hint, no_memo, no_memory, no_miss, with_miss, with_seen}
+use Rattle.passive_list.specs.Common.{Memory, HasCleared, HasForgotten, HasNumbered, IsOfRow, IsRow, IsTrueMiss, KeepsOthers, Missed, Recalls, RecallsAt, Remembers, Seen, WasAbsent, IsCount, entry_of, hint_of, hinted, is_for, keeps, memo_at, memo_of, miss_at, miss_of, missed_as, no_hint, no_memo, no_memory, no_miss, with_miss, with_seen}
 use Rattle.std.specs.Prelude.{slice_index_or}
-use Rattle.std.proofs.Common.{◌≡◌, ◌≢◌, ◌⊎◌, ⊎_elim, inl, inr, ℕ, ◌+◌, ◌*◌, ◌/◌, ◌%◌, ◌^◌, ◌<◌, ◌≤◌, ◌==◌, if◌then◌else◌, Bool, true, false, List, length, replicate, set, get_or-set_same, get_or-set_other, Some, None, refl, sym, ap, ◌∙◌, subst, arith, length-append}
-use Rattle.std.proofs.lemmas.Bool.{cases_eq, eqb-true}
-use Rattle.std.proofs.lemmas.List.{length-replicate, length-set}
+use Rattle.std.proofs.Common.{◌≡◌, ◌≢◌, ◌⊎◌, ⊎_elim, inl, inr, ℕ, ◌+◌, ◌*◌, ◌/◌, ◌%◌, ◌^◌, ◌<◌, ◌≤◌, ◌==◌, ◌&&◌, if◌then◌else◌, min, not, Bool, true, false, List, length, replicate, set, get_or-set_same, get_or-set_other, Some, None, refl, sym, ap, ◌∙◌, subst, arith, length-append}
+use Rattle.std.proofs.lemmas.Bool.{cases_eq, cases_lt, eqb-true, false≢true}
+use Rattle.std.proofs.lemmas.List.{get_or_past, length-replicate, length-set, set_past}
 use Rattle.std.proofs.lemmas.Nat.{mul-lt}
 use Rattle.std.proofs.Math.Nat.{mul-lt-mul_of_pos_right}
 use mathlib.Core.List.{IsPrefix}
@@ -16,7 +16,7 @@ use Rattle.cpu_words.proofs.shown.Passes.{attached_prefix}
 use Rattle.passive_list.specs.declared.memory.Hint.{Hint}
 use Rattle.passive_list.specs.declared.memory.Memo.{Memo}
 use Rattle.passive_list.specs.declared.memory.Miss.{Miss}
-use Rattle.passive_list.specs.declared.memory.TheConstants.{HALF, HINTS, MIX, SPARE_MISSES}
+use Rattle.passive_list.specs.declared.memory.TheConstants.{HALF, HINTS, MIX, MOST_MISSES, SPARE_MISSES}
 
 -- A pass and a longer one
 
@@ -56,7 +56,6 @@ pub stays : (z : ℕ) (h g : List Change) (m : Memory) → IsPrefix h g → Reme
 stays z h g m longer had = record {
   size = had.size;
   hints = had.hints;
-  missed = had.missed;
   each = λ t some. let e = had.each t some in (e.0, attached_prefix h g (entry_of t (memo_at m.rows t)) longer e.1);
   absent = λ i some. absent_longer h g _ _ longer (had.absent i some);
 }
@@ -95,9 +94,8 @@ pub none_remembered : (z : ℕ) (h : List Change) → 0 < z → z ≤ MOST_SLOTS
 none_remembered z h some most = record {
   size = length-replicate z no_memo;
   hints = count_of _ _ (length-replicate (HINTS * z) no_hint) (omega (arith, some), omega (arith, most));
-  missed = count_of _ _ (length-replicate (z + SPARE_MISSES) no_miss) (omega (arith, some), omega (arith, most));
   each = λ t some. absurd (some (ap (λ (m : Memo). m.number) (get_or_all z no_memo t)));
-  absent = λ i some. absurd (some (ap (λ (m : Miss). m.number) (get_or_all (z + SPARE_MISSES) no_miss i)));
+  absent = λ i some. absurd (some (ap (λ (m : Miss). m.number) (get_or_all (min (z + SPARE_MISSES) MOST_MISSES) no_miss i)));
 }
 
 -- One row more
@@ -115,7 +113,6 @@ pub remembers_more : (z : ℕ) (h : List Change) (m : Memory) (key : Key) (s : S
 remembers_more z h m key s had low attached = record {
   size = length-set m.rows s.slot (memo_of key s) ∙ had.size;
   hints = count_of _ _ (same_length ((hinted m.hints key.name).last == s.slot) m.hints _ (length-set m.hints _ _)) had.hints;
-  missed = had.missed;
   each = each;
   absent = had.absent;
 }
@@ -253,12 +250,11 @@ one_cleared : (z : ℕ) (h : List Change) (m n : Memory) (key : Key) (t : ℕ) �
 one_cleared z h m n key t had was = record {
   size = had.size ∙ was.size;
   hints = count_of _ _ (ap length (hints_stay m n key t had)) was.hints;
-  missed = count_of _ _ (ap (λ (x : Memory). length x.missed) had.is) was.missed;
   each = λ u some. ⊎_elim
       (λ (same : memo_at n.rows u ≡ memo_at m.rows u). subst (λ (r : Memo). (u < z) × IsAttached h (entry_of u r)) (sym same) (was.each u (λ none. some (ap (λ (m : Memo). m.number) same ∙ none))))
       (λ (gone : IsRow key (memo_at m.rows u) × (memo_at n.rows u ≡ no_memo)). absurd (some (ap (λ (m : Memo). m.number) gone.1)))
       (had.each u);
-  absent = subst (λ (x : Memory). (i : ℕ) → IsTrueMiss h (miss_at x.missed i)) (sym had.is) was.absent;
+  absent = subst (λ (x : Memory). (i : ℕ) → IsTrueMiss h (miss_at x.missed.places i)) (sym had.is) was.absent;
 }
 
 pub forgotten : (z : ℕ) (h : List Change) (m n : Memory) (key : Key) → HasForgotten key m n → Remembers z h m → Remembers z h n
@@ -303,22 +299,42 @@ misses_stay m n key had = ap (λ (x : Memory). x.missed) had.2.is ∙ ap (λ (x 
 
 pub misses_more : (z : ℕ) (h : List Change) (m : Memory) (key : Key) (n : ℕ) → Remembers z h m → WasAbsent h key n → Remembers z h (with_miss m key n)
 misses_more z h m key n had was =
-    record { size = had.size; hints = had.hints; missed = count_of _ _ (length-set m.missed hint miss) had.missed; each = had.each; absent = absent }
+    record { size = had.size; hints = had.hints; each = had.each; absent = kept (keeps m.missed.places key last) }
   where
+    last : ℕ
+    last = (hinted m.missed.hints key.name).last
+
     miss : Miss
-    miss = record { number = n; kind = key.kind; name = key.name }
+    miss = missed_as key n
 
-    hint : ℕ
-    hint = hint_of (length m.missed) key.name
+    put : (p i : ℕ) → IsTrueMiss h (miss_at (set m.missed.places p miss) i)
+    put p i = ⊎_elim
+        (λ (few : p < length m.missed.places). ⊎_elim
+        (λ (same : i ≡ p). subst (IsTrueMiss h) (sym (ap (miss_at (set m.missed.places p miss)) same ∙ get_or-set_same m.missed.places p miss no_miss few)) (λ some. was))
+        (λ (off : i ≢ p). subst (IsTrueMiss h) (sym (get_or-set_other m.missed.places p i miss no_miss off)) (had.absent i))
+        (cases_eq i p))
+        (λ (past : length m.missed.places ≤ p). subst (λ (l : List Miss). IsTrueMiss h (miss_at l i)) (sym (set_past m.missed.places p miss past)) (had.absent i))
+        (cases_lt p (length m.missed.places))
 
-    missed : List Miss
-    missed = set m.missed hint miss
+    kept : (b : Bool) (i : ℕ) → IsTrueMiss h (miss_at (if b then record m.missed { places = set m.missed.places last miss } else record {
+      places = set m.missed.places m.missed.next miss;
+      hints = set m.missed.hints (hint_of (length m.missed.hints) key.name) (record { last = m.missed.next; older = last });
+      next = (m.missed.next + 1) % length m.missed.places;
+    }).places i)
+    kept true i = put last i
+    kept false i = put m.missed.next i
 
-    few : hint < length m.missed
-    few = hint_few (length m.missed) key.name had.missed
+-- the miss that is remembered of a key is true
+pub true_miss : (h : List Change) (m : Missed) (key : Key) → ((i : ℕ) → IsTrueMiss h (miss_at m.places i)) → IsTrueMiss h (miss_of m key)
+true_miss h m key are = by_case (is_for key (miss_at m.places (hinted m.hints key.name).last))
+  where
+    by_case : (b : Bool) → IsTrueMiss h (if b then miss_at m.places (hinted m.hints key.name).last else miss_at m.places (hinted m.hints key.name).older)
+    by_case true = are (hinted m.hints key.name).last
+    by_case false = are (hinted m.hints key.name).older
 
-    absent : (i : ℕ) → IsTrueMiss h (miss_at missed i)
-    absent i = ⊎_elim
-        (λ (same : i ≡ hint). subst (IsTrueMiss h) (sym (ap (miss_at missed) same ∙ get_or-set_same m.missed hint miss no_miss few)) (λ some. was))
-        (λ (off : i ≢ hint). subst (IsTrueMiss h) (sym (get_or-set_other m.missed hint i miss no_miss off)) (had.absent i))
-        (cases_eq i hint)
+-- where a miss is kept, there is a place
+pub keeps_within : (places : List Miss) (key : Key) (t : ℕ) → keeps places key t ≡ true → t < length places
+keeps_within places key t is = ⊎_elim (λ (few : t < length places). few) (λ (past : length places ≤ t). absurd (past_none past)) (cases_lt t (length places))
+  where
+    past_none : length places ≤ t → ⊥
+    past_none past = let none : miss_at places t ≡ no_miss = get_or_past places t no_miss past in false≢true (sym (ap (λ (x : Miss). not (x.number == 0) && is_for key x) none) ∙ is)

@@ -13,7 +13,7 @@ pub use Rattle.passive_list.specs.Logs.{GoesOnBy, HasOwnLog}
 pub use Rattle.passive_list.specs.Lookups.{HasFound, HasFoundFromOutside}
 pub use Rattle.passive_list.specs.Notes.{HasHeardOn, HeardAndTold, WasShown, as_teller, cpu_after_tell, has_heard, has_told}
 pub use Rattle.passive_list.specs.Publishing.{HasAttached, HasEntry, LogsAttach, MayAttach, logged_counts, logged_stores, keeper_after_publish, keeper_after_stores, with_counts, with_row}
-pub use Rattle.passive_list.specs.Memories.{HasCleared, HasForgotten, HasNumbered, IsCount, IsMiss, IsOfRow, IsRow, IsTrueMiss, KeepsOthers, Memory, Misses, Recalls, RecallsAt, Remembers, WasAbsent, entry_of, hint_of, hinted, memo_at, memo_of, miss_at, no_hint, no_memo, no_memory, no_miss, with_miss, with_seen}
+pub use Rattle.passive_list.specs.Memories.{HasCleared, HasForgotten, HasNumbered, IsCount, IsMiss, IsOfRow, IsRow, IsTrueMiss, KeepsOthers, Memory, Missed, Misses, Recalls, RecallsAt, Remembers, WasAbsent, entry_of, hint_of, hinted, is_for, keeps, memo_at, memo_of, miss_at, miss_of, missed_as, no_hint, no_memo, no_memory, no_miss, with_miss, with_seen}
 pub use Rattle.passive_list.specs.Recalling.{HasRecalledHeadOn, HasRecalledOn, HasRefoundAs, HasRefoundOn}
 pub use Rattle.passive_list.specs.Remembering.{FindsAfterHead, FindsAfterWord, FindsAndRemembers, FindsBy, FindsInside, FindsInsideBy, FindsWhatStays, HasFoundAnew, HasFoundByMemory, HasFoundInSection, HasFoundInside, HasFoundKept, HasFoundRemembered, HasRecalledAs, HasRecalledByMemory, HasRecalledInVain, HasSeen, IsAbsentAt, RecallsBy, RecallsSeen, RefindsSeen, RemembersAnswer}
 pub use Rattle.passive_list.specs.Retiring.{AreFresh, AreSnapshots, AreWritten, HasDetached, LogsDetach, LogsSnapshots, with_snapshots}

@@ -1,20 +1,27 @@
--- What a CPU remembers of the entries that it has found: a row for each slot, and by hint of a name the two slots where one with that hint was found last. And by hint, a name that no entry had.
-use Rattle.std.specs.Prelude.{◌≡◌, ◌≢◌, ◌⊎◌, ℕ, ◌+◌, ◌*◌, ◌/◌, ◌%◌, ◌^◌, ◌==◌, ◌<◌, ◌≤◌, if◌then◌else◌, List, length, set, replicate, slice_index_or, Option, Some, None, IfSome}
+-- What a CPU remembers of the entries that it has found: a row for each slot, and by hint of a name the two slots where one with that hint was found last. And as many names that no entry had.
+use Rattle.std.specs.Prelude.{◌≡◌, ◌≢◌, ◌⊎◌, ℕ, ◌+◌, ◌*◌, ◌/◌, ◌%◌, ◌^◌, ◌==◌, ◌<◌, ◌≤◌, ◌&&◌, if◌then◌else◌, min, not, Bool, List, length, set, replicate, slice_index_or, Option, Some, None, IfSome}
 use Rattle.passive_list.specs.Types.{Change, Entry, Iface, Key, Name}
+use Rattle.registry_values.specs.Common.{same_key}
 use Rattle.protocol.specs.Common.{IsAttached, IsLookup, entry_with}
 use Rattle.passive_list.specs.declared.lookup.Seen.{Seen}
 use Rattle.passive_list.specs.declared.memory.Hint.{Hint}
 use Rattle.passive_list.specs.declared.memory.Memo.{Memo}
 use Rattle.passive_list.specs.declared.memory.Miss.{Miss}
-use Rattle.passive_list.specs.declared.memory.TheConstants.{HALF, HINTS, MIX, SPARE_MISSES}
+use Rattle.passive_list.specs.declared.memory.TheConstants.{HALF, HINTS, MIX, MOST_MISSES, SPARE_MISSES}
+
+-- the last misses, to a contract: by hint of a name the two places of the last ones with that hint, and the place of the next one
+pub record Missed : Type 0 where
+  pub places : List Miss
+  pub hints : List Hint
+  pub next : ℕ
 
 -- a memory, to a contract
 pub record Memory : Type 0 where
   pub rows : List Memo
   pub hints : List Hint
-  pub missed : List Miss
+  pub missed : Missed
 
--- there may be so many hints, or misses
+-- there may be so many hints
 abbrev pub IsCount : ℕ → Type 0
 IsCount n = (0 < n) × (n < 2 ^ 32)
 
@@ -27,9 +34,12 @@ no_miss = record { number = 0; kind = Iface; name = record { high = 0; low = 0 }
 abbrev pub no_hint : Hint
 no_hint = record { last = 0; older = 0 }
 
--- of no entry, for so many slots
+-- of nothing, for so many slots
+abbrev pub no_misses : ℕ → Missed
+no_misses slots = record { places = replicate (min (slots + SPARE_MISSES) MOST_MISSES) no_miss; hints = replicate (HINTS * slots) no_hint; next = 0 }
+
 abbrev pub no_memory : ℕ → Memory
-no_memory slots = record { rows = replicate slots no_memo; hints = replicate (HINTS * slots) no_hint; missed = replicate (slots + SPARE_MISSES) no_miss }
+no_memory slots = record { rows = replicate slots no_memo; hints = replicate (HINTS * slots) no_hint; missed = no_misses slots }
 
 abbrev pub memo_at : List Memo → ℕ → Memo
 memo_at rows t = slice_index_or rows t no_memo
@@ -62,13 +72,12 @@ pub record WasAbsent (h : List Change) (key : Key) (n : ℕ) : Type 0 where
 abbrev pub IsTrueMiss : List Change → Miss → Type 0
 IsTrueMiss h m = m.number ≢ 0 → WasAbsent h (record { kind = m.kind; name = m.name }) m.number
 
--- All rows are there, hints and misses too. Each row is of no entry, or of an entry that was attached in that slot by the end of h; each miss is true of h
+-- All rows are there, and hints. Each row is of no entry, or of an entry that was attached in that slot by the end of h; each miss is true of h
 pub record Remembers (slots : ℕ) (h : List Change) (m : Memory) : Type 0 where
   pub size : length m.rows ≡ slots
   pub hints : IsCount (length m.hints)
-  pub missed : IsCount (length m.missed)
   pub each : (t : ℕ) → (memo_at m.rows t).number ≢ 0 → (t < slots) × IsAttached h (entry_of t (memo_at m.rows t))
-  pub absent : (i : ℕ) → IsTrueMiss h (miss_at m.missed i)
+  pub absent : (i : ℕ) → IsTrueMiss h (miss_at m.missed.places i)
 
 -- the row is of an entry with this key
 pub record IsRow (key : Key) (m : Memo) : Type 0 where
@@ -132,9 +141,32 @@ pub record IsMiss (key : Key) (n : ℕ) (m : Miss) : Type 0 where
   pub kind : m.kind ≡ key.kind
   pub name : m.name ≡ key.name
 
+-- it has the key, whatever its number
+abbrev pub is_for : Key → Miss → Bool
+is_for key m = same_key (record { kind = m.kind; name = m.name }) key
+
+-- the miss at the newer one of a name's hints, if it has the key, else the one at the older one
+abbrev pub miss_of : Missed → Key → Miss
+miss_of m key = if is_for key (miss_at m.places (hinted m.hints key.name).last) then miss_at m.places (hinted m.hints key.name).last else miss_at m.places (hinted m.hints key.name).older
+
 -- the CPU remembers that miss
 abbrev pub Misses : Memory → Key → ℕ → Type 0
-Misses m key n = IsMiss key n (miss_at m.missed (hint_of (length m.missed) key.name))
+Misses m key n = IsMiss key n (miss_of m.missed key)
+
+-- a miss of the key is in the place t
+abbrev pub keeps : List Miss → Key → ℕ → Bool
+keeps places key t = not ((miss_at places t).number == 0) && is_for key (miss_at places t)
+
+abbrev pub missed_as : Key → ℕ → Miss
+missed_as key n = record { number = n; kind = key.kind; name = key.name }
+
+-- A miss is kept where one of its key was kept last. Else in the next place: what was there is lost, and the name's newer hint leads there.
+abbrev pub with_missed : Missed → Key → ℕ → Missed
+with_missed m key n = if keeps m.places key (hinted m.hints key.name).last then record m { places = set m.places (hinted m.hints key.name).last (missed_as key n) } else record {
+  places = set m.places m.next (missed_as key n);
+  hints = set m.hints (hint_of (length m.hints) key.name) (record { last = m.next; older = (hinted m.hints key.name).last });
+  next = (m.next + 1) % length m.places;
+}
 
 abbrev pub with_miss : Memory → Key → ℕ → Memory
-with_miss m key n = record m { missed = set m.missed (hint_of (length m.missed) key.name) (record { number = n; kind = key.kind; name = key.name }) }
+with_miss m key n = record m { missed = with_missed m.missed key n }

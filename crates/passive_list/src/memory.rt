@@ -2,7 +2,7 @@
 
 ghost use Rattle.std.specs.Prelude.{◌≡◌, ◌↔◌, ◌<◌, IfOk, IsTrue, length};
 ghost use Rattle.cpu_words.specs.Common.{key_with};
-ghost use Rattle.passive_list.specs.Memories.{HasCleared, HasForgotten, IsCount, IsMiss, IsRow, Recalls, RecallsAt, hint_of, miss_at, no_hint, no_memo, no_memory, no_miss, with_miss, with_seen};
+ghost use Rattle.passive_list.specs.Memories.{HasCleared, HasForgotten, IsCount, IsMiss, IsRow, Recalls, RecallsAt, hint_of, is_for, keeps, miss_at, miss_of, no_hint, no_memo, no_memory, no_miss, no_misses, with_miss, with_missed, with_seen};
 
 use crate::lookup::Seen;
 use registry_values::{Kind, MOST_SLOTS, Name};
@@ -12,8 +12,11 @@ use std::marker::Model;
 /// How many hints there are for each slot. Few of the names in the slots share one.
 const HINTS: usize = 8;
 
-/// How many more misses than slots are kept.
+/// How many more misses than slots are kept, but for the bound of `MOST_MISSES`.
 const SPARE_MISSES: usize = 8;
+
+/// The most misses that are kept: a byte is the place of each.
+const MOST_MISSES: usize = 256;
 
 /// An odd number. Of 32 names that differ in a counter few have products with it that begin with the same eight bits.
 const MIX: u64 = 0xc4ce_b9fe_1a85_ec53;
@@ -72,14 +75,22 @@ impl Miss {
     {
         number != 0 && self.number == number && self.kind == kind && self.name == name
     }
+
+    /// Whether it has this kind and name.
+    fn is_for(self, kind: Kind, name: Name) -> bool
+        ensures { result ≡ is_for (key_with kind name) self }
+    {
+        self.kind == kind && self.name == name
+    }
 }
 
-/// The two slots where entries with a hint were found last: they cost a section where they lead to other entries, and never an answer.
+/// The two slots where entries with a hint were found last, or the two places of the last misses with it: they cost a section where they lead to other
+/// names, and never an answer.
 #[derive(Clone, Copy)]
 pub struct Hint {
-    /// Where one was found last, or any slot.
+    /// The last one, or any.
     pub last: u8,
-    /// Where one was found before that.
+    /// The one before that.
     pub older: u8,
 }
 
@@ -99,8 +110,7 @@ pub struct Memory {
     rows: Vec<Memo>,
     /// By hint of a name.
     hints: Vec<Hint>,
-    /// By hint of a name, the last miss.
-    missed: Vec<Miss>,
+    missed: Missed,
 }
 
 impl Model for Memory {
@@ -109,9 +119,9 @@ impl Model for Memory {
 
     ghost Value = { OnMemory };
 
-    ghost view = { λ m. record { rows = m.rows.items; hints = m.hints.items; missed = m.missed.items } };
+    ghost view = { λ m. record { rows = m.rows.items; hints = m.hints.items; missed = m.missed } };
 
-    ghost invariant = { λ m. IsCount (length m.hints.items) × IsCount (length m.missed.items) };
+    ghost invariant = { λ m. IsCount (length m.hints.items) };
 }
 
 impl Memory {
@@ -120,11 +130,10 @@ impl Memory {
         requires { 0 < slots }
         ensures { IfOk result (λ memory. memory ≡ no_memory slots) }
     {
-        let slots = slots as usize;
         Ok(Memory {
-            rows: vec![in alloc; Memo::none(); slots]?,
-            hints: vec![in alloc; Hint::none(); HINTS * slots]?,
-            missed: vec![in alloc; Miss::none(); slots + SPARE_MISSES]?,
+            rows: vec![in alloc; Memo::none(); slots as usize]?,
+            hints: vec![in alloc; Hint::none(); HINTS * slots as usize]?,
+            missed: Missed::new(alloc, slots)?,
         })
     }
 
@@ -193,19 +202,18 @@ impl Memory {
         self.clear(hint.older, kind, name);
     }
 
-    /// The last miss of a name with this hint.
-    pub fn miss_of(&self, name: Name) -> Miss
-        ensures { result ≡ miss_at self.now.missed (hint_of (length self.now.missed) name) }
+    /// The last miss of this kind and name, if it is kept. Else another one.
+    pub fn miss_of(&self, kind: Kind, name: Name) -> Miss
+        ensures { result ≡ miss_of self.now.missed (key_with kind name) }
     {
-        self.missed[hint_of(name, self.missed.len())]
+        self.missed.of(kind, name)
     }
 
     /// Remembers a miss.
     pub fn miss(&mut self, kind: Kind, name: Name, number: u64)
         ensures { self.new ≡ with_miss self.old (key_with kind name) number }
     {
-        let hint = hint_of(name, self.missed.len());
-        self.missed[hint] = Miss { number, kind, name };
+        self.missed.put(kind, name, number);
     }
 
     /// Clears the row of a slot, if it has this kind and name, and there is one.
@@ -216,6 +224,97 @@ impl Memory {
         if slot < self.rows.len() && is_row_of(self.rows[slot], kind, name) {
             self.rows[slot] = Memo::none();
         }
+    }
+}
+
+/// The last misses, as many as there are places: each stays until as many others were kept after it.
+#[derive(Drop)]
+pub struct Missed {
+    places: Vec<Miss>,
+    /// By hint of a name.
+    hints: Vec<Hint>,
+    /// The place of the next one.
+    next: u8,
+}
+
+impl Model for Missed {
+    ghost use Rattle.std.specs.Prelude.{◌<◌, ◌≤◌, length};
+    ghost use Rattle.passive_list.specs.Memories.{IsCount, Missed as OnMissed};
+    ghost use Rattle.passive_list.specs.declared.memory.TheConstants.{MOST_MISSES};
+
+    ghost Value = { OnMissed };
+
+    ghost view = { λ m. record { places = m.places.items; hints = m.hints.items; next = m.next } };
+
+    ghost invariant = { λ m. IsCount (length m.hints.items) × (m.next < length m.places.items) × (length m.places.items ≤ MOST_MISSES) };
+}
+
+impl Missed {
+    /// Of nothing.
+    fn new(alloc: Global, slots: u8) -> Result<Missed, AllocError>
+        requires { 0 < slots }
+        ensures { IfOk result (λ missed. missed ≡ no_misses slots) }
+    {
+        let places = (slots as usize + SPARE_MISSES).min(MOST_MISSES);
+        Ok(Missed {
+            places: vec![in alloc; Miss::none(); places]?,
+            hints: vec![in alloc; Hint::none(); HINTS * slots as usize]?,
+            next: 0,
+        })
+    }
+
+    /// The miss of this kind and name at the newer one of its name's hints, else the one at the older one.
+    fn of(&self, kind: Kind, name: Name) -> Miss
+        ensures { result ≡ miss_of self.now (key_with kind name) }
+    {
+        let hint = self.hints[hint_of(name, self.hints.len())];
+        let newer = self.at(hint.last);
+        if newer.is_for(kind, name) {
+            return newer;
+        }
+        self.at(hint.older)
+    }
+
+    /// The miss of a place; of nothing, if there is no such place.
+    fn at(&self, place: u8) -> Miss
+        ensures { result ≡ miss_at self.now.places place }
+    {
+        let place = place as usize;
+        if place < self.places.len() {
+            self.places[place]
+        } else {
+            Miss::none()
+        }
+    }
+
+    /// Whether there is such a place, and it keeps a miss of this kind and name.
+    fn keeps(&self, place: u8, kind: Kind, name: Name) -> bool
+        ensures value { result ≡ keeps self.now.places (key_with kind name) place }
+        ensures within { IsTrue result → place < length self.now.places }
+    {
+        let kept = self.at(place);
+        kept.number != 0 && kept.is_for(kind, name)
+    }
+
+    /// Keeps a miss: in the place where one of this kind and name was kept last, if it is there still. Else in the next place, which becomes the
+    /// newer one of the name's hints.
+    fn put(&mut self, kind: Kind, name: Name, number: u64)
+        ensures { self.new ≡ with_missed self.old (key_with kind name) number }
+    {
+        let miss = Miss { number, kind, name };
+        let hint = hint_of(name, self.hints.len());
+        let last = self.hints[hint].last;
+        if self.keeps(last, kind, name) {
+            self.places[last as usize] = miss;
+            return;
+        }
+        let place = self.next as usize;
+        self.places[place] = miss;
+        self.hints[hint] = Hint {
+            last: self.next,
+            older: last,
+        };
+        self.next = ((place + 1) % self.places.len()) as u8;
     }
 }
 

@@ -1,9 +1,9 @@
 //! Lookups by memory, from outside: by one load, where the CPU remembers an entry with this kind and name that is live; by two, where it
 //! remembers that none had them, and the newest live entry is the same.
 
-ghost use Rattle.std.specs.Prelude.{◌≡◌, ◌≢◌, ◌↔◌, ◌<◌, IfSome, IsTrue, None, length, true};
+ghost use Rattle.std.specs.Prelude.{◌≡◌, ◌≢◌, ◌↔◌, ◌<◌, IfSome, IsTrue, None, true};
 ghost use Rattle.cpu_words.specs.Common.{AreWordsOf, key_with};
-ghost use Rattle.passive_list.specs.Memories.{HasNumbered, IsMiss, IsTrueMiss, Recalls, WasAbsent, hint_of, miss_at, with_miss};
+ghost use Rattle.passive_list.specs.Memories.{HasNumbered, IsMiss, IsTrueMiss, Recalls, WasAbsent, miss_of, with_miss};
 ghost use Rattle.passive_list.specs.Recalling.{HasRecalledOn};
 ghost use Rattle.passive_list.specs.Remembering.{FindsInside, FindsWhatStays, HasFoundAnew, HasFoundByMemory, HasFoundInSection, HasFoundInside, HasFoundKept, HasFoundRemembered, HasRecalledByMemory, HasSeen, RecallsSeen, RefindsSeen, RemembersAnswer};
 ghost use Rattle.passive_list.specs.Sections.{may_begin};
@@ -112,7 +112,7 @@ pub fn find_anew(words: &Words, cpu: &mut PlainCpu, kind: Kind, name: Name) -> O
     ensures slot { IfSome result (λ seen. seen.slot < MOST_SLOTS) }
     ensures words { cpu.new.words ≡ cpu.old.words }
 {
-    let miss = last_miss(cpu, name);
+    let miss = last_miss(cpu, kind, name);
     let head = recall_head_on(words, cpu);
     if head == 0 {
         return None;
@@ -125,12 +125,12 @@ pub fn find_anew(words: &Words, cpu: &mut PlainCpu, kind: Kind, name: Name) -> O
     find_in_section(words, cpu, kind, name, number)
 }
 
-/// The last miss of a name with this one's hint.
-fn last_miss(cpu: &PlainCpu, name: Name) -> Miss
-    ensures is { result ≡ miss_at cpu.now.cpu.memory.missed (hint_of (length cpu.now.cpu.memory.missed) name) }
+/// The last miss of this kind and name, if it is kept. Else another one.
+fn last_miss(cpu: &PlainCpu, kind: Kind, name: Name) -> Miss
+    ensures is { result ≡ miss_of cpu.now.cpu.memory.missed (key_with kind name) }
     ensures so { IsTrueMiss cpu.now.cpu.view.pass result }
 {
-    cpu.memory.miss_of(name)
+    cpu.memory.miss_of(kind, name)
 }
 
 /// The slot's live word, by one load.
