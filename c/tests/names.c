@@ -87,6 +87,27 @@ static void check_bytes(size_t length)
 		check_place(place, length);
 }
 
+/* What registry_name_parse refuses, and where it says that the first bad byte is. Nothing else is written. */
+static void check_refused(void)
+{
+	static const struct {
+		const char *bytes;
+		size_t length;
+		registry_answer answer;
+		uint64_t place;
+	} rows[] = {
+		{"", 0, REGISTRY_NAME_EMPTY, 77}, {NULL, 0, REGISTRY_NAME_EMPTY, 77}, {NULL, 2, REGISTRY_NULL, 77}, {NULL, SIZE_MAX, REGISTRY_NULL, 77},
+		{"Abcdefghijklmnop", 16, REGISTRY_NAME_TOO_LONG, 77}, {"0m", 2, REGISTRY_NAME_BAD_BYTE, 0}, {"wm0-X", 5, REGISTRY_NAME_BAD_BYTE, 3},
+		{"wm\0", 3, REGISTRY_NAME_BAD_BYTE, 2},
+	};
+	for (size_t i = 0; i < sizeof rows / sizeof *rows; i++) {
+		struct registry_name name = {1, 2};
+		uint64_t place = 77;
+		EXPECT(registry_name_parse(rows[i].bytes, rows[i].length, &name, &place) == rows[i].answer && place == rows[i].place);
+		EXPECT(registry_name_parse(rows[i].bytes, rows[i].length, NULL, NULL) == rows[i].answer && name.high == 1 && name.low == 2);
+	}
+}
+
 static void misuse_names(void)
 {
 	const char zeros[REGISTRY_KEY_BYTES + 1] = {0};
@@ -103,6 +124,7 @@ static void misuse_names(void)
 	EXPECT(registry_name_of_bytes(zeros, sizeof zeros, &name) == REGISTRY_NAME_TOO_LONG);
 	EXPECT(registry_name_of_bytes("a", SIZE_MAX, &name) == REGISTRY_NAME_TOO_LONG);
 	EXPECT(memcmp(&name, &wm, sizeof name) == 0);
+	EXPECT(registry_name_parse("wm", 2, NULL, NULL) == REGISTRY_DONE);
 }
 
 /* The name of an id has these bytes, and gives the id back; the names of larger ids come behind it. */
@@ -170,8 +192,20 @@ static void check_string(registry_answer answer)
 	char told[200];
 	const char *string = registry_strerror(answer);
 	size_t length = registry_text(answer, told, sizeof told);
-	EXPECT(length < sizeof told && string == registry_strerror(answer));
+	const bool is_known = (answer <= REGISTRY_NEEDS_DRIVER && answer != REGISTRY_WRONG_CPU) ||
+	    (REGISTRY_OUTSIDE <= answer && answer <= REGISTRY_NULL && answer != 67);
+	EXPECT((length > 0) == is_known && length < sizeof told && string == registry_strerror(answer));
+	EXPECT(registry_text(answer, NULL, 0) == length && registry_text(answer, NULL, SIZE_MAX) == length);
 	EXPECT(strcmp(string, length > 0 ? told : string_alone(answer)) == 0);
+}
+
+/* A text is cut where there is no room for it. */
+static void check_cut(void)
+{
+	char told[] = "xxxxx";
+	size_t whole = registry_text(REGISTRY_NO_SLOT, told, 0);
+	EXPECT(told[0] == 'x' && registry_text(REGISTRY_NO_SLOT, told, 4) == whole && whole > 4);
+	EXPECT(strncmp(told, registry_strerror(REGISTRY_NO_SLOT), 3) == 0 && told[3] == 0 && told[4] == 'x');
 }
 
 int main(void)
@@ -180,11 +214,13 @@ int main(void)
 		check_names(length);
 	for (size_t length = 1; length <= REGISTRY_KEY_BYTES; length++)
 		check_bytes(length);
+	check_refused();
 	misuse_names();
 	check_ids();
 	for (registry_answer answer = 0; answer < NUMBERS; answer++)
 		check_string(answer);
 	check_string(UINT32_MAX);
+	check_cut();
 	puts("names, ids and answers come back");
 	return 0;
 }

@@ -148,6 +148,9 @@ static uint64_t cut(uint64_t number)
 	return planted == SHORT_NUMBERS ? number & MOST_OF_17_BITS : number;
 }
 
+/* Where a turn writes what it met if its caller doesn't want it. */
+static struct registry_stage unwanted;
+
 static registry_answer advanced(registry_answer answer, struct registry_stage *met)
 {
 	bool is_met = answer == REGISTRY_DONE || answer == REGISTRY_STILL_HELD, is_freed = is_met && met->stage == REGISTRY_FREED;
@@ -160,6 +163,7 @@ static registry_answer advanced(registry_answer answer, struct registry_stage *m
 
 registry_answer __wrap_registry_advance(struct registry_keeper *keeper, uint64_t number, struct registry_stage *met)
 {
+	met = met != NULL ? met : &unwanted;
 	if (planted == ADVANCE_LOST && changes >= 199999) {
 		*met = (struct registry_stage){REGISTRY_GRACE, 0};
 		return REGISTRY_DONE;
@@ -169,6 +173,7 @@ registry_answer __wrap_registry_advance(struct registry_keeper *keeper, uint64_t
 
 registry_answer __wrap_registry_destroy(struct registry_keeper *keeper, struct registry_cpu *cpu, uint64_t number, struct registry_stage *met)
 {
+	met = met != NULL ? met : &unwanted;
 	return advanced(__real_registry_destroy(keeper, cpu, cut(number), met), met);
 }
 
@@ -176,7 +181,7 @@ registry_answer __wrap_registry_audit(struct registry_keeper *keeper, struct reg
     size_t *length)
 {
 	registry_answer answer = __real_registry_audit(keeper, cpus, count, list, room, length);
-	bool is_large = answer == REGISTRY_DONE && count == CPUS && *length == SLOTS;
+	bool is_large = answer == REGISTRY_DONE && count == CPUS && length != NULL && *length == SLOTS;
 	return (planted == LARGE_AUDITS && is_large) || (planted == LATE_AUDITS && changes >= 99999) ? REGISTRY_NO_MEMORY : answer;
 }
 
@@ -198,7 +203,7 @@ registry_answer __wrap_registry_acquire(struct registry_cpu *cpu, uint64_t *numb
 /* Writes an unused word behind the section word of the next CPU's row. */
 registry_answer __wrap_registry_enter(struct registry_cpu *cpu)
 {
-	if (planted == SHARED_LINE && cpu_count > 1)
+	if (planted == SHARED_LINE && cpu_count > 1 && cpu->at != NULL)
 		table[TABLE_ROW(slots, (uint64_t)(cpu - first + 1) % cpu_count) + 2 * slots + 1]++;
 	return __real_registry_enter(cpu);
 }

@@ -4,6 +4,9 @@
  * A registry has four changers. Two let an entry come and go by registry_destroy_wait, one puts objects behind a pointer by registry_perform_wait, and one
  * detaches to a list, which a reclaimer frees. Three readers use the objects of both registries at once, in sections of both or by references. Objects lie on
  * the heap, and are spoilt and freed as soon as the wait says so. Each pair of waits is seen between its turns at the same time.
+ *
+ * Compiled with FREE_TOO_EARLY an object behind an entry is freed once a turn says that the entry is still held: the address sanitizer, valgrind and the
+ * thread sanitizer each have to catch that. With FREE_BEFORE_PERFORMED it is the one behind the pointer.
  */
 #include <pthread.h>
 #include <stdatomic.h>
@@ -12,6 +15,17 @@
 #include "waiting.h"
 
 enum { REGISTRIES = 2, READERS = 3, DESTROYERS = 2, PERFORMER = DESTROYERS, DEFERRER, CHANGERS, CPUS = READERS + CHANGERS, WORDS = 8, SLOTS = 32, PATIENCE = 20, MOST = 100 };
+
+#ifdef FREE_TOO_EARLY
+static const bool destroys_early = true;
+#else
+static const bool destroys_early = false;
+#endif
+#ifdef FREE_BEFORE_PERFORMED
+static const bool performs_early = true;
+#else
+static const bool performs_early = false;
+#endif
 
 struct object {
 	uint64_t words[WORDS];
@@ -80,12 +94,17 @@ static struct object *make_object(void)
 	return object;
 }
 
-static void free_object(struct object *object)
+static void spoil(struct object *object)
 {
-	AFTER_FREED(object);
 	memset(object, 0xdb, sizeof *object);
 	free(object);
 	atomic_fetch_add(&freed, 1);
+}
+
+static void free_object(struct object *object)
+{
+	AFTER_FREED(object);
+	spoil(object);
 }
 
 static void look_at(const struct object *object)
@@ -173,6 +192,36 @@ static struct registry_entry attach(struct world *world, unsigned which)
 	return made;
 }
 
+typedef registry_answer waiting_call(struct world *world, struct registry_cpu *cpu, uint64_t number, const struct timespec *deadline);
+
+static registry_answer destroy(struct world *world, struct registry_cpu *cpu, uint64_t number, const struct timespec *deadline)
+{
+	return registry_destroy_wait(&world->lock, &world->keeper, cpu, number, deadline, NULL);
+}
+
+static registry_answer perform(struct world *world, struct registry_cpu *cpu, uint64_t number, const struct timespec *deadline)
+{
+	(void)number;
+	return registry_perform_wait(&world->lock, &world->keeper, cpu, deadline, NULL);
+}
+
+/* Frees an object once the wait is done, or too early. */
+static void free_after(waiting_call *wait, struct world *world, struct registry_cpu *cpu, uint64_t number, struct object *object, bool early)
+{
+	static const struct timespec past = {0, 0};
+	begin_wait();
+	registry_answer answer = wait(world, cpu, number, early ? &past : NULL);
+	const bool is_in_use = answer != REGISTRY_DONE;
+	if (is_in_use) {
+		spoil(object);
+		answer = wait(world, cpu, number, NULL);
+	}
+	end_wait();
+	DONE(answer);
+	if (!is_in_use)
+		free_object(object);
+}
+
 static void change_by_destroy(struct world *world, unsigned which)
 {
 	struct registry_cpu *cpu = &world->cpus[READERS + which];
@@ -181,19 +230,13 @@ static void change_by_destroy(struct world *world, unsigned which)
 	take(&world->mutex);
 	DONE(registry_detach(&world->keeper, cpu, REGISTRY_DRIVER, &names[which], NULL));
 	give(&world->mutex);
-	begin_wait();
-	DONE(registry_destroy_wait(&world->lock, &world->keeper, cpu, entry.number, NULL, NULL));
-	end_wait();
-	free_object(object_of(&entry));
+	free_after(destroy, world, cpu, entry.number, object_of(&entry), destroys_early);
 }
 
 static void change_by_perform(struct world *world, unsigned which)
 {
 	struct object *before = atomic_exchange(&world->current, make_object());
-	begin_wait();
-	DONE(registry_perform_wait(&world->lock, &world->keeper, &world->cpus[READERS + which], NULL, NULL));
-	end_wait();
-	free_object(before);
+	free_after(perform, world, &world->cpus[READERS + which], 0, before, performs_early);
 }
 
 static void change_by_list(struct world *world, unsigned which)
