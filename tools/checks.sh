@@ -53,14 +53,6 @@ smallest_says() {
     says "$log.wanted" "$@"
 }
 
-# A storm of so many CPUs and turns counts each lookup and reference, and nothing wrong.
-storm_says() {
-    local cpus=$1 turns=$2
-    shift 2
-    printf 'storm %d %d\nlookups %d\nreferences %d\nwrong 0\nheld 0\n' "$cpus" "$turns" $((2 * cpus * turns)) $((cpus * turns)) >"$log.wanted"
-    says "$log.wanted" "$@" "$cpus" "$turns"
-}
-
 # counted NAME COMMAND..: a command that counts its own checks in lines with 'N passed, M failed' or 'N passed; M failed'.
 counted() {
     local name=$1 good bad status

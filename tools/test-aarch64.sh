@@ -82,29 +82,23 @@ sees_weaker_step() {
 }
 
 test_clients() {
-    local storm
     check "refuse is built over a shared C library" make_refuse
-    check "the clients in C are built, no warning" make_for . all "out/$processor/heap_stress-none-right"
+    check "the clients in C are built, no warning" make_for . all "out/$processor/together"
     check "smallest" smallest_says emulated "$out/smallest"
     check "row" row_says emulated "$out/row"
-    for storm in "1 100" "4 1000" "8 200"; do
-        # shellcheck disable=SC2086
-        check "storm $storm" storm_says $storm emulated "$out/storm"
-    done
     check "packet" emulated "$out/packet"
     check "shared" emulated "$out/shared"
     check "misuse is answered" emulated "$out/misuse"
     check "each allocation refused" emulated -L "/usr/$processor-linux-gnu" "$out/refuse"
     check "the build's version and limits" emulated "$out/built"
     counted "programs compiled for other limits" env CC="${cross}gcc" RUN="$emulator" packaging/other-limits.sh crates/registry_c/include "$out/libregistry.a"
-    check "walk" emulated "$out/walk" 200
-    check "entries" emulated "$out/entries" 50
+    check "crowd" emulated "$out/crowd" 50
     check "names and answers as text" emulated "$out/names"
     check "turns, each step of a wait" emulated "$out/turns" emulated
     check "deferred, beside a model" emulated "$out/deferred" 200 1
     check "forwarder" emulated "$out/forwarder" 200
     check "device_switch" emulated "$out/device_switch" 20
-    check "heap_stress" emulated "$out/heap_stress-none-right" 100
+    check "together" emulated "$out/together" 20
 }
 
 test_netbsd() {

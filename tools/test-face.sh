@@ -141,20 +141,15 @@ test_c() {
     local each
     check "C: smallest" smallest_says "$out/smallest"
     check "C: row" row_says "$out/row"
-    for each in packet 'shared 2000' misuse refuse allocs blocks built turns deferred together interrupted reclaims lent history 'largest 30000 1 long' planted 'walk 5000' 'entries 1000' names \
-        recalls 'crowd 1000' forwarder device_switch 'speed 2 8 1000' 'changes 20' 'changes 20 2 4' 'changes 20 64 255'; do
+    for each in packet 'shared 2000' misuse refuse allocs built turns deferred together interrupted reclaims lent history 'largest 30000 1 long' planted names \
+        'crowd 2000' forwarder device_switch 'speed 2 8 1000' 'changes 20' 'changes 20 2 4' 'changes 20 64 255'; do
         # shellcheck disable=SC2086
         check "C: $each" "$out"/$each
-    done
-    for each in '1 1000' '2 3' '4 20000' '64 600'; do
-        # shellcheck disable=SC2086
-        check "C: storm $each" storm_says $each "$out/storm"
     done
     check "C: checked" "$out/checked"
     check "C: smallest in the checking build" smallest_says "$out/checked-smallest"
     check "C: row in the checking build" row_says "$out/checked-row"
-    check "C: storm 4 2000 in the checking build" storm_says 4 2000 "$out/checked-storm"
-    for each in packet 'shared 500' 'walk 500' 'crowd 200' 'forwarder 200' 'device_switch 20' 'together 20'; do
+    for each in packet 'shared 500' 'crowd 200' 'forwarder 200' 'device_switch 20' 'together 20'; do
         # shellcheck disable=SC2086
         check "C: $each in the checking build" "$out"/checked-$each
     done
@@ -168,15 +163,13 @@ test_watched() {
     local each
     check "C: smallest under valgrind" smallest_says guarded "$out/smallest"
     check "C: row under valgrind" row_says guarded "$out/row"
-    check "C: storm 4 100 under valgrind" storm_says 4 100 guarded "$out/storm"
-    for each in packet 'shared 20' misuse built 'together 5' interrupted reclaims lent 'walk 50' 'entries 50' names 'crowd 20' refuse; do
+    for each in packet 'shared 20' misuse built interrupted reclaims lent 'history 3000 1 small' names 'crowd 20' refuse; do
         # shellcheck disable=SC2086
         check "C: $each under valgrind" guarded "$out"/$each
     done
     check "C: smallest with sanitizers" smallest_says "$out/sanitized-smallest"
     check "C: row with sanitizers" row_says "$out/sanitized-row"
-    check "C: storm 8 1000 with sanitizers" storm_says 8 1000 "$out/sanitized-storm"
-    for each in misuse packet 'shared 500' built 'together 50' reclaims lent 'walk 1000' 'entries 300' names 'crowd 300' forwarder device_switch; do
+    for each in misuse packet 'shared 500' built reclaims lent 'history 100000' names 'crowd 300' forwarder device_switch; do
         # shellcheck disable=SC2086
         check "C: $each with sanitizers" "$out"/sanitized-$each
     done
@@ -185,16 +178,15 @@ test_watched() {
 # Objects of the heap behind entries, freed once nobody holds them, under three checkers; each of them catches what frees a turn too early.
 test_heap() {
     local when
-    check "C: heap_stress with the address sanitizer" "$out/heap_stress-address-right" 500
-    check "C: heap_stress with the thread sanitizer" "$out/heap_stress-thread-right" 200
-    check "C: together with the thread sanitizer" "$out/raced-together" 50
+    check "C: together with the address sanitizer" "$out/together-address-right" 200
+    check "C: together with the thread sanitizer" "$out/together-thread-right" 100
     check "C: reclaims with the thread sanitizer" "$out/raced-reclaims"
     check "C: interrupted with the thread sanitizer" "$out/raced-interrupted"
-    check "C: heap_stress under valgrind" guarded "$out/heap_stress-none-right" 20
+    check "C: together under valgrind" guarded "$out/together-none-right" 5
     for when in early unperformed; do
-        check "C: freed $when: the address sanitizer sees it" catches heap-use-after-free "$out/heap_stress-address-$when" 500
-        check "C: freed $when: the thread sanitizer sees it" catches 'data race' "$out/heap_stress-thread-$when" 200
-        check "C: freed $when: valgrind sees it" catches 'Invalid read' guarded "$out/heap_stress-none-$when" 20
+        check "C: freed $when: the address sanitizer sees it" catches heap-use-after-free "$out/together-address-$when" 200
+        check "C: freed $when: the thread sanitizer sees it" catches 'data race' "$out/together-thread-$when" 100
+        check "C: freed $when: valgrind sees it" catches 'Invalid read' guarded "$out/together-none-$when" 10
     done
 }
 
@@ -204,7 +196,7 @@ test_build() {
     check "no call takes more stack than the page says" stack_within "$out"
     check "the clients in C are built, no warning" make all
     check "C: all of them are built with sanitizers" make sanitized
-    check "C: heap_stress is built nine times" make stresses
+    check "C: together is built nine times" make stresses
     check "the manual pages' own names are built" make -C netbsd all sanitized
 }
 

@@ -5,7 +5,7 @@
  * the call says so, has kept no memory and changed nothing, and is done when it is made again. At the end of a journey every block is free
  * again. Then all memory is refused once the registry is open: the calls that take none go on.
  *
- * An acquire that finds nothing keeps the block that it took. What else a CPU keeps, blocks.c counts.
+ * An acquire that finds nothing keeps the block that it took. What else a CPU keeps, history.c counts.
  *
  * The program is linked with --wrap for malloc, realloc and free, so that the archive's allocations come by here.
  */
