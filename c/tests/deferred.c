@@ -3,7 +3,8 @@
  *
  *     deferred [ROUNDS [SEED]]
  *
- * CPU 0 holds entries by sections and passive references, and another thread's work on retired entries is played by advances beside the list.
+ * CPU 0 holds entries by sections and passive references, and another thread's work on retired entries is played by advances beside the list. The list's
+ * row is longer or shorter than the slots, and its keeper is now and then another registry's, or none.
  */
 #include "model.h"
 #include "waiting.h"
@@ -13,6 +14,7 @@ enum { NAMES = SLOTS };
 static struct model model;
 static struct registry_keeper keeper;
 static struct registry_cpu cpus[2];
+static pthread_mutex_t mutex = PTHREAD_MUTEX_INITIALIZER;
 static struct registry_name names[NAMES];
 static uint64_t random_state;
 
@@ -125,10 +127,52 @@ static void detach(void)
 	const struct registry_name *name = &names[below(NAMES)];
 	uint32_t answer = registry_deferred_detach(&list, &cpus[1], kind, name, &gone);
 	struct told freed = freed_first();
-	EXPECT(answer == model_detach(&model, 1, kind, name, &wanted) && same_entries(&gone, &wanted, 1));
+	bool is_full = list.room < SLOTS && waiting.count == list.room;
+	EXPECT(answer == (is_full ? REGISTRY_NO_ROOM : model_detach(&model, 1, kind, name, &wanted)) && same_entries(&gone, &wanted, 1));
 	if (answer == REGISTRY_DONE)
 		waiting.entries[waiting.count++] = wanted;
 	expect_list(&freed);
+}
+
+/* The row is as long as it has to be, or longer. */
+static void resize(void)
+{
+	list.room = waiting.count + below(SLOTS + 1 - waiting.count);
+}
+
+/* A barrier that may wait no longer has made one turn. */
+static void wait_briefly(void)
+{
+	static const struct timespec past = {0, 0};
+	const struct registry_lock lock = registry_lock_of_mutex(&mutex);
+	uint32_t answer = registry_deferred_barrier(&lock, &list, &past);
+	struct told freed = freed_first();
+	EXPECT(answer == (waiting.count > 0 ? REGISTRY_STILL_HELD : REGISTRY_DONE));
+	expect_list(&freed);
+}
+
+/* The empty list is any registry's. While entries of one wait, each call refuses another one's keeper, and an empty one ever. */
+static void change_keeper(void)
+{
+	static const struct registry_settings settings = {1, 1, 2, 2, 1, 1};
+	struct registry_keeper other = {0};
+	struct registry_cpu cpu = {0};
+	struct registry_local none = {0};
+	size_t count = 99;
+	if (below(2))
+		DONE(registry_open(&settings, &other, &cpu, 1));
+	const uint32_t wanted = other.at == NULL ? REGISTRY_EMPTY_HANDLE : waiting.count > 0 ? REGISTRY_FULL_HANDLE : REGISTRY_DONE;
+	const struct registry_lock lock = registry_lock_of_mutex(&mutex);
+	list.keeper = other.at != NULL || below(2) ? &other : NULL;
+	EXPECT(registry_deferred_attach(&list, &cpu, &names[0], 9, NULL) == wanted);
+	EXPECT(registry_deferred_attach_iface(&list, &cpu, &none, &names[0], 9, NULL) == (wanted != REGISTRY_DONE ? wanted : REGISTRY_EMPTY_HANDLE));
+	EXPECT(registry_deferred_detach(&list, &cpu, REGISTRY_DRIVER, &names[0], NULL) == (list.room == 0 && wanted == REGISTRY_DONE ? REGISTRY_NO_ROOM : wanted));
+	EXPECT(registry_deferred_free(&list, &count) == wanted && count == (wanted != REGISTRY_DONE ? 99 : list.room > 0));
+	EXPECT(registry_deferred_barrier(&lock, &list, NULL) == wanted && told.count == (count == 1));
+	told.count = 0;
+	list.keeper = &keeper;
+	DONE(registry_close(&cpu, 1, &other));
+	expect_list(&told);
 }
 
 static void free_all(void)
@@ -176,7 +220,7 @@ static void leave(void)
 }
 
 static void (*const deeds[])(void) = {attach, attach, attach, attach, attach_iface, attach_iface, detach, detach, detach, detach, detach, free_all, advance,
-    hold, release, release, enter, leave};
+    hold, release, release, enter, leave, resize, wait_briefly, change_keeper};
 
 /* CPU 0 lets all go. */
 static void let_go(void)
@@ -192,6 +236,7 @@ static void let_go(void)
 static void fill_and_free(void)
 {
 	struct registry_entry gone;
+	list.room = SLOTS;
 	let_go();
 	for (unsigned i = 0; i < NAMES; i++)
 		attach();

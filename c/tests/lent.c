@@ -144,39 +144,6 @@ static void test_refused(void)
 	expect_all_free();
 }
 
-static pthread_barrier_t everyone;
-
-/* The threads take the CPUs one after the other, and then give them back. Meanwhile the pool is kept open, also by the last one alone. */
-static void *hold(void *of)
-{
-	unsigned own = (unsigned)(uintptr_t)of;
-	for (unsigned turn = 0; turn < 2 * CPUS; turn++) {
-		struct registry_cpu *cpu;
-		if (turn == own) {
-			DONE(registry_thread_register(&pool, NULL, &cpu));
-			EXPECT(which(cpu) == own);
-		}
-		if (turn == CPUS + own) {
-			EXPECT(registry_threads_close(&pool) == REGISTRY_STILL_HELD);
-			DONE(registry_thread_unregister(&pool));
-		}
-		pthread_barrier_wait(&everyone);
-	}
-	return of;
-}
-
-static void test_held(void)
-{
-	pthread_t threads[CPUS];
-	EXPECT(pthread_barrier_init(&everyone, NULL, CPUS) == 0);
-	for (uintptr_t i = 0; i < CPUS; i++)
-		EXPECT(pthread_create(&threads[i], NULL, hold, (void *)i) == 0);
-	for (unsigned i = 0; i < CPUS; i++)
-		EXPECT(pthread_join(threads[i], NULL) == 0);
-	EXPECT(pthread_barrier_destroy(&everyone) == 0);
-	expect_all_free();
-}
-
 static atomic_uint users[CPUS], uses;
 
 /* Takes a CPU again and again, in turn for a call and beyond the thread's end. Nobody else has it meanwhile. */
@@ -333,7 +300,6 @@ int main(void)
 {
 	DONE(registry_open(&settings, &keeper, cpus, CPUS));
 	test_misuse();
-	test_held();
 	test_refused();
 	test_crowd();
 	test_ends();

@@ -1,5 +1,5 @@
 /*
- * reclaims - registry_local_drop, and the list of waiting.h with two registries, its barrier and the thread that frees what is in it
+ * reclaims - registry_local_drop, and of the list of waiting.h its barrier and the thread that frees what is in it
  *
  * The linker leads malloc, pthread_create and pthread_cond_init here (--wrap), so that each of them fails once, and pthread_cond_timedwait, so that the
  * thread's sleeps are seen.
@@ -54,8 +54,8 @@ int __wrap_pthread_cond_timedwait(pthread_cond_t *of, pthread_mutex_t *with, con
 	return __real_pthread_cond_timedwait(of, with, until);
 }
 
-static struct registry_keeper keeper, other;
-static struct registry_cpu cpus[2], others[1];
+static struct registry_keeper keeper;
+static struct registry_cpu cpus[2];
 static pthread_mutex_t mutex;
 static struct registry_name wm;
 static const struct timespec PAST = {0, 0};
@@ -154,56 +154,6 @@ static void test_drop(void)
 	DONE(registry_local_drop(&cpus[1], &local, &mutex, &keeper));
 	EXPECT(local.at == NULL);
 	DONE(registry_destroy_wait(&lock, &keeper, &cpus[1], number, &PAST, NULL));
-}
-
-/* While entries of one registry wait, each call refuses another registry's keeper, and the entries stay. The empty list is any registry's. */
-static void test_two_registries(void)
-{
-	const struct registry_settings settings = {1, 4, 1000, 1000, 100, 100};
-	struct registry_local local = {0};
-	size_t count = 9;
-	atomic_store(&freed, 0);
-	DONE(registry_open(&settings, &other, others, 1));
-	uint64_t held = put_held();
-	DONE(registry_attach(&other, &others[0], &wm, 8, NULL));
-	list.keeper = &other;
-	EXPECT(registry_deferred_free(&list, &count) == REGISTRY_FULL_HANDLE && count == 9);
-	EXPECT(registry_deferred_detach(&list, &others[0], REGISTRY_DRIVER, &wm, NULL) == REGISTRY_FULL_HANDLE);
-	EXPECT(registry_deferred_attach(&list, &others[0], &wm, 9, NULL) == REGISTRY_FULL_HANDLE);
-	EXPECT(registry_deferred_attach_iface(&list, &others[0], &local, &wm, 9, NULL) == REGISTRY_FULL_HANDLE);
-	EXPECT(registry_deferred_barrier(&lock, &list, NULL) == REGISTRY_FULL_HANDLE);
-	EXPECT(registry_deferred_count(&list) == 1 && atomic_load(&freed) == 0);
-	list.keeper = &keeper;
-	DONE(registry_release(&cpus[0], held));
-	DONE(registry_deferred_barrier(&lock, &list, &PAST));
-	EXPECT(atomic_load(&freed) == 1 && atomic_load(&last_freed) == held);
-	list.keeper = &other;
-	lock_it();
-	DONE(registry_deferred_detach(&list, &others[0], REGISTRY_DRIVER, &wm, NULL));
-	DONE(registry_deferred_free(&list, &count));
-	unlock_it();
-	EXPECT(count == 1 && atomic_load(&freed) == 2);
-	list.keeper = &keeper;
-	DONE(registry_close(others, 1, &other));
-}
-
-/* While its row is full, the list takes no entry, and detaches none. */
-static void test_full(void)
-{
-	atomic_store(&freed, 0);
-	list.room = 1;
-	uint64_t held = put_held(), live = attach();
-	EXPECT(registry_deferred_detach(&list, &cpus[1], REGISTRY_DRIVER, &wm, NULL) == REGISTRY_NO_ROOM && registry_deferred_count(&list) == 1);
-	DONE(registry_look_up(&cpus[0], REGISTRY_DRIVER, &wm, NULL));
-	DONE(registry_release(&cpus[0], held));
-	lock_it();
-	DONE(registry_deferred_detach(&list, &cpus[1], REGISTRY_DRIVER, &wm, NULL));
-	unlock_it();
-	EXPECT(atomic_load(&freed) == 1 && atomic_load(&last_freed) == held && list.entries[0].number == live);
-	DONE(registry_deferred_barrier(&lock, &list, &PAST));
-	list.room = 0;
-	EXPECT(registry_deferred_detach(&list, &cpus[1], REGISTRY_DRIVER, &wm, NULL) == REGISTRY_NO_ROOM);
-	list.room = 8;
 }
 
 /* A thread in a barrier, and whether that has ended. */
@@ -328,8 +278,6 @@ int main(void)
 	wm = name_of("wm");
 	DONE(registry_open(&settings, &keeper, cpus, 2));
 	test_drop();
-	test_two_registries();
-	test_full();
 	test_barrier();
 	test_reclaimer();
 	test_sleeps();
