@@ -157,6 +157,11 @@ INLINE uint64_t in_batches(unsigned thread, uint64_t count, void (*enter)(unsign
         return in_walks(thread, count, NAME##_enter, NAME##_walk, NAME##_leave); \
     }
 
+/* What a contender has of these, and of what LISTED_CHANGES makes. */
+#define LOOKUPS_OF(NAME) .lookups = NAME##_lookups, .batches = NAME##_batches, .walks = NAME##_walks
+#define CHANGES_OF(NAME) .replace = NAME##_replace, .perform = NAME##_perform
+#define NOTHING_AROUND .begin = do_nothing, .end = do_nothing, .rest = do_nothing
+
 /* Lookups in the list, between the statements ENTER and LEAVE, which may speak of `thread`: the same functions. */
 #define LISTED_LOOKUPS(NAME, ENTER, LEAVE) \
     INLINE void NAME##_enter(unsigned thread) \
@@ -180,5 +185,18 @@ INLINE uint64_t in_batches(unsigned thread, uint64_t count, void (*enter)(unsign
         return copy_list(row); \
     } \
     LOOKUPS(NAME)
+
+/* Changes of the list: the function NAME_perform waits by the statement WAIT until all open sections have ended, NAME_replace in between. */
+#define LISTED_CHANGES(NAME, WAIT) \
+    static void NAME##_perform(void) \
+    { \
+        WAIT; \
+    } \
+    static void NAME##_replace(void) \
+    { \
+        unlink_newest(); \
+        NAME##_perform(); \
+        link_newest(); \
+    }
 
 #endif
