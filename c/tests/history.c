@@ -169,8 +169,9 @@ static struct given any_given(struct world *world)
 	return given;
 }
 
-/* What a call needs of it. */
-enum { A_KEEPER = 1, A_CPU = 2, A_SECTION = 4, A_NAME = 8, A_KIND = 16, WORDS = 32, THE_REST = 64 };
+/* What a call needs of it, and what is wrong with what the last call got. */
+static uint32_t wrong;
+enum { A_KEEPER = 1, A_CPU = 2, A_SECTION = 4, A_NAME = 8, A_KIND = 16, WORDS = 32, THE_REST = 64, TO_ATTACH = A_KEEPER | A_CPU | A_NAME | WORDS };
 
 /* What is wrong with it, in the order of registry.h; else REGISTRY_DONE. */
 static uint32_t wrong_with(const struct model *model, const struct given *given, unsigned needs)
@@ -188,6 +189,9 @@ static uint32_t wrong_with(const struct model *model, const struct given *given,
 		return REGISTRY_BAD_KIND;
 	return needs & WORDS && given->name == &NO_NAME ? REGISTRY_BAD_NAME : REGISTRY_DONE;
 }
+
+/* What a call on `world` with `given` returns: what is wrong, or what the model's call returns. */
+#define WANTED(needs, call) ((wrong = wrong_with(&world->model, &given, needs)) != REGISTRY_DONE ? wrong : (call))
 
 /* The answer is the one that is wanted. */
 static uint32_t same(uint32_t answer, uint32_t wanted)
@@ -216,17 +220,15 @@ static uint32_t same_wanted(const struct given *given, uint32_t answer, struct r
 static void enter(struct world *world)
 {
 	const struct given given = any_given(world);
-	uint32_t wrong = wrong_with(&world->model, &given, A_CPU);
-	same(registry_enter(given.cpu), wrong != REGISTRY_DONE ? wrong : model_enter(&world->model, given.at));
+	same(registry_enter(given.cpu), WANTED(A_CPU, model_enter(&world->model, given.at)));
 }
 
 static void leave(struct world *world)
 {
 	const struct given given = any_given(world);
-	uint32_t wrong = wrong_with(&world->model, &given, A_CPU);
 	uint64_t depth = 999;
 	bool inside;
-	same(registry_exit(given.cpu), wrong != REGISTRY_DONE ? wrong : model_exit(&world->model, given.at));
+	same(registry_exit(given.cpu), WANTED(A_CPU, model_exit(&world->model, given.at)));
 	same(registry_depth(given.cpu, given.wants ? &depth : NULL), wrong);
 	EXPECT(depth == (given.wants && wrong == REGISTRY_DONE ? world->model.cpus[given.at].depth : 999));
 	same(registry_inside(given.cpu, given.wants ? &inside : NULL), wrong);
@@ -241,13 +243,10 @@ static void look(struct world *world, lookup *call, model_lookup *model_call, un
 {
 	struct registry_entry found = {0}, wanted = {0};
 	const struct given given = any_given(world);
-	uint32_t wrong = wrong_with(&world->model, &given, needs);
 	uint32_t answer = call(given.cpu, given.kind, given.name, given.wants ? &found : NULL);
+	same_wanted(&given, answer, &found, WANTED(needs, model_call(&world->model, given.at, given.kind, given.name, &wanted)), &wanted);
 	if (needs & A_SECTION && (wrong == REGISTRY_NULL || wrong == REGISTRY_BAD_KIND) && model_enter(&world->model, given.at) == REGISTRY_DONE)
 		model_exit(&world->model, given.at);
-	if (wrong == REGISTRY_DONE)
-		wrong = model_call(&world->model, given.at, given.kind, given.name, &wanted);
-	same_wanted(&given, answer, &found, wrong, &wanted);
 }
 
 static void find(struct world *world)
@@ -275,9 +274,8 @@ static void walk(struct world *world)
 	struct registry_entry row[SLOTS] = {0}, wanted[SLOTS] = {0};
 	const struct given given = any_given(world);
 	size_t count = 99, length = 99, room = below(world, 4) ? SLOTS : below(world, SLOTS);
-	uint32_t wrong = wrong_with(&world->model, &given, room != 0 ? A_CPU | THE_REST : A_CPU);
 	uint32_t answer = registry_walk(given.cpu, given.lacks ? NULL : row, room, given.wants ? &count : NULL);
-	same(answer, wrong != REGISTRY_DONE ? wrong : model_walk(&world->model, given.at, wanted, room, &length));
+	same(answer, WANTED(room != 0 ? A_CPU | THE_REST : A_CPU, model_walk(&world->model, given.at, wanted, room, &length)));
 	EXPECT((count == length || !given.wants) && memcmp(row, wanted, sizeof row) == 0);
 }
 
@@ -288,9 +286,7 @@ static void go_over(struct world *world)
 	struct registry_cursor cursor = {.row = met, .room = SLOTS};
 	const struct given given = any_given(world);
 	size_t length = 0;
-	uint32_t wanted = wrong_with(&world->model, &given, A_CPU | THE_REST);
-	if (wanted == REGISTRY_DONE)
-		wanted = model_walk(&world->model, given.at, row, SLOTS, &length);
+	uint32_t wanted = WANTED(A_CPU | THE_REST, model_walk(&world->model, given.at, row, SLOTS, &length));
 	uint32_t answer = registry_first(given.cpu, given.lacks ? NULL : &cursor, &entry);
 	if (wanted != REGISTRY_DONE) {
 		same(answer, wanted);
@@ -317,18 +313,15 @@ static void acquire_entry(struct world *world)
 {
 	const struct given given = any_given(world);
 	const struct registry_entry entry = any_entry(world);
-	uint32_t wrong = wrong_with(&world->model, &given, A_CPU | THE_REST);
 	uint32_t answer = registry_acquire_entry(given.cpu, given.lacks ? NULL : &entry);
-	same(answer, wrong != REGISTRY_DONE ? wrong : model_acquire_entry(&world->model, given.at, &entry));
+	same(answer, WANTED(A_CPU | THE_REST, model_acquire_entry(&world->model, given.at, &entry)));
 }
 
 static void acquire(struct world *world)
 {
 	const struct given given = any_given(world);
 	uint64_t number = 0, wanted = 0;
-	uint32_t wrong = wrong_with(&world->model, &given, A_CPU);
-	uint32_t answer = registry_acquire(given.cpu, given.wants ? &number : NULL);
-	same(answer, wrong != REGISTRY_DONE ? wrong : model_acquire(&world->model, given.at, &wanted));
+	same(registry_acquire(given.cpu, given.wants ? &number : NULL), WANTED(A_CPU, model_acquire(&world->model, given.at, &wanted)));
 	EXPECT(number == wanted || !given.wants);
 }
 
@@ -336,8 +329,7 @@ static void copy(struct world *world)
 {
 	const struct given given = any_given(world);
 	uint64_t number = any_number(world);
-	uint32_t wrong = wrong_with(&world->model, &given, A_CPU);
-	same(registry_copy(given.cpu, number), wrong != REGISTRY_DONE ? wrong : model_copy(&world->model, given.at, number));
+	same(registry_copy(given.cpu, number), WANTED(A_CPU, model_copy(&world->model, given.at, number)));
 }
 
 static void read_held(struct world *world)
@@ -346,9 +338,8 @@ static void read_held(struct world *world)
 	const struct given given = any_given(world);
 	uint64_t number = any_number(world);
 	bool held = true;
-	uint32_t wrong = wrong_with(&world->model, &given, A_CPU);
 	uint32_t answer = registry_read(given.cpu, number, given.wants ? &entry : NULL);
-	same_wanted(&given, answer, &entry, wrong != REGISTRY_DONE ? wrong : model_read(&world->model, given.at, number, &wanted), &wanted);
+	same_wanted(&given, answer, &entry, WANTED(A_CPU, model_read(&world->model, given.at, number, &wanted)), &wanted);
 	same(registry_held(given.cpu, number, given.wants ? &held : NULL), wrong);
 	EXPECT(held == (!given.wants || wrong != REGISTRY_DONE || answer == REGISTRY_DONE));
 }
@@ -357,8 +348,7 @@ static void release(struct world *world)
 {
 	const struct given given = any_given(world);
 	uint64_t number = any_number(world);
-	uint32_t wrong = wrong_with(&world->model, &given, A_CPU);
-	same(registry_release(given.cpu, number), wrong != REGISTRY_DONE ? wrong : model_release(&world->model, given.at, number));
+	same(registry_release(given.cpu, number), WANTED(A_CPU, model_release(&world->model, given.at, number)));
 }
 
 /* What an acquire of a local reference returns: to the last found entry, or to the one that is given. */
@@ -454,11 +444,9 @@ static void attach(struct world *world)
 	struct registry_entry made = {0}, wanted = {0};
 	const struct given given = any_given(world);
 	uint64_t value = any_value(world);
-	uint32_t wrong = wrong_with(&world->model, &given, A_KEEPER);
-	same(registry_room(given.keeper), wrong != REGISTRY_DONE ? wrong : model_room(&world->model));
-	wrong = wrong_with(&world->model, &given, A_KEEPER | A_CPU | A_NAME | WORDS);
+	same(registry_room(given.keeper), WANTED(A_KEEPER, model_room(&world->model)));
 	uint32_t answer = registry_attach(given.keeper, given.cpu, given.name, value, given.wants ? &made : NULL);
-	same_wanted(&given, answer, &made, wrong != REGISTRY_DONE ? wrong : model_attach(&world->model, given.at, 0, given.name, value, &wanted), &wanted);
+	same_wanted(&given, answer, &made, WANTED(TO_ATTACH, model_attach(&world->model, given.at, 0, given.name, value, &wanted)), &wanted);
 }
 
 static void attach_iface(struct world *world)
@@ -471,11 +459,9 @@ static void attach_iface(struct world *world)
 		same(registry_attach_iface(given.keeper, given.cpu, &no_local, given.name, value, &made), REGISTRY_EMPTY_HANDLE);
 		return;
 	}
-	uint32_t wrong = wrong_with(&world->model, &given, A_KEEPER | A_CPU | A_NAME | WORDS);
 	uint32_t answer = registry_attach_iface(given.keeper, given.cpu, &held->handle, given.name, value, given.wants ? &made : NULL);
-	if (wrong == REGISTRY_DONE)
-		wrong = model_attach(&world->model, given.at, held->number, given.name, value, &wanted);
-	if (same_wanted(&given, answer, &made, wrong, &wanted) == REGISTRY_DONE)
+	same_wanted(&given, answer, &made, WANTED(TO_ATTACH, model_attach(&world->model, given.at, held->number, given.name, value, &wanted)), &wanted);
+	if (answer == REGISTRY_DONE)
 		forget_local(world, held);
 }
 
@@ -487,12 +473,10 @@ static void replace(struct world *world)
 	uint64_t value = any_value(world);
 	struct held *held = below(world, 2) ? any_held(world) : NULL;
 	struct registry_entry *gone = given.wants ? &made[0] : NULL, *to = given.wants ? &made[1] : NULL;
-	uint32_t wrong = wrong_with(&world->model, &given, A_KEEPER | A_CPU | A_NAME | WORDS);
+	uint64_t driver = held == NULL ? 0 : held->number;
 	uint32_t answer = held == NULL ? registry_replace(given.keeper, given.cpu, given.name, value, gone, to)
 	    : registry_replace_iface(given.keeper, given.cpu, &held->handle, given.name, value, gone, to);
-	if (wrong == REGISTRY_DONE)
-		wrong = model_replace(&world->model, given.at, held == NULL ? 0 : held->number, given.name, value, &wanted[0], &wanted[1]);
-	same(answer, wrong);
+	same(answer, WANTED(TO_ATTACH, model_replace(&world->model, given.at, driver, given.name, value, &wanted[0], &wanted[1])));
 	EXPECT(!given.wants || memcmp(made, wanted, sizeof made) == 0);
 	if (held != NULL && answer == REGISTRY_DONE)
 		forget_local(world, held);
@@ -502,11 +486,8 @@ static void detach(struct world *world)
 {
 	struct registry_entry gone = {0}, wanted = {0};
 	const struct given given = any_given(world);
-	uint32_t wrong = wrong_with(&world->model, &given, A_KEEPER | A_CPU | A_NAME | A_KIND | WORDS);
 	uint32_t answer = registry_detach(given.keeper, given.cpu, given.kind, given.name, given.wants ? &gone : NULL);
-	if (wrong == REGISTRY_DONE)
-		wrong = model_detach(&world->model, given.at, given.kind, given.name, &wanted);
-	same_wanted(&given, answer, &gone, wrong, &wanted);
+	same_wanted(&given, answer, &gone, WANTED(TO_ATTACH | A_KIND, model_detach(&world->model, given.at, given.kind, given.name, &wanted)), &wanted);
 }
 
 /* The stages are the same, if they were wanted. */
@@ -515,24 +496,23 @@ static void same_stage(const struct given *given, struct registry_stage met, str
 	EXPECT(!given->wants || (met.stage == wanted.stage && met.what == wanted.what));
 }
 
-static void advance_given(struct world *world, const struct given *given, uint64_t number)
+static void advance_by(struct world *world, struct given given, uint64_t number)
 {
 	struct registry_stage met = {9, 9}, wanted = {9, 9};
-	uint32_t wrong = wrong_with(&world->model, given, A_KEEPER);
-	uint32_t answer = registry_advance(given->keeper, number, given->wants ? &met : NULL);
-	same(answer, wrong != REGISTRY_DONE ? wrong : model_advance(&world->model, number, &wanted));
-	same_stage(given, met, wanted);
+	uint32_t answer = registry_advance(given.keeper, number, given.wants ? &met : NULL);
+	same(answer, WANTED(A_KEEPER, model_advance(&world->model, number, &wanted)));
+	same_stage(&given, met, wanted);
 }
 
 static void advance_number(struct world *world, uint64_t number)
 {
-	advance_given(world, &(struct given){.keeper = &world->keeper, .wants = true}, number);
+	advance_by(world, (struct given){.keeper = &world->keeper, .wants = true}, number);
 }
 
 static void advance(struct world *world)
 {
 	const struct given given = any_given(world);
-	advance_given(world, &given, any_number(world));
+	advance_by(world, given, any_number(world));
 }
 
 static void destroy(struct world *world)
@@ -540,18 +520,16 @@ static void destroy(struct world *world)
 	struct registry_stage met = {9, 9}, wanted = {9, 9};
 	const struct given given = any_given(world);
 	uint64_t number = any_number(world);
-	uint32_t wrong = wrong_with(&world->model, &given, A_KEEPER | A_CPU);
 	uint32_t answer = registry_destroy(given.keeper, given.cpu, number, given.wants ? &met : NULL);
-	same(answer, wrong != REGISTRY_DONE ? wrong : model_destroy(&world->model, given.at, number, &wanted));
+	same(answer, WANTED(A_KEEPER | A_CPU, model_destroy(&world->model, given.at, number, &wanted)));
 	same_stage(&given, met, wanted);
 }
 
 static void begin_wait(struct world *world)
 {
 	const struct given given = any_given(world);
-	uint32_t wrong = wrong_with(&world->model, &given, A_KEEPER | A_CPU | THE_REST);
 	uint32_t answer = registry_perform_begin(given.keeper, given.cpu, given.lacks ? NULL : &world->wait);
-	answer = same(answer, wrong != REGISTRY_DONE ? wrong : model_perform_begin(&world->model, given.at));
+	same(answer, WANTED(A_KEEPER | A_CPU | THE_REST, model_perform_begin(&world->model, given.at)));
 	world->begun = answer == REGISTRY_DONE || world->begun;
 }
 
@@ -559,11 +537,8 @@ static void turn_wait(struct world *world)
 {
 	uint64_t waited = 99, wanted = 99;
 	const struct given given = any_given(world);
-	uint32_t wrong = wrong_with(&world->model, &given, A_KEEPER | A_CPU | THE_REST);
 	uint32_t answer = registry_perform_turn(given.keeper, given.cpu, given.lacks ? NULL : &world->wait, given.wants ? &waited : NULL);
-	if (wrong == REGISTRY_DONE)
-		wrong = world->begun ? model_perform_turn(&world->model, given.at, &wanted) : REGISTRY_NOT_BEGUN;
-	same(answer, wrong);
+	same(answer, WANTED(A_KEEPER | A_CPU | THE_REST, world->begun ? model_perform_turn(&world->model, given.at, &wanted) : REGISTRY_NOT_BEGUN));
 	EXPECT(waited == wanted || !given.wants);
 }
 
@@ -573,9 +548,8 @@ static void audit(struct world *world)
 	struct registry_balance list[SLOTS], wanted[SLOTS];
 	const struct given given = any_given(world);
 	size_t length = 99, count = model_audit(&world->model, wanted), room = below(world, 4) ? SLOTS : below(world, SLOTS);
-	uint32_t wrong = wrong_with(&world->model, &given, room != 0 ? A_KEEPER | THE_REST : A_KEEPER);
 	uint32_t answer = registry_audit(given.keeper, world->cpus, world->model.settings.cpus, given.lacks ? NULL : list, room, given.wants ? &length : NULL);
-	same(answer, wrong != REGISTRY_DONE ? wrong : count > room ? REGISTRY_NO_ROOM : REGISTRY_DONE);
+	same(answer, WANTED(room != 0 ? A_KEEPER | THE_REST : A_KEEPER, count > room ? REGISTRY_NO_ROOM : REGISTRY_DONE));
 	EXPECT(length == (wrong != REGISTRY_DONE || !given.wants ? 99 : count) && (answer != REGISTRY_DONE || memcmp(list, wanted, count * sizeof *list) == 0));
 	same(registry_settings_of(given.keeper, NULL), wrong_with(&world->model, &given, A_KEEPER));
 }

@@ -1,5 +1,5 @@
 /*
- * reclaims - registry_local_drop, and of the list of waiting.h its barrier and the thread that frees what is in it
+ * reclaims - of the list of waiting.h its barrier and the thread that frees what is in it
  *
  * The linker leads malloc, pthread_create and pthread_cond_init here (--wrap), so that each of them fails once, and pthread_cond_timedwait, so that the
  * thread's sleeps are seen.
@@ -126,36 +126,6 @@ static uint64_t put_held(void)
 	return number;
 }
 
-static void acquire_local(struct registry_local *local)
-{
-	DONE(registry_enter_find(&cpus[0], REGISTRY_DRIVER, &wm, NULL));
-	DONE(registry_local_acquire(&cpus[0], local));
-	DONE(registry_exit(&cpus[0]));
-}
-
-/* A drop takes the interlock only if the count was collected. Each handle that is needed and empty is refused, and the reference stays. */
-static void test_drop(void)
-{
-	struct registry_local local = {0}, none = {0};
-	struct registry_keeper closed = {0};
-	struct registry_cpu no_cpu = {0};
-	lock_it();
-	uint64_t number = attach();
-	acquire_local(&local);
-	EXPECT(registry_local_drop(&cpus[0], &none, &mutex, &keeper) == REGISTRY_EMPTY_HANDLE);
-	EXPECT(registry_local_drop(&no_cpu, &local, &mutex, &keeper) == REGISTRY_EMPTY_HANDLE && local.at != NULL);
-	DONE(registry_local_drop(&cpus[1], &local, &mutex, &closed));
-	EXPECT(local.at == NULL);
-	acquire_local(&local);
-	DONE(registry_detach(&keeper, &cpus[1], REGISTRY_DRIVER, &wm, NULL));
-	EXPECT(registry_destroy(&keeper, &cpus[1], number, NULL) == REGISTRY_STILL_HELD);
-	unlock_it();
-	EXPECT(registry_local_drop(&cpus[1], &local, &mutex, &closed) == REGISTRY_EMPTY_HANDLE && local.at != NULL);
-	DONE(registry_local_drop(&cpus[1], &local, &mutex, &keeper));
-	EXPECT(local.at == NULL);
-	DONE(registry_destroy_wait(&lock, &keeper, &cpus[1], number, &PAST, NULL));
-}
-
 /* A thread in a barrier, and whether that has ended. */
 static atomic_bool ended;
 
@@ -277,7 +247,6 @@ int main(void)
 	EXPECT(pthread_mutex_init(&mutex, &type) == 0 && pthread_mutexattr_destroy(&type) == 0);
 	wm = name_of("wm");
 	DONE(registry_open(&settings, &keeper, cpus, 2));
-	test_drop();
 	test_barrier();
 	test_reclaimer();
 	test_sleeps();
