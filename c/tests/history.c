@@ -862,7 +862,7 @@ static void refer_often(void)
 	closed(world);
 }
 
-/* Very many references on the last CPU, none by a section: passive ones, and local ones that another CPU releases at once. */
+/* Very many references on the last CPU, none by a section: passive ones, and local ones that another CPU releases at once, except one. */
 static void refer_more(void)
 {
 	const struct registry_settings settings = {CPUS, SLOTS, 2, REGISTRY_MOST_SECTIONS, REGISTRY_MOST_COUNT, REGISTRY_MOST_COUNT};
@@ -883,6 +883,11 @@ static void refer_more(void)
 		DONE(same(registry_local_acquire(cpu, &local), model_local_acquire(&world->model, world->cpu, &number)));
 		DONE(same(registry_local_release(&world->cpus[0], &local), model_local_release(&world->model, 0, number)));
 	}
+	/* One is forgotten: its block is freed, and it stays held. */
+	DONE(same(registry_local_acquire(cpu, &local), model_local_acquire(&world->model, world->cpu, &number)));
+	DONE(registry_local_forget(&local));
+	world->model.freed++;
+	same_counts(world);
 	audit(world);
 	end_history(world);
 	closed(world);
