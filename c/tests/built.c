@@ -96,6 +96,7 @@ static void test_openings(void)
 	EXPECT(registry_close_keeper(&keeper) == REGISTRY_EMPTY_HANDLE && registry_close_cpu(&cpus[0]) == REGISTRY_EMPTY_HANDLE);
 	DONE(registry_open(&two, &keeper, cpus, 2));
 	EXPECT(registry_open(NULL, &keeper, cpus, 2) == REGISTRY_NULL && registry_open(&two, &keeper, NULL, 2) == REGISTRY_NULL);
+	EXPECT(registry_open(&none, &keeper, cpus, 2) == REGISTRY_BAD_SETTINGS && registry_open(&two, &keeper, cpus, 1) == REGISTRY_MISSING_CPU);
 	EXPECT(registry_open(&two, &keeper, cpus, 2) == REGISTRY_FULL_HANDLE && registry_open(&two, &other, cpus, 2) == REGISTRY_FULL_HANDLE);
 	EXPECT(registry_close_keeper(&other) == REGISTRY_EMPTY_HANDLE);
 	DONE(registry_close(cpus, 2, &keeper));

@@ -27,7 +27,10 @@ enum { MANY = 70001, MORE = 1000001, SMALL = 200 };
 
 /* The blocks that the archive's calls have taken, and those that they have freed. */
 static uint64_t taken, freed;
-/* The table of the last registry, and its bytes: the first block of that size that an opening takes and doesn't free. */
+/* The last registry, by its model, and its CPUs, for planted.c. */
+const struct model *modelled;
+const struct registry_cpu *first_cpu;
+/* Its table, and the table's bytes: the first block of that size that an opening takes and doesn't free. */
 uint64_t *table;
 static size_t table_bytes;
 enum { ALIKE = 16 };
@@ -663,6 +666,8 @@ static struct world *opened(const struct registry_settings *settings, uint64_t s
 	struct world *world = calloc(1, sizeof *world);
 	EXPECT(world != NULL);
 	world->model.settings = *settings;
+	modelled = &world->model;
+	first_cpu = world->cpus;
 	world->random = seed * 0x9e3779b97f4a7c15 | 1;
 	table_bytes = TABLE_BYTES(settings->slots, settings->cpus);
 	alike_count = 0;
