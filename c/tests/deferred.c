@@ -3,8 +3,8 @@
  *
  *     deferred [ROUNDS [SEED]]
  *
- * CPU 0 holds entries by sections and passive references, and another thread's work on retired entries is played by advances beside the list. The list's
- * row is longer or shorter than the slots, and its keeper is now and then another registry's, or none.
+ * CPU 0 holds entries by sections and passive references, and another thread's work on retired entries is played by advances beside the list, also
+ * between the turns of a barrier. The list's row is longer or shorter than the slots, and its keeper is now and then another registry's, or none.
  */
 #include "model.h"
 #include "waiting.h"
@@ -120,11 +120,9 @@ static void attach_iface(void)
 	}
 }
 
-static void detach(void)
+static void detach_named(uint64_t kind, const struct registry_name *name)
 {
 	struct registry_entry gone = {0}, wanted = {0};
-	uint64_t kind = below(2) ? REGISTRY_DRIVER : REGISTRY_INTERFACE;
-	const struct registry_name *name = &names[below(NAMES)];
 	uint32_t answer = registry_deferred_detach(&list, &cpus[1], kind, name, &gone);
 	struct told freed = freed_first();
 	bool is_full = list.room < SLOTS && waiting.count == list.room;
@@ -134,21 +132,23 @@ static void detach(void)
 	expect_list(&freed);
 }
 
+static void detach(void)
+{
+	detach_named(below(2) ? REGISTRY_DRIVER : REGISTRY_INTERFACE, &names[below(NAMES)]);
+}
+
+/* All entries wait, the drivers before the interfaces on them. */
+static void detach_all(void)
+{
+	list.room = SLOTS;
+	for (unsigned i = 0; i < 2 * NAMES; i++)
+		detach_named(i < NAMES ? REGISTRY_DRIVER : REGISTRY_INTERFACE, &names[i % NAMES]);
+}
+
 /* The row is as long as it has to be, or longer. */
 static void resize(void)
 {
 	list.room = waiting.count + below(SLOTS + 1 - waiting.count);
-}
-
-/* A barrier that may wait no longer has made one turn. */
-static void wait_briefly(void)
-{
-	static const struct timespec past = {0, 0};
-	const struct registry_lock lock = registry_lock_of_mutex(&mutex);
-	uint32_t answer = registry_deferred_barrier(&lock, &list, &past);
-	struct told freed = freed_first();
-	EXPECT(answer == (waiting.count > 0 ? REGISTRY_STILL_HELD : REGISTRY_DONE));
-	expect_list(&freed);
 }
 
 /* The empty list is any registry's. While entries of one wait, each call refuses another one's keeper, and an empty one ever. */
@@ -220,7 +220,7 @@ static void leave(void)
 }
 
 static void (*const deeds[])(void) = {attach, attach, attach, attach, attach_iface, attach_iface, detach, detach, detach, detach, detach, free_all, advance,
-    hold, release, release, enter, leave, resize, wait_briefly, change_keeper};
+    hold, release, release, enter, leave, resize, change_keeper};
 
 /* CPU 0 lets all go. */
 static void let_go(void)
@@ -232,24 +232,61 @@ static void let_go(void)
 			EXPECT(registry_release(&cpus[0], model.slots[s].entry.number) == model_release(&model, 0, model.slots[s].entry.number));
 }
 
+/* A barrier that is under way: how many turns it has made, and what waited after the first and waits still. */
+static unsigned turns;
+static struct told awaited;
+
+/* Before a turn others work, and in the end they let all go. No turn is made once nothing is awaited. */
+static void take(void *of)
+{
+	EXPECT(of == &turns && (turns == 0 || awaited.count > 0));
+	for (unsigned i = 0; i < 4 && turns < 6; i++)
+		deeds[below(sizeof deeds / sizeof *deeds)]();
+	if (turns == 6) {
+		detach_all();
+		let_go();
+	}
+}
+
+/* Of what is awaited, what waits still. */
+static struct told still_awaited(void)
+{
+	struct told left = {0};
+	for (size_t place = 0; place < awaited.count * waiting.count; place++) {
+		const struct registry_entry *entry = &waiting.entries[place % waiting.count];
+		if (entry->number == awaited.entries[place / waiting.count].number)
+			left.entries[left.count++] = *entry;
+	}
+	return left;
+}
+
+static void give(void *of)
+{
+	struct told freed = freed_first();
+	EXPECT(of == &turns);
+	expect_list(&freed);
+	awaited = turns++ == 0 ? waiting : still_awaited();
+}
+
+/* A barrier waits for what waits after its first turn, and for nothing that comes later; or it makes one turn, if its deadline is past. */
+static void wait_in_list(void)
+{
+	static const struct timespec past = {0, 0};
+	const struct registry_lock lock = {take, give, &turns};
+	const bool is_late = below(2);
+	turns = 0;
+	uint32_t answer = registry_deferred_barrier(&lock, &list, is_late ? &past : NULL);
+	EXPECT(answer == (awaited.count > 0 ? REGISTRY_STILL_HELD : REGISTRY_DONE) && (is_late ? turns == 1 : awaited.count == 0));
+}
+
 /* CPU 0 is inside, and everything is detached: all wait. Then it leaves, and one call frees them all, oldest first. */
 static void fill_and_free(void)
 {
-	struct registry_entry gone;
-	list.room = SLOTS;
 	let_go();
 	for (unsigned i = 0; i < NAMES; i++)
 		attach();
 	enter();
-	for (unsigned i = 0; i < 2 * NAMES; i++) {
-		uint64_t kind = i < NAMES ? REGISTRY_DRIVER : REGISTRY_INTERFACE;
-		uint32_t answer = registry_deferred_detach(&list, &cpus[1], kind, &names[i % NAMES], &gone);
-		struct told freed = freed_first();
-		EXPECT(answer == model_detach(&model, 1, kind, &names[i % NAMES], &gone));
-		if (answer == REGISTRY_DONE)
-			waiting.entries[waiting.count++] = gone;
-		expect_list(&freed);
-	}
+	detach_all();
 	let_go();
 	free_all();
 	free_all();
@@ -271,6 +308,7 @@ int main(int argc, char **argv)
 	for (unsigned long round = 0; round < rounds && model.changes < REGISTRY_MOST_CHANGES / 10 * 9; round++) {
 		for (unsigned i = 0; i < 200; i++)
 			deeds[below(sizeof deeds / sizeof *deeds)]();
+		wait_in_list();
 		if (round % 16 == 0)
 			fill_and_free();
 	}

@@ -1,5 +1,5 @@
 /*
- * reclaims - of the list of waiting.h its barrier and the thread that frees what is in it
+ * reclaims - the thread of waiting.h that frees what is in a list
  *
  * The linker leads malloc, pthread_create and pthread_cond_init here (--wrap), so that each of them fails once, and pthread_cond_timedwait, so that the
  * thread's sleeps are seen.
@@ -58,7 +58,6 @@ static struct registry_keeper keeper;
 static struct registry_cpu cpus[2];
 static pthread_mutex_t mutex;
 static struct registry_name wm;
-static const struct timespec PAST = {0, 0};
 
 /* What was freed: how many, the last one, and the thread that did. */
 static atomic_uint freed;
@@ -124,43 +123,6 @@ static uint64_t put_held(void)
 	DONE(registry_deferred_detach(&list, &cpus[1], REGISTRY_DRIVER, &wm, NULL));
 	unlock_it();
 	return number;
-}
-
-/* A thread in a barrier, and whether that has ended. */
-static atomic_bool ended;
-
-static void *wait_for_all(void *answer)
-{
-	*(registry_answer *)answer = registry_deferred_barrier(&lock, &list, NULL);
-	atomic_store(&ended, true);
-	return NULL;
-}
-
-/* A barrier waits for all that waited at its call, and not for what comes later. */
-static void test_barrier(void)
-{
-	registry_answer answer = REGISTRY_WAITING;
-	pthread_t thread;
-	atomic_store(&freed, 0);
-	DONE(registry_deferred_barrier(&lock, &list, NULL));
-	uint64_t first = put_held(), second = put_held();
-	EXPECT(registry_deferred_barrier(&lock, &list, &PAST) == REGISTRY_STILL_HELD && registry_deferred_count(&list) == 2);
-	unsigned turns = atomic_load(&given);
-	EXPECT(pthread_create(&thread, NULL, wait_for_all, &answer) == 0);
-	while (atomic_load(&given) == turns)
-		rest();
-	uint64_t third = put_held();
-	DONE(registry_release(&cpus[0], second));
-	wait_for_freed(1);
-	EXPECT(!atomic_load(&ended));
-	DONE(registry_release(&cpus[0], first));
-	EXPECT(pthread_join(thread, NULL) == 0);
-	lock_it();
-	EXPECT(answer == REGISTRY_DONE && atomic_load(&freed) == 2 && registry_deferred_count(&list) == 1 && list.entries[0].number == third);
-	unlock_it();
-	DONE(registry_release(&cpus[0], third));
-	DONE(registry_deferred_barrier(&lock, &list, NULL));
-	EXPECT(atomic_load(&freed) == 3);
 }
 
 /* While nothing waits, the reclaimer sleeps on. While something is held, it sleeps longer each time, and briefly again once more comes. */
@@ -247,7 +209,6 @@ int main(void)
 	EXPECT(pthread_mutex_init(&mutex, &type) == 0 && pthread_mutexattr_destroy(&type) == 0);
 	wm = name_of("wm");
 	DONE(registry_open(&settings, &keeper, cpus, 2));
-	test_barrier();
 	test_reclaimer();
 	test_sleeps();
 	test_starts();
