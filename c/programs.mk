@@ -23,41 +23,26 @@ all: $(PROGRAMS:%=$(OUT)/%) $(OUT)/checked $(CHECKING:%=$(OUT)/checked-%)
 $(OUT):
 	mkdir -p $@
 
-$(OUT)/row: c/examples/row.c
-$(OUT)/packet: c/examples/packet.c
-$(OUT)/smallest: c/examples/smallest.c
-$(OUT)/shared: c/examples/shared.c c/src/waiting.c c/include/waiting.h
-$(OUT)/misuse: c/tests/misuse.c
-$(OUT)/built: c/tests/built.c
-$(OUT)/names: c/tests/names.c
-$(OUT)/crowd: c/tests/crowd.c
-$(OUT)/together: c/tests/together.c
-$(OUT)/interrupted: c/tests/interrupted.c
+# Each is made of its own file, and of these.
+$(filter-out $(OUT)/largest,$(PROGRAMS:%=$(OUT)/%)): $(OUT)/%: %.c
+$(OUT)/largest: c/tests/history.c
+$(OUT)/largest: CFLAGS += -DMODEL_OF_THE_LARGEST
+$(addprefix $(OUT)/,deferred history largest planted): c/tests/model.c c/tests/model.h
+$(OUT)/planted: c/tests/history.c
+$(OUT)/allocs: c/src/heap.c
+$(addprefix $(OUT)/,history largest planted refuse allocs): c/tests/wrapped_heap.h
+$(addprefix $(OUT)/,history largest refuse allocs): LINK = $(WRAP)
+$(OUT)/planted: LINK = $(WRAP) $(PLANTED:%=-Wl,--wrap=%)
+$(addprefix $(OUT)/,shared forwarder device_switch turns $(OVER_WAITING) $(BENCHED)): c/src/waiting.c c/include/waiting.h
+$(OUT)/forwarder $(OUT)/device_switch: c/examples/workers.h
 reclaims_LINK = -Wl,--wrap=malloc,--wrap=pthread_create,--wrap=pthread_cond_init,--wrap=pthread_cond_timedwait
 $(OUT)/reclaims $(OUT)/sanitized-reclaims: LINK = $(reclaims_LINK)
-$(OUT)/reclaims: c/tests/reclaims.c
 $(OUT)/lent $(OUT)/sanitized-lent: LINK = -Wl,--wrap=malloc,--wrap=pthread_condattr_init,--wrap=pthread_cond_init,--wrap=pthread_key_create,--wrap=pthread_setspecific
-$(OUT)/lent: c/tests/lent.c
-$(OVER_WAITING:%=$(OUT)/%): c/src/waiting.c c/include/waiting.h
-$(OUT)/turns: c/tests/turns.c c/src/waiting.c c/include/waiting.h c/tests/pauses.h
+$(OUT)/turns: c/tests/pauses.h
 $(OUT)/turns: CFLAGS += -include c/tests/pauses.h
 $(OUT)/turns: LINK = -Wl,--wrap=registry_destroy,--wrap=registry_perform_begin,--wrap=registry_perform_turn,--wrap=clock_gettime,--wrap=nanosleep,--wrap=sched_yield \
     -Wl,--wrap=registry_local_release,--wrap=registry_local_give_up,--wrap=registry_advance,--wrap=pthread_mutex_lock,--wrap=pthread_mutex_unlock
-$(OUT)/deferred: c/tests/deferred.c c/tests/model.c c/tests/model.h
-$(OUT)/history: c/tests/history.c c/tests/model.c c/tests/model.h c/tests/wrapped_heap.h
-$(OUT)/history $(OUT)/largest: LINK = $(WRAP)
-$(OUT)/largest: c/tests/history.c c/tests/model.c c/tests/model.h c/tests/wrapped_heap.h
-$(OUT)/largest: CFLAGS += -DMODEL_OF_THE_LARGEST
-$(OUT)/planted: c/tests/planted.c c/tests/history.c c/tests/model.c c/tests/model.h c/tests/wrapped_heap.h
-$(OUT)/planted: LINK = $(WRAP) $(PLANTED:%=-Wl,--wrap=%)
-$(OUT)/forwarder: c/examples/forwarder.c c/src/waiting.c c/include/waiting.h c/examples/workers.h
-$(OUT)/device_switch: c/examples/device_switch.c c/src/waiting.c c/include/waiting.h c/examples/workers.h
-$(OUT)/changes: c/tests/changes.c
-$(OUT)/refuse: c/tests/refuse.c c/tests/wrapped_heap.h
-$(OUT)/refuse: LINK = $(WRAP)
-$(OUT)/allocs: c/tests/allocs.c c/src/heap.c c/tests/wrapped_heap.h
-$(OUT)/allocs: LINK = $(WRAP)
-$(OUT)/speed: c/tests/speed.c c/src/waiting.c c/include/waiting.h $(BENCH)/common.c $(BENCH)/entries.c $(BENCH)/waiting.c $(BENCH)/common.h $(BENCH)/entries.h
+$(OUT)/speed: $(BENCH)/common.c $(BENCH)/entries.c $(BENCH)/waiting.c $(BENCH)/common.h $(BENCH)/entries.h
 $(OUT)/speed: STRICT = -std=c11 -D_POSIX_C_SOURCE=200809L -I$(BENCH) -Wall -Wextra $(WERROR)
 
 $(PROGRAMS:%=$(OUT)/%): c/examples/client.h c/examples/expect.h $(FACE) $(ARCHIVE) | $(OUT)
