@@ -13,7 +13,7 @@
 #include "client.h"
 #include "waiting.h"
 
-enum { CPUS = 8, THREADS = 12, ROUNDS = 300 };
+enum { CPUS = 8, THREADS = 24, ROUNDS = 300 };
 
 void *__real_malloc(size_t size);
 int __real_pthread_cond_init(pthread_cond_t *made, const pthread_condattr_t *attributes);
@@ -154,7 +154,7 @@ static void *use_cpus(void *of)
 		DONE(registry_thread_register(&pool, NULL, &cpu));
 		EXPECT(atomic_fetch_add(&users[which(cpu)], 1) == 0);
 		DONE(registry_enter(cpu));
-		if (i % 8 == 0)
+		if (i % 4 == 0)
 			rest();
 		DONE(registry_exit(cpu));
 		atomic_fetch_add(&uses, 1);
