@@ -83,7 +83,7 @@ sees_weaker_step() {
 
 test_clients() {
     check "refuse is built over a shared C library" make_refuse
-    check "the clients in C are built, no warning" make_for . all "out/$processor/together"
+    check "the clients in C are built, no warning" make_for . all
     check "smallest" smallest_says emulated "$out/smallest"
     check "row" row_says emulated "$out/row"
     check "packet" emulated "$out/packet"
@@ -92,7 +92,7 @@ test_clients() {
     check "each allocation refused" emulated -L "/usr/$processor-linux-gnu" "$out/refuse"
     check "the build's version and limits" emulated "$out/built"
     counted "programs compiled for other limits" env CC="${cross}gcc" RUN="$emulator" packaging/other-limits.sh crates/registry_c/include "$out/libregistry.a"
-    check "crowd" emulated "$out/crowd" 50
+    check "crowd" emulated "$out/crowd" 20
     check "names and answers as text" emulated "$out/names"
     check "turns, each step of a wait" emulated "$out/turns" emulated
     check "deferred, beside a model" emulated "$out/deferred" 200 1
