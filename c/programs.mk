@@ -33,7 +33,7 @@ $(OUT)/allocs: c/src/heap.c
 $(addprefix $(OUT)/,history largest planted refuse allocs): c/tests/wrapped_heap.h
 $(addprefix $(OUT)/,history largest refuse allocs): LINK = $(WRAP)
 $(OUT)/planted: LINK = $(WRAP) $(PLANTED:%=-Wl,--wrap=%)
-$(addprefix $(OUT)/,shared forwarder device_switch turns $(OVER_WAITING) $(BENCHED)): c/src/waiting.c c/include/waiting.h
+$(addprefix $(OUT)/,shared crowd forwarder device_switch turns $(OVER_WAITING) $(BENCHED)): c/src/waiting.c c/include/waiting.h
 $(OUT)/forwarder $(OUT)/device_switch: c/examples/workers.h
 reclaims_LINK = -Wl,--wrap=malloc,--wrap=pthread_create,--wrap=pthread_cond_init,--wrap=pthread_cond_timedwait
 $(OUT)/reclaims $(OUT)/sanitized-reclaims: LINK = $(reclaims_LINK)
@@ -65,7 +65,7 @@ sanitized: $(SANITIZED:%=$(OUT)/sanitized-%)
 
 $(SANITIZED:%=$(OUT)/sanitized-%): $(OUT)/sanitized-%: %.c
 
-$(addprefix $(OUT)/sanitized-,shared forwarder device_switch $(WAITING_SANITIZED)): c/src/waiting.c
+$(addprefix $(OUT)/sanitized-,shared crowd forwarder device_switch $(WAITING_SANITIZED)): c/src/waiting.c
 
 # What is C of the archive is compiled with the test that sees it. It comes first, so the archive's own isn't called.
 $(OUT)/sanitized-names: c/src/strings.c

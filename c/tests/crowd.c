@@ -13,6 +13,7 @@
 #include <stdatomic.h>
 
 #include "client.h"
+#include "waiting.h"
 
 enum { CPUS = REGISTRY_MOST_CPUS, SLOTS = REGISTRY_MOST_SLOTS, OWN = 2 * SLOTS / CPUS + 1, NAMES = CPUS * OWN, MOST_ROUNDS = 100000 };
 
@@ -142,9 +143,7 @@ static void detach(struct worker *worker, unsigned own)
 	unsigned name = worker->id * OWN + own;
 	struct registry_entry *gone = &worker->retired[worker->retired_count++];
 	begin_change(name);
-	pthread_mutex_lock(&interlock);
-	DONE(registry_detach(&keeper, &cpus[worker->id], REGISTRY_DRIVER, &names[name], gone));
-	pthread_mutex_unlock(&interlock);
+	DONE_UNDER(&interlock, registry_detach(&keeper, &cpus[worker->id], REGISTRY_DRIVER, &names[name], gone));
 	end_change(name, 0);
 	worker->live[own] = false;
 	worker->changes++;
@@ -246,19 +245,13 @@ static bool is_found(struct registry_cpu *cpu, unsigned name, lookup *call, stru
 	return number != 0;
 }
 
-/* Releases a local reference, or gives it up where its count was collected. The object is there until then. */
+/* Lets a local reference go. The object is there until then. */
 static void give_back(struct registry_cpu *cpu, struct registry_local *reference)
 {
 	struct registry_entry entry;
 	DONE(registry_local_read(reference, &entry));
 	check_object(&entry);
-	registry_answer answer = registry_local_release(cpu, reference);
-	if (answer == REGISTRY_COLLECTED) {
-		pthread_mutex_lock(&interlock);
-		answer = registry_local_give_up(&keeper, reference);
-		pthread_mutex_unlock(&interlock);
-	}
-	DONE(answer);
+	DONE(registry_local_drop(cpu, reference, &interlock, &keeper));
 }
 
 /* Refers to an entry beyond the section: on this CPU, and by a local reference for the next one. */
@@ -339,25 +332,9 @@ static void empty_basket(unsigned id)
 		give_back(&cpus[id], &local);
 }
 
-/* Waits until the sections that are open now have ended. */
-static void perform(struct registry_cpu *cpu)
-{
-	struct registry_wait wait;
-	registry_answer answer;
-	pthread_mutex_lock(&interlock);
-	DONE(registry_perform_begin(&keeper, cpu, &wait));
-	pthread_mutex_unlock(&interlock);
-	do {
-		rest();
-		pthread_mutex_lock(&interlock);
-		answer = registry_perform_turn(&keeper, cpu, &wait, NULL);
-		pthread_mutex_unlock(&interlock);
-	} while (answer == REGISTRY_WAITING);
-	DONE(answer);
-}
-
 static void *work(void *of)
 {
+	const struct registry_lock lock = registry_lock_of_mutex(&interlock);
 	struct worker *worker = of;
 	for (uint64_t round = 0; round < rounds; round++) {
 		unsigned own = below(worker, OWN);
@@ -370,7 +347,7 @@ static void *work(void *of)
 			change_iface(worker);
 		free_retired(worker);
 		if (below(worker, 16) == 0)
-			perform(&cpus[worker->id]);
+			DONE(registry_perform_wait(&lock, &keeper, &cpus[worker->id], NULL, NULL));
 	}
 	return NULL;
 }

@@ -152,13 +152,9 @@ static void replace(void)
 {
 	const struct registry_name *name = &names[entries - 1];
 	struct registry_entry entry;
-	pthread_mutex_lock(&interlock);
-	DONE(registry_detach(&keeper, changer, REGISTRY_DRIVER, name, NULL));
-	pthread_mutex_unlock(&interlock);
+	DONE_UNDER(&interlock, registry_detach(&keeper, changer, REGISTRY_DRIVER, name, NULL));
 	DONE(registry_destroy_wait(&lock, &keeper, changer, newest_number, NULL, NULL));
-	pthread_mutex_lock(&interlock);
-	DONE(registry_attach(&keeper, changer, name, entries - 1, &entry));
-	pthread_mutex_unlock(&interlock);
+	DONE_UNDER(&interlock, registry_attach(&keeper, changer, name, entries - 1, &entry));
 	newest_number = entry.number;
 }
 
