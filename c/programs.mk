@@ -9,9 +9,11 @@ PLANTED = main $(addprefix registry_,attach attach_iface detach advance destroy 
 # Where the programs lie.
 vpath %.c c/examples c/tests
 
-PROGRAMS = smallest row packet shared misuse refuse allocs changes built $(OVER_WAITING) turns history largest planted names crowd forwarder device_switch $(BENCHED)
+PROGRAMS = smallest row packet shared misuse refuse allocs changes built $(OVER_WAITING) turns history largest planted names crowd forwarder device_switch $(PROGRAMS_$(PROCESSOR)) $(BENCHED)
 # Tests of waiting.h: each is compiled with it.
 OVER_WAITING = deferred together interrupted reclaims lent
+# They read registers of x86-64.
+PROGRAMS_x86_64 = recalls
 # A release's source has no bench.
 BENCH = bench
 BENCHED = $(if $(wildcard $(BENCH)/common.c),speed)
@@ -30,11 +32,13 @@ $(OUT)/largest: CFLAGS += -DMODEL_OF_THE_LARGEST
 $(addprefix $(OUT)/,deferred history largest planted): c/tests/model.c c/tests/model.h
 $(OUT)/planted: c/tests/history.c
 $(OUT)/allocs: c/src/heap.c
-$(addprefix $(OUT)/,history largest planted refuse allocs): c/tests/wrapped_heap.h
+$(addprefix $(OUT)/,history largest planted refuse allocs recalls): c/tests/wrapped_heap.h
 $(addprefix $(OUT)/,history largest refuse allocs): LINK = $(WRAP)
 $(OUT)/planted: LINK = $(WRAP) $(PLANTED:%=-Wl,--wrap=%)
 $(addprefix $(OUT)/,shared crowd forwarder device_switch turns $(OVER_WAITING) $(BENCHED)): c/src/waiting.c c/include/waiting.h
 $(OUT)/forwarder $(OUT)/device_switch: c/examples/workers.h
+$(OUT)/recalls: STRICT = -std=c11 -D_GNU_SOURCE -mno-red-zone $(WARNINGS)
+$(OUT)/recalls: LINK = -Wl,--wrap=malloc
 reclaims_LINK = -Wl,--wrap=malloc,--wrap=pthread_create,--wrap=pthread_cond_init,--wrap=pthread_cond_timedwait
 $(OUT)/reclaims $(OUT)/sanitized-reclaims: LINK = $(reclaims_LINK)
 $(OUT)/lent $(OUT)/sanitized-lent: LINK = -Wl,--wrap=malloc,--wrap=pthread_condattr_init,--wrap=pthread_cond_init,--wrap=pthread_key_create,--wrap=pthread_setspecific

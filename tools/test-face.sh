@@ -98,6 +98,7 @@ ends_without_yields() {
 rust_examples=(
     "packet: nobody sent by wm0 once it was taken out"
     "plugins: 11 plug-ins were unloaded, and no call was lost"
+    "configuration: 100 versions, 0 left"
     "connections: 40 connections were closed, and each after its last packet"
     "threads: wm is gone, its speed was 1000"
     "shutdown: closed, and 3 devices were written"
@@ -141,7 +142,7 @@ test_c() {
     check "C: smallest" smallest_says "$out/smallest"
     check "C: row" row_says "$out/row"
     for each in packet 'shared 2000' misuse refuse allocs built turns deferred together interrupted reclaims lent history 'largest 30000 1 long' planted names \
-        'crowd 2000' forwarder device_switch 'speed 2 8 1000' 'changes 20' 'changes 20 2 4' 'changes 20 64 255'; do
+        recalls 'crowd 2000' forwarder device_switch 'speed 2 8 1000' 'changes 20' 'changes 20 2 4' 'changes 20 64 255'; do
         # shellcheck disable=SC2086
         check "C: $each" "$out"/$each
     done

@@ -101,7 +101,7 @@ PROJECT
     cargo build --offline --release --examples
     target/release/examples/packet
     target/release/examples/connections
-    target/release/examples/plugins
+    target/release/examples/configuration
     echo "done: its examples"
 }
 
