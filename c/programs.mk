@@ -4,7 +4,7 @@
 INCLUDES = -Ic/include -Ic/examples -Ic/tests -I$(HEADER)
 WRAP = -Wl,--wrap=malloc,--wrap=realloc,--wrap=free
 # What planted.c spoils of history, and the main of history.
-PLANTED = main $(addprefix registry_,attach attach_iface detach advance destroy audit enter look_up acquire get local_acquire local_release)
+PLANTED = main $(addprefix registry_,attach detach advance audit enter look_up acquire get local_acquire local_release)
 
 # Where the programs lie.
 vpath %.c c/examples c/tests

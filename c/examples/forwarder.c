@@ -200,9 +200,7 @@ static void close_all(void)
 	struct registry_stage met;
 	DONE(registry_detach(&keeper, &cpus[FORWARDERS], REGISTRY_DRIVER, &driver, &gone));
 	DONE(registry_destroy_wait(&lock, &keeper, &cpus[FORWARDERS], gone.number, NULL, &met));
-	for (unsigned i = 0; i < CPUS; i++)
-		DONE(registry_close_cpu(&cpus[i]));
-	DONE(registry_close_keeper(&keeper));
+	DONE(registry_close(cpus, CPUS, &keeper));
 }
 
 int main(void)

@@ -314,9 +314,7 @@ int main(int argc, char **argv)
 	}
 	fill_and_free();
 	EXPECT(most_freed > SLOTS / 2);
-	for (unsigned c = 0; c < 2; c++)
-		DONE(registry_close_cpu(&cpus[c]));
-	DONE(registry_close_keeper(&keeper));
+	DONE(registry_close(cpus, 2, &keeper));
 	puts("deferred end");
 	return 0;
 }

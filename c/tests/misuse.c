@@ -1,6 +1,6 @@
 /*
- * misuse - what a caller can get wrong beside what history.c tries at random: cursors, waits, audits, references that are forgotten, and handles that can't
- * be written to. Each call answers its own number and changes nothing
+ * misuse - what a caller can get wrong beside what history.c tries at random: cursors, waits, audits, references that outlive their registry, and handles
+ * that can't be written to. Each call answers its own number and changes nothing
  */
 #include <sys/mman.h>
 #include <unistd.h>
@@ -139,14 +139,6 @@ static void acquire_wm(struct bench *bench, struct registry_local *local)
 	DONE(registry_exit(&bench->cpus[0]));
 }
 
-static void expect_held(struct bench *bench, int64_t held)
-{
-	struct registry_balance balance;
-	size_t length;
-	DONE(registry_audit(&bench->keeper, bench->cpus, 2, &balance, 1, &length));
-	EXPECT(length == 1 && balance.number == 1 && balance.held == held);
-}
-
 /* Nothing but one local reference holds the driver, however often it is destroyed. */
 static void expect_kept(struct bench *bench)
 {
@@ -154,30 +146,6 @@ static void expect_kept(struct bench *bench)
 	for (unsigned i = 0; i < 10; i++)
 		EXPECT(registry_destroy(&bench->keeper, &bench->cpus[0], 1, &met) == REGISTRY_STILL_HELD);
 	EXPECT(met.stage == REGISTRY_LOCAL && met.what == 1);
-}
-
-/* One reference of three is forgotten, and all that counts it goes on counting it, even once the others are released. */
-static void check_forgotten(void)
-{
-	struct bench bench = {0};
-	struct registry_local locals[3] = {{0}};
-	open_bench(&bench);
-	for (unsigned i = 0; i < 3; i++)
-		acquire_wm(&bench, &locals[i]);
-	DONE(registry_local_forget(&locals[0]));
-	EXPECT(registry_local_forget(&locals[0]) == REGISTRY_EMPTY_HANDLE && registry_local_release(&bench.cpus[0], &locals[0]) == REGISTRY_EMPTY_HANDLE);
-	expect_held(&bench, 3);
-	DONE(registry_local_release(&bench.cpus[0], &locals[1]));
-	DONE(registry_local_release(&bench.cpus[0], &locals[2]));
-	expect_held(&bench, 1);
-	acquire_wm(&bench, &locals[1]);
-	DONE(registry_detach(&bench.keeper, &bench.cpus[0], REGISTRY_DRIVER, &wm, NULL));
-	EXPECT(registry_destroy(&bench.keeper, &bench.cpus[0], 1, NULL) == REGISTRY_STILL_HELD);
-	EXPECT(registry_local_release(&bench.cpus[0], &locals[1]) == REGISTRY_COLLECTED);
-	DONE(registry_local_give_up(&bench.keeper, &locals[1]));
-	expect_kept(&bench);
-	expect_held(&bench, 1);
-	close_bench(&bench);
 }
 
 /* A reference that can't be given up any more: the keeper that has collected its count is closed, and then the CPUs are. */
@@ -235,7 +203,6 @@ int main(void)
 	check_cursors(&bench);
 	check_waits(&bench);
 	check_audits(&bench, &other);
-	check_forgotten();
 	check_outlived(true);
 	check_outlived(false);
 	check_constant();

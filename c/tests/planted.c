@@ -50,10 +50,8 @@ extern uint64_t *table;
 #define WRAPPED(call) extern __typeof__(call) __real_##call, __wrap_##call
 
 WRAPPED(registry_attach);
-WRAPPED(registry_attach_iface);
 WRAPPED(registry_detach);
 WRAPPED(registry_advance);
-WRAPPED(registry_destroy);
 WRAPPED(registry_audit);
 WRAPPED(registry_acquire);
 WRAPPED(registry_enter);
@@ -72,28 +70,14 @@ static unsigned slots_in(enum state state)
 	return count;
 }
 
-/* What an attach says before it is made, or REGISTRY_DONE. */
-static registry_answer refused(void)
+registry_answer __wrap_registry_attach(struct registry_keeper *keeper, struct registry_cpu *cpu, const struct registry_name *name, uint64_t value,
+    struct registry_entry *made)
 {
 	if (planted == FULL_EARLY && modelled->changes >= 200000)
 		return REGISTRY_HISTORY_FULL;
 	if (planted == SLOT_KEPT_BACK && slots_in(VACANT) == 1 && slots_in(RETIRED) > 0)
 		return REGISTRY_NO_SLOT;
-	return REGISTRY_DONE;
-}
-
-registry_answer __wrap_registry_attach(struct registry_keeper *keeper, struct registry_cpu *cpu, const struct registry_name *name, uint64_t value,
-    struct registry_entry *made)
-{
-	registry_answer answer = refused();
-	return answer != REGISTRY_DONE ? answer : __real_registry_attach(keeper, cpu, name, value, made);
-}
-
-registry_answer __wrap_registry_attach_iface(struct registry_keeper *keeper, struct registry_cpu *cpu, struct registry_local *driver,
-    const struct registry_name *name, uint64_t value, struct registry_entry *made)
-{
-	registry_answer answer = refused();
-	return answer != REGISTRY_DONE ? answer : __real_registry_attach_iface(keeper, cpu, driver, name, value, made);
+	return __real_registry_attach(keeper, cpu, name, value, made);
 }
 
 registry_answer __wrap_registry_detach(struct registry_keeper *keeper, struct registry_cpu *cpu, uint64_t kind, const struct registry_name *name,
@@ -104,19 +88,6 @@ registry_answer __wrap_registry_detach(struct registry_keeper *keeper, struct re
 	return __real_registry_detach(keeper, cpu, kind, name, gone);
 }
 
-static uint64_t cut(uint64_t number)
-{
-	return planted == SHORT_NUMBERS ? number & MOST_OF_17_BITS : number;
-}
-
-static registry_answer advanced(registry_answer answer, struct registry_stage *met)
-{
-	bool is_met = met != NULL && (answer == REGISTRY_DONE || answer == REGISTRY_STILL_HELD);
-	if (is_met && planted == SHORT_LOCALS && met->stage == REGISTRY_LOCAL && met->what > MOST_TOLD)
-		met->what = MOST_TOLD;
-	return answer;
-}
-
 registry_answer __wrap_registry_advance(struct registry_keeper *keeper, uint64_t number, struct registry_stage *met)
 {
 	if (planted == ADVANCE_LOST && modelled->changes >= 199999) {
@@ -124,12 +95,10 @@ registry_answer __wrap_registry_advance(struct registry_keeper *keeper, uint64_t
 			*met = (struct registry_stage){REGISTRY_GRACE, 0};
 		return REGISTRY_DONE;
 	}
-	return advanced(__real_registry_advance(keeper, cut(number), met), met);
-}
-
-registry_answer __wrap_registry_destroy(struct registry_keeper *keeper, struct registry_cpu *cpu, uint64_t number, struct registry_stage *met)
-{
-	return advanced(__real_registry_destroy(keeper, cpu, cut(number), met), met);
+	registry_answer answer = __real_registry_advance(keeper, planted == SHORT_NUMBERS ? number & MOST_OF_17_BITS : number, met);
+	if (planted == SHORT_LOCALS && answer == REGISTRY_DONE && met != NULL && met->stage == REGISTRY_LOCAL && met->what > MOST_TOLD)
+		met->what = MOST_TOLD;
+	return answer;
 }
 
 registry_answer __wrap_registry_audit(struct registry_keeper *keeper, struct registry_cpu *cpus, size_t count, struct registry_balance *list, size_t room,

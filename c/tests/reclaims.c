@@ -81,16 +81,6 @@ static void wait_for_freed(unsigned count)
 		rest();
 }
 
-static void lock_it(void)
-{
-	EXPECT(pthread_mutex_lock(&mutex) == 0);
-}
-
-static void unlock_it(void)
-{
-	EXPECT(pthread_mutex_unlock(&mutex) == 0);
-}
-
 /* The interlock, which counts how often it was given up. */
 static atomic_uint given;
 
@@ -117,11 +107,11 @@ static uint64_t attach(void)
 /* Attaches an entry, refers to it passively on CPU 0, and detaches it to the list. Its number, which lets go of it. */
 static uint64_t put_held(void)
 {
-	lock_it();
+	take(&mutex);
 	uint64_t number = attach();
 	DONE(registry_get(&cpus[0], REGISTRY_DRIVER, &wm, NULL));
 	DONE(registry_deferred_detach(&list, &cpus[1], REGISTRY_DRIVER, &wm, NULL));
-	unlock_it();
+	give(&mutex);
 	return number;
 }
 
