@@ -11,13 +11,6 @@
 
 enum { DRIVER = 2 };
 
-/* What an entry is sought by. A name of up to 16 bytes is two big-endian words, filled up with zero bytes. */
-struct key {
-    uint64_t kind;
-    uint64_t high;
-    uint64_t low;
-};
-
 struct node {
     _Alignas(64) _Atomic(struct node *) next;
     uint64_t number;
@@ -25,19 +18,7 @@ struct node {
     uint64_t value;
 };
 
-/* An entry as a walk copies it. */
-struct copied {
-    uint64_t number;
-    struct key key;
-    uint64_t value;
-};
-
-extern struct key keys[MOST_ENTRIES];
-extern unsigned entries;
 extern _Atomic(struct node *) newest;
-
-/* Makes the keys, for a list of so many entries. */
-void make_keys(const struct plan *plan);
 
 /* Makes the keys and the list, the newest entry first. The value of entry i, from 0, is i. */
 void make_list(const struct plan *plan);
@@ -45,9 +26,6 @@ void make_list(const struct plan *plan);
 /* Takes the newest entry of the list out of it, or puts it in anew, each under a lock that changes share. */
 void unlink_newest(void);
 void link_newest(void);
-
-/* Where there is nothing to do. */
-void do_nothing(unsigned thread);
 
 INLINE int is_key(const struct key *key, uint64_t kind, uint64_t high, uint64_t low)
 {

@@ -39,8 +39,7 @@ $(addprefix $(OUT)/,shared crowd forwarder device_switch turns $(OVER_WAITING) $
 $(OUT)/forwarder $(OUT)/device_switch: c/examples/workers.h
 $(OUT)/recalls: STRICT = -std=c11 -D_GNU_SOURCE -mno-red-zone $(WARNINGS)
 $(OUT)/recalls: LINK = -Wl,--wrap=malloc
-reclaims_LINK = -Wl,--wrap=malloc,--wrap=pthread_create,--wrap=pthread_cond_init,--wrap=pthread_cond_timedwait
-$(OUT)/reclaims $(OUT)/sanitized-reclaims: LINK = $(reclaims_LINK)
+$(addprefix $(OUT)/,reclaims sanitized-reclaims raced-reclaims): LINK = -Wl,--wrap=malloc,--wrap=pthread_create,--wrap=pthread_cond_init,--wrap=pthread_cond_timedwait
 $(OUT)/lent $(OUT)/sanitized-lent: LINK = -Wl,--wrap=malloc,--wrap=pthread_condattr_init,--wrap=pthread_cond_init,--wrap=pthread_key_create,--wrap=pthread_setspecific
 $(OUT)/turns: c/tests/pauses.h
 $(OUT)/turns: CFLAGS += -include c/tests/pauses.h
@@ -91,8 +90,6 @@ when_unperformed = -DFREE_BEFORE_PERFORMED
 RACED = reclaims interrupted
 
 stresses: $(STRESSES) $(RACED:%=$(OUT)/raced-%)
-
-$(OUT)/raced-reclaims: LINK = $(reclaims_LINK)
 
 $(RACED:%=$(OUT)/raced-%): $(OUT)/raced-%: c/tests/%.c
 $(RACED:%=$(OUT)/raced-%): WATCHED = $(checker_thread)

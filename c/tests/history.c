@@ -252,25 +252,16 @@ static void look(struct world *world, lookup *call, model_lookup *model_call, un
 		model_exit(&world->model, given.at);
 }
 
-static void find(struct world *world)
-{
-	look(world, registry_find, model_find, A_CPU | A_NAME | A_KIND);
-}
+#define LOOK(name, needs)                                                                                                          \
+	static void name(struct world *world)                                                                                      \
+	{                                                                                                                          \
+		look(world, registry_##name, model_##name, needs);                                                                 \
+	}
 
-static void look_up(struct world *world)
-{
-	look(world, registry_look_up, model_look_up, A_CPU | A_SECTION | A_NAME | A_KIND);
-}
-
-static void enter_find(struct world *world)
-{
-	look(world, registry_enter_find, model_enter_find, A_CPU | A_SECTION | A_NAME | A_KIND);
-}
-
-static void get(struct world *world)
-{
-	look(world, registry_get, model_get, A_CPU | A_SECTION | A_NAME | A_KIND);
-}
+LOOK(find, A_CPU | A_NAME | A_KIND)
+LOOK(look_up, A_CPU | A_SECTION | A_NAME | A_KIND)
+LOOK(enter_find, A_CPU | A_SECTION | A_NAME | A_KIND)
+LOOK(get, A_CPU | A_SECTION | A_NAME | A_KIND)
 
 static void walk(struct world *world)
 {

@@ -12,19 +12,14 @@
 
 #include "client.h"
 #include "waiting.h"
+#include "wrapped_heap.h"
 
 enum { CPUS = 8, THREADS = 24, ROUNDS = 300 };
 
-void *__real_malloc(size_t size);
-int __real_pthread_cond_init(pthread_cond_t *made, const pthread_condattr_t *attributes);
-int __real_pthread_condattr_init(pthread_condattr_t *made);
-int __real_pthread_key_create(pthread_key_t *made, void (*end)(void *));
-int __real_pthread_setspecific(pthread_key_t key, const void *value);
-void *__wrap_malloc(size_t size);
-int __wrap_pthread_cond_init(pthread_cond_t *made, const pthread_condattr_t *attributes);
-int __wrap_pthread_condattr_init(pthread_condattr_t *made);
-int __wrap_pthread_key_create(pthread_key_t *made, void (*end)(void *));
-int __wrap_pthread_setspecific(pthread_key_t key, const void *value);
+WRAPPED(pthread_cond_init);
+WRAPPED(pthread_condattr_init);
+WRAPPED(pthread_key_create);
+WRAPPED(pthread_setspecific);
 
 /* In a child of several threads the address sanitizer's heap may stay locked for ever. */
 #ifdef __SANITIZE_ADDRESS__

@@ -71,13 +71,6 @@ static void check_place(size_t place, size_t length)
 	}
 }
 
-/* Names of this length. */
-static void check_bytes(size_t length)
-{
-	for (size_t place = 0; place < length; place++)
-		check_place(place, length);
-}
-
 /* What registry_name_parse refuses, and where it says that the first bad byte is. Nothing else is written. */
 static void check_refused(void)
 {
@@ -204,7 +197,8 @@ int main(void)
 	for (size_t length = 1; length <= REGISTRY_NAME_BYTES; length++)
 		check_names(length);
 	for (size_t length = 1; length <= REGISTRY_KEY_BYTES; length++)
-		check_bytes(length);
+		for (size_t place = 0; place < length; place++)
+			check_place(place, length);
 	check_refused();
 	misuse_names();
 	check_ids();

@@ -47,8 +47,6 @@ extern const struct model *modelled;
 extern const struct registry_cpu *first_cpu;
 extern uint64_t *table;
 
-#define WRAPPED(call) extern __typeof__(call) __real_##call, __wrap_##call
-
 WRAPPED(registry_attach);
 WRAPPED(registry_detach);
 WRAPPED(registry_advance);

@@ -12,15 +12,11 @@
 
 #include "client.h"
 #include "waiting.h"
+#include "wrapped_heap.h"
 
-void *__real_malloc(size_t size);
-int __real_pthread_create(pthread_t *thread, const pthread_attr_t *attributes, void *(*run)(void *), void *of);
-int __real_pthread_cond_init(pthread_cond_t *made, const pthread_condattr_t *attributes);
-int __real_pthread_cond_timedwait(pthread_cond_t *of, pthread_mutex_t *with, const struct timespec *until);
-void *__wrap_malloc(size_t size);
-int __wrap_pthread_create(pthread_t *thread, const pthread_attr_t *attributes, void *(*run)(void *), void *of);
-int __wrap_pthread_cond_init(pthread_cond_t *made, const pthread_condattr_t *attributes);
-int __wrap_pthread_cond_timedwait(pthread_cond_t *of, pthread_mutex_t *with, const struct timespec *until);
+WRAPPED(pthread_create);
+WRAPPED(pthread_cond_init);
+WRAPPED(pthread_cond_timedwait);
 
 /* What fails next. */
 static enum { NOTHING, MALLOC, CONDITION, THREAD, FAULTS } fault;
@@ -97,22 +93,16 @@ static void give(void *of)
 
 static const struct registry_lock lock = {take, give, &mutex};
 
-static uint64_t attach(void)
-{
-	struct registry_entry made;
-	DONE(registry_attach(&keeper, &cpus[1], &wm, 7, &made));
-	return made.number;
-}
-
 /* Attaches an entry, refers to it passively on CPU 0, and detaches it to the list. Its number, which lets go of it. */
 static uint64_t put_held(void)
 {
+	struct registry_entry made;
 	take(&mutex);
-	uint64_t number = attach();
+	DONE(registry_attach(&keeper, &cpus[1], &wm, 7, &made));
 	DONE(registry_get(&cpus[0], REGISTRY_DRIVER, &wm, NULL));
 	DONE(registry_deferred_detach(&list, &cpus[1], REGISTRY_DRIVER, &wm, NULL));
 	give(&mutex);
-	return number;
+	return made.number;
 }
 
 /* While nothing waits, the reclaimer sleeps on. While something is held, it sleeps longer each time, and briefly again once more comes. */

@@ -17,14 +17,11 @@
 enum { REGISTRIES = 2, READERS = 3, DESTROYERS = 2, PERFORMER = DESTROYERS, DEFERRER, CHANGERS, CPUS = READERS + CHANGERS, WORDS = 8, SLOTS = 32, PATIENCE = 20 };
 
 #ifdef FREE_TOO_EARLY
-static const bool destroys_early = true;
+enum { DESTROYS_EARLY = true, PERFORMS_EARLY = false };
+#elif defined FREE_BEFORE_PERFORMED
+enum { DESTROYS_EARLY = false, PERFORMS_EARLY = true };
 #else
-static const bool destroys_early = false;
-#endif
-#ifdef FREE_BEFORE_PERFORMED
-static const bool performs_early = true;
-#else
-static const bool performs_early = false;
+enum { DESTROYS_EARLY = false, PERFORMS_EARLY = false };
 #endif
 
 struct object {
@@ -198,13 +195,13 @@ static void change_by_destroy(struct world *world, unsigned which)
 	world->lock.take(world->lock.of);
 	DONE(registry_detach(&world->keeper, cpu, REGISTRY_DRIVER, &names[which], NULL));
 	world->lock.give(world->lock.of);
-	free_after(destroy, world, cpu, entry.number, object_of(&entry), destroys_early);
+	free_after(destroy, world, cpu, entry.number, object_of(&entry), DESTROYS_EARLY);
 }
 
 static void change_by_perform(struct world *world, unsigned which)
 {
 	struct object *before = atomic_exchange(&world->current, make_object());
-	free_after(perform, world, &world->cpus[READERS + which], 0, before, performs_early);
+	free_after(perform, world, &world->cpus[READERS + which], 0, before, PERFORMS_EARLY);
 }
 
 static void change_by_list(struct world *world, unsigned which)

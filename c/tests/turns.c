@@ -20,6 +20,7 @@
 #include "client.h"
 #include "pauses.h"
 #include "waiting.h"
+#include "wrapped_heap.h"
 
 enum { SPINS = 16, MOST_PAUSES = 256, YIELDS = 8, FIRST_SLEEP = 16000, LONGEST_SLEEP = 8000000, TURN = 100 };
 enum { WAITS = 20000, PLACES = 5, DEEPEST = 4, MOST_TURNS = 60, MANY = 5000001, SECOND = 1000000000, MOST_ERROR = 133 };
@@ -62,19 +63,17 @@ static struct registry_cpu cpus[PLACES];
 static pthread_mutex_t mutexes[PLACES];
 static struct registry_lock locks[PLACES];
 
-int __wrap_clock_gettime(clockid_t clock, struct timespec *time);
-int __wrap_nanosleep(const struct timespec *length, struct timespec *left);
-int __wrap_sched_yield(void);
-uint32_t __wrap_registry_destroy(struct registry_keeper *of, struct registry_cpu *on, uint64_t number, struct registry_stage *stage);
-uint32_t __wrap_registry_perform_begin(struct registry_keeper *of, struct registry_cpu *on, struct registry_wait *wait);
-uint32_t __wrap_registry_perform_turn(struct registry_keeper *of, struct registry_cpu *on, struct registry_wait *wait, uint64_t *waited);
-uint32_t __wrap_registry_local_release(struct registry_cpu *on, struct registry_local *of);
-uint32_t __wrap_registry_local_give_up(struct registry_keeper *of, struct registry_local *local);
-uint32_t __wrap_registry_advance(struct registry_keeper *of, uint64_t number, struct registry_stage *stage);
-int __real_pthread_mutex_lock(pthread_mutex_t *mutex);
-int __real_pthread_mutex_unlock(pthread_mutex_t *mutex);
-int __wrap_pthread_mutex_lock(pthread_mutex_t *mutex);
-int __wrap_pthread_mutex_unlock(pthread_mutex_t *mutex);
+WRAPPED(clock_gettime);
+WRAPPED(nanosleep);
+WRAPPED(sched_yield);
+WRAPPED(registry_destroy);
+WRAPPED(registry_perform_begin);
+WRAPPED(registry_perform_turn);
+WRAPPED(registry_local_release);
+WRAPPED(registry_local_give_up);
+WRAPPED(registry_advance);
+WRAPPED(pthread_mutex_lock);
+WRAPPED(pthread_mutex_unlock);
 
 /* What locking and unlocking a mutex fail with, unless it is 0. */
 static int lock_error, unlock_error;
