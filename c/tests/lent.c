@@ -141,7 +141,7 @@ static void test_refused(void)
 
 static atomic_uint users[CPUS], uses;
 
-/* Takes a CPU again and again, in turn for a call and beyond the thread's end. Nobody else has it meanwhile. */
+/* Takes a CPU again and again, in turn for a call and beyond the thread's end. Nobody else has it meanwhile, and the pool stays open. */
 static void *use_cpus(void *of)
 {
 	for (unsigned i = 0; i < ROUNDS; i++) {
@@ -149,6 +149,7 @@ static void *use_cpus(void *of)
 		DONE(registry_thread_register(&pool, NULL, &cpu));
 		EXPECT(atomic_fetch_add(&users[which(cpu)], 1) == 0);
 		DONE(registry_enter(cpu));
+		EXPECT(registry_threads_close(&pool) == REGISTRY_STILL_HELD);
 		if (i % 4 == 0)
 			rest();
 		DONE(registry_exit(cpu));
