@@ -19,8 +19,31 @@ struct plan {
     uint64_t operations;
 };
 
+/* What an entry is sought by. A name of up to 16 bytes is two big-endian words, filled up with zero bytes. */
+struct key {
+    uint64_t kind;
+    uint64_t high;
+    uint64_t low;
+};
+
+/* An entry as a walk copies it. */
+struct copied {
+    uint64_t number;
+    struct key key;
+    uint64_t value;
+};
+
+extern struct key keys[MOST_ENTRIES];
+extern unsigned entries;
+
+/* Makes the keys, for a list of so many entries. */
+void make_keys(const struct plan *plan);
+
 /* Makes `count` operations on behalf of a thread, numbered from 0. It returns how many went as they should. */
 typedef uint64_t operations(unsigned thread, uint64_t count);
+
+/* Where there is nothing to do. */
+void do_nothing(unsigned thread);
 
 /* A way to protect lookups. `begin` and `end` are called by each thread, around its operations.
    Where it has no step for an operation, that one is NULL. */

@@ -11,13 +11,6 @@
 
 enum { DRIVER = 2 };
 
-/* What an entry is sought by. A name of up to 16 bytes is two big-endian words, filled up with zero bytes. */
-struct key {
-    uint64_t kind;
-    uint64_t high;
-    uint64_t low;
-};
-
 struct node {
     _Alignas(64) _Atomic(struct node *) next;
     uint64_t number;
@@ -25,19 +18,7 @@ struct node {
     uint64_t value;
 };
 
-/* An entry as a walk copies it. */
-struct copied {
-    uint64_t number;
-    struct key key;
-    uint64_t value;
-};
-
-extern struct key keys[MOST_ENTRIES];
-extern unsigned entries;
 extern _Atomic(struct node *) newest;
-
-/* Makes the keys, for a list of so many entries. */
-void make_keys(const struct plan *plan);
 
 /* Makes the keys and the list, the newest entry first. The value of entry i, from 0, is i. */
 void make_list(const struct plan *plan);
@@ -45,9 +26,6 @@ void make_list(const struct plan *plan);
 /* Takes the newest entry of the list out of it, or puts it in anew, each under a lock that changes share. */
 void unlink_newest(void);
 void link_newest(void);
-
-/* Where there is nothing to do. */
-void do_nothing(unsigned thread);
 
 INLINE int is_key(const struct key *key, uint64_t kind, uint64_t high, uint64_t low)
 {
@@ -157,6 +135,11 @@ INLINE uint64_t in_batches(unsigned thread, uint64_t count, void (*enter)(unsign
         return in_walks(thread, count, NAME##_enter, NAME##_walk, NAME##_leave); \
     }
 
+/* What a contender has of these, and of what LISTED_CHANGES makes. */
+#define LOOKUPS_OF(NAME) .lookups = NAME##_lookups, .batches = NAME##_batches, .walks = NAME##_walks
+#define CHANGES_OF(NAME) .replace = NAME##_replace, .perform = NAME##_perform
+#define NOTHING_AROUND .begin = do_nothing, .end = do_nothing, .rest = do_nothing
+
 /* Lookups in the list, between the statements ENTER and LEAVE, which may speak of `thread`: the same functions. */
 #define LISTED_LOOKUPS(NAME, ENTER, LEAVE) \
     INLINE void NAME##_enter(unsigned thread) \
@@ -180,5 +163,18 @@ INLINE uint64_t in_batches(unsigned thread, uint64_t count, void (*enter)(unsign
         return copy_list(row); \
     } \
     LOOKUPS(NAME)
+
+/* Changes of the list: the function NAME_perform waits by the statement WAIT until all open sections have ended, NAME_replace in between. */
+#define LISTED_CHANGES(NAME, WAIT) \
+    static void NAME##_perform(void) \
+    { \
+        WAIT; \
+    } \
+    static void NAME##_replace(void) \
+    { \
+        unlink_newest(); \
+        NAME##_perform(); \
+        link_newest(); \
+    }
 
 #endif

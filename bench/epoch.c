@@ -18,27 +18,12 @@ static void open_epoch(const struct plan *plan)
 
 LISTED_LOOKUPS(epoch, ck_epoch_begin(&records[thread], NULL), ck_epoch_end(&records[thread], NULL))
 
-static void perform(void)
-{
-    ck_epoch_synchronize(&records[MOST_THREADS]);
-}
-
-static void replace(void)
-{
-    unlink_newest();
-    perform();
-    link_newest();
-}
+LISTED_CHANGES(epoch, ck_epoch_synchronize(&records[MOST_THREADS]))
 
 const struct contender epoch = {
     .name = "ck_epoch",
     .open = open_epoch,
-    .begin = do_nothing,
-    .end = do_nothing,
-    .rest = do_nothing,
-    .lookups = epoch_lookups,
-    .batches = epoch_batches,
-    .walks = epoch_walks,
-    .replace = replace,
-    .perform = perform,
+    NOTHING_AROUND,
+    LOOKUPS_OF(epoch),
+    CHANGES_OF(epoch),
 };

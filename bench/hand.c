@@ -1,6 +1,7 @@
 /* The steps of our registry, written by hand over the same words, each a sequentially consistent atomic operation.
    Padded: the words of a CPU are a row from the next CPU's, as ours are. Packed: each CPU's word lies beside the next CPU's. Pointed: padded,
-   in a block made at run time, whose pointer is loaded at each step, as that of our table is. */
+   in a block made at run time, whose pointer is loaded at each step, as that of our table is. Kept: pointed, with all that a CPU of ours keeps beside its
+   words: how deep its section is, how many it has ended, and what it found last. What it costs beyond `hand-pointed` is the price of that. */
 #include "entries.h"
 
 #include <stdlib.h>
@@ -69,8 +70,15 @@ INLINE void open_words(enum layout layout, const struct plan *plan)
         publish(layout, i);
 }
 
+/* What a search has found, by its number, or 0. */
+struct found {
+    uint64_t number;
+    uint8_t slot;
+    uint8_t kind;
+};
+
 /* The value of the entry with that key: five loads for each entry visited, and one more for the value. */
-INLINE uint64_t find(enum layout layout, const struct key *key)
+INLINE uint64_t find(enum layout layout, const struct key *key, struct found *found)
 {
     uint64_t link = atomic_load(word(layout, HEAD));
 
@@ -81,11 +89,13 @@ INLINE uint64_t find(enum layout layout, const struct key *key)
         uint64_t high = atomic_load(word(layout, RECORD + place + 2));
         uint64_t low = atomic_load(word(layout, RECORD + place + 3));
 
-        (void)number;
-        if (is_key(key, kind, high, low))
+        if (is_key(key, kind, high, low)) {
+            *found = (struct found){ number, (uint8_t)(link - 1), (uint8_t)kind };
             return atomic_load(word(layout, RECORD + place + 4));
+        }
         link = atomic_load(word(layout, NEXT + place));
     }
+    found->number = 0;
     return UINT64_MAX;
 }
 
@@ -160,8 +170,9 @@ INLINE uint64_t locals(enum layout layout, unsigned cpu, uint64_t count)
     } \
     INLINE uint64_t NAME##_find(unsigned cpu, const struct key *key) \
     { \
+        struct found found; \
         (void)cpu; \
-        return find(LAYOUT, key); \
+        return find(LAYOUT, key, &found); \
     } \
     INLINE unsigned NAME##_walk(unsigned cpu, struct copied row[MOST_ENTRIES]) \
     { \
@@ -180,11 +191,8 @@ INLINE uint64_t locals(enum layout layout, unsigned cpu, uint64_t count)
     const struct contender hand_##NAME = { \
         .name = TITLE, \
         .open = NAME##_open, \
-        .begin = do_nothing, \
-        .end = do_nothing, \
-        .lookups = NAME##_lookups, \
-        .batches = NAME##_batches, \
-        .walks = NAME##_walks, \
+        NOTHING_AROUND, \
+        LOOKUPS_OF(NAME), \
         .passives = NAME##_passives, \
         .locals = NAME##_locals, \
     }
@@ -192,3 +200,84 @@ INLINE uint64_t locals(enum layout layout, unsigned cpu, uint64_t count)
 HAND(padded, PADDED, "hand-padded");
 HAND(packed, PACKED, "hand-packed");
 HAND(pointed, POINTED, "hand-pointed");
+
+/* ---- Kept. ---- */
+
+/* How many sections a CPU may begin. */
+static uint64_t section_limit;
+
+struct cpu {
+    uint64_t ended;
+    struct found found;
+    uint8_t id;
+    uint8_t depth;
+};
+
+static struct {
+    _Alignas(128) struct cpu cpu;
+} cpus[MOST_THREADS];
+
+static void kept_open(const struct plan *plan)
+{
+    open_words(POINTED, plan);
+    section_limit = UINT64_C(1) << 40;
+    for (unsigned i = 0; i < MOST_THREADS; i++)
+        cpus[i].cpu = (struct cpu){ .id = (uint8_t)i };
+}
+
+/* Whether it could. */
+INLINE int may_enter(struct cpu *cpu)
+{
+    if (cpu->depth == UINT8_MAX)
+        return 0;
+    if (cpu->depth != 0) {
+        cpu->depth++;
+        return 1;
+    }
+    if (cpu->ended >= section_limit)
+        return 0;
+    turn(POINTED, cpu->id);
+    cpu->depth = 1;
+    return 1;
+}
+
+/* A section that can't be entered ends the program. */
+INLINE void kept_enter(unsigned thread)
+{
+    if (!may_enter(&cpus[thread].cpu))
+        fail("no section");
+}
+
+INLINE void kept_leave(unsigned thread)
+{
+    struct cpu *cpu = &cpus[thread].cpu;
+
+    if (cpu->depth != 1) {
+        cpu->depth--;
+        return;
+    }
+    turn(POINTED, cpu->id);
+    cpu->found.number = 0;
+    cpu->depth = 0;
+    cpu->ended++;
+}
+
+INLINE uint64_t kept_find(unsigned thread, const struct key *key)
+{
+    return find(POINTED, key, &cpus[thread].cpu.found);
+}
+
+INLINE unsigned kept_walk(unsigned thread, struct copied row[MOST_ENTRIES])
+{
+    cpus[thread].cpu.found.number = 0;
+    return walk(POINTED, row);
+}
+
+LOOKUPS(kept)
+
+const struct contender hand_kept = {
+    .name = "hand-kept",
+    .open = kept_open,
+    NOTHING_AROUND,
+    LOOKUPS_OF(kept),
+};

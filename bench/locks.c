@@ -12,19 +12,13 @@ LISTED_LOOKUPS(mutex, pthread_mutex_lock(&whole_lock), pthread_mutex_unlock(&who
 const struct contender rwlock = {
     .name = "pthread_rwlock",
     .open = make_list,
-    .begin = do_nothing,
-    .end = do_nothing,
-    .lookups = rwlock_lookups,
-    .batches = rwlock_batches,
-    .walks = rwlock_walks,
+    NOTHING_AROUND,
+    LOOKUPS_OF(rwlock),
 };
 
 const struct contender mutex = {
     .name = "pthread_mutex",
     .open = make_list,
-    .begin = do_nothing,
-    .end = do_nothing,
-    .lookups = mutex_lookups,
-    .batches = mutex_batches,
-    .walks = mutex_walks,
+    NOTHING_AROUND,
+    LOOKUPS_OF(mutex),
 };

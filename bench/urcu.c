@@ -27,27 +27,15 @@
         REST; \
     } \
     LISTED_LOOKUPS(NAME, urcu_##NAME##_read_lock(), LEAVE) \
-    static void NAME##_perform(void) \
-    { \
-        urcu_##NAME##_synchronize_rcu(); \
-    } \
-    static void NAME##_replace(void) \
-    { \
-        unlink_newest(); \
-        NAME##_perform(); \
-        link_newest(); \
-    } \
+    LISTED_CHANGES(NAME, urcu_##NAME##_synchronize_rcu()) \
     const struct contender urcu_##NAME = { \
         .name = TITLE, \
         .open = make_list, \
         .begin = NAME##_begin, \
         .end = NAME##_end, \
         .rest = NAME##_rest, \
-        .lookups = NAME##_lookups, \
-        .batches = NAME##_batches, \
-        .walks = NAME##_walks, \
-        .replace = NAME##_replace, \
-        .perform = NAME##_perform, \
+        LOOKUPS_OF(NAME), \
+        CHANGES_OF(NAME), \
     }
 
 FLAVOUR(memb, "urcu-memb", urcu_memb_read_unlock(), );

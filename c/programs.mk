@@ -4,12 +4,12 @@
 INCLUDES = -Ic/include -Ic/examples -Ic/tests -I$(HEADER)
 WRAP = -Wl,--wrap=malloc,--wrap=realloc,--wrap=free
 # What planted.c spoils of history, and the main of history.
-PLANTED = main $(addprefix registry_,open attach attach_iface detach replace replace_iface advance destroy audit enter look_up acquire get copy release local_acquire local_release)
+PLANTED = main $(addprefix registry_,attach detach advance audit enter look_up acquire get local_acquire local_release)
 
 # Where the programs lie.
 vpath %.c c/examples c/tests
 
-PROGRAMS = smallest row packet shared storm misuse refuse blocks allocs changes built $(OVER_WAITING) turns history largest planted walk entries names crowd forwarder device_switch $(PROGRAMS_$(PROCESSOR)) $(BENCHED)
+PROGRAMS = smallest row packet shared misuse refuse allocs changes built $(OVER_WAITING) turns history largest planted names crowd forwarder device_switch $(PROGRAMS_$(PROCESSOR)) $(BENCHED)
 # Tests of waiting.h: each is compiled with it.
 OVER_WAITING = deferred together interrupted reclaims lent
 # They read registers of x86-64.
@@ -18,56 +18,34 @@ PROGRAMS_x86_64 = recalls
 BENCH = bench
 BENCHED = $(if $(wildcard $(BENCH)/common.c),speed)
 # In the checking build, too, which says nothing of them.
-CHECKING = smallest row packet shared storm walk crowd forwarder device_switch together
+CHECKING = smallest row packet shared crowd forwarder device_switch together
 
 all: $(PROGRAMS:%=$(OUT)/%) $(OUT)/checked $(CHECKING:%=$(OUT)/checked-%)
 
 $(OUT):
 	mkdir -p $@
 
-$(OUT)/row: c/examples/row.c
-$(OUT)/packet: c/examples/packet.c
-$(OUT)/smallest: c/examples/smallest.c
-$(OUT)/shared: c/examples/shared.c c/src/waiting.c c/include/waiting.h
-$(OUT)/storm: c/examples/storm.c c/examples/basket.h
-$(OUT)/misuse: c/tests/misuse.c
-$(OUT)/built: c/tests/built.c
-$(OUT)/recalls: c/tests/recalls.c c/tests/wrapped_heap.h
+# Each is made of its own file, and of these.
+$(filter-out $(OUT)/largest,$(PROGRAMS:%=$(OUT)/%)): $(OUT)/%: %.c
+$(OUT)/largest: c/tests/history.c
+$(OUT)/largest: CFLAGS += -DMODEL_OF_THE_LARGEST
+$(addprefix $(OUT)/,deferred history largest planted): c/tests/model.c c/tests/model.h
+$(OUT)/planted: c/tests/history.c
+$(OUT)/allocs: c/src/heap.c
+$(addprefix $(OUT)/,history largest planted refuse allocs recalls): c/tests/wrapped_heap.h
+$(addprefix $(OUT)/,history largest refuse allocs): LINK = $(WRAP)
+$(OUT)/planted: LINK = $(WRAP) $(PLANTED:%=-Wl,--wrap=%)
+$(addprefix $(OUT)/,shared crowd forwarder device_switch turns $(OVER_WAITING) $(BENCHED)): c/src/waiting.c c/include/waiting.h
+$(OUT)/forwarder $(OUT)/device_switch: c/examples/workers.h
 $(OUT)/recalls: STRICT = -std=c11 -D_GNU_SOURCE -mno-red-zone $(WARNINGS)
 $(OUT)/recalls: LINK = -Wl,--wrap=malloc
-$(OUT)/walk: c/examples/walk.c
-$(OUT)/entries: c/tests/entries.c
-$(OUT)/names: c/tests/names.c
-$(OUT)/crowd: c/tests/crowd.c c/examples/basket.h
-$(OUT)/together: c/tests/together.c
-$(OUT)/interrupted: c/tests/interrupted.c
-reclaims_LINK = -Wl,--wrap=malloc,--wrap=pthread_create,--wrap=pthread_cond_init,--wrap=pthread_cond_timedwait
-$(OUT)/reclaims $(OUT)/sanitized-reclaims: LINK = $(reclaims_LINK)
-$(OUT)/reclaims: c/tests/reclaims.c
+$(addprefix $(OUT)/,reclaims sanitized-reclaims raced-reclaims): LINK = -Wl,--wrap=malloc,--wrap=pthread_create,--wrap=pthread_cond_init,--wrap=pthread_cond_timedwait
 $(OUT)/lent $(OUT)/sanitized-lent: LINK = -Wl,--wrap=malloc,--wrap=pthread_condattr_init,--wrap=pthread_cond_init,--wrap=pthread_key_create,--wrap=pthread_setspecific
-$(OUT)/lent: c/tests/lent.c
-$(OVER_WAITING:%=$(OUT)/%): c/src/waiting.c c/include/waiting.h
-$(OUT)/turns: c/tests/turns.c c/src/waiting.c c/include/waiting.h c/tests/pauses.h
+$(OUT)/turns: c/tests/pauses.h
 $(OUT)/turns: CFLAGS += -include c/tests/pauses.h
 $(OUT)/turns: LINK = -Wl,--wrap=registry_destroy,--wrap=registry_perform_begin,--wrap=registry_perform_turn,--wrap=clock_gettime,--wrap=nanosleep,--wrap=sched_yield \
     -Wl,--wrap=registry_local_release,--wrap=registry_local_give_up,--wrap=registry_advance,--wrap=pthread_mutex_lock,--wrap=pthread_mutex_unlock
-$(OUT)/deferred: c/tests/deferred.c c/tests/model.c c/tests/model.h
-$(OUT)/history: c/tests/history.c c/tests/model.c c/tests/model.h c/tests/wrapped_heap.h
-$(OUT)/history $(OUT)/largest: LINK = $(WRAP)
-$(OUT)/largest: c/tests/history.c c/tests/model.c c/tests/model.h c/tests/wrapped_heap.h
-$(OUT)/largest: CFLAGS += -DMODEL_OF_THE_LARGEST
-$(OUT)/planted: c/tests/planted.c c/tests/history.c c/tests/model.c c/tests/model.h c/tests/wrapped_heap.h
-$(OUT)/planted: LINK = $(WRAP) $(PLANTED:%=-Wl,--wrap=%)
-$(OUT)/forwarder: c/examples/forwarder.c c/src/waiting.c c/include/waiting.h c/examples/workers.h
-$(OUT)/device_switch: c/examples/device_switch.c c/src/waiting.c c/include/waiting.h c/examples/workers.h
-$(OUT)/changes: c/tests/changes.c
-$(OUT)/refuse: c/tests/refuse.c c/tests/wrapped_heap.h
-$(OUT)/refuse: LINK = $(WRAP)
-$(OUT)/blocks: c/tests/blocks.c c/tests/wrapped_heap.h
-$(OUT)/blocks: LINK = $(WRAP)
-$(OUT)/allocs: c/tests/allocs.c c/src/heap.c c/tests/wrapped_heap.h
-$(OUT)/allocs: LINK = $(WRAP)
-$(OUT)/speed: c/tests/speed.c c/src/waiting.c c/include/waiting.h $(BENCH)/common.c $(BENCH)/entries.c $(BENCH)/waiting.c $(BENCH)/common.h $(BENCH)/entries.h
+$(OUT)/speed: $(BENCH)/common.c $(BENCH)/entries.c $(BENCH)/waiting.c $(BENCH)/common.h $(BENCH)/entries.h
 $(OUT)/speed: STRICT = -std=c11 -D_POSIX_C_SOURCE=200809L -I$(BENCH) -Wall -Wextra $(WERROR)
 
 $(PROGRAMS:%=$(OUT)/%): c/examples/client.h c/examples/expect.h $(FACE) $(ARCHIVE) | $(OUT)
@@ -78,47 +56,48 @@ $(OUT)/checked: c/tests/checked.c
 $(OUT)/checked: LINK = -Wl,--wrap=registry_find
 $(CHECKING:%=$(OUT)/checked-%): $(OUT)/checked-%: %.c
 
-$(OUT)/checked $(CHECKING:%=$(OUT)/checked-%): c/src/check.c c/src/waiting.c c/include/registry_check.h c/include/waiting.h c/examples/client.h c/examples/expect.h c/examples/basket.h c/examples/workers.h $(FACE) $(ARCHIVE) | $(OUT)
+$(OUT)/checked $(CHECKING:%=$(OUT)/checked-%): c/src/check.c c/src/waiting.c c/include/registry_check.h c/include/waiting.h c/examples/client.h c/examples/expect.h c/examples/workers.h $(FACE) $(ARCHIVE) | $(OUT)
 	$(CC) $(STRICT) $(CPPFLAGS) $(CFLAGS) -DREGISTRY_CHECK $(INCLUDES) $(LDFLAGS) -o $@ $(filter %.c,$^) $(ARCHIVE) -pthread $(LINK)
 
-# refuse has an allocator of its own, which the sanitizers' would fight.
-SANITIZED = smallest row packet shared storm misuse built walk entries names crowd forwarder device_switch $(WAITING_SANITIZED)
+# refuse has an allocator of its own, which the sanitizers' would fight; history is brief without one.
+SANITIZED = smallest row packet shared misuse built history names crowd forwarder device_switch $(WAITING_SANITIZED)
 # The address sanitizer takes the stack of a cancelled thread for one in use.
-WAITING_SANITIZED = together reclaims lent
+WAITING_SANITIZED = reclaims lent
 
 sanitized: $(SANITIZED:%=$(OUT)/sanitized-%)
 
 $(SANITIZED:%=$(OUT)/sanitized-%): $(OUT)/sanitized-%: %.c
 
-$(addprefix $(OUT)/sanitized-,shared forwarder device_switch $(WAITING_SANITIZED)): c/src/waiting.c
+$(addprefix $(OUT)/sanitized-,shared crowd forwarder device_switch $(WAITING_SANITIZED)): c/src/waiting.c
 
 # What is C of the archive is compiled with the test that sees it. It comes first, so the archive's own isn't called.
 $(OUT)/sanitized-names: c/src/strings.c
-$(OUT)/sanitized-entries: c/src/composed.c
-$(OUT)/sanitized-names $(OUT)/sanitized-entries: LINK = -Wl,-z,muldefs
+$(OUT)/sanitized-history: c/src/composed.c c/tests/model.c c/tests/model.h c/tests/wrapped_heap.h
+$(OUT)/sanitized-history: CPPFLAGS += -DHISTORY_BRIEFLY
+$(OUT)/sanitized-names $(OUT)/sanitized-history: LINK = -Wl,-z,muldefs
 
-$(SANITIZED:%=$(OUT)/sanitized-%): c/examples/client.h c/examples/expect.h c/examples/basket.h c/include/waiting.h c/examples/workers.h $(FACE) $(ARCHIVE) | $(OUT)
-	$(CC) $(STRICT) -O1 -g -fsanitize=address,undefined -fno-sanitize-recover=all $(INCLUDES) -o $@ $(filter %.c,$^) $(ARCHIVE) -pthread $(LINK)
+$(SANITIZED:%=$(OUT)/sanitized-%): c/examples/client.h c/examples/expect.h c/include/waiting.h c/examples/workers.h $(FACE) $(ARCHIVE) | $(OUT)
+	$(CC) $(STRICT) $(CPPFLAGS) -O1 -g $(checker_address) $(INCLUDES) -o $@ $(filter %.c,$^) $(ARCHIVE) -pthread $(LINK)
 
-# heap_stress for each of three checkers (valgrind takes the first), right and with either early free, which each of them has to catch.
-STRESSES = $(foreach checker,none address thread,$(foreach when,right early unperformed,$(OUT)/heap_stress-$(checker)-$(when)))
-checker_address = -fsanitize=address
+# together for each of three checkers (valgrind takes the first), right and with either early free, which each of them has to catch.
+STRESSES = $(foreach checker,none address thread,$(foreach when,right early unperformed,$(OUT)/together-$(checker)-$(when)))
+checker_address = -fsanitize=address,undefined -fno-sanitize-recover=all
 checker_thread = -fsanitize=thread
 when_early = -DFREE_TOO_EARLY
 when_unperformed = -DFREE_BEFORE_PERFORMED
 
 # The edges of the archive are told to the thread sanitizer by the program. It knows no thread after a fork.
-RACED = together reclaims interrupted
+RACED = reclaims interrupted
 
 stresses: $(STRESSES) $(RACED:%=$(OUT)/raced-%)
 
-$(OUT)/raced-reclaims: LINK = $(reclaims_LINK)
+$(RACED:%=$(OUT)/raced-%): $(OUT)/raced-%: c/tests/%.c
+$(RACED:%=$(OUT)/raced-%): WATCHED = $(checker_thread)
+$(STRESSES): c/tests/together.c
+$(STRESSES): WATCHED = $(checker_$(word 2,$(subst -, ,$(notdir $@)))) $(when_$(word 3,$(subst -, ,$(notdir $@))))
 
-$(RACED:%=$(OUT)/raced-%): $(OUT)/raced-%: c/tests/%.c c/src/waiting.c c/include/waiting.h c/examples/client.h c/examples/expect.h $(FACE) $(ARCHIVE) | $(OUT)
-	$(CC) $(STRICT) -O1 -g -fsanitize=thread $(INCLUDES) $(LDFLAGS) -o $@ $(filter %.c,$^) $(ARCHIVE) -pthread $(LINK)
-
-$(STRESSES): c/tests/heap_stress.c c/examples/client.h c/examples/expect.h $(FACE) $(ARCHIVE) | $(OUT)
-	$(CC) $(STRICT) -O1 -g $(checker_$(word 2,$(subst -, ,$@))) $(when_$(word 3,$(subst -, ,$@))) $(INCLUDES) $(LDFLAGS) -o $@ $< $(ARCHIVE) -pthread
+$(STRESSES) $(RACED:%=$(OUT)/raced-%): c/src/waiting.c c/include/waiting.h c/examples/client.h c/examples/expect.h $(FACE) $(ARCHIVE) | $(OUT)
+	$(CC) $(STRICT) -O1 -g $(WATCHED) $(INCLUDES) $(LDFLAGS) -o $@ $(filter %.c,$^) $(ARCHIVE) -pthread $(LINK)
 
 # Tests of one thread, of which each access to a registry's table is looked at: for aarch64 alone.
 ORDERED = misuse history
@@ -132,17 +111,15 @@ $(ORDERED:%=$(OUT)/ordered-%): $(OUT)/ordered-%: %.c c/tests/ordered.c c/example
 	    -Wl,--wrap=malloc,--wrap=free,--wrap=registry_open
 
 # What ends with status 0 where it finds nothing wrong, with the words that make it brief; and the names of the pages, plain.
-CHECKED = smallest packet shared checked misuse refuse built turns $(OVER_WAITING) history walk entries crowd forwarder device_switch
+CHECKED = smallest packet shared checked misuse refuse built turns $(OVER_WAITING) history names crowd forwarder device_switch
 words_history = 300000
 words_together = 20
-words_walk = 200
-words_entries = 50
 words_crowd = 50
 words_forwarder = 200
 words_device_switch = 20
 NETBSD_CHECKED = bind copies drivers model kernel
 
-check: $(CHECKED:%=check-%) check-row check-storm check-limits $(NETBSD_CHECKED:%=check-netbsd-%)
+check: $(CHECKED:%=check-%) check-row check-limits $(NETBSD_CHECKED:%=check-netbsd-%)
 	@echo "$(words $^) passed, 0 failed"
 
 $(CHECKED:%=check-%): check-%: $(OUT)/%
@@ -151,9 +128,6 @@ $(CHECKED:%=check-%): check-%: $(OUT)/%
 check-row: $(OUT)/row
 	sed -n '1,/^# It prints:$$/d; s/^# //p' examples/retire-under-section.txt >$(OUT)/row.wanted
 	$(RUN) ./$< | diff - $(OUT)/row.wanted
-
-check-storm: $(OUT)/storm
-	$(RUN) ./$< 4 2000 | grep -x 'wrong 0'
 
 # Programs that are compiled for other limits than the archive's.
 check-limits: $(ARCHIVE)
@@ -170,4 +144,4 @@ clean:
 	rm -f $(PROGRAMS:%=$(OUT)/%) $(OUT)/checked $(CHECKING:%=$(OUT)/checked-%) $(SANITIZED:%=$(OUT)/sanitized-%) $(STRESSES) $(RACED:%=$(OUT)/raced-%) $(ORDERED:%=$(OUT)/ordered-%) $(OUT)/waiting.o $(OUT)/checked-part-*.o $(OUT)/libkupaldiz*
 	rm -rf $(OUT)/installed-netbsd $(OUT)/installed-bench
 
-.PHONY: all sanitized stresses ordered clean check check-row check-storm check-limits netbsd-programs $(CHECKED:%=check-%) $(NETBSD_CHECKED:%=check-netbsd-%)
+.PHONY: all sanitized stresses ordered clean check check-row check-limits netbsd-programs $(CHECKED:%=check-%) $(NETBSD_CHECKED:%=check-netbsd-%)

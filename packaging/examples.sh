@@ -20,10 +20,10 @@ mkdir -p "$to/netbsd"
 for name in Makefile CMakeLists.txt; do
     put "c/examples/$name" "$name"
 done
-for name in smallest packet row shared storm walk forwarder device_switch; do
+for name in smallest packet row shared forwarder device_switch; do
     put "c/examples/$name.c" "$name.c"
 done
-for name in client expect basket workers; do
+for name in client expect workers; do
     put "c/examples/$name.h" "$name.h"
 done
 for path in netbsd/examples/*.[ch] netbsd/tests/{drivers.c,test.h,bodies.h}; do

@@ -64,27 +64,18 @@ smallest_says() {
     says "$log.wanted" "$@"
 }
 
-# A storm of so many CPUs and turns counts each lookup and reference, and nothing wrong.
-storm_says() {
-    local cpus=$1 turns=$2
-    shift 2
-    printf 'storm %d %d\nlookups %d\nreferences %d\nwrong 0\nheld 0\n' "$cpus" "$turns" $((2 * cpus * turns)) $((cpus * turns)) >"$log.wanted"
-    says "$log.wanted" "$@" "$cpus" "$turns"
-}
-
 # apt_install WORD..: what these words of apt-get name, without asking.
 apt_install() {
     { apt-get update && DEBIAN_FRONTEND=noninteractive apt-get -o DPkg::Lock::Timeout=300 install -y "$@"; } </dev/null
 }
 
-# programs KIND HOW BEFORE PROGRAM..: each program with its words; what is before its name runs it. Three say what they did.
+# programs KIND HOW BEFORE PROGRAM..: each program with its words; what is before its name runs it. Two say what they did.
 # shellcheck disable=SC2086
 programs() {
     local kind=$1 how=$2 before=$3 program
     for program in "${@:4}"; do
         case $program in
         smallest | row) check "$kind $program$how" ${program}_says $before$program ;;
-        storm*) check "$kind $program$how" storm_says ${program#storm } ${before}storm ;;
         *) check "$kind $program$how" $before$program ;;
         esac
     done

@@ -274,8 +274,8 @@ VALGRIND = "valgrind -q --fair-sched=try --error-exitcode=99 --leak-check=full -
 OVER_WAITING = {"turns": [], "reclaims": [], "lent": [], "deferred": [], "interrupted": [], "together": ["20"]}
 # What is C of the archive, and the programs that see each part, with their words.
 PARTS = {
-    "heap": {"allocs": [], "refuse": [], "blocks": [], "misuse": []},
-    "composed": {"entries": ["1000"], "history": ["3000"], "misuse": [], "sanitized-entries": ["300"]},
+    "heap": {"allocs": [], "refuse": [], "history": ["3000"], "misuse": []},
+    "composed": {"history": ["3000"], "misuse": [], "sanitized-history": ["3000"]},
     "strings": {"names": [], "sanitized-names": []},
 }
 CARGO = "cargo test --offline -q --manifest-path rust/Cargo.toml"

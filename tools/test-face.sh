@@ -135,11 +135,9 @@ test_page() {
 }
 
 test_c() {
-    programs C: "" "$out/" smallest row 'storm 1 1000' 'storm 2 3' 'storm 4 20000' 'storm 64 600' packet 'shared 2000' misuse refuse allocs blocks built turns \
-        deferred together interrupted reclaims lent history 'largest 30000 1 long' planted 'walk 5000' 'entries 1000' names recalls 'crowd 1000' forwarder \
-        device_switch 'speed 2 8 1000' 'changes 20' 'changes 20 2 4' 'changes 20 64 255' checked
-    programs C: " in the checking build" "$out/checked-" smallest row 'storm 4 2000' packet 'shared 500' 'walk 500' 'crowd 200' 'forwarder 200' \
-        'device_switch 20' 'together 20'
+    programs C: "" "$out/" smallest row packet 'shared 2000' misuse refuse allocs built turns deferred together interrupted reclaims lent history \
+        'largest 30000 1 long' planted names recalls 'crowd 2000' forwarder device_switch 'speed 2 8 1000' 'changes 20' 'changes 20 2 4' 'changes 20 64 255' checked
+    programs C: " in the checking build" "$out/checked-" smallest row packet 'shared 500' 'crowd 200' 'forwarder 200' 'device_switch 20' 'together 20'
     counted "C: programs compiled for other limits" packaging/other-limits.sh "${header%/*}" "$out/libregistry.a"
     counted "C: installed, used by pkg-config alone, and uninstalled" tools/test-install.sh
     counted "C: built as users build" tools/test-builds.sh
@@ -147,26 +145,24 @@ test_c() {
 
 # The same programs, where each access of the client's, or of all, is watched.
 test_watched() {
-    programs C: " under valgrind" "guarded $out/" smallest row 'storm 4 100' packet 'shared 20' misuse built 'together 5' interrupted reclaims lent 'walk 50' \
-        'entries 50' names 'crowd 20' refuse
-    programs C: " with sanitizers" "$out/sanitized-" smallest row 'storm 8 1000' misuse packet 'shared 500' built 'together 50' reclaims lent 'walk 1000' \
-        'entries 300' names 'crowd 300' forwarder device_switch
+    programs C: " under valgrind" "guarded $out/" smallest row packet 'shared 20' misuse built interrupted reclaims lent 'history 3000 1 small' names 'crowd 20' \
+        refuse
+    programs C: " with sanitizers" "$out/sanitized-" smallest row misuse packet 'shared 500' built reclaims lent 'history 100000' names 'crowd 300' forwarder \
+        device_switch
 }
 
 # Objects of the heap behind entries, freed once nobody holds them, under three checkers; each of them catches what frees a turn too early.
 test_heap() {
-    local when each
-    check "C: heap_stress with the address sanitizer" "$out/heap_stress-address-right" 500
-    check "C: heap_stress with the thread sanitizer" "$out/heap_stress-thread-right" 200
-    for each in 'together 50' reclaims interrupted; do
-        # shellcheck disable=SC2086
-        check "C: ${each% *} with the thread sanitizer" "$out"/raced-$each
-    done
-    check "C: heap_stress under valgrind" guarded "$out/heap_stress-none-right" 20
+    local when
+    check "C: together with the address sanitizer" "$out/together-address-right" 200
+    check "C: together with the thread sanitizer" "$out/together-thread-right" 100
+    check "C: reclaims with the thread sanitizer" "$out/raced-reclaims"
+    check "C: interrupted with the thread sanitizer" "$out/raced-interrupted"
+    check "C: together under valgrind" guarded "$out/together-none-right" 5
     for when in early unperformed; do
-        check "C: freed $when: the address sanitizer sees it" catches heap-use-after-free "$out/heap_stress-address-$when" 500
-        check "C: freed $when: the thread sanitizer sees it" catches 'data race' "$out/heap_stress-thread-$when" 200
-        check "C: freed $when: valgrind sees it" catches 'Invalid read' guarded "$out/heap_stress-none-$when" 20
+        check "C: freed $when: the address sanitizer sees it" catches heap-use-after-free "$out/together-address-$when" 200
+        check "C: freed $when: the thread sanitizer sees it" catches 'data race' "$out/together-thread-$when" 100
+        check "C: freed $when: valgrind sees it" catches 'Invalid read' guarded "$out/together-none-$when" 10
     done
 }
 
@@ -176,7 +172,7 @@ test_build() {
     check "no call takes more stack than the page says" stack_within "$out"
     check "the clients in C are built, no warning" make all
     check "C: all of them are built with sanitizers" make sanitized
-    check "C: heap_stress is built nine times" make stresses
+    check "C: together is built nine times" make stresses
     check "the manual pages' own names are built" make -C netbsd all sanitized
 }
 

@@ -35,17 +35,7 @@ static void rest(unsigned thread)
 
 LISTED_LOOKUPS(dpdk, rte_rcu_qsbr_lock(state, thread), rte_rcu_qsbr_unlock(state, thread); rte_rcu_qsbr_quiescent(state, thread))
 
-static void perform(void)
-{
-    rte_rcu_qsbr_synchronize(state, RTE_QSBR_THRID_INVALID);
-}
-
-static void replace(void)
-{
-    unlink_newest();
-    perform();
-    link_newest();
-}
+LISTED_CHANGES(dpdk, rte_rcu_qsbr_synchronize(state, RTE_QSBR_THRID_INVALID))
 
 const struct contender dpdk_qsbr = {
     .name = "dpdk-qsbr",
@@ -53,9 +43,6 @@ const struct contender dpdk_qsbr = {
     .begin = begin,
     .end = end,
     .rest = rest,
-    .lookups = dpdk_lookups,
-    .batches = dpdk_batches,
-    .walks = dpdk_walks,
-    .replace = replace,
-    .perform = perform,
+    LOOKUPS_OF(dpdk),
+    CHANGES_OF(dpdk),
 };

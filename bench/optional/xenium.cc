@@ -7,21 +7,6 @@ extern "C" {
 #define _Noreturn [[noreturn]]
 #include "common.h"
 
-// As in entries.h, which is C.
-struct key {
-    uint64_t kind, high, low;
-};
-
-struct copied {
-    uint64_t number;
-    struct key key;
-    uint64_t value;
-};
-
-extern struct key keys[MOST_ENTRIES];
-extern unsigned entries;
-void make_keys(const struct plan *plan);
-void do_nothing(unsigned thread);
 extern const struct contender xenium_epoch;
 }
 

@@ -4,6 +4,7 @@
 #ifndef CLIENT_H
 #define CLIENT_H
 
+#include <pthread.h>
 #include <stdio.h>
 #include <stdlib.h>
 #include <string.h>
@@ -14,6 +15,14 @@
 
 /* Ends the program where a call isn't done. */
 #define DONE(call) EXPECT((call) == REGISTRY_DONE)
+
+/* The same under a mutex. */
+#define DONE_UNDER(mutex, call)                                                                                                    \
+	do {                                                                                                                       \
+		pthread_mutex_lock(mutex);                                                                                         \
+		DONE(call);                                                                                                        \
+		pthread_mutex_unlock(mutex);                                                                                       \
+	} while (0)
 
 /* A name that is one. */
 static inline struct registry_name name_of(const char *text)

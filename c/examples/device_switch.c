@@ -149,9 +149,7 @@ int main(void)
 		in_drivers += load_and_unload(version);
 	const struct tally opens = end_workers(openers, OPENERS);
 	EXPECT(shelf.at == NULL && opens.done == in_drivers && opens.done > 0);
-	for (unsigned i = 0; i < CPUS; i++)
-		DONE(registry_close_cpu(&cpus[i]));
-	DONE(registry_close_keeper(&keeper));
+	DONE(registry_close(cpus, CPUS, &keeper));
 	printf("opens %" PRIu64 "\nno driver %" PRIu64 "\nunloads %d\n", opens.done, opens.missed, LOADS);
 	return 0;
 }

@@ -139,17 +139,36 @@ static bool change(unsigned which, bool is_live, struct registry_deferred *defer
 	return false;
 }
 
+/* How many ports there are: goes over all entries in one section, in which none of them is freed. */
+static unsigned count_ports(struct registry_cpu *cpu)
+{
+	struct registry_entry row[SLOTS], entry;
+	struct registry_cursor cursor = {.row = row, .room = SLOTS};
+	unsigned count = 0;
+	DONE(registry_enter(cpu));
+	registry_answer answer = registry_first(cpu, &cursor, &entry);
+	for (; answer == REGISTRY_DONE; answer = registry_next(cpu, &cursor, &entry))
+		if (entry.kind == REGISTRY_INTERFACE)
+			count += ((const struct port *)(uintptr_t)entry.value)->lanes[0].buffer != NULL;
+	EXPECT(answer == REGISTRY_NO_MORE);
+	DONE(registry_exit(cpu));
+	return count;
+}
+
 /* Lets ports come and go, one each time that some packets were looked at, and takes all away at the end. How many changes there were. */
 static uint64_t change_all(struct registry_deferred *deferred)
 {
 	bool is_live[PORTS] = {false};
 	uint64_t changes = 0;
+	unsigned live = 0;
 	for (unsigned i = 0; changes < CHANGES; i++) {
 		unsigned which = (i * 5 + i / PORTS) % PORTS;
 		if (change(which, is_live[which], deferred)) {
 			is_live[which] = !is_live[which];
+			live = is_live[which] ? live + 1 : live - 1;
 			changes++;
 		}
+		EXPECT(count_ports(&cpus[FORWARDERS]) == live);
 		wait_for_rounds(ROUNDS_A_CHANGE);
 	}
 	for (unsigned which = 0; which < PORTS; which++)
@@ -181,9 +200,7 @@ static void close_all(void)
 	struct registry_stage met;
 	DONE(registry_detach(&keeper, &cpus[FORWARDERS], REGISTRY_DRIVER, &driver, &gone));
 	DONE(registry_destroy_wait(&lock, &keeper, &cpus[FORWARDERS], gone.number, NULL, &met));
-	for (unsigned i = 0; i < CPUS; i++)
-		DONE(registry_close_cpu(&cpus[i]));
-	DONE(registry_close_keeper(&keeper));
+	DONE(registry_close(cpus, CPUS, &keeper));
 }
 
 int main(void)

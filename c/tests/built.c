@@ -3,13 +3,10 @@
  *
  * registry_limits.h is made of the limits that the library was proved for. Here each of them is met: what it allows is done, and one more is refused.
  */
-#include <stddef.h>
-
 #include "client.h"
 
 static const struct registry_limits LIMITS = REGISTRY_LIMITS;
-static const struct registry_settings SMALL = {1, 1, 1, 1, 1, 1}, LARGEST = {
-    REGISTRY_MOST_CPUS, REGISTRY_MOST_SLOTS, REGISTRY_MOST_CHANGES, REGISTRY_MOST_SECTIONS, REGISTRY_MOST_COUNT, REGISTRY_MOST_COUNT};
+static const struct registry_settings SMALL = {1, 1, 1, 1, 1, 1};
 
 static struct registry_keeper keeper;
 static struct registry_cpu cpus[REGISTRY_MOST_CPUS];
@@ -62,26 +59,47 @@ static registry_answer opened(const struct registry_settings *settings, size_t c
 	return answer;
 }
 
-/* A setting may be so much, and no more. */
+/* A setting is at least 1 and at most so much. */
 static void test_most(size_t place, uint64_t most, bool cpus_too)
 {
+	const uint64_t bad[] = {0, most + 1, UINT64_MAX};
 	struct registry_settings settings = SMALL;
 	uint64_t *setting = (uint64_t *)(void *)((char *)&settings + place);
 	size_t count = cpus_too ? (size_t)most : 1;
 	*setting = most;
 	DONE(opened(&settings, count));
-	*setting = most + 1;
-	EXPECT(opened(&settings, count) == REGISTRY_BAD_SETTINGS);
+	for (unsigned i = 0; i < sizeof bad / sizeof *bad; i++) {
+		*setting = bad[i];
+		EXPECT(opened(&settings, count) == REGISTRY_BAD_SETTINGS && opened(&settings, 0) == REGISTRY_BAD_SETTINGS);
+	}
 }
 
 static void test_settings(void)
 {
-	test_most(offsetof(struct registry_settings, cpus), REGISTRY_MOST_CPUS, true);
-	test_most(offsetof(struct registry_settings, slots), REGISTRY_MOST_SLOTS, false);
-	test_most(offsetof(struct registry_settings, change_limit), REGISTRY_MOST_CHANGES, false);
-	test_most(offsetof(struct registry_settings, section_limit), REGISTRY_MOST_SECTIONS, false);
-	test_most(offsetof(struct registry_settings, passive_limit), REGISTRY_MOST_COUNT, false);
-	test_most(offsetof(struct registry_settings, count_limit), REGISTRY_MOST_COUNT, false);
+	static const uint64_t most[] = {REGISTRY_MOST_CPUS, REGISTRY_MOST_SLOTS, REGISTRY_MOST_CHANGES, REGISTRY_MOST_SECTIONS, REGISTRY_MOST_COUNT,
+	    REGISTRY_MOST_COUNT};
+	const struct registry_settings many = {258, 4, 100, 100, 10, 10};
+	for (size_t i = 0; i < sizeof most / sizeof *most; i++)
+		test_most(i * sizeof(uint64_t), most[i], i == 0);
+	EXPECT(opened(&many, 2) == REGISTRY_BAD_SETTINGS);
+}
+
+/* What an opening is refused for, one wrong thing before the next: it opens nothing. */
+static void test_openings(void)
+{
+	const struct registry_settings two = {2, 1, 1, 1, 1, 1}, none = {0};
+	struct registry_keeper other = {0};
+	EXPECT(registry_open(NULL, &keeper, cpus, 2) == REGISTRY_NULL && registry_open(NULL, &keeper, NULL, 0) == REGISTRY_NULL);
+	EXPECT(registry_open(&two, &keeper, NULL, 2) == REGISTRY_NULL && registry_open(&none, &keeper, NULL, 1) == REGISTRY_NULL);
+	EXPECT(opened(&two, 1) == REGISTRY_MISSING_CPU && opened(&two, 3) == REGISTRY_MISSING_CPU);
+	EXPECT(registry_open(&two, &keeper, NULL, 0) == REGISTRY_MISSING_CPU);
+	EXPECT(registry_close_keeper(&keeper) == REGISTRY_EMPTY_HANDLE && registry_close_cpu(&cpus[0]) == REGISTRY_EMPTY_HANDLE);
+	DONE(registry_open(&two, &keeper, cpus, 2));
+	EXPECT(registry_open(NULL, &keeper, cpus, 2) == REGISTRY_NULL && registry_open(&two, &keeper, NULL, 2) == REGISTRY_NULL);
+	EXPECT(registry_open(&none, &keeper, cpus, 2) == REGISTRY_BAD_SETTINGS && registry_open(&two, &keeper, cpus, 1) == REGISTRY_MISSING_CPU);
+	EXPECT(registry_open(&two, &keeper, cpus, 2) == REGISTRY_FULL_HANDLE && registry_open(&two, &other, cpus, 2) == REGISTRY_FULL_HANDLE);
+	EXPECT(registry_close_keeper(&other) == REGISTRY_EMPTY_HANDLE);
+	DONE(registry_close(cpus, 2, &keeper));
 }
 
 /* The name is a macro: an argument may have commas in braces, and the address is a function's. */
@@ -92,89 +110,14 @@ static void test_forms(void)
 	EXPECT(open(&(const struct registry_settings){.cpus = 0, .slots = 1}, &keeper, cpus, 0) == REGISTRY_BAD_SETTINGS);
 }
 
-/* All CPUs are there, the last one too: each nests as deep as it may. */
-static void test_depth(struct registry_cpu *cpu)
-{
-	uint64_t depth = 0;
-	for (unsigned i = 0; i < REGISTRY_MOST_DEPTH; i++)
-		DONE(registry_enter(cpu));
-	EXPECT(registry_enter(cpu) == REGISTRY_TOO_DEEP);
-	EXPECT(registry_depth(cpu, &depth) == REGISTRY_DONE && depth == REGISTRY_MOST_DEPTH);
-	for (unsigned i = 0; i < REGISTRY_MOST_DEPTH; i++)
-		DONE(registry_exit(cpu));
-}
-
-static struct registry_name name_at(unsigned place)
-{
-	char text[REGISTRY_NAME_ROOM];
-	snprintf(text, sizeof text, "d%u", place);
-	return name_of(text);
-}
-
-/* Every slot is given once, and no further one; a walk on the last CPU finds all. */
-static void test_slots(void)
-{
-	struct registry_entry row[REGISTRY_MOST_SLOTS], made;
-	size_t count;
-	for (unsigned slot = 0; slot < REGISTRY_MOST_SLOTS; slot++) {
-		const struct registry_name name = name_at(slot);
-		DONE(registry_attach(&keeper, &cpus[0], &name, slot, &made));
-		EXPECT(made.slot == slot);
-	}
-	const struct registry_name more = name_at(REGISTRY_MOST_SLOTS);
-	EXPECT(registry_attach(&keeper, &cpus[0], &more, 0, &made) == REGISTRY_NO_SLOT);
-	DONE(registry_enter(&cpus[REGISTRY_MOST_CPUS - 1]));
-	DONE(registry_walk(&cpus[REGISTRY_MOST_CPUS - 1], row, REGISTRY_MOST_SLOTS, &count));
-	DONE(registry_exit(&cpus[REGISTRY_MOST_CPUS - 1]));
-	EXPECT(count == REGISTRY_MOST_SLOTS);
-	for (size_t i = 0; i < count; i++)
-		EXPECT(row[i].slot == count - 1 - i && row[i].value == row[i].slot);
-}
-
-static void detach_at(unsigned place)
-{
-	const struct registry_name name = name_at(place);
-	DONE(registry_detach(&keeper, &cpus[0], REGISTRY_DRIVER, &name, NULL));
-}
-
-/* A registry allows change_limit / 2 attaches, with any number of entries live meanwhile: `kept` at most. Then each of these can be detached. */
-static void test_attaches(uint64_t change_limit, unsigned kept)
-{
-	const struct registry_settings settings = {
-	    .cpus = 1, .slots = REGISTRY_MOST_SLOTS, .change_limit = change_limit, .section_limit = 1, .passive_limit = 1, .count_limit = 1};
-	unsigned made = 0, detached = 0;
-	registry_answer answer;
-	DONE(registry_open(&settings, &keeper, cpus, 1));
-	for (;;) {
-		const struct registry_name name = name_at(made);
-		answer = registry_attach(&keeper, &cpus[0], &name, 0, NULL);
-		if (answer != REGISTRY_DONE)
-			break;
-		made++;
-		if (made - detached == kept)
-			detach_at(detached++);
-	}
-	EXPECT(answer == REGISTRY_HISTORY_FULL && made == change_limit / 2);
-	while (detached < made)
-		detach_at(detached++);
-	DONE(registry_close(cpus, 1, &keeper));
-}
-
 int main(void)
 {
 	test_version();
 	test_limits();
 	test_comparison();
 	test_settings();
+	test_openings();
 	test_forms();
-	for (uint64_t change_limit = 1; change_limit <= 20; change_limit++)
-		for (unsigned kept = 1; kept <= 11; kept++)
-			test_attaches(change_limit, kept);
-	DONE(registry_open(&LARGEST, &keeper, cpus, REGISTRY_MOST_CPUS));
-	for (unsigned cpu = 0; cpu < REGISTRY_MOST_CPUS; cpu++)
-		test_depth(&cpus[cpu]);
-	test_slots();
-	DONE(registry_close(cpus, REGISTRY_MOST_CPUS, &keeper));
 	printf("version %s, built for %d CPUs and %d slots\n", registry_version(), REGISTRY_MOST_CPUS, REGISTRY_MOST_SLOTS);
 	return 0;
 }

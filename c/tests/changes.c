@@ -38,18 +38,14 @@ static double now(void)
 static uint64_t attach(const struct registry_name *name, uint64_t value)
 {
 	struct registry_entry made;
-	pthread_mutex_lock(&interlock);
-	DONE(registry_attach(&keeper, &cpus[0], name, value, &made));
-	pthread_mutex_unlock(&interlock);
+	DONE_UNDER(&interlock, registry_attach(&keeper, &cpus[0], name, value, &made));
 	return made.number;
 }
 
 static uint64_t detach(const struct registry_name *name)
 {
 	struct registry_entry gone;
-	pthread_mutex_lock(&interlock);
-	DONE(registry_detach(&keeper, &cpus[0], REGISTRY_DRIVER, name, &gone));
-	pthread_mutex_unlock(&interlock);
+	DONE_UNDER(&interlock, registry_detach(&keeper, &cpus[0], REGISTRY_DRIVER, name, &gone));
 	return gone.number;
 }
 
@@ -57,9 +53,7 @@ static uint64_t detach(const struct registry_name *name)
 static void turn(uint64_t number, uint64_t stage)
 {
 	struct registry_stage met;
-	pthread_mutex_lock(&interlock);
-	DONE(registry_advance(&keeper, number, &met));
-	pthread_mutex_unlock(&interlock);
+	DONE_UNDER(&interlock, registry_advance(&keeper, number, &met));
 	EXPECT(met.stage == stage);
 }
 
@@ -142,9 +136,7 @@ static void meet_all(unsigned count, double *grace, double *local)
 	DONE(registry_exit(&cpus[1]));
 	*local = turn_all(number, REGISTRY_LOCAL, count);
 	EXPECT(registry_local_release(&cpus[1], &reference) == REGISTRY_COLLECTED);
-	pthread_mutex_lock(&interlock);
-	DONE(registry_local_give_up(&keeper, &reference));
-	pthread_mutex_unlock(&interlock);
+	DONE_UNDER(&interlock, registry_local_give_up(&keeper, &reference));
 	turn(number, REGISTRY_FREED);
 }
 
@@ -153,12 +145,8 @@ static void perform(void)
 {
 	struct registry_wait wait;
 	uint64_t waited;
-	pthread_mutex_lock(&interlock);
-	DONE(registry_perform_begin(&keeper, &cpus[0], &wait));
-	pthread_mutex_unlock(&interlock);
-	pthread_mutex_lock(&interlock);
-	DONE(registry_perform_turn(&keeper, &cpus[0], &wait, &waited));
-	pthread_mutex_unlock(&interlock);
+	DONE_UNDER(&interlock, registry_perform_begin(&keeper, &cpus[0], &wait));
+	DONE_UNDER(&interlock, registry_perform_turn(&keeper, &cpus[0], &wait, &waited));
 }
 
 static double perform_all(unsigned count)
@@ -175,9 +163,7 @@ static double audit_all(unsigned count)
 	size_t length;
 	double began = now();
 	for (unsigned made = 0; made < count; made++) {
-		pthread_mutex_lock(&interlock);
-		DONE(registry_audit(&keeper, cpus, cpu_count, list, slots, &length));
-		pthread_mutex_unlock(&interlock);
+		DONE_UNDER(&interlock, registry_audit(&keeper, cpus, cpu_count, list, slots, &length));
 		EXPECT(length == staying);
 	}
 	return now() - began;

@@ -2,16 +2,18 @@
  * crowd ROUNDS - 64 CPUs at work on threads of their own, and 255 slots in use
  *
  * Each CPU has names of its own; all together they are more than twice the slots. First all slots are filled. Then each CPU makes so many rounds on its
- * thread. It walks over all entries. It looks entries of any CPU up, and refers to them in each way; it hands a local reference to the next CPU. It detaches,
- * replaces or attaches an entry of its own, and an interface on any. What a value points to is spoilt and freed as soon as a turn says that nobody holds
- * the entry. At the end all is given back.
+ * thread. It walks over all entries, and meets each of its own. It looks entries of any CPU up, and refers to them in each way; it hands a local reference
+ * to the next CPU. It detaches, replaces or attaches an entry of its own, and an interface on any. What a value points to is spoilt and freed as soon as a
+ * turn says that nobody holds the entry. At the end all is given back.
+ *
+ * Each lookup's result is what the registry had during the call: while nobody changes that entry, what is known of it; else nothing older.
  */
 #include <inttypes.h>
 #include <pthread.h>
 #include <stdatomic.h>
 
-#include "basket.h"
 #include "client.h"
+#include "waiting.h"
 
 enum { CPUS = REGISTRY_MOST_CPUS, SLOTS = REGISTRY_MOST_SLOTS, OWN = 2 * SLOTS / CPUS + 1, NAMES = CPUS * OWN, MOST_ROUNDS = 100000 };
 
@@ -37,10 +39,45 @@ static struct registry_keeper keeper;
 static struct registry_cpu cpus[CPUS];
 static pthread_mutex_t interlock = PTHREAD_MUTEX_INITIALIZER;
 static struct registry_name names[NAMES];
-static struct basket baskets[CPUS];
 static struct worker workers[CPUS];
 static atomic_int_fast64_t objects;
 static uint64_t rounds;
+
+/* A place between two CPUs, for one local reference. */
+static struct basket {
+	pthread_mutex_t lock;
+	bool full;
+	struct registry_local reference;
+} baskets[CPUS];
+
+/* Of each name, how many changes of its driver have begun and ended, and the number of the live one since then, or 0. Whose name it is writes them. */
+static struct {
+	atomic_uint_fast64_t begun, ended, number;
+} known[NAMES];
+
+static void begin_change(unsigned name)
+{
+	atomic_fetch_add(&known[name].begun, 1);
+}
+
+static void end_change(unsigned name, uint64_t number)
+{
+	atomic_store(&known[name].number, number);
+	atomic_fetch_add(&known[name].ended, 1);
+}
+
+/* Lays a reference into a basket and takes out what lay there. A handle is moved: the place that it left isn't used again. */
+static bool exchange(struct basket *basket, struct registry_local *reference, bool full)
+{
+	pthread_mutex_lock(&basket->lock);
+	struct registry_local before = basket->reference;
+	bool was_full = basket->full;
+	basket->reference = *reference;
+	basket->full = full;
+	*reference = before;
+	pthread_mutex_unlock(&basket->lock);
+	return was_full;
+}
 
 /* A number below `end`, by xorshift. */
 static unsigned below(struct worker *worker, unsigned end)
@@ -85,9 +122,12 @@ static void attach(struct worker *worker, unsigned own)
 {
 	unsigned name = worker->id * OWN + own;
 	struct object *object = make_object(name);
+	struct registry_entry made = {0};
+	begin_change(name);
 	pthread_mutex_lock(&interlock);
-	registry_answer answer = registry_attach(&keeper, &cpus[worker->id], &names[name], (uint64_t)(uintptr_t)object, NULL);
+	registry_answer answer = registry_attach(&keeper, &cpus[worker->id], &names[name], (uint64_t)(uintptr_t)object, &made);
 	pthread_mutex_unlock(&interlock);
+	end_change(name, made.number);
 	if (answer == REGISTRY_NO_SLOT) {
 		worker->without_slot++;
 		free_object(object);
@@ -100,10 +140,11 @@ static void attach(struct worker *worker, unsigned own)
 
 static void detach(struct worker *worker, unsigned own)
 {
+	unsigned name = worker->id * OWN + own;
 	struct registry_entry *gone = &worker->retired[worker->retired_count++];
-	pthread_mutex_lock(&interlock);
-	DONE(registry_detach(&keeper, &cpus[worker->id], REGISTRY_DRIVER, &names[worker->id * OWN + own], gone));
-	pthread_mutex_unlock(&interlock);
+	begin_change(name);
+	DONE_UNDER(&interlock, registry_detach(&keeper, &cpus[worker->id], REGISTRY_DRIVER, &names[name], gone));
+	end_change(name, 0);
 	worker->live[own] = false;
 	worker->changes++;
 }
@@ -113,11 +154,13 @@ static void replace(struct worker *worker, unsigned own)
 {
 	unsigned name = worker->id * OWN + own;
 	struct object *object = make_object(name);
-	struct registry_entry *gone = &worker->retired[worker->retired_count], made;
+	struct registry_entry *gone = &worker->retired[worker->retired_count], made = {.number = known[name].number};
+	begin_change(name);
 	pthread_mutex_lock(&interlock);
 	registry_answer room = registry_room(&keeper);
 	registry_answer answer = registry_replace(&keeper, &cpus[worker->id], &names[name], (uint64_t)(uintptr_t)object, gone, &made);
 	pthread_mutex_unlock(&interlock);
+	end_change(name, made.number);
 	EXPECT(answer == room);
 	if (answer == REGISTRY_NO_SLOT) {
 		free_object(object);
@@ -152,36 +195,63 @@ static void free_retired(struct worker *worker)
 	}
 }
 
-/* Meets all live entries in one section, the newest first. */
-static void walk(struct registry_cpu *cpu)
+/* Acquires an entry that was met in the section, unless it is gone by now, and ends the section. */
+static void keep_met(struct registry_cpu *cpu, const struct registry_entry *met)
 {
+	registry_answer answer = registry_acquire_entry(cpu, met);
+	EXPECT(answer == REGISTRY_DONE || answer == REGISTRY_NOT_FOUND);
+	DONE(registry_exit(cpu));
+	if (answer != REGISTRY_DONE)
+		return;
+	check_object(met);
+	DONE(registry_release(cpu, met->number));
+}
+
+/* Meets all live entries in one section, the newest first: among them each of its own. */
+static void walk(struct worker *worker)
+{
+	struct registry_cpu *cpu = &cpus[worker->id];
 	struct registry_entry row[SLOTS], entry;
 	struct registry_cursor cursor = {.row = row, .room = SLOTS};
-	uint64_t last = UINT64_MAX;
+	unsigned count = 0, own = 0, live = 0;
 	DONE(registry_enter(cpu));
 	registry_answer answer = registry_first(cpu, &cursor, &entry);
 	for (; answer == REGISTRY_DONE; answer = registry_next(cpu, &cursor, &entry)) {
-		EXPECT(entry.number < last);
-		last = entry.number;
+		EXPECT(count == 0 || entry.number < row[count - 1].number);
 		check_object(&entry);
+		own += entry.kind == REGISTRY_DRIVER && object_of(&entry)->name / OWN == worker->id;
+		count++;
 	}
-	EXPECT(answer == REGISTRY_NO_MORE);
-	DONE(registry_exit(cpu));
+	for (unsigned i = 0; i < OWN; i++)
+		live += worker->live[i];
+	EXPECT(answer == REGISTRY_NO_MORE && own == live);
+	if (count == 0)
+		DONE(registry_exit(cpu));
+	else
+		keep_met(cpu, &row[below(worker, count)]);
 }
 
-/* Releases a local reference, or gives it up where its count was collected. The object is there until then. */
+typedef registry_answer lookup(struct registry_cpu *cpu, uint64_t kind, const struct registry_name *name, struct registry_entry *found);
+
+/* Looks a driver up by one of the calls. Whether it was found. */
+static bool is_found(struct registry_cpu *cpu, unsigned name, lookup *call, struct registry_entry *found)
+{
+	uint64_t ended = atomic_load(&known[name].ended), before = atomic_load(&known[name].number);
+	registry_answer answer = call(cpu, REGISTRY_DRIVER, &names[name], found);
+	bool is_changed = atomic_load(&known[name].begun) != ended;
+	uint64_t number = answer == REGISTRY_DONE ? found->number : 0;
+	EXPECT(answer == REGISTRY_DONE || answer == REGISTRY_NOT_FOUND);
+	EXPECT(number == before || (is_changed && (number == 0 || number > before)));
+	return number != 0;
+}
+
+/* Lets a local reference go. The object is there until then. */
 static void give_back(struct registry_cpu *cpu, struct registry_local *reference)
 {
 	struct registry_entry entry;
 	DONE(registry_local_read(reference, &entry));
 	check_object(&entry);
-	registry_answer answer = registry_local_release(cpu, reference);
-	if (answer == REGISTRY_COLLECTED) {
-		pthread_mutex_lock(&interlock);
-		answer = registry_local_give_up(&keeper, reference);
-		pthread_mutex_unlock(&interlock);
-	}
-	DONE(answer);
+	DONE(registry_local_drop(cpu, reference, &interlock, &keeper));
 }
 
 /* Refers to an entry beyond the section: on this CPU, and by a local reference for the next one. */
@@ -190,10 +260,8 @@ static void refer(struct worker *worker)
 	struct registry_cpu *cpu = &cpus[worker->id];
 	struct registry_local local = {0};
 	struct registry_entry found;
-	registry_answer answer = registry_enter_find(cpu, REGISTRY_DRIVER, &names[below(worker, NAMES)], &found);
-	if (answer == REGISTRY_NOT_FOUND)
+	if (!is_found(cpu, below(worker, NAMES), registry_enter_find, &found))
 		return;
-	DONE(answer);
 	DONE(registry_acquire(cpu, NULL));
 	DONE(registry_local_acquire(cpu, &local));
 	DONE(registry_exit(cpu));
@@ -208,15 +276,12 @@ static void refer(struct worker *worker)
 static void get(struct worker *worker)
 {
 	struct registry_cpu *cpu = &cpus[worker->id];
-	const struct registry_name *name = &names[below(worker, NAMES)];
+	unsigned name = below(worker, NAMES);
 	struct registry_entry found, read;
 	bool held = false;
-	registry_answer answer = registry_look_up(cpu, REGISTRY_DRIVER, name, &found);
-	EXPECT(answer == REGISTRY_DONE || answer == REGISTRY_NOT_FOUND);
-	answer = registry_get(cpu, REGISTRY_DRIVER, name, &found);
-	if (answer == REGISTRY_NOT_FOUND)
+	is_found(cpu, name, registry_look_up, &found);
+	if (!is_found(cpu, name, registry_get, &found))
 		return;
-	DONE(answer);
 	DONE(registry_copy(cpu, found.number));
 	DONE(registry_enter(cpu));
 	DONE(registry_acquire_entry(cpu, &found));
@@ -239,7 +304,7 @@ static void change_iface(struct worker *worker)
 	struct registry_local driver = {0};
 	struct registry_entry found, *gone = &worker->retired[worker->retired_count];
 	if (!worker->has_iface) {
-		if (registry_enter_find(cpu, REGISTRY_DRIVER, &names[below(worker, NAMES)], &found) != REGISTRY_DONE)
+		if (!is_found(cpu, below(worker, NAMES), registry_enter_find, &found))
 			return;
 		DONE(registry_local_acquire_entry(cpu, &found, &driver));
 		DONE(registry_exit(cpu));
@@ -267,29 +332,13 @@ static void empty_basket(unsigned id)
 		give_back(&cpus[id], &local);
 }
 
-/* Waits until the sections that are open now have ended. */
-static void perform(struct registry_cpu *cpu)
-{
-	struct registry_wait wait;
-	registry_answer answer;
-	pthread_mutex_lock(&interlock);
-	DONE(registry_perform_begin(&keeper, cpu, &wait));
-	pthread_mutex_unlock(&interlock);
-	do {
-		rest();
-		pthread_mutex_lock(&interlock);
-		answer = registry_perform_turn(&keeper, cpu, &wait, NULL);
-		pthread_mutex_unlock(&interlock);
-	} while (answer == REGISTRY_WAITING);
-	DONE(answer);
-}
-
 static void *work(void *of)
 {
+	const struct registry_lock lock = registry_lock_of_mutex(&interlock);
 	struct worker *worker = of;
 	for (uint64_t round = 0; round < rounds; round++) {
 		unsigned own = below(worker, OWN);
-		walk(&cpus[worker->id]);
+		walk(worker);
 		refer(worker);
 		get(worker);
 		empty_basket(worker->id);
@@ -298,7 +347,7 @@ static void *work(void *of)
 			change_iface(worker);
 		free_retired(worker);
 		if (below(worker, 16) == 0)
-			perform(&cpus[worker->id]);
+			DONE(registry_perform_wait(&lock, &keeper, &cpus[worker->id], NULL, NULL));
 	}
 	return NULL;
 }

@@ -3,7 +3,8 @@
  *
  *     deferred [ROUNDS [SEED]]
  *
- * CPU 0 holds entries by sections and passive references, and another thread's work on retired entries is played by advances beside the list.
+ * CPU 0 holds entries by sections and passive references, and another thread's work on retired entries is played by advances beside the list, also
+ * between the turns of a barrier. The list's row is longer or shorter than the slots, and its keeper is now and then another registry's, or none.
  */
 #include "model.h"
 #include "waiting.h"
@@ -13,6 +14,7 @@ enum { NAMES = SLOTS };
 static struct model model;
 static struct registry_keeper keeper;
 static struct registry_cpu cpus[2];
+static pthread_mutex_t mutex = PTHREAD_MUTEX_INITIALIZER;
 static struct registry_name names[NAMES];
 static uint64_t random_state;
 
@@ -118,17 +120,59 @@ static void attach_iface(void)
 	}
 }
 
-static void detach(void)
+static void detach_named(uint64_t kind, const struct registry_name *name)
 {
 	struct registry_entry gone = {0}, wanted = {0};
-	uint64_t kind = below(2) ? REGISTRY_DRIVER : REGISTRY_INTERFACE;
-	const struct registry_name *name = &names[below(NAMES)];
 	uint32_t answer = registry_deferred_detach(&list, &cpus[1], kind, name, &gone);
 	struct told freed = freed_first();
-	EXPECT(answer == model_detach(&model, 1, kind, name, &wanted) && same_entries(&gone, &wanted, 1));
+	bool is_full = list.room < SLOTS && waiting.count == list.room;
+	EXPECT(answer == (is_full ? REGISTRY_NO_ROOM : model_detach(&model, 1, kind, name, &wanted)) && same_entries(&gone, &wanted, 1));
 	if (answer == REGISTRY_DONE)
 		waiting.entries[waiting.count++] = wanted;
 	expect_list(&freed);
+}
+
+static void detach(void)
+{
+	detach_named(below(2) ? REGISTRY_DRIVER : REGISTRY_INTERFACE, &names[below(NAMES)]);
+}
+
+/* All entries wait, the drivers before the interfaces on them. */
+static void detach_all(void)
+{
+	list.room = SLOTS;
+	for (unsigned i = 0; i < 2 * NAMES; i++)
+		detach_named(i < NAMES ? REGISTRY_DRIVER : REGISTRY_INTERFACE, &names[i % NAMES]);
+}
+
+/* The row is as long as it has to be, or longer. */
+static void resize(void)
+{
+	list.room = waiting.count + below(SLOTS + 1 - waiting.count);
+}
+
+/* The empty list is any registry's. While entries of one wait, each call refuses another one's keeper, and an empty one ever. */
+static void change_keeper(void)
+{
+	static const struct registry_settings settings = {1, 1, 2, 2, 1, 1};
+	struct registry_keeper other = {0};
+	struct registry_cpu cpu = {0};
+	struct registry_local none = {0};
+	size_t count = 99;
+	if (below(2))
+		DONE(registry_open(&settings, &other, &cpu, 1));
+	const uint32_t wanted = other.at == NULL ? REGISTRY_EMPTY_HANDLE : waiting.count > 0 ? REGISTRY_FULL_HANDLE : REGISTRY_DONE;
+	const struct registry_lock lock = registry_lock_of_mutex(&mutex);
+	list.keeper = other.at != NULL || below(2) ? &other : NULL;
+	EXPECT(registry_deferred_attach(&list, &cpu, &names[0], 9, NULL) == wanted);
+	EXPECT(registry_deferred_attach_iface(&list, &cpu, &none, &names[0], 9, NULL) == (wanted != REGISTRY_DONE ? wanted : REGISTRY_EMPTY_HANDLE));
+	EXPECT(registry_deferred_detach(&list, &cpu, REGISTRY_DRIVER, &names[0], NULL) == (list.room == 0 && wanted == REGISTRY_DONE ? REGISTRY_NO_ROOM : wanted));
+	EXPECT(registry_deferred_free(&list, &count) == wanted && count == (wanted != REGISTRY_DONE ? 99 : list.room > 0));
+	EXPECT(registry_deferred_barrier(&lock, &list, NULL) == wanted && told.count == (count == 1));
+	told.count = 0;
+	list.keeper = &keeper;
+	DONE(registry_close(&cpu, 1, &other));
+	expect_list(&told);
 }
 
 static void free_all(void)
@@ -176,7 +220,7 @@ static void leave(void)
 }
 
 static void (*const deeds[])(void) = {attach, attach, attach, attach, attach_iface, attach_iface, detach, detach, detach, detach, detach, free_all, advance,
-    hold, release, release, enter, leave};
+    hold, release, release, enter, leave, resize, change_keeper};
 
 /* CPU 0 lets all go. */
 static void let_go(void)
@@ -188,23 +232,61 @@ static void let_go(void)
 			EXPECT(registry_release(&cpus[0], model.slots[s].entry.number) == model_release(&model, 0, model.slots[s].entry.number));
 }
 
+/* A barrier that is under way: how many turns it has made, and what waited after the first and waits still. */
+static unsigned turns;
+static struct told awaited;
+
+/* Before a turn others work, and in the end they let all go. No turn is made once nothing is awaited. */
+static void take(void *of)
+{
+	EXPECT(of == &turns && (turns == 0 || awaited.count > 0));
+	for (unsigned i = 0; i < 4 && turns < 6; i++)
+		deeds[below(sizeof deeds / sizeof *deeds)]();
+	if (turns == 6) {
+		detach_all();
+		let_go();
+	}
+}
+
+/* Of what is awaited, what waits still. */
+static struct told still_awaited(void)
+{
+	struct told left = {0};
+	for (size_t place = 0; place < awaited.count * waiting.count; place++) {
+		const struct registry_entry *entry = &waiting.entries[place % waiting.count];
+		if (entry->number == awaited.entries[place / waiting.count].number)
+			left.entries[left.count++] = *entry;
+	}
+	return left;
+}
+
+static void give(void *of)
+{
+	struct told freed = freed_first();
+	EXPECT(of == &turns);
+	expect_list(&freed);
+	awaited = turns++ == 0 ? waiting : still_awaited();
+}
+
+/* A barrier waits for what waits after its first turn, and for nothing that comes later; or it makes one turn, if its deadline is past. */
+static void wait_in_list(void)
+{
+	static const struct timespec past = {0, 0};
+	const struct registry_lock lock = {take, give, &turns};
+	const bool is_late = below(2);
+	turns = 0;
+	uint32_t answer = registry_deferred_barrier(&lock, &list, is_late ? &past : NULL);
+	EXPECT(answer == (awaited.count > 0 ? REGISTRY_STILL_HELD : REGISTRY_DONE) && (is_late ? turns == 1 : awaited.count == 0));
+}
+
 /* CPU 0 is inside, and everything is detached: all wait. Then it leaves, and one call frees them all, oldest first. */
 static void fill_and_free(void)
 {
-	struct registry_entry gone;
 	let_go();
 	for (unsigned i = 0; i < NAMES; i++)
 		attach();
 	enter();
-	for (unsigned i = 0; i < 2 * NAMES; i++) {
-		uint64_t kind = i < NAMES ? REGISTRY_DRIVER : REGISTRY_INTERFACE;
-		uint32_t answer = registry_deferred_detach(&list, &cpus[1], kind, &names[i % NAMES], &gone);
-		struct told freed = freed_first();
-		EXPECT(answer == model_detach(&model, 1, kind, &names[i % NAMES], &gone));
-		if (answer == REGISTRY_DONE)
-			waiting.entries[waiting.count++] = gone;
-		expect_list(&freed);
-	}
+	detach_all();
 	let_go();
 	free_all();
 	free_all();
@@ -226,14 +308,13 @@ int main(int argc, char **argv)
 	for (unsigned long round = 0; round < rounds && model.changes < REGISTRY_MOST_CHANGES / 10 * 9; round++) {
 		for (unsigned i = 0; i < 200; i++)
 			deeds[below(sizeof deeds / sizeof *deeds)]();
+		wait_in_list();
 		if (round % 16 == 0)
 			fill_and_free();
 	}
 	fill_and_free();
 	EXPECT(most_freed > SLOTS / 2);
-	for (unsigned c = 0; c < 2; c++)
-		DONE(registry_close_cpu(&cpus[c]));
-	DONE(registry_close_keeper(&keeper));
+	DONE(registry_close(cpus, 2, &keeper));
 	puts("deferred end");
 	return 0;
 }

@@ -6,10 +6,12 @@
  * A registry of 8 CPUs and 32 slots has room for CHANGES changes, by default ten million, and goes through them (`long`); in the program `largest` it has
  * 64 CPUs and 255 slots. Smaller ones meet each limit (`small`), and two have very many references (`counts`). PART names one of these, to run alone.
  *
- * However many calls were made, a registry that is closed has no block of memory any more: the linker leads malloc, realloc and free here (--wrap), except
- * in the brief program. So the test knows the words of a registry's table. The section word of a CPU says how many sections it has begun: exactly as many
- * as the model counts, so what the CPU remembers begins none. In small registries no call of one CPU alone writes on a line of 64 bytes that another one's
- * calls or a detach write on. The last line says how many calls were compared, of how many changes.
+ * Now and then a call gets an empty handle, a NULL, a kind or a name that is none, or several of these; or it gets no place for what it writes.
+ *
+ * The linker leads malloc, realloc and free here (--wrap), except in the brief program: each call takes and frees as many blocks of memory as the model
+ * says, and a registry that is closed has none any more. So the test knows the words of a registry's table, too. The section word of a CPU says how many
+ * sections it has begun: exactly as many as the model counts, so what the CPU remembers begins none. In small registries no call of one CPU alone writes on
+ * a line of 64 bytes that another one's calls or a detach write on. The last line says how many calls were compared, of how many changes.
  */
 #include <inttypes.h>
 
@@ -23,9 +25,12 @@ enum { MANY = 101, MORE = 201, SMALL = 4 };
 enum { MANY = 70001, MORE = 1000001, SMALL = 200 };
 #endif
 
-/* The blocks that the archive's calls have taken and not freed. */
-static uint64_t blocks;
-/* The table of the last registry, and its bytes: the first block of that size that an opening takes and doesn't free. */
+/* The blocks that the archive's calls have taken, and those that they have freed. */
+static uint64_t taken, freed;
+/* The last registry, by its model, and its CPUs, for planted.c. */
+const struct model *modelled;
+const struct registry_cpu *first_cpu;
+/* Its table, and the table's bytes: the first block of that size that an opening takes and doesn't free. */
 uint64_t *table;
 static size_t table_bytes;
 enum { ALIKE = 16 };
@@ -33,32 +38,38 @@ static void *alike[ALIKE];
 static unsigned alike_count;
 
 #ifdef HISTORY_BRIEFLY
+enum { BLOCKS_ARE_COUNTED = false };
 #define __real_free free
 #else
+enum { BLOCKS_ARE_COUNTED = true };
 void *__wrap_malloc(size_t size)
 {
 	void *block = __real_malloc(size);
-	blocks += block != NULL;
+	taken += block != NULL;
 	if (size == table_bytes && alike_count < ALIKE)
 		alike[alike_count++] = block;
 	return block;
 }
 
+/* A block that grows is neither taken nor freed. */
 void *__wrap_realloc(void *block, size_t size)
 {
 	void *moved = __real_realloc(block, size);
-	blocks += block == NULL && moved != NULL;
+	taken += block == NULL && moved != NULL;
 	return moved;
 }
 
 void __wrap_free(void *block)
 {
-	blocks -= block != NULL;
+	freed += block != NULL;
 	if (alike_count != 0 && alike[0] == block)
 		memmove(alike, alike + 1, --alike_count * sizeof *alike);
 	__real_free(block);
 }
 #endif
+
+/* What an opening takes and keeps: for the keeper a handle and two rows, for each CPU a handle and five, and three blocks that they share. */
+enum { OF_KEEPER = 3, OF_CPU = 6, SHARED = 3 };
 
 enum { NAMES = SLOTS * 3 / 4, HANDLES = 3 * SLOTS + CPUS, LONGEST = 10 * 1000 * 1000, LINE = 64 };
 
@@ -79,6 +90,7 @@ struct world {
 	uint64_t random;
 	unsigned cpu;			/* the last call's */
 	bool stays;			/* on that CPU */
+	uint64_t taken, freed;		/* how many blocks were, when it was opened */
 };
 
 static struct registry_name names[NAMES];
@@ -123,11 +135,68 @@ static uint64_t any_kind(struct world *world)
 static uint64_t any_number(struct world *world)
 {
 	if (below(world, 16) == 0)
-		return below(world, world->model.changes + 3);
+		return below(world, 8) ? below(world, world->model.changes + 3) : UINT64_MAX;
 	return world->model.slots[below(world, world->model.settings.slots)].entry.number;
 }
 
-/* The answer is the model's. */
+/* What a call gets. */
+struct given {
+	unsigned at;			/* the CPU's number */
+	struct registry_cpu *cpu;
+	struct registry_keeper *keeper;
+	uint64_t kind;
+	const struct registry_name *name;
+	bool lacks;			/* what the call reads otherwise is NULL */
+	bool wants;			/* what the call writes */
+};
+
+static struct registry_keeper no_keeper;
+static struct registry_cpu no_cpu;
+static struct registry_local no_local;
+static const struct registry_name NO_NAME = {0, 0};
+
+/* All of it is right in seven cases of eight. */
+static struct given any_given(struct world *world)
+{
+	static const uint64_t no_kinds[] = {0, 3, 9, 258};
+	const unsigned at = any_cpu(world);
+	struct given given = {at, &world->cpus[at], &world->keeper, any_kind(world), any_name(world), false, true};
+	if (below(world, 8) != 0)
+		return given;
+	given.cpu = below(world, 4) ? given.cpu : &no_cpu;
+	given.keeper = below(world, 4) ? given.keeper : &no_keeper;
+	given.kind = below(world, 4) ? given.kind : no_kinds[below(world, 4)];
+	given.name = below(world, 4) ? given.name : below(world, 2) ? NULL : &NO_NAME;
+	given.lacks = below(world, 4) == 0;
+	given.wants = below(world, 2);
+	return given;
+}
+
+/* What a call needs of it, and what is wrong with what the last call got. */
+static uint32_t wrong;
+enum { A_KEEPER = 1, A_CPU = 2, A_SECTION = 4, A_NAME = 8, A_KIND = 16, WORDS = 32, THE_REST = 64, TO_ATTACH = A_KEEPER | A_CPU | A_NAME | WORDS };
+
+/* What is wrong with it, in the order of registry.h; else REGISTRY_DONE. */
+static uint32_t wrong_with(const struct model *model, const struct given *given, unsigned needs)
+{
+	const struct model_cpu *own = &model->cpus[given->at];
+	if ((needs & A_KEEPER && given->keeper == &no_keeper) || (needs & A_CPU && given->cpu == &no_cpu))
+		return REGISTRY_EMPTY_HANDLE;
+	if (needs & A_SECTION && own->depth == REGISTRY_MOST_DEPTH)
+		return REGISTRY_TOO_DEEP;
+	if (needs & A_SECTION && own->depth == 0 && own->sections == model->settings.section_limit)
+		return REGISTRY_SECTIONS_SPENT;
+	if ((needs & A_NAME && given->name == NULL) || (needs & THE_REST && given->lacks))
+		return REGISTRY_NULL;
+	if (needs & A_KIND && given->kind != REGISTRY_DRIVER && given->kind != REGISTRY_INTERFACE)
+		return REGISTRY_BAD_KIND;
+	return needs & WORDS && given->name == &NO_NAME ? REGISTRY_BAD_NAME : REGISTRY_DONE;
+}
+
+/* What a call on `world` with `given` returns: what is wrong, or what the model's call returns. */
+#define WANTED(needs, call) ((wrong = wrong_with(&world->model, &given, needs)) != REGISTRY_DONE ? wrong : (call))
+
+/* The answer is the one that is wanted. */
 static uint32_t same(uint32_t answer, uint32_t wanted)
 {
 	compared++;
@@ -143,62 +212,65 @@ static uint32_t same_entry(uint32_t answer, const struct registry_entry *entry, 
 	return answer;
 }
 
+/* The same, if the entry was wanted. */
+static uint32_t same_wanted(const struct given *given, uint32_t answer, struct registry_entry *entry, uint32_t wanted, const struct registry_entry *other)
+{
+	if (!given->wants)
+		*entry = *other;
+	return same_entry(answer, entry, wanted, other);
+}
+
 static void enter(struct world *world)
 {
-	unsigned cpu = any_cpu(world);
-	same(registry_enter(&world->cpus[cpu]), model_enter(&world->model, cpu));
+	const struct given given = any_given(world);
+	same(registry_enter(given.cpu), WANTED(A_CPU, model_enter(&world->model, given.at)));
 }
 
 static void leave(struct world *world)
 {
-	unsigned cpu = any_cpu(world);
+	const struct given given = any_given(world);
 	uint64_t depth = 999;
-	same(registry_exit(&world->cpus[cpu]), model_exit(&world->model, cpu));
-	DONE(registry_depth(&world->cpus[cpu], &depth));
-	EXPECT(depth == world->model.cpus[cpu].depth);
+	bool inside;
+	same(registry_exit(given.cpu), WANTED(A_CPU, model_exit(&world->model, given.at)));
+	same(registry_depth(given.cpu, given.wants ? &depth : NULL), wrong);
+	EXPECT(depth == (given.wants && wrong == REGISTRY_DONE ? world->model.cpus[given.at].depth : 999));
+	same(registry_inside(given.cpu, given.wants ? &inside : NULL), wrong);
+	EXPECT(depth == 999 || inside == (depth > 0));
 }
 
 typedef uint32_t lookup(struct registry_cpu *, uint64_t, const struct registry_name *, struct registry_entry *);
 typedef uint32_t model_lookup(struct model *, unsigned, uint64_t, const struct registry_name *, struct registry_entry *);
 
-static void look(struct world *world, lookup *call, model_lookup *model_call)
+/* What is refused for its name or kind has entered all the same, and left: the last found entry stays. */
+static void look(struct world *world, lookup *call, model_lookup *model_call, unsigned needs)
 {
 	struct registry_entry found = {0}, wanted = {0};
-	unsigned cpu = any_cpu(world);
-	uint64_t kind = any_kind(world);
-	const struct registry_name *name = any_name(world);
-	uint32_t answer = call(&world->cpus[cpu], kind, name, &found);
-	same_entry(answer, &found, model_call(&world->model, cpu, kind, name, &wanted), &wanted);
+	const struct given given = any_given(world);
+	uint32_t answer = call(given.cpu, given.kind, given.name, given.wants ? &found : NULL);
+	same_wanted(&given, answer, &found, WANTED(needs, model_call(&world->model, given.at, given.kind, given.name, &wanted)), &wanted);
+	if (needs & A_SECTION && (wrong == REGISTRY_NULL || wrong == REGISTRY_BAD_KIND) && model_enter(&world->model, given.at) == REGISTRY_DONE)
+		model_exit(&world->model, given.at);
 }
 
-static void find(struct world *world)
-{
-	look(world, registry_find, model_find);
-}
+#define LOOK(name, needs)                                                                                                          \
+	static void name(struct world *world)                                                                                      \
+	{                                                                                                                          \
+		look(world, registry_##name, model_##name, needs);                                                                 \
+	}
 
-static void look_up(struct world *world)
-{
-	look(world, registry_look_up, model_look_up);
-}
-
-static void enter_find(struct world *world)
-{
-	look(world, registry_enter_find, model_enter_find);
-}
-
-static void get(struct world *world)
-{
-	look(world, registry_get, model_get);
-}
+LOOK(find, A_CPU | A_NAME | A_KIND)
+LOOK(look_up, A_CPU | A_SECTION | A_NAME | A_KIND)
+LOOK(enter_find, A_CPU | A_SECTION | A_NAME | A_KIND)
+LOOK(get, A_CPU | A_SECTION | A_NAME | A_KIND)
 
 static void walk(struct world *world)
 {
 	struct registry_entry row[SLOTS] = {0}, wanted[SLOTS] = {0};
+	const struct given given = any_given(world);
 	size_t count = 99, length = 99, room = below(world, 4) ? SLOTS : below(world, SLOTS);
-	unsigned cpu = any_cpu(world);
-	uint32_t answer = registry_walk(&world->cpus[cpu], row, room, &count);
-	same(answer, model_walk(&world->model, cpu, wanted, room, &length));
-	EXPECT(count == length && memcmp(row, wanted, sizeof row) == 0);
+	uint32_t answer = registry_walk(given.cpu, given.lacks ? NULL : row, room, given.wants ? &count : NULL);
+	same(answer, WANTED(room != 0 ? A_CPU | THE_REST : A_CPU, model_walk(&world->model, given.at, wanted, room, &length)));
+	EXPECT((count == length || !given.wants) && memcmp(row, wanted, sizeof row) == 0);
 }
 
 /* All entries by a cursor are those of a walk. Behind the last one there is none, however often it is asked for. */
@@ -206,112 +278,133 @@ static void go_over(struct world *world)
 {
 	struct registry_entry entry = {0}, row[SLOTS] = {0}, met[SLOTS];
 	struct registry_cursor cursor = {.row = met, .room = SLOTS};
+	const struct given given = any_given(world);
 	size_t length = 0;
-	unsigned cpu = any_cpu(world);
-	uint32_t wanted = model_walk(&world->model, cpu, row, SLOTS, &length), answer = registry_first(&world->cpus[cpu], &cursor, &entry);
+	uint32_t wanted = WANTED(A_CPU | THE_REST, model_walk(&world->model, given.at, row, SLOTS, &length));
+	uint32_t answer = registry_first(given.cpu, given.lacks ? NULL : &cursor, &entry);
 	if (wanted != REGISTRY_DONE) {
 		same(answer, wanted);
-		same(registry_next(&world->cpus[cpu], &cursor, &entry), wanted);
+		same(registry_next(given.cpu, given.lacks ? NULL : &cursor, &entry), wanted);
 		return;
 	}
-	for (size_t i = 0; i < length; i++, answer = registry_next(&world->cpus[cpu], &cursor, &entry))
+	for (size_t i = 0; i < length; i++, answer = registry_next(given.cpu, &cursor, &entry))
 		DONE(same_entry(answer, &entry, REGISTRY_DONE, &row[i]));
 	same(answer, REGISTRY_NO_MORE);
-	same(registry_next(&world->cpus[cpu], &cursor, &entry), REGISTRY_NO_MORE);
+	same(registry_next(given.cpu, &cursor, NULL), REGISTRY_NO_MORE);
 	EXPECT(length == 0 || memcmp(&entry, &row[length - 1], sizeof entry) == 0);
 }
 
-/* An entry that some slot has or had last, or one that none ever had. */
+/* An entry that some slot has or had last, or one that none ever had, with a number or a kind of its own. */
 static struct registry_entry any_entry(struct world *world)
 {
 	struct registry_entry entry = world->model.slots[below(world, world->model.settings.slots)].entry;
 	entry.number += below(world, 16) == 0;
-	entry.kind = entry.kind == 0 ? REGISTRY_DRIVER : entry.kind;
+	entry.kind = below(world, 16) ? entry.kind : 9;
 	return entry;
 }
 
 static void acquire_entry(struct world *world)
 {
-	unsigned cpu = any_cpu(world);
+	const struct given given = any_given(world);
 	const struct registry_entry entry = any_entry(world);
-	same(registry_acquire_entry(&world->cpus[cpu], &entry), model_acquire_entry(&world->model, cpu, &entry));
+	uint32_t answer = registry_acquire_entry(given.cpu, given.lacks ? NULL : &entry);
+	same(answer, WANTED(A_CPU | THE_REST, model_acquire_entry(&world->model, given.at, &entry)));
 }
 
 static void acquire(struct world *world)
 {
+	const struct given given = any_given(world);
 	uint64_t number = 0, wanted = 0;
-	unsigned cpu = any_cpu(world);
-	same(registry_acquire(&world->cpus[cpu], &number), model_acquire(&world->model, cpu, &wanted));
-	EXPECT(number == wanted);
+	same(registry_acquire(given.cpu, given.wants ? &number : NULL), WANTED(A_CPU, model_acquire(&world->model, given.at, &wanted)));
+	EXPECT(number == wanted || !given.wants);
 }
 
 static void copy(struct world *world)
 {
-	unsigned cpu = any_cpu(world);
+	const struct given given = any_given(world);
 	uint64_t number = any_number(world);
-	same(registry_copy(&world->cpus[cpu], number), model_copy(&world->model, cpu, number));
+	same(registry_copy(given.cpu, number), WANTED(A_CPU, model_copy(&world->model, given.at, number)));
 }
 
 static void read_held(struct world *world)
 {
 	struct registry_entry entry = {0}, wanted = {0};
-	unsigned cpu = any_cpu(world);
+	const struct given given = any_given(world);
 	uint64_t number = any_number(world);
-	bool held = false;
-	uint32_t answer = registry_read(&world->cpus[cpu], number, &entry);
-	same_entry(answer, &entry, model_read(&world->model, cpu, number, &wanted), &wanted);
-	DONE(registry_held(&world->cpus[cpu], number, &held));
-	EXPECT(held == (answer == REGISTRY_DONE));
+	bool held = true;
+	uint32_t answer = registry_read(given.cpu, number, given.wants ? &entry : NULL);
+	same_wanted(&given, answer, &entry, WANTED(A_CPU, model_read(&world->model, given.at, number, &wanted)), &wanted);
+	same(registry_held(given.cpu, number, given.wants ? &held : NULL), wrong);
+	EXPECT(held == (!given.wants || wrong != REGISTRY_DONE || answer == REGISTRY_DONE));
 }
 
 static void release(struct world *world)
 {
-	unsigned cpu = any_cpu(world);
+	const struct given given = any_given(world);
 	uint64_t number = any_number(world);
-	same(registry_release(&world->cpus[cpu], number), model_release(&world->model, cpu, number));
+	same(registry_release(given.cpu, number), WANTED(A_CPU, model_release(&world->model, given.at, number)));
+}
+
+/* What an acquire of a local reference returns: to the last found entry, or to the one that is given. */
+static uint32_t wanted_local(struct world *world, const struct given *given, bool by_entry, const struct registry_entry *entry, bool is_full, uint64_t *number)
+{
+	if (given->cpu == &no_cpu)
+		return REGISTRY_EMPTY_HANDLE;
+	if (is_full)
+		return REGISTRY_FULL_HANDLE;
+	if (!by_entry)
+		return model_local_acquire(&world->model, given->at, number);
+	*number = entry->number;
+	return given->lacks ? REGISTRY_NULL : model_local_acquire_entry(&world->model, given->at, entry);
+}
+
+/* The handle is empty, or now and then full. */
+static void add_local(struct world *world, bool by_entry)
+{
+	const struct given given = any_given(world);
+	const struct registry_entry entry = any_entry(world);
+	const bool is_full = world->held > 0 && below(world, 16) == 0;
+	if (world->held == HANDLES)
+		return;
+	struct held *held = &world->locals[is_full ? 0 : world->held];
+	uint64_t number = 0;
+	uint32_t answer = by_entry ? registry_local_acquire_entry(given.cpu, given.lacks ? NULL : &entry, &held->handle)
+	                           : registry_local_acquire(given.cpu, &held->handle);
+	if (same(answer, wanted_local(world, &given, by_entry, &entry, is_full, &number)) != REGISTRY_DONE)
+		return;
+	held->number = number;
+	world->held++;
 }
 
 static void acquire_local(struct world *world)
 {
-	unsigned cpu = any_cpu(world);
-	uint64_t wanted = 0;
-	if (world->held == HANDLES)
-		return;
-	struct held *held = &world->locals[world->held];
-	if (same(registry_local_acquire(&world->cpus[cpu], &held->handle), model_local_acquire(&world->model, cpu, &wanted)) != REGISTRY_DONE)
-		return;
-	held->number = wanted;
-	world->held++;
+	add_local(world, false);
 }
 
 static void acquire_entry_local(struct world *world)
 {
-	unsigned cpu = any_cpu(world);
-	const struct registry_entry entry = any_entry(world);
-	if (world->held == HANDLES)
-		return;
-	struct held *held = &world->locals[world->held];
-	uint32_t answer = registry_local_acquire_entry(&world->cpus[cpu], &entry, &held->handle);
-	if (same(answer, model_local_acquire_entry(&world->model, cpu, &entry)) != REGISTRY_DONE)
-		return;
-	held->number = entry.number;
-	world->held++;
+	add_local(world, true);
 }
 
-/* Takes the handle out of the row: it is empty. */
+/* Takes the handle out of the row: it is empty, and no call takes it for a reference. */
 static void forget_local(struct world *world, struct held *held)
 {
-	EXPECT(held->handle.at == NULL);
+	struct registry_cpu *cpu = &world->cpus[0];
+	EXPECT(held->handle.at == NULL && registry_local_read(&held->handle, NULL) == REGISTRY_EMPTY_HANDLE);
+	EXPECT(registry_local_release(cpu, &held->handle) == REGISTRY_EMPTY_HANDLE && registry_local_forget(&held->handle) == REGISTRY_EMPTY_HANDLE);
+	EXPECT(registry_local_give_up(&world->keeper, &held->handle) == REGISTRY_EMPTY_HANDLE);
 	*held = world->locals[--world->held];
 	world->locals[world->held].handle.at = NULL;
 }
 
+/* Under the interlock a reference is given up on any CPU, also if the handle of the CPU that would release it is empty. */
 static void release_held(struct world *world, struct held *held)
 {
 	struct registry_entry entry;
 	unsigned cpu = any_cpu(world);
 	DONE(registry_local_read(&held->handle, &entry));
 	EXPECT(memcmp(&entry, &model_slot_of(&world->model, held->number)->entry, sizeof entry) == 0);
+	same(registry_local_release(&no_cpu, &held->handle), REGISTRY_EMPTY_HANDLE);
 	uint32_t answer = same(registry_local_release(&world->cpus[cpu], &held->handle), model_local_release(&world->model, cpu, held->number));
 	if (answer == REGISTRY_COLLECTED)
 		same(registry_local_give_up(&world->keeper, &held->handle), model_local_give_up(&world->model, held->number));
@@ -329,32 +422,39 @@ static void give_up_local(struct world *world)
 	if (world->held == 0)
 		return;
 	struct held *held = &world->locals[below(world, world->held)];
+	same(registry_local_give_up(&no_keeper, &held->handle), REGISTRY_EMPTY_HANDLE);
 	if (same(registry_local_give_up(&world->keeper, &held->handle), model_local_give_up(&world->model, held->number)) == REGISTRY_DONE)
 		forget_local(world, held);
+}
+
+/* A held reference, for an interface, or now and then none. */
+static struct held *any_held(struct world *world)
+{
+	return world->held > 0 ? &world->locals[below(world, world->held)] : NULL;
 }
 
 static void attach(struct world *world)
 {
 	struct registry_entry made = {0}, wanted = {0};
-	unsigned cpu = any_cpu(world);
-	const struct registry_name *name = any_name(world);
+	const struct given given = any_given(world);
 	uint64_t value = any_value(world);
-	same(registry_room(&world->keeper), model_room(&world->model));
-	uint32_t answer = registry_attach(&world->keeper, &world->cpus[cpu], name, value, &made);
-	same_entry(answer, &made, model_attach(&world->model, cpu, 0, name, value, &wanted), &wanted);
+	same(registry_room(given.keeper), WANTED(A_KEEPER, model_room(&world->model)));
+	uint32_t answer = registry_attach(given.keeper, given.cpu, given.name, value, given.wants ? &made : NULL);
+	same_wanted(&given, answer, &made, WANTED(TO_ATTACH, model_attach(&world->model, given.at, 0, given.name, value, &wanted)), &wanted);
 }
 
 static void attach_iface(struct world *world)
 {
 	struct registry_entry made = {0}, wanted = {0};
-	unsigned cpu = any_cpu(world);
-	const struct registry_name *name = any_name(world);
+	const struct given given = any_given(world);
 	uint64_t value = any_value(world);
-	if (world->held == 0)
+	struct held *held = any_held(world);
+	if (held == NULL) {
+		same(registry_attach_iface(given.keeper, given.cpu, &no_local, given.name, value, &made), REGISTRY_EMPTY_HANDLE);
 		return;
-	struct held *held = &world->locals[below(world, world->held)];
-	uint32_t answer = registry_attach_iface(&world->keeper, &world->cpus[cpu], &held->handle, name, value, &made);
-	same_entry(answer, &made, model_attach(&world->model, cpu, held->number, name, value, &wanted), &wanted);
+	}
+	uint32_t answer = registry_attach_iface(given.keeper, given.cpu, &held->handle, given.name, value, given.wants ? &made : NULL);
+	same_wanted(&given, answer, &made, WANTED(TO_ATTACH, model_attach(&world->model, given.at, held->number, given.name, value, &wanted)), &wanted);
 	if (answer == REGISTRY_DONE)
 		forget_local(world, held);
 }
@@ -363,14 +463,15 @@ static void attach_iface(struct world *world)
 static void replace(struct world *world)
 {
 	struct registry_entry made[2] = {0}, wanted[2] = {0};
-	unsigned cpu = any_cpu(world);
-	const struct registry_name *name = any_name(world);
+	const struct given given = any_given(world);
 	uint64_t value = any_value(world);
-	struct held *held = world->held > 0 && below(world, 2) ? &world->locals[below(world, world->held)] : NULL;
-	uint32_t answer = held == NULL ? registry_replace(&world->keeper, &world->cpus[cpu], name, value, &made[0], &made[1])
-	    : registry_replace_iface(&world->keeper, &world->cpus[cpu], &held->handle, name, value, &made[0], &made[1]);
-	same(answer, model_replace(&world->model, cpu, held == NULL ? 0 : held->number, name, value, &wanted[0], &wanted[1]));
-	EXPECT(memcmp(made, wanted, sizeof made) == 0);
+	struct held *held = below(world, 2) ? any_held(world) : NULL;
+	struct registry_entry *gone = given.wants ? &made[0] : NULL, *to = given.wants ? &made[1] : NULL;
+	uint64_t driver = held == NULL ? 0 : held->number;
+	uint32_t answer = held == NULL ? registry_replace(given.keeper, given.cpu, given.name, value, gone, to)
+	    : registry_replace_iface(given.keeper, given.cpu, &held->handle, given.name, value, gone, to);
+	same(answer, WANTED(TO_ATTACH, model_replace(&world->model, given.at, driver, given.name, value, &wanted[0], &wanted[1])));
+	EXPECT(!given.wants || memcmp(made, wanted, sizeof made) == 0);
 	if (held != NULL && answer == REGISTRY_DONE)
 		forget_local(world, held);
 }
@@ -378,63 +479,75 @@ static void replace(struct world *world)
 static void detach(struct world *world)
 {
 	struct registry_entry gone = {0}, wanted = {0};
-	unsigned cpu = any_cpu(world);
-	uint64_t kind = any_kind(world);
-	const struct registry_name *name = any_name(world);
-	uint32_t answer = registry_detach(&world->keeper, &world->cpus[cpu], kind, name, &gone);
-	same_entry(answer, &gone, model_detach(&world->model, cpu, kind, name, &wanted), &wanted);
+	const struct given given = any_given(world);
+	uint32_t answer = registry_detach(given.keeper, given.cpu, given.kind, given.name, given.wants ? &gone : NULL);
+	same_wanted(&given, answer, &gone, WANTED(TO_ATTACH | A_KIND, model_detach(&world->model, given.at, given.kind, given.name, &wanted)), &wanted);
 }
 
-static bool same_stage(struct registry_stage met, struct registry_stage wanted)
+/* The stages are the same, if they were wanted. */
+static void same_stage(const struct given *given, struct registry_stage met, struct registry_stage wanted)
 {
-	return met.stage == wanted.stage && met.what == wanted.what;
+	EXPECT(!given->wants || (met.stage == wanted.stage && met.what == wanted.what));
+}
+
+static void advance_by(struct world *world, struct given given, uint64_t number)
+{
+	struct registry_stage met = {9, 9}, wanted = {9, 9};
+	uint32_t answer = registry_advance(given.keeper, number, given.wants ? &met : NULL);
+	same(answer, WANTED(A_KEEPER, model_advance(&world->model, number, &wanted)));
+	same_stage(&given, met, wanted);
 }
 
 static void advance_number(struct world *world, uint64_t number)
 {
-	struct registry_stage met = {9, 9}, wanted = {9, 9};
-	same(registry_advance(&world->keeper, number, &met), model_advance(&world->model, number, &wanted));
-	EXPECT(same_stage(met, wanted));
+	advance_by(world, (struct given){.keeper = &world->keeper, .wants = true}, number);
 }
 
 static void advance(struct world *world)
 {
-	advance_number(world, any_number(world));
+	const struct given given = any_given(world);
+	advance_by(world, given, any_number(world));
 }
 
 static void destroy(struct world *world)
 {
 	struct registry_stage met = {9, 9}, wanted = {9, 9};
-	unsigned cpu = any_cpu(world);
+	const struct given given = any_given(world);
 	uint64_t number = any_number(world);
-	same(registry_destroy(&world->keeper, &world->cpus[cpu], number, &met), model_destroy(&world->model, cpu, number, &wanted));
-	EXPECT(same_stage(met, wanted));
+	uint32_t answer = registry_destroy(given.keeper, given.cpu, number, given.wants ? &met : NULL);
+	same(answer, WANTED(A_KEEPER | A_CPU, model_destroy(&world->model, given.at, number, &wanted)));
+	same_stage(&given, met, wanted);
 }
 
 static void begin_wait(struct world *world)
 {
-	unsigned cpu = any_cpu(world);
-	uint32_t answer = registry_perform_begin(&world->keeper, &world->cpus[cpu], &world->wait);
-	world->begun = same(answer, model_perform_begin(&world->model, cpu)) == REGISTRY_DONE || world->begun;
+	const struct given given = any_given(world);
+	uint32_t answer = registry_perform_begin(given.keeper, given.cpu, given.lacks ? NULL : &world->wait);
+	same(answer, WANTED(A_KEEPER | A_CPU | THE_REST, model_perform_begin(&world->model, given.at)));
+	world->begun = answer == REGISTRY_DONE || world->begun;
 }
 
 static void turn_wait(struct world *world)
 {
 	uint64_t waited = 99, wanted = 99;
-	unsigned cpu = any_cpu(world);
-	if (!world->begun)
-		return;
-	same(registry_perform_turn(&world->keeper, &world->cpus[cpu], &world->wait, &waited), model_perform_turn(&world->model, cpu, &wanted));
-	EXPECT(waited == wanted);
+	const struct given given = any_given(world);
+	uint32_t answer = registry_perform_turn(given.keeper, given.cpu, given.lacks ? NULL : &world->wait, given.wants ? &waited : NULL);
+	same(answer, WANTED(A_KEEPER | A_CPU | THE_REST, world->begun ? model_perform_turn(&world->model, given.at, &wanted) : REGISTRY_NOT_BEGUN));
+	EXPECT(waited == wanted || !given.wants);
 }
 
+/* What the program counts of a registry: nothing of it is written if the call fails, except how much room it takes. */
 static void audit(struct world *world)
 {
 	struct registry_balance list[SLOTS], wanted[SLOTS];
+	const struct given given = any_given(world);
 	size_t length = 99, count = model_audit(&world->model, wanted), room = below(world, 4) ? SLOTS : below(world, SLOTS);
-	uint32_t answer = registry_audit(&world->keeper, world->cpus, world->model.settings.cpus, list, room, &length);
-	same(answer, count > room ? REGISTRY_NO_ROOM : REGISTRY_DONE);
-	EXPECT(length == count && (answer != REGISTRY_DONE || memcmp(list, wanted, count * sizeof *list) == 0));
+	list[0].number = 0;
+	uint32_t answer = registry_audit(given.keeper, world->cpus, world->model.settings.cpus, given.lacks ? NULL : list, room, given.wants ? &length : NULL);
+	same(answer, WANTED(room != 0 ? A_KEEPER | THE_REST : A_KEEPER, count > room ? REGISTRY_NO_ROOM : REGISTRY_DONE));
+	EXPECT(length == (wrong != REGISTRY_DONE || !given.wants ? 99 : count));
+	EXPECT(answer == REGISTRY_DONE ? memcmp(list, wanted, count * sizeof *list) == 0 : list[0].number == 0);
+	same(registry_settings_of(given.keeper, NULL), wrong_with(&world->model, &given, A_KEEPER));
 }
 
 /* All CPUs leave their sections, and nothing is referred to but by slots. */
@@ -468,12 +581,14 @@ static void settle(struct world *world)
 	free_retired(world);
 }
 
-/* The CPU has begun as many sections as the model counts. */
-static void same_sections(const struct world *world)
+/* The CPU has begun as many sections as the model counts, and as many blocks were taken and freed. */
+static void same_counts(const struct world *world)
 {
 	const struct model_cpu *own = &world->model.cpus[world->cpu];
 	if (table != NULL)
 		EXPECT(table[TABLE_ROW(world->model.settings.slots, world->cpu)] == 2 * own->sections - (own->depth > 0));
+	if (BLOCKS_ARE_COUNTED)
+		EXPECT(taken - world->taken == world->model.taken && freed - world->freed == world->model.freed);
 }
 
 /* Who writes shared words in a call: the CPU, the keeper, or both. */
@@ -499,7 +614,7 @@ static enum writer act(struct world *world)
 	while (which >= deeds[i].often)
 		which -= deeds[i++].often;
 	deeds[i].act(world);
-	same_sections(world);
+	same_counts(world);
 	return deeds[i].writer;
 }
 
@@ -512,7 +627,7 @@ static void hurry(struct world *world)
 	world->stays = true;
 	for (unsigned i = 0; i < sizeof calls / sizeof *calls; i++) {
 		calls[i](world);
-		same_sections(world);
+		same_counts(world);
 	}
 	world->stays = false;
 }
@@ -542,10 +657,16 @@ static struct world *opened(const struct registry_settings *settings, uint64_t s
 	struct world *world = calloc(1, sizeof *world);
 	EXPECT(world != NULL);
 	world->model.settings = *settings;
+	modelled = &world->model;
+	first_cpu = world->cpus;
 	world->random = seed * 0x9e3779b97f4a7c15 | 1;
 	table_bytes = TABLE_BYTES(settings->slots, settings->cpus);
 	alike_count = 0;
+	EXPECT(taken == freed);
 	DONE(registry_open(settings, &world->keeper, world->cpus, settings->cpus));
+	EXPECT(!BLOCKS_ARE_COUNTED || taken - freed == SHARED + OF_KEEPER + settings->cpus * OF_CPU);
+	world->taken = taken;
+	world->freed = freed;
 	table = alike_count == 0 ? NULL : alike[0];
 	alike_count = ALIKE;
 	memset(&lines, 0, sizeof lines);
@@ -554,17 +675,45 @@ static struct world *opened(const struct registry_settings *settings, uint64_t s
 	return world;
 }
 
-/* All or none is closed, whichever CPU is inside. */
+/* The CPU is closed, and its blocks are freed with the one that it keeps. What is closed stays so. */
+static void close_cpu(struct world *world, unsigned cpu)
+{
+	uint64_t before = freed;
+	DONE(registry_close_cpu(&world->cpus[cpu]));
+	EXPECT(!BLOCKS_ARE_COUNTED || freed - before == OF_CPU + (uint64_t)world->model.cpus[cpu].spare);
+	EXPECT(registry_close_cpu(&world->cpus[cpu]) == REGISTRY_EMPTY_HANDLE);
+}
+
+static void close_keeper(struct world *world)
+{
+	uint64_t before = freed;
+	DONE(registry_close_keeper(&world->keeper));
+	EXPECT(!BLOCKS_ARE_COUNTED || freed - before == OF_KEEPER);
+	EXPECT(registry_close_keeper(&world->keeper) == REGISTRY_EMPTY_HANDLE);
+}
+
+/* All or none is closed, whichever CPU is inside. Some are closed before, in either order. */
 static void closed(struct world *world)
 {
 	const unsigned cpus = (unsigned)world->model.settings.cpus;
 	for (unsigned c = 0; c < cpus; c++)
 		if (same(registry_enter(&world->cpus[c]), model_enter(&world->model, c)) == REGISTRY_DONE) {
-			EXPECT(registry_close(world->cpus, cpus, &world->keeper) == REGISTRY_INSIDE);
+			EXPECT(registry_close_cpu(&world->cpus[c]) == REGISTRY_INSIDE);
+			EXPECT(registry_close(world->cpus, cpus, &world->keeper) == REGISTRY_INSIDE && registry_settings_of(&world->keeper, NULL) == REGISTRY_DONE);
 			DONE(registry_exit(&world->cpus[c]));
 		}
-	DONE(registry_close(world->cpus, cpus, &world->keeper));
-	EXPECT(blocks == 0);
+	EXPECT(registry_close(NULL, 1, &world->keeper) == REGISTRY_NULL && registry_close(NULL, SIZE_MAX, &world->keeper) == REGISTRY_NULL);
+	for (unsigned c = (unsigned)below(world, 2); c + 1 < cpus; c += 3)
+		close_cpu(world, c);
+	if (below(world, 2))
+		close_keeper(world);
+	if (below(world, 2))
+		DONE(registry_close(NULL, 0, &world->keeper));
+	for (unsigned i = 0; i < 2; i++)
+		DONE(registry_close(world->cpus, cpus, &world->keeper));
+	for (unsigned c = 0; c < cpus; c++)
+		EXPECT(registry_inside(&world->cpus[c], NULL) == REGISTRY_EMPTY_HANDLE);
+	EXPECT(taken == freed && registry_settings_of(&world->keeper, NULL) == REGISTRY_EMPTY_HANDLE);
 	__real_free(world);
 }
 
@@ -711,7 +860,7 @@ static void refer_often(void)
 	closed(world);
 }
 
-/* Very many references on the last CPU, none by a section: passive ones, and local ones that another CPU releases at once. */
+/* Very many references on the last CPU, none by a section: passive ones, and local ones that another CPU releases at once, except one. */
 static void refer_more(void)
 {
 	const struct registry_settings settings = {CPUS, SLOTS, 2, REGISTRY_MOST_SECTIONS, REGISTRY_MOST_COUNT, REGISTRY_MOST_COUNT};
@@ -725,13 +874,18 @@ static void refer_more(void)
 	for (unsigned i = 0; i < MORE; i++) {
 		DONE(same_entry(registry_get(cpu, REGISTRY_DRIVER, &names[0], &entry), &entry,
 		    model_get(&world->model, world->cpu, REGISTRY_DRIVER, &names[0], &wanted), &wanted));
-		same_sections(world);
+		same_counts(world);
 	}
 	DONE(same(registry_enter_find(cpu, REGISTRY_DRIVER, &names[0], &entry), model_enter_find(&world->model, world->cpu, REGISTRY_DRIVER, &names[0], &wanted)));
 	for (unsigned i = 0; i < MORE; i++) {
 		DONE(same(registry_local_acquire(cpu, &local), model_local_acquire(&world->model, world->cpu, &number)));
 		DONE(same(registry_local_release(&world->cpus[0], &local), model_local_release(&world->model, 0, number)));
 	}
+	/* One is forgotten: its block is freed, and it stays held. */
+	DONE(same(registry_local_acquire(cpu, &local), model_local_acquire(&world->model, world->cpu, &number)));
+	DONE(registry_local_forget(&local));
+	world->model.freed++;
+	same_counts(world);
 	audit(world);
 	end_history(world);
 	closed(world);

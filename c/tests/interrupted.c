@@ -1,6 +1,5 @@
 /*
- * interrupted - each wait of waiting.h under a storm of signals; in a thread that is cancelled; with handles that are empty and places that are NULL; in a
- * section of its own. A wait for a CPU also with a deadline that never comes
+ * interrupted - each wait of waiting.h under a storm of signals, and in a thread that is cancelled. A wait for a CPU also with a deadline that never comes
  */
 #include <pthread.h>
 #include <sched.h>
@@ -241,42 +240,6 @@ static void test_cancelled_stop(void)
 	EXPECT(registry_reclaimer_stop(&lock, &list) == REGISTRY_EMPTY_HANDLE);
 }
 
-/* A wait on an empty keeper, in a section of its own, or for what isn't retired ends at once, with the result of its turn. */
-static void test_refused(void)
-{
-	struct registry_keeper none = {0};
-	struct registry_deferred empty = {.keeper = &none};
-	size_t freed;
-	EXPECT(registry_destroy_wait(&lock, &none, &cpus[1], 1, NULL, NULL) == REGISTRY_EMPTY_HANDLE);
-	EXPECT(registry_perform_wait(&lock, &none, &cpus[1], NULL, NULL) == REGISTRY_EMPTY_HANDLE);
-	EXPECT(registry_destroy_wait(&lock, &keeper, &cpus[1], UINT64_MAX, NULL, NULL) == REGISTRY_NOT_RETIRED);
-	EXPECT(registry_deferred_free(&empty, &freed) == REGISTRY_EMPTY_HANDLE && registry_deferred_barrier(&lock, &empty, NULL) == REGISTRY_EMPTY_HANDLE);
-	empty.keeper = NULL;
-	EXPECT(registry_deferred_free(&empty, NULL) == REGISTRY_EMPTY_HANDLE && registry_deferred_barrier(&lock, &empty, NULL) == REGISTRY_EMPTY_HANDLE);
-	DONE(registry_enter(&cpus[1]));
-	EXPECT(registry_destroy_wait(&lock, &keeper, &cpus[1], 1, NULL, NULL) == REGISTRY_INSIDE);
-	EXPECT(registry_perform_wait(&lock, &keeper, &cpus[1], NULL, NULL) == REGISTRY_INSIDE);
-	DONE(registry_exit(&cpus[1]));
-}
-
-/* A deadline that has passed leaves one turn, whose result is written, or isn't where it isn't wanted. */
-static void test_past(void)
-{
-	static const struct timespec past = {0, 0};
-	struct registry_stage met = {9, 9};
-	uint64_t waited = 9;
-	hold_retired();
-	EXPECT(registry_destroy_wait(&lock, &keeper, &cpus[1], number, &past, NULL) == REGISTRY_STILL_HELD);
-	EXPECT(registry_destroy_wait(&lock, &keeper, &cpus[1], number, &past, &met) == REGISTRY_STILL_HELD && met.stage == REGISTRY_GRACE && met.what == 0);
-	EXPECT(registry_perform_wait(&lock, &keeper, &cpus[1], &past, NULL) == REGISTRY_WAITING);
-	EXPECT(registry_perform_wait(&lock, &keeper, &cpus[1], &past, &waited) == REGISTRY_WAITING && waited == 0);
-	EXPECT(registry_deferred_detach(&list, &cpus[1], REGISTRY_DRIVER, NULL, NULL) == REGISTRY_NULL && list.count == 0);
-	leave();
-	DONE(registry_perform_wait(&lock, &keeper, &cpus[1], &past, NULL));
-	DONE(registry_destroy_wait(&lock, &keeper, &cpus[1], number, &past, &met));
-	EXPECT(met.stage == REGISTRY_FREED);
-}
-
 int main(void)
 {
 	const struct registry_settings settings = {3, 4, 1000, 10000, 100, 100};
@@ -292,8 +255,6 @@ int main(void)
 	}
 	test_far(&ways[FOR_CPU]);
 	test_cancelled_stop();
-	test_refused();
-	test_past();
 	DONE(registry_threads_close(&pool));
 	DONE(registry_close(cpus, 3, &keeper));
 	puts("interrupted end");

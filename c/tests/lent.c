@@ -12,19 +12,14 @@
 
 #include "client.h"
 #include "waiting.h"
+#include "wrapped_heap.h"
 
-enum { CPUS = 8, THREADS = 12, ROUNDS = 300 };
+enum { CPUS = 8, THREADS = 24, ROUNDS = 300 };
 
-void *__real_malloc(size_t size);
-int __real_pthread_cond_init(pthread_cond_t *made, const pthread_condattr_t *attributes);
-int __real_pthread_condattr_init(pthread_condattr_t *made);
-int __real_pthread_key_create(pthread_key_t *made, void (*end)(void *));
-int __real_pthread_setspecific(pthread_key_t key, const void *value);
-void *__wrap_malloc(size_t size);
-int __wrap_pthread_cond_init(pthread_cond_t *made, const pthread_condattr_t *attributes);
-int __wrap_pthread_condattr_init(pthread_condattr_t *made);
-int __wrap_pthread_key_create(pthread_key_t *made, void (*end)(void *));
-int __wrap_pthread_setspecific(pthread_key_t key, const void *value);
+WRAPPED(pthread_cond_init);
+WRAPPED(pthread_condattr_init);
+WRAPPED(pthread_key_create);
+WRAPPED(pthread_setspecific);
 
 /* In a child of several threads the address sanitizer's heap may stay locked for ever. */
 #ifdef __SANITIZE_ADDRESS__
@@ -144,42 +139,9 @@ static void test_refused(void)
 	expect_all_free();
 }
 
-static pthread_barrier_t everyone;
-
-/* The threads take the CPUs one after the other, and then give them back. Meanwhile the pool is kept open, also by the last one alone. */
-static void *hold(void *of)
-{
-	unsigned own = (unsigned)(uintptr_t)of;
-	for (unsigned turn = 0; turn < 2 * CPUS; turn++) {
-		struct registry_cpu *cpu;
-		if (turn == own) {
-			DONE(registry_thread_register(&pool, NULL, &cpu));
-			EXPECT(which(cpu) == own);
-		}
-		if (turn == CPUS + own) {
-			EXPECT(registry_threads_close(&pool) == REGISTRY_STILL_HELD);
-			DONE(registry_thread_unregister(&pool));
-		}
-		pthread_barrier_wait(&everyone);
-	}
-	return of;
-}
-
-static void test_held(void)
-{
-	pthread_t threads[CPUS];
-	EXPECT(pthread_barrier_init(&everyone, NULL, CPUS) == 0);
-	for (uintptr_t i = 0; i < CPUS; i++)
-		EXPECT(pthread_create(&threads[i], NULL, hold, (void *)i) == 0);
-	for (unsigned i = 0; i < CPUS; i++)
-		EXPECT(pthread_join(threads[i], NULL) == 0);
-	EXPECT(pthread_barrier_destroy(&everyone) == 0);
-	expect_all_free();
-}
-
 static atomic_uint users[CPUS], uses;
 
-/* Takes a CPU again and again, in turn for a call and beyond the thread's end. Nobody else has it meanwhile. */
+/* Takes a CPU again and again, in turn for a call and beyond the thread's end. Nobody else has it meanwhile, and the pool stays open. */
 static void *use_cpus(void *of)
 {
 	for (unsigned i = 0; i < ROUNDS; i++) {
@@ -187,7 +149,8 @@ static void *use_cpus(void *of)
 		DONE(registry_thread_register(&pool, NULL, &cpu));
 		EXPECT(atomic_fetch_add(&users[which(cpu)], 1) == 0);
 		DONE(registry_enter(cpu));
-		if (i % 8 == 0)
+		EXPECT(registry_threads_close(&pool) == REGISTRY_STILL_HELD);
+		if (i % 4 == 0)
 			rest();
 		DONE(registry_exit(cpu));
 		atomic_fetch_add(&uses, 1);
@@ -333,7 +296,6 @@ int main(void)
 {
 	DONE(registry_open(&settings, &keeper, cpus, CPUS));
 	test_misuse();
-	test_held();
 	test_refused();
 	test_crowd();
 	test_ends();

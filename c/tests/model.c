@@ -275,6 +275,8 @@ static bool is_last(const struct model *model, unsigned cpu, const struct regist
 static uint32_t find_again(struct model *model, unsigned cpu, const struct registry_entry *entry)
 {
 	struct registry_entry found;
+	if (entry->kind != REGISTRY_DRIVER && entry->kind != REGISTRY_INTERFACE)
+		return REGISTRY_BAD_KIND;
 	uint32_t answer = model_find(model, cpu, entry->kind, &entry->name, &found);
 	if (answer == REGISTRY_DONE && found.number != entry->number) {
 		model->cpus[cpu].found = 0;
@@ -314,7 +316,23 @@ uint32_t model_release(struct model *model, unsigned cpu, uint64_t number)
 	return REGISTRY_DONE;
 }
 
-uint32_t model_local_acquire(struct model *model, unsigned cpu, uint64_t *number)
+/* A block for a local reference, if one is acquired: the CPU's, or a new one, which the CPU keeps if the call fails. */
+static uint32_t take_block(struct model *model, unsigned cpu, uint32_t answer)
+{
+	model->taken += !model->cpus[cpu].spare;
+	model->cpus[cpu].spare = answer != REGISTRY_DONE;
+	return answer;
+}
+
+/* The CPU keeps a reference's block, or frees it if it keeps one. */
+static void leave_block(struct model *model, unsigned cpu)
+{
+	model->freed += model->cpus[cpu].spare;
+	model->cpus[cpu].spare = true;
+}
+
+/* A local reference to the last found entry. */
+static uint32_t acquire_last(struct model *model, unsigned cpu, uint64_t *number)
 {
 	struct model_slot *slot = model->cpus[cpu].found == 0 ? NULL : model_slot_of(model, model->cpus[cpu].found);
 	if (slot == NULL)
@@ -327,15 +345,20 @@ uint32_t model_local_acquire(struct model *model, unsigned cpu, uint64_t *number
 	return REGISTRY_DONE;
 }
 
+uint32_t model_local_acquire(struct model *model, unsigned cpu, uint64_t *number)
+{
+	return take_block(model, cpu, acquire_last(model, cpu, number));
+}
+
 uint32_t model_local_acquire_entry(struct model *model, unsigned cpu, const struct registry_entry *entry)
 {
 	uint64_t number;
 	if (!is_inside(model, cpu))
 		return REGISTRY_OUTSIDE;
-	if (is_last(model, cpu, entry) && model_local_acquire(model, cpu, &number) == REGISTRY_DONE)
-		return REGISTRY_DONE;
+	if (is_last(model, cpu, entry) && acquire_last(model, cpu, &number) == REGISTRY_DONE)
+		return take_block(model, cpu, REGISTRY_DONE);
 	uint32_t answer = find_again(model, cpu, entry);
-	return answer == REGISTRY_DONE ? model_local_acquire(model, cpu, &number) : answer;
+	return take_block(model, cpu, answer == REGISTRY_DONE ? acquire_last(model, cpu, &number) : answer);
 }
 
 uint32_t model_local_release(struct model *model, unsigned cpu, uint64_t number)
@@ -345,6 +368,7 @@ uint32_t model_local_release(struct model *model, unsigned cpu, uint64_t number)
 		return REGISTRY_COLLECTED;
 	slot->net[cpu]--;
 	slot->locals--;
+	leave_block(model, cpu);
 	return REGISTRY_DONE;
 }
 
@@ -355,6 +379,7 @@ uint32_t model_local_give_up(struct model *model, uint64_t number)
 		return REGISTRY_NOT_COLLECTED;
 	slot->total--;
 	slot->locals--;
+	model->freed++;
 	return REGISTRY_DONE;
 }
 
@@ -408,6 +433,8 @@ uint32_t model_attach(struct model *model, unsigned cpu, uint64_t driver, const 
 	struct model_slot *slot = first_vacant(model);
 	*slot = (struct model_slot){.state = LIVE, .driver = driver};
 	slot->entry = (struct registry_entry){++model->changes, (uint64_t)(slot - model->slots), kind, *name, value};
+	if (driver != 0)
+		leave_block(model, cpu);
 	*made = slot->entry;
 	return REGISTRY_DONE;
 }

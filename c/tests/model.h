@@ -35,6 +35,7 @@ struct model_cpu {
 	unsigned depth;
 	uint64_t sections;		/* outermost sections begun */
 	uint64_t found;			/* the number of the last found entry, or 0 */
+	bool spare;			/* whether it keeps a block for its next local reference */
 	struct registry_entry rows[SLOTS];	/* the entry that the CPU found last in that slot */
 	uint64_t hints[HINTS * SLOTS][2];	/* the slots plus 1 where entries with that hint were found last and before, or 0 */
 	struct registry_entry misses[SLOTS + SPARE_MISSES];	/* the last kind and name of that place that no entry had, while the newest entry had this number */
@@ -48,6 +49,7 @@ struct model_wait {
 struct model {
 	struct registry_settings settings;
 	uint64_t changes;
+	uint64_t taken, freed;		/* blocks of local references */
 	struct model_slot slots[SLOTS];
 	struct model_cpu cpus[CPUS];
 	struct model_wait wait;

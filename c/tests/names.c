@@ -25,29 +25,6 @@ static registry_answer format(const struct registry_name *name, size_t room)
 	return registry_name_format(name, text, room);
 }
 
-/* A name of so many bytes comes back as it was, where there is room for it and its zero byte. */
-static void check_name(const char *bytes, size_t length)
-{
-	struct registry_name name;
-	DONE(registry_name_parse(bytes, length, &name, NULL));
-	for (size_t room = 0; room <= length; room++)
-		EXPECT(format(&name, room) == REGISTRY_NO_ROOM && wrote(0));
-	EXPECT(format(&name, length + 1) == REGISTRY_DONE && memcmp(text, bytes, length) == 0 && text[length] == '\0' && wrote(length + 1));
-	EXPECT(format(&name, ROOM) == REGISTRY_DONE && memcmp(text, bytes, length) == 0 && text[length] == '\0' && wrote(length + 1));
-}
-
-/* Names of each length, with each letter and digit at each place. */
-static void check_names(size_t length)
-{
-	char bytes[REGISTRY_NAME_BYTES];
-	for (size_t i = 0; i < sizeof LETTERS - 1; i++) {
-		memset(bytes, 'a', length);
-		for (size_t place = i < 26 ? 0 : 1; place < length; place++)
-			bytes[place] = LETTERS[(i + place) % (place == 0 ? 26 : sizeof LETTERS - 1)];
-		check_name(bytes, length);
-	}
-}
-
 /* These bytes give a name, whose words and whose text have them all. It is one that the parser makes only where it takes them as well. */
 static void check_any(const char *bytes, size_t length)
 {
@@ -58,11 +35,25 @@ static void check_any(const char *bytes, size_t length)
 		length--;
 	for (size_t room = 0; room <= length; room++)
 		EXPECT(format(&name, room) == REGISTRY_NO_ROOM && wrote(0));
-	EXPECT(format(&name, length + 1) == REGISTRY_DONE && memcmp(text, bytes, length) == 0 && text[length] == '\0' && wrote(length + 1));
+	for (size_t room = length + 1; room <= ROOM; room++)
+		EXPECT(format(&name, room) == REGISTRY_DONE && memcmp(text, bytes, length) == 0 && text[length] == '\0' && wrote(length + 1));
 	for (unsigned i = 0; i < REGISTRY_KEY_BYTES; i++)
 		EXPECT(((i < 8 ? name.high : name.low) >> (56 - 8 * (i % 8)) & 0xff) == (i < length ? (unsigned char)bytes[i] : 0));
 	if (registry_name_parse(bytes, length, &parsed, NULL) == REGISTRY_DONE)
 		EXPECT(memcmp(&name, &parsed, sizeof name) == 0);
+}
+
+/* Names of each length, with each letter and digit at each place. */
+static void check_names(size_t length)
+{
+	char bytes[REGISTRY_NAME_BYTES];
+	for (size_t i = 0; i < sizeof LETTERS - 1; i++) {
+		memset(bytes, 'a', length);
+		for (size_t place = i < 26 ? 0 : 1; place < length; place++)
+			bytes[place] = LETTERS[(i + place) % (place == 0 ? 26 : sizeof LETTERS - 1)];
+		DONE(registry_name_parse(bytes, length, NULL, NULL));
+		check_any(bytes, length);
+	}
 }
 
 /* Each byte at this place, alone and behind letters. */
@@ -80,11 +71,25 @@ static void check_place(size_t place, size_t length)
 	}
 }
 
-/* Names of this length. */
-static void check_bytes(size_t length)
+/* What registry_name_parse refuses, and where it says that the first bad byte is. Nothing else is written. */
+static void check_refused(void)
 {
-	for (size_t place = 0; place < length; place++)
-		check_place(place, length);
+	static const struct {
+		const char *bytes;
+		size_t length;
+		registry_answer answer;
+		uint64_t place;
+	} rows[] = {
+		{"", 0, REGISTRY_NAME_EMPTY, 77}, {NULL, 0, REGISTRY_NAME_EMPTY, 77}, {NULL, 2, REGISTRY_NULL, 77}, {NULL, SIZE_MAX, REGISTRY_NULL, 77},
+		{"Abcdefghijklmnop", 16, REGISTRY_NAME_TOO_LONG, 77}, {"0m", 2, REGISTRY_NAME_BAD_BYTE, 0}, {"wm0-X", 5, REGISTRY_NAME_BAD_BYTE, 3},
+		{"wm\0", 3, REGISTRY_NAME_BAD_BYTE, 2},
+	};
+	for (size_t i = 0; i < sizeof rows / sizeof *rows; i++) {
+		struct registry_name name = {1, 2};
+		uint64_t place = 77;
+		EXPECT(registry_name_parse(rows[i].bytes, rows[i].length, &name, &place) == rows[i].answer && place == rows[i].place);
+		EXPECT(registry_name_parse(rows[i].bytes, rows[i].length, NULL, NULL) == rows[i].answer && name.high == 1 && name.low == 2);
+	}
 }
 
 static void misuse_names(void)
@@ -103,6 +108,7 @@ static void misuse_names(void)
 	EXPECT(registry_name_of_bytes(zeros, sizeof zeros, &name) == REGISTRY_NAME_TOO_LONG);
 	EXPECT(registry_name_of_bytes("a", SIZE_MAX, &name) == REGISTRY_NAME_TOO_LONG);
 	EXPECT(memcmp(&name, &wm, sizeof name) == 0);
+	EXPECT(registry_name_parse("wm", 2, NULL, NULL) == REGISTRY_DONE);
 }
 
 /* The name of an id has these bytes, and gives the id back; the names of larger ids come behind it. */
@@ -170,8 +176,20 @@ static void check_string(registry_answer answer)
 	char told[200];
 	const char *string = registry_strerror(answer);
 	size_t length = registry_text(answer, told, sizeof told);
-	EXPECT(length < sizeof told && string == registry_strerror(answer));
+	const bool is_known = (answer <= REGISTRY_NEEDS_DRIVER && answer != REGISTRY_WRONG_CPU) ||
+	    (REGISTRY_OUTSIDE <= answer && answer <= REGISTRY_NULL && answer != 67);
+	EXPECT((length > 0) == is_known && length < sizeof told && string == registry_strerror(answer));
+	EXPECT(registry_text(answer, NULL, 0) == length && registry_text(answer, NULL, SIZE_MAX) == length);
 	EXPECT(strcmp(string, length > 0 ? told : string_alone(answer)) == 0);
+}
+
+/* A text is cut where there is no room for it. */
+static void check_cut(void)
+{
+	char told[] = "xxxxx";
+	size_t whole = registry_text(REGISTRY_NO_SLOT, told, 0);
+	EXPECT(told[0] == 'x' && registry_text(REGISTRY_NO_SLOT, told, 4) == whole && whole > 4);
+	EXPECT(strncmp(told, registry_strerror(REGISTRY_NO_SLOT), 3) == 0 && told[3] == 0 && told[4] == 'x');
 }
 
 int main(void)
@@ -179,12 +197,15 @@ int main(void)
 	for (size_t length = 1; length <= REGISTRY_NAME_BYTES; length++)
 		check_names(length);
 	for (size_t length = 1; length <= REGISTRY_KEY_BYTES; length++)
-		check_bytes(length);
+		for (size_t place = 0; place < length; place++)
+			check_place(place, length);
+	check_refused();
 	misuse_names();
 	check_ids();
 	for (registry_answer answer = 0; answer < NUMBERS; answer++)
 		check_string(answer);
 	check_string(UINT32_MAX);
+	check_cut();
 	puts("names, ids and answers come back");
 	return 0;
 }

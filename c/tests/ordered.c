@@ -67,8 +67,7 @@ static uint32_t overwritten[MOST_CODE];
 
 extern const char __executable_start[];
 
-registry_answer __real_registry_open(const struct registry_settings *settings, struct registry_keeper *keeper, struct registry_cpu *cpus, size_t count);
-registry_answer __wrap_registry_open(const struct registry_settings *settings, struct registry_keeper *keeper, struct registry_cpu *cpus, size_t count);
+WRAPPED(registry_open);
 
 static size_t table_pages(const struct table *table)
 {

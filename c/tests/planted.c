@@ -39,167 +39,96 @@ enum { MOST_TOLD = 255, MOST_OF_16_BITS = 65535, MOST_OF_17_BITS = 131071, HIGHE
 
 static enum fault planted;
 
-/* What the registry that was opened last has come to: `passive` and `local` count the references of its first CPU. */
-static struct registry_cpu *first;
-static uint64_t changes, retired, occupied;
-static int64_t passive, local;
 static unsigned releases, got;
 static void *volatile lost;	/* so that no compiler leaves it out */
 
-/* The table of that registry, which history knows, and its CPUs and slots. */
+/* The registry that was opened last, which history knows. */
+extern const struct model *modelled;
+extern const struct registry_cpu *first_cpu;
 extern uint64_t *table;
-static uint64_t cpu_count, slots;
 
-#define WRAPPED(call) extern __typeof__(call) __real_##call, __wrap_##call
-
-WRAPPED(registry_open);
 WRAPPED(registry_attach);
-WRAPPED(registry_attach_iface);
 WRAPPED(registry_detach);
-WRAPPED(registry_replace);
-WRAPPED(registry_replace_iface);
 WRAPPED(registry_advance);
-WRAPPED(registry_destroy);
 WRAPPED(registry_audit);
 WRAPPED(registry_acquire);
 WRAPPED(registry_enter);
 WRAPPED(registry_look_up);
 WRAPPED(registry_get);
-WRAPPED(registry_copy);
-WRAPPED(registry_release);
 WRAPPED(registry_local_acquire);
 WRAPPED(registry_local_release);
 int __real_main(int argc, const char **argv);
 int __wrap_main(void);
 
-registry_answer __wrap_registry_open(const struct registry_settings *settings, struct registry_keeper *keeper, struct registry_cpu *cpus, size_t count)
+static unsigned slots_in(enum state state)
 {
-	changes = retired = occupied = 0;
-	passive = local = 0;
-	first = cpus;
-	cpu_count = settings->cpus;
-	slots = settings->slots;
-	return __real_registry_open(settings, keeper, cpus, count);
-}
-
-/* What an attach says before it is made, or REGISTRY_DONE. */
-static registry_answer refused(void)
-{
-	if (planted == FULL_EARLY && changes >= 200000)
-		return REGISTRY_HISTORY_FULL;
-	if (planted == SLOT_KEPT_BACK && occupied == SLOTS - 1 && retired > 0)
-		return REGISTRY_NO_SLOT;
-	return REGISTRY_DONE;
-}
-
-static registry_answer attached(registry_answer answer)
-{
-	changes += answer == REGISTRY_DONE;
-	occupied += answer == REGISTRY_DONE;
-	return answer;
+	unsigned count = 0;
+	for (unsigned s = 0; s < modelled->settings.slots; s++)
+		count += modelled->slots[s].state == state;
+	return count;
 }
 
 registry_answer __wrap_registry_attach(struct registry_keeper *keeper, struct registry_cpu *cpu, const struct registry_name *name, uint64_t value,
     struct registry_entry *made)
 {
-	registry_answer answer = refused();
-	return answer != REGISTRY_DONE ? answer : attached(__real_registry_attach(keeper, cpu, name, value, made));
-}
-
-registry_answer __wrap_registry_attach_iface(struct registry_keeper *keeper, struct registry_cpu *cpu, struct registry_local *driver,
-    const struct registry_name *name, uint64_t value, struct registry_entry *made)
-{
-	registry_answer answer = refused();
-	return answer != REGISTRY_DONE ? answer : attached(__real_registry_attach_iface(keeper, cpu, driver, name, value, made));
+	if (planted == FULL_EARLY && modelled->changes >= 200000)
+		return REGISTRY_HISTORY_FULL;
+	if (planted == SLOT_KEPT_BACK && slots_in(VACANT) == 1 && slots_in(RETIRED) > 0)
+		return REGISTRY_NO_SLOT;
+	return __real_registry_attach(keeper, cpu, name, value, made);
 }
 
 registry_answer __wrap_registry_detach(struct registry_keeper *keeper, struct registry_cpu *cpu, uint64_t kind, const struct registry_name *name,
     struct registry_entry *gone)
 {
-	if (planted == NOT_FOUND && kind == REGISTRY_INTERFACE && changes >= 149999)
+	if (planted == NOT_FOUND && kind == REGISTRY_INTERFACE && modelled->changes >= 149999)
 		return REGISTRY_NOT_FOUND;
-	registry_answer answer = __real_registry_detach(keeper, cpu, kind, name, gone);
-	changes += answer == REGISTRY_DONE;
-	retired += answer == REGISTRY_DONE;
-	return answer;
-}
-
-static registry_answer replaced(registry_answer answer)
-{
-	changes += answer == REGISTRY_DONE;
-	retired += answer == REGISTRY_DONE;
-	return attached(answer);
-}
-
-registry_answer __wrap_registry_replace(struct registry_keeper *keeper, struct registry_cpu *cpu, const struct registry_name *name, uint64_t value,
-    struct registry_entry *gone, struct registry_entry *made)
-{
-	return replaced(__real_registry_replace(keeper, cpu, name, value, gone, made));
-}
-
-registry_answer __wrap_registry_replace_iface(struct registry_keeper *keeper, struct registry_cpu *cpu, struct registry_local *driver,
-    const struct registry_name *name, uint64_t value, struct registry_entry *gone, struct registry_entry *made)
-{
-	return replaced(__real_registry_replace_iface(keeper, cpu, driver, name, value, gone, made));
-}
-
-static uint64_t cut(uint64_t number)
-{
-	return planted == SHORT_NUMBERS ? number & MOST_OF_17_BITS : number;
-}
-
-static registry_answer advanced(registry_answer answer, struct registry_stage *met)
-{
-	bool is_met = answer == REGISTRY_DONE || answer == REGISTRY_STILL_HELD, is_freed = is_met && met->stage == REGISTRY_FREED;
-	retired -= is_freed;
-	occupied -= is_freed;
-	if (is_met && planted == SHORT_LOCALS && met->stage == REGISTRY_LOCAL && met->what > MOST_TOLD)
-		met->what = MOST_TOLD;
-	return answer;
+	return __real_registry_detach(keeper, cpu, kind, name, gone);
 }
 
 registry_answer __wrap_registry_advance(struct registry_keeper *keeper, uint64_t number, struct registry_stage *met)
 {
-	if (planted == ADVANCE_LOST && changes >= 199999) {
-		*met = (struct registry_stage){REGISTRY_GRACE, 0};
+	if (planted == ADVANCE_LOST && modelled->changes >= 199999) {
+		if (met != NULL)
+			*met = (struct registry_stage){REGISTRY_GRACE, 0};
 		return REGISTRY_DONE;
 	}
-	return advanced(__real_registry_advance(keeper, cut(number), met), met);
-}
-
-registry_answer __wrap_registry_destroy(struct registry_keeper *keeper, struct registry_cpu *cpu, uint64_t number, struct registry_stage *met)
-{
-	return advanced(__real_registry_destroy(keeper, cpu, cut(number), met), met);
+	registry_answer answer = __real_registry_advance(keeper, planted == SHORT_NUMBERS ? number & MOST_OF_17_BITS : number, met);
+	if (planted == SHORT_LOCALS && answer == REGISTRY_DONE && met != NULL && met->stage == REGISTRY_LOCAL && met->what > MOST_TOLD)
+		met->what = MOST_TOLD;
+	return answer;
 }
 
 registry_answer __wrap_registry_audit(struct registry_keeper *keeper, struct registry_cpu *cpus, size_t count, struct registry_balance *list, size_t room,
     size_t *length)
 {
 	registry_answer answer = __real_registry_audit(keeper, cpus, count, list, room, length);
-	bool is_large = answer == REGISTRY_DONE && count == CPUS && *length == SLOTS;
-	return (planted == LARGE_AUDITS && is_large) || (planted == LATE_AUDITS && changes >= 99999) ? REGISTRY_NO_MEMORY : answer;
+	bool is_large = answer == REGISTRY_DONE && count == CPUS && length != NULL && *length == SLOTS;
+	return (planted == LARGE_AUDITS && is_large) || (planted == LATE_AUDITS && modelled->changes >= 99999) ? REGISTRY_NO_MEMORY : answer;
 }
 
-/* Counts a call that is done on the first CPU. */
-static registry_answer counted(registry_answer answer, const struct registry_cpu *cpu, int64_t *count, int change)
+/* The references that the first CPU has acquired and not released, of either kind. */
+static int64_t references(bool is_local)
 {
-	if (answer == REGISTRY_DONE && cpu == first)
-		*count += change;
-	return answer;
+	int64_t count = 0;
+	for (unsigned s = 0; s < modelled->settings.slots; s++)
+		count += is_local ? modelled->slots[s].net[0] : (int64_t)modelled->slots[s].passive[0];
+	return count;
 }
 
 registry_answer __wrap_registry_acquire(struct registry_cpu *cpu, uint64_t *number)
 {
-	if (planted == FEW_PASSIVE && cpu == first && passive >= MOST_OF_16_BITS)
+	if (planted == FEW_PASSIVE && cpu == first_cpu && references(false) >= MOST_OF_16_BITS)
 		return REGISTRY_PASSIVE_FULL;
-	return counted(__real_registry_acquire(cpu, number), cpu, &passive, 1);
+	return __real_registry_acquire(cpu, number);
 }
 
 /* Writes an unused word behind the section word of the next CPU's row. */
 registry_answer __wrap_registry_enter(struct registry_cpu *cpu)
 {
-	if (planted == SHARED_LINE && cpu_count > 1)
-		table[TABLE_ROW(slots, (uint64_t)(cpu - first + 1) % cpu_count) + 2 * slots + 1]++;
+	const uint64_t cpus = modelled->settings.cpus, slots = modelled->settings.slots;
+	if (planted == SHARED_LINE && cpus > 1 && cpu->at != NULL)
+		table[TABLE_ROW(slots, (uint64_t)(cpu - first_cpu + 1) % cpus) + 2 * slots + 1]++;
 	return __real_registry_enter(cpu);
 }
 
@@ -213,42 +142,32 @@ static void begin_section(struct registry_cpu *cpu)
 registry_answer __wrap_registry_look_up(struct registry_cpu *cpu, uint64_t kind, const struct registry_name *name, struct registry_entry *found)
 {
 	registry_answer answer = __real_registry_look_up(cpu, kind, name, found);
-	bool is_late = changes >= 99999;
+	bool is_late = modelled->changes >= 99999;
 	if ((planted == LONG_IFACES && is_late && kind == REGISTRY_INTERFACE) || (planted == LONG_ABSENCES && is_late && answer == REGISTRY_NOT_FOUND) ||
-	    (planted == LONG_ON_HIGH_CPUS && cpu - first > HIGHEST_SHORT))
+	    (planted == LONG_ON_HIGH_CPUS && cpu - first_cpu > HIGHEST_SHORT))
 		begin_section(cpu);
 	return answer;
 }
 
 registry_answer __wrap_registry_get(struct registry_cpu *cpu, uint64_t kind, const struct registry_name *name, struct registry_entry *found)
 {
-	if (planted == LONG_GETS && cpu == &first[cpu_count - 1] && ++got > 900000)
+	if (planted == LONG_GETS && cpu == &first_cpu[modelled->settings.cpus - 1] && ++got > 900000)
 		begin_section(cpu);
-	return counted(__real_registry_get(cpu, kind, name, found), cpu, &passive, 1);
-}
-
-registry_answer __wrap_registry_copy(struct registry_cpu *cpu, uint64_t number)
-{
-	return counted(__real_registry_copy(cpu, number), cpu, &passive, 1);
-}
-
-registry_answer __wrap_registry_release(struct registry_cpu *cpu, uint64_t number)
-{
-	return counted(__real_registry_release(cpu, number), cpu, &passive, -1);
+	return __real_registry_get(cpu, kind, name, found);
 }
 
 registry_answer __wrap_registry_local_acquire(struct registry_cpu *cpu, struct registry_local *handle)
 {
-	if (planted == FEW_LOCAL && cpu == first && local >= MOST_OF_16_BITS)
+	if (planted == FEW_LOCAL && cpu == first_cpu && references(true) >= MOST_OF_16_BITS)
 		return REGISTRY_LOCAL_FULL;
-	return counted(__real_registry_local_acquire(cpu, handle), cpu, &local, 1);
+	return __real_registry_local_acquire(cpu, handle);
 }
 
 registry_answer __wrap_registry_local_release(struct registry_cpu *cpu, struct registry_local *handle)
 {
 	if (planted == LOST_BLOCKS && ++releases >= MOST_OF_16_BITS)
 		lost = malloc(1);
-	return counted(__real_registry_local_release(cpu, handle), cpu, &local, -1);
+	return __real_registry_local_release(cpu, handle);
 }
 
 /* The status of a part of history with a fault, through so many changes; of all without a part. */

@@ -19,27 +19,22 @@
  * - A section writes the CPU's section word twice. A lookup has one, and a get one more if it finds an entry, and tries it in vain. A get writes its
  *   passive word once for its reference, and twice more for each try in vain. The calls write nothing else.
  * - A get has one reference, to an entry that isn't destroyed, or none if it finds nothing.
- *
- * For x86-64.
  */
-#include <inttypes.h>
-#include <pthread.h>
+#include <semaphore.h>
 #include <signal.h>
-#include <stdatomic.h>
 #include <sys/mman.h>
 #include <ucontext.h>
-#include <unistd.h>
 
 #include "client.h"
 #include "wrapped_heap.h"
 
-enum { SLOTS = 2, TRAP_FLAG = 0x100, PATIENCE = 5000, NEVER = 1000000, AT_ITS_END = NEVER - 1, SHARE = 61 };
+enum { SLOTS = 2, TRAP_FLAG = 0x100, NEVER = 1000000, AT_ITS_END = NEVER - 1, SHARE = 61, PAGE = 4096 };
 
 /* The two threads, and the CPU of each. The looker has a second CPU, the witness. */
 enum { CHANGER, LOOKER, WITNESS, CPUS };
 
 /* In the table, the section word of the looker's CPU, which its passive words follow; and the table's bytes. */
-enum { OWN_WORDS = TABLE_ROW(SLOTS, LOOKER), BYTES = TABLE_BYTES(SLOTS, CPUS) };
+enum { OWN_WORDS = TABLE_ROW(SLOTS, LOOKER), BYTES = TABLE_BYTES(SLOTS, CPUS), PAGES = (BYTES + PAGE - 1) / PAGE * PAGE };
 
 static struct registry_keeper keeper;
 static struct registry_cpu cpus[CPUS];
@@ -49,65 +44,55 @@ static struct registry_cpu cpus[CPUS];
 static struct registry_name wm, other;
 static uint64_t remembered, missed, last_seen;
 
-/* The table's memory. From the opening on it can be written only while a write of a thread's is done. */
+/* The table's memory, which can be written only while a write of a thread's is done; and the blocks of its size: the second is the table. */
 static char *table;
-/* How many blocks of its size were asked for: in the first the words are made, and the second is the table. */
 static unsigned table_blocks;
 
-/* Who runs, and who this thread is. */
-static atomic_int turn;
+/* Whose turn it is, who this thread is, and whether the table is open for one instruction of it. */
+static sem_t turns[2];
 static _Thread_local int self;
-/* The table is open for one instruction of this thread. */
 static _Thread_local bool writes_now;
 
-/* What the changer has done in all, and in this round: changes begun and returned, the last driver destroyed; writes, before which of them it stops, and
-   after how many instructions the lookup that begins then. */
+/* What the changer has done: changes begun and returned, the last driver destroyed; writes of this round, before which of them it stops, and after how many
+   instructions the lookup that begins then. Once the second stop is past, no write is looked at until the round ends. */
 static uint64_t begun, returned, destroyed;
 static unsigned writes, first_stop = NEVER, second_stop = NEVER, stopped_after;
-/* The second stop is past: no write is looked at until the round ends. */
 static bool is_past;
 
-/* The call that the looker makes. After how many instructions it stops. How far it is: instructions, writes to its CPU's words, and whether it returned. */
+/* The call that the looker makes, and the most instructions that it has. After how many it stops. How far it is: instructions, writes to its CPU's words,
+   and whether it returned. */
 static registry_answer (*call)(struct registry_cpu *cpu, uint64_t kind, const struct registry_name *name, struct registry_entry *found);
-static unsigned stop_after = NEVER, steps, section_writes, passive_writes;
+static unsigned longest, stop_after = NEVER, steps, section_writes, passive_writes;
 static bool has_ended = true, over;
-/* The instructions of a lookup that nothing disturbs, and that remembers what isn't so any more. */
-static unsigned longest;
-/* By this call: all lookups, those without a section, those that found the name in another slot than was remembered, and those begun while another name
-   had that slot. How often a lookup kept a driver from being destroyed, by its section and by its reference. */
-static uint64_t lookups, recalled, moved, reused, holds[2];
 
-static size_t table_pages(void)
-{
-	size_t page = (size_t)sysconf(_SC_PAGESIZE);
-	return (BYTES + page - 1) / page * page;
-}
+/* By this call: lookups, those without a section, those that found the name in another slot than was remembered, those begun while another name had that
+   slot; and how often one kept a driver from being destroyed, by its section and by its reference. */
+static struct { unsigned long lookups, recalled, moved, reused, holds[2]; } met;
 
 void *__wrap_malloc(size_t size)
 {
 	if (size != BYTES || ++table_blocks != 2)
 		return __real_malloc(size);
-	table = mmap(NULL, table_pages(), PROT_READ | PROT_WRITE, MAP_PRIVATE | MAP_ANONYMOUS, -1, 0);
+	table = mmap(NULL, PAGES, PROT_READ | PROT_WRITE, MAP_PRIVATE | MAP_ANONYMOUS, -1, 0);
 	EXPECT(table != MAP_FAILED);
 	return table;
 }
 
 static void protect(int access)
 {
-	EXPECT(table != NULL && mprotect(table, table_pages(), access) == 0);
+	EXPECT(table != NULL && mprotect(table, PAGES, access) == 0);
 }
 
 static void wait_for_turn(void)
 {
-	for (unsigned looks = 0; atomic_load(&turn) != self; looks++)
-		if (looks > PATIENCE)
-			rest();
+	while (sem_wait(&turns[self]) != 0)
+		continue;
 }
 
 /* The other thread runs, until it hands over. */
 static void hand_over(void)
 {
-	atomic_store(&turn, self == CHANGER ? LOOKER : CHANGER);
+	EXPECT(sem_post(&turns[self == CHANGER ? LOOKER : CHANGER]) == 0);
 	wait_for_turn();
 }
 
@@ -142,28 +127,19 @@ static void set_trap(void *context, bool on)
 	*flags = on ? *flags | TRAP_FLAG : *flags & ~(greg_t)TRAP_FLAG;
 }
 
-/* The looker writes to a word of the table: its CPU's section word, or a passive word. */
-static void note_write(size_t place)
-{
-	EXPECT(place >= OWN_WORDS && place <= OWN_WORDS + SLOTS);
-	if (place == OWN_WORDS)
-		section_writes++;
-	else
-		passive_writes++;
-}
-
-/* A write to the table is to be done. */
+/* A write to the table is to be done: the looker's are to its CPU's section word, or to a passive word. */
 static void on_write(int number, siginfo_t *info, void *context)
 {
-	uintptr_t distance = (uintptr_t)info->si_addr - (uintptr_t)table;
+	uintptr_t distance = (uintptr_t)info->si_addr - (uintptr_t)table, place = distance / sizeof(uint64_t);
 	if (writes_now || distance >= BYTES) {
 		signal(number, SIG_DFL);
 		return;
 	}
+	EXPECT(self == CHANGER || (place >= OWN_WORDS && place <= OWN_WORDS + SLOTS));
 	if (self == CHANGER)
 		stop_at(writes++);
 	else
-		note_write(distance / sizeof(uint64_t));
+		(*(place == OWN_WORDS ? &section_writes : &passive_writes))++;
 	protect(PROT_READ | PROT_WRITE);
 	writes_now = !is_past;
 	set_trap(context, writes_now);
@@ -175,10 +151,9 @@ static void on_step(int number, siginfo_t *info, void *context)
 	bool is_counted = self == LOOKER && stop_after != NEVER && steps < stop_after;
 	(void)number;
 	(void)info;
-	if (writes_now) {
-		writes_now = false;
+	if (writes_now)
 		protect(PROT_READ);
-	}
+	writes_now = false;
 	if (is_counted && ++steps == stop_after) {
 		hand_over();
 		is_counted = false;
@@ -189,10 +164,8 @@ static void on_step(int number, siginfo_t *info, void *context)
 /* The references of the looker's CPU, by its passive words. */
 static uint64_t references(void)
 {
-	uint64_t sum = 0;
-	for (unsigned slot = 0; slot < SLOTS; slot++)
-		sum += ((volatile uint64_t *)(void *)table)[OWN_WORDS + 1 + slot];
-	return sum;
+	const volatile uint64_t *words = (const volatile uint64_t *)(void *)table + OWN_WORDS + 1;
+	return words[0] + words[1];
 }
 
 /* The number of the driver that is looked up, after so many changes, or 0. Of each eight changes two attach it, to one slot and to the other. */
@@ -209,19 +182,6 @@ static uint64_t newest_after(uint64_t changes)
 	return place == 0 ? 0 : place == 3 ? changes - 1 : changes;
 }
 
-static uint64_t value_of(uint64_t number)
-{
-	return number * 3;
-}
-
-/* The first number of changes from `from` to `to` after which the registry had this driver, or none if `number` is 0; `to` + 1 if there is none. */
-static uint64_t moment_of(uint64_t number, uint64_t from, uint64_t to)
-{
-	while (from <= to && number_after(from) != number)
-		from++;
-	return from;
-}
-
 /* Whether the looker's CPU knows the result without a section: what it remembers was so all the time. */
 static bool is_known(uint64_t from, uint64_t to)
 {
@@ -231,10 +191,12 @@ static bool is_known(uint64_t from, uint64_t to)
 	return from == to && number_after(to) == 0 && (newest == 0 || newest == missed);
 }
 
-/* The result of a lookup is from no earlier moment than the one before it, of any CPU. */
+/* The result of a lookup is what the registry had after so many changes, and from no earlier moment than the one before it, of any CPU. */
 static void judge_moment(uint64_t from, uint64_t to, uint64_t number)
 {
-	last_seen = moment_of(number, from > last_seen ? from : last_seen, to);
+	last_seen = from > last_seen ? from : last_seen;
+	while (last_seen <= to && number_after(last_seen) != number)
+		last_seen++;
 	EXPECT(last_seen <= to);
 }
 
@@ -257,25 +219,18 @@ static void judge(uint64_t from, uint64_t to, registry_answer answer, const stru
 	uint64_t number = answer == REGISTRY_DONE ? found->number : 0;
 	EXPECT(answer == REGISTRY_DONE || answer == REGISTRY_NOT_FOUND);
 	EXPECT(number == 0 || (found->kind == REGISTRY_DRIVER && found->name.high == wm.high && found->name.low == wm.low));
-	EXPECT(number == 0 || (found->value == value_of(number) && found->slot == (number % 8 == 6 ? 1 : 0)));
+	EXPECT(number == 0 || (found->value == number * 3 && found->slot == (number % 8 == 6 ? 1 : 0)));
 	EXPECT(call != registry_get || number == 0 || number > destroyed);
 	judge_writes(from, to, number);
-	lookups++;
-	recalled += section_writes == 0;
-	moved += number != 0 && remembered != 0 && number != remembered;
-	reused += remembered != 0 && from % 8 == 5;
+	met.lookups++;
+	met.recalled += section_writes == 0;
+	met.moved += number != 0 && remembered != 0 && number != remembered;
+	met.reused += remembered != 0 && from % 8 == 5;
 	judge_moment(from, to, number);
 	if (number == 0 && section_writes != 0)
 		missed = from == to ? newest_after(to) : 0;
 	if (number != 0 || section_writes != 0)
 		remembered = number;
-}
-
-/* Releases what a get has acquired: exactly one reference. */
-static void let_go(uint64_t number)
-{
-	DONE(registry_release(&cpus[LOOKER], number));
-	EXPECT(registry_release(&cpus[LOOKER], number) == REGISTRY_NOT_HELD && references() == 0);
 }
 
 /* Finds the driver on the other CPU. */
@@ -290,6 +245,7 @@ static void witness(void)
 	judge_moment(returned, begun, answer == REGISTRY_DONE ? found.number : 0);
 }
 
+/* What a get has acquired is released: exactly one reference. */
 static void look_up(void)
 {
 	struct registry_entry found = {0};
@@ -304,20 +260,19 @@ static void look_up(void)
 		longest = steps;
 	steps = NEVER;
 	judge(from, begun, answer, &found);
-	if (call == registry_get && answer == REGISTRY_DONE)
-		let_go(found.number);
+	if (call == registry_get && answer == REGISTRY_DONE) {
+		DONE(registry_release(&cpus[LOOKER], found.number));
+		EXPECT(registry_release(&cpus[LOOKER], found.number) == REGISTRY_NOT_HELD && references() == 0);
+	}
 	has_ended = true;
 }
 
 static void *look_all(void *unused)
 {
 	self = LOOKER;
-	wait_for_turn();
-	while (!over) {
+	for (wait_for_turn(); !over; hand_over())
 		look_up();
-		hand_over();
-	}
-	atomic_store(&turn, CHANGER);
+	EXPECT(sem_post(&turns[CHANGER]) == 0);
 	return unused;
 }
 
@@ -325,7 +280,7 @@ static void attach(const struct registry_name *name)
 {
 	struct registry_entry made;
 	begun++;
-	DONE(registry_attach(&keeper, &cpus[CHANGER], name, value_of(begun), &made));
+	DONE(registry_attach(&keeper, &cpus[CHANGER], name, begun * 3, &made));
 	EXPECT(made.number == begun);
 	returned++;
 }
@@ -334,17 +289,17 @@ static void attach(const struct registry_name *name)
 static void detach(const struct registry_name *name)
 {
 	struct registry_entry gone;
-	struct registry_stage met;
+	struct registry_stage stage;
 	begun++;
 	DONE(registry_detach(&keeper, &cpus[CHANGER], REGISTRY_DRIVER, name, &gone));
 	returned++;
-	registry_answer answer = registry_destroy(&keeper, &cpus[CHANGER], gone.number, &met);
+	registry_answer answer = registry_destroy(&keeper, &cpus[CHANGER], gone.number, &stage);
 	if (answer == REGISTRY_STILL_HELD) {
-		EXPECT(!has_ended && met.what == LOOKER && (met.stage == REGISTRY_GRACE || met.stage == REGISTRY_PASSIVE));
-		EXPECT(met.stage == REGISTRY_GRACE ? section_writes % 2 == 1 : references() == 1);
-		holds[met.stage]++;
+		EXPECT(!has_ended && stage.what == LOOKER && (stage.stage == REGISTRY_GRACE || stage.stage == REGISTRY_PASSIVE));
+		EXPECT(stage.stage == REGISTRY_GRACE ? section_writes % 2 == 1 : references() == 1);
+		met.holds[stage.stage]++;
 		stop_again();
-		answer = registry_destroy(&keeper, &cpus[CHANGER], gone.number, &met);
+		answer = registry_destroy(&keeper, &cpus[CHANGER], gone.number, &stage);
 	}
 	DONE(answer);
 	destroyed = gone.number;
@@ -384,34 +339,28 @@ static void stop_in(registry_answer (*made)(struct registry_cpu *, uint64_t, con
 {
 	call = made;
 	longest = 0;
-	lookups = recalled = moved = reused = holds[REGISTRY_GRACE] = holds[REGISTRY_PASSIVE] = 0;
+	memset(&met, 0, sizeof met);
 	unsigned last = change(true, NEVER, NEVER, NEVER);
 	for (unsigned i = 0; i < 2; i++)
 		(void)change(true, last, last, AT_ITS_END);
 	for (unsigned after = 1; after <= longest; after++)
 		stop_after_each(last, after);
-	EXPECT(recalled > 0 && recalled < lookups && moved > 0 && reused > 0);
-	EXPECT(holds[REGISTRY_GRACE] > 0 && (holds[REGISTRY_PASSIVE] > 0) == (made == registry_get));
-	printf("%u writes, %u instructions: %" PRIu64 " lookups, %" PRIu64 " of them without a section, %" PRIu64 " found in another slot than remembered, %" PRIu64
-	    " with another name in that slot; %" PRIu64 " and %" PRIu64 " kept a driver\n",
-	    last, longest, lookups, recalled, moved, reused, holds[REGISTRY_GRACE], holds[REGISTRY_PASSIVE]);
-}
-
-static void watch(void)
-{
-	struct sigaction write = {.sa_sigaction = on_write, .sa_flags = SA_SIGINFO}, step = {.sa_sigaction = on_step, .sa_flags = SA_SIGINFO};
-	EXPECT(sigaction(SIGSEGV, &write, NULL) == 0 && sigaction(SIGTRAP, &step, NULL) == 0);
-	protect(PROT_READ);
+	EXPECT(met.recalled > 0 && met.recalled < met.lookups && met.moved > 0 && met.reused > 0);
+	EXPECT(met.holds[REGISTRY_GRACE] > 0 && (met.holds[REGISTRY_PASSIVE] > 0) == (made == registry_get));
+	printf("%u writes, %u instructions: %lu lookups, %lu of them without a section\n", last, longest, met.lookups, met.recalled);
 }
 
 int main(void)
 {
 	const struct registry_settings settings = {CPUS, SLOTS, REGISTRY_MOST_CHANGES, REGISTRY_MOST_SECTIONS, 1, 1};
+	struct sigaction write = {.sa_sigaction = on_write, .sa_flags = SA_SIGINFO}, step = {.sa_sigaction = on_step, .sa_flags = SA_SIGINFO};
 	pthread_t looker;
 	wm = name_of("wm");
 	other = name_of("vga");
 	DONE(registry_open(&settings, &keeper, cpus, CPUS));
-	watch();
+	EXPECT(sigaction(SIGSEGV, &write, NULL) == 0 && sigaction(SIGTRAP, &step, NULL) == 0);
+	protect(PROT_READ);
+	EXPECT(sem_init(&turns[CHANGER], 0, 0) == 0 && sem_init(&turns[LOOKER], 0, 0) == 0);
 	EXPECT(pthread_create(&looker, NULL, look_all, NULL) == 0);
 	attach(&wm);
 	attach(&other);

@@ -1,5 +1,5 @@
 /*
- * reclaims - registry_local_drop, and the list of waiting.h with two registries, its barrier and the thread that frees what is in it
+ * reclaims - the thread of waiting.h that frees what is in a list
  *
  * The linker leads malloc, pthread_create and pthread_cond_init here (--wrap), so that each of them fails once, and pthread_cond_timedwait, so that the
  * thread's sleeps are seen.
@@ -12,15 +12,11 @@
 
 #include "client.h"
 #include "waiting.h"
+#include "wrapped_heap.h"
 
-void *__real_malloc(size_t size);
-int __real_pthread_create(pthread_t *thread, const pthread_attr_t *attributes, void *(*run)(void *), void *of);
-int __real_pthread_cond_init(pthread_cond_t *made, const pthread_condattr_t *attributes);
-int __real_pthread_cond_timedwait(pthread_cond_t *of, pthread_mutex_t *with, const struct timespec *until);
-void *__wrap_malloc(size_t size);
-int __wrap_pthread_create(pthread_t *thread, const pthread_attr_t *attributes, void *(*run)(void *), void *of);
-int __wrap_pthread_cond_init(pthread_cond_t *made, const pthread_condattr_t *attributes);
-int __wrap_pthread_cond_timedwait(pthread_cond_t *of, pthread_mutex_t *with, const struct timespec *until);
+WRAPPED(pthread_create);
+WRAPPED(pthread_cond_init);
+WRAPPED(pthread_cond_timedwait);
 
 /* What fails next. */
 static enum { NOTHING, MALLOC, CONDITION, THREAD, FAULTS } fault;
@@ -54,11 +50,10 @@ int __wrap_pthread_cond_timedwait(pthread_cond_t *of, pthread_mutex_t *with, con
 	return __real_pthread_cond_timedwait(of, with, until);
 }
 
-static struct registry_keeper keeper, other;
-static struct registry_cpu cpus[2], others[1];
+static struct registry_keeper keeper;
+static struct registry_cpu cpus[2];
 static pthread_mutex_t mutex;
 static struct registry_name wm;
-static const struct timespec PAST = {0, 0};
 
 /* What was freed: how many, the last one, and the thread that did. */
 static atomic_uint freed;
@@ -82,16 +77,6 @@ static void wait_for_freed(unsigned count)
 		rest();
 }
 
-static void lock_it(void)
-{
-	EXPECT(pthread_mutex_lock(&mutex) == 0);
-}
-
-static void unlock_it(void)
-{
-	EXPECT(pthread_mutex_unlock(&mutex) == 0);
-}
-
 /* The interlock, which counts how often it was given up. */
 static atomic_uint given;
 
@@ -108,139 +93,16 @@ static void give(void *of)
 
 static const struct registry_lock lock = {take, give, &mutex};
 
-static uint64_t attach(void)
-{
-	struct registry_entry made;
-	DONE(registry_attach(&keeper, &cpus[1], &wm, 7, &made));
-	return made.number;
-}
-
 /* Attaches an entry, refers to it passively on CPU 0, and detaches it to the list. Its number, which lets go of it. */
 static uint64_t put_held(void)
 {
-	lock_it();
-	uint64_t number = attach();
+	struct registry_entry made;
+	take(&mutex);
+	DONE(registry_attach(&keeper, &cpus[1], &wm, 7, &made));
 	DONE(registry_get(&cpus[0], REGISTRY_DRIVER, &wm, NULL));
 	DONE(registry_deferred_detach(&list, &cpus[1], REGISTRY_DRIVER, &wm, NULL));
-	unlock_it();
-	return number;
-}
-
-static void acquire_local(struct registry_local *local)
-{
-	DONE(registry_enter_find(&cpus[0], REGISTRY_DRIVER, &wm, NULL));
-	DONE(registry_local_acquire(&cpus[0], local));
-	DONE(registry_exit(&cpus[0]));
-}
-
-/* A drop takes the interlock only if the count was collected. Each handle that is needed and empty is refused, and the reference stays. */
-static void test_drop(void)
-{
-	struct registry_local local = {0}, none = {0};
-	struct registry_keeper closed = {0};
-	struct registry_cpu no_cpu = {0};
-	lock_it();
-	uint64_t number = attach();
-	acquire_local(&local);
-	EXPECT(registry_local_drop(&cpus[0], &none, &mutex, &keeper) == REGISTRY_EMPTY_HANDLE);
-	EXPECT(registry_local_drop(&no_cpu, &local, &mutex, &keeper) == REGISTRY_EMPTY_HANDLE && local.at != NULL);
-	DONE(registry_local_drop(&cpus[1], &local, &mutex, &closed));
-	EXPECT(local.at == NULL);
-	acquire_local(&local);
-	DONE(registry_detach(&keeper, &cpus[1], REGISTRY_DRIVER, &wm, NULL));
-	EXPECT(registry_destroy(&keeper, &cpus[1], number, NULL) == REGISTRY_STILL_HELD);
-	unlock_it();
-	EXPECT(registry_local_drop(&cpus[1], &local, &mutex, &closed) == REGISTRY_EMPTY_HANDLE && local.at != NULL);
-	DONE(registry_local_drop(&cpus[1], &local, &mutex, &keeper));
-	EXPECT(local.at == NULL);
-	DONE(registry_destroy_wait(&lock, &keeper, &cpus[1], number, &PAST, NULL));
-}
-
-/* While entries of one registry wait, each call refuses another registry's keeper, and the entries stay. The empty list is any registry's. */
-static void test_two_registries(void)
-{
-	const struct registry_settings settings = {1, 4, 1000, 1000, 100, 100};
-	struct registry_local local = {0};
-	size_t count = 9;
-	atomic_store(&freed, 0);
-	DONE(registry_open(&settings, &other, others, 1));
-	uint64_t held = put_held();
-	DONE(registry_attach(&other, &others[0], &wm, 8, NULL));
-	list.keeper = &other;
-	EXPECT(registry_deferred_free(&list, &count) == REGISTRY_FULL_HANDLE && count == 9);
-	EXPECT(registry_deferred_detach(&list, &others[0], REGISTRY_DRIVER, &wm, NULL) == REGISTRY_FULL_HANDLE);
-	EXPECT(registry_deferred_attach(&list, &others[0], &wm, 9, NULL) == REGISTRY_FULL_HANDLE);
-	EXPECT(registry_deferred_attach_iface(&list, &others[0], &local, &wm, 9, NULL) == REGISTRY_FULL_HANDLE);
-	EXPECT(registry_deferred_barrier(&lock, &list, NULL) == REGISTRY_FULL_HANDLE);
-	EXPECT(registry_deferred_count(&list) == 1 && atomic_load(&freed) == 0);
-	list.keeper = &keeper;
-	DONE(registry_release(&cpus[0], held));
-	DONE(registry_deferred_barrier(&lock, &list, &PAST));
-	EXPECT(atomic_load(&freed) == 1 && atomic_load(&last_freed) == held);
-	list.keeper = &other;
-	lock_it();
-	DONE(registry_deferred_detach(&list, &others[0], REGISTRY_DRIVER, &wm, NULL));
-	DONE(registry_deferred_free(&list, &count));
-	unlock_it();
-	EXPECT(count == 1 && atomic_load(&freed) == 2);
-	list.keeper = &keeper;
-	DONE(registry_close(others, 1, &other));
-}
-
-/* While its row is full, the list takes no entry, and detaches none. */
-static void test_full(void)
-{
-	atomic_store(&freed, 0);
-	list.room = 1;
-	uint64_t held = put_held(), live = attach();
-	EXPECT(registry_deferred_detach(&list, &cpus[1], REGISTRY_DRIVER, &wm, NULL) == REGISTRY_NO_ROOM && registry_deferred_count(&list) == 1);
-	DONE(registry_look_up(&cpus[0], REGISTRY_DRIVER, &wm, NULL));
-	DONE(registry_release(&cpus[0], held));
-	lock_it();
-	DONE(registry_deferred_detach(&list, &cpus[1], REGISTRY_DRIVER, &wm, NULL));
-	unlock_it();
-	EXPECT(atomic_load(&freed) == 1 && atomic_load(&last_freed) == held && list.entries[0].number == live);
-	DONE(registry_deferred_barrier(&lock, &list, &PAST));
-	list.room = 0;
-	EXPECT(registry_deferred_detach(&list, &cpus[1], REGISTRY_DRIVER, &wm, NULL) == REGISTRY_NO_ROOM);
-	list.room = 8;
-}
-
-/* A thread in a barrier, and whether that has ended. */
-static atomic_bool ended;
-
-static void *wait_for_all(void *answer)
-{
-	*(registry_answer *)answer = registry_deferred_barrier(&lock, &list, NULL);
-	atomic_store(&ended, true);
-	return NULL;
-}
-
-/* A barrier waits for all that waited at its call, and not for what comes later. */
-static void test_barrier(void)
-{
-	registry_answer answer = REGISTRY_WAITING;
-	pthread_t thread;
-	atomic_store(&freed, 0);
-	DONE(registry_deferred_barrier(&lock, &list, NULL));
-	uint64_t first = put_held(), second = put_held();
-	EXPECT(registry_deferred_barrier(&lock, &list, &PAST) == REGISTRY_STILL_HELD && registry_deferred_count(&list) == 2);
-	unsigned turns = atomic_load(&given);
-	EXPECT(pthread_create(&thread, NULL, wait_for_all, &answer) == 0);
-	while (atomic_load(&given) == turns)
-		rest();
-	uint64_t third = put_held();
-	DONE(registry_release(&cpus[0], second));
-	wait_for_freed(1);
-	EXPECT(!atomic_load(&ended));
-	DONE(registry_release(&cpus[0], first));
-	EXPECT(pthread_join(thread, NULL) == 0);
-	lock_it();
-	EXPECT(answer == REGISTRY_DONE && atomic_load(&freed) == 2 && registry_deferred_count(&list) == 1 && list.entries[0].number == third);
-	unlock_it();
-	DONE(registry_release(&cpus[0], third));
-	DONE(registry_deferred_barrier(&lock, &list, NULL));
-	EXPECT(atomic_load(&freed) == 3);
+	give(&mutex);
+	return made.number;
 }
 
 /* While nothing waits, the reclaimer sleeps on. While something is held, it sleeps longer each time, and briefly again once more comes. */
@@ -327,10 +189,6 @@ int main(void)
 	EXPECT(pthread_mutex_init(&mutex, &type) == 0 && pthread_mutexattr_destroy(&type) == 0);
 	wm = name_of("wm");
 	DONE(registry_open(&settings, &keeper, cpus, 2));
-	test_drop();
-	test_two_registries();
-	test_full();
-	test_barrier();
 	test_reclaimer();
 	test_sleeps();
 	test_starts();

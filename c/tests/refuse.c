@@ -5,8 +5,6 @@
  * the call says so, has kept no memory and changed nothing, and is done when it is made again. At the end of a journey every block is free
  * again. Then all memory is refused once the registry is open: the calls that take none go on.
  *
- * An acquire that finds nothing keeps the block that it took. What else a CPU keeps, blocks.c counts.
- *
  * The program is linked with --wrap for malloc, realloc and free, so that the archive's allocations come by here.
  */
 #include <inttypes.h>
@@ -141,6 +139,7 @@ static void journey_without_memory(const struct registry_name *wm)
 	refuse_from = 1;
 	refuse_to = UINT64_MAX;
 	DONE(registry_attach(&keeper, &cpus[0], wm, 7, &entry));
+	EXPECT(registry_local_acquire(&cpus[0], &locals[0]) == REGISTRY_NOTHING_FOUND);
 	find_driver(wm);
 	EXPECT(registry_local_acquire(&cpus[0], &locals[0]) == REGISTRY_NO_MEMORY);
 	EXPECT(registry_local_acquire_entry(&cpus[0], &entry, &locals[0]) == REGISTRY_NO_MEMORY && is_none(&locals[0]));
@@ -152,40 +151,6 @@ static void journey_without_memory(const struct registry_name *wm)
 	DONE(registry_detach(&keeper, &cpus[0], REGISTRY_DRIVER, wm, &entry));
 	destroy(entry.number);
 	close_all();
-}
-
-/* The blocks of local references, and those that CPUs keep. */
-static uint64_t opened_with;
-
-static bool are_asked(uint64_t allocations, uint64_t kept)
-{
-	return asked == allocations && blocks == opened_with + kept;
-}
-
-/* A refused acquire on a CPU that keeps no block takes one, if there is memory, and no other: the next acquire uses it. */
-static void keep_of_refused(const struct registry_name *wm)
-{
-	refuse_from = 0;
-	DONE(registry_open(&SETTINGS, &keeper, cpus, 2));
-	DONE(registry_attach(&keeper, &cpus[0], wm, 7, &entry));
-	asked = 0;
-	opened_with = blocks;
-	refuse_from = 1;
-	refuse_to = 1;
-	EXPECT(registry_local_acquire(&cpus[0], &locals[0]) == REGISTRY_NOTHING_FOUND);
-	EXPECT(are_asked(1, 0));
-	for (int turn = 0; turn < 2; turn++) {
-		EXPECT(registry_local_acquire(&cpus[0], &locals[0]) == REGISTRY_NOTHING_FOUND);
-		EXPECT(are_asked(2, 1));
-	}
-	find_driver(wm);
-	DONE(registry_local_acquire(&cpus[0], &locals[0]));
-	EXPECT(are_asked(2, 1));
-	DONE(registry_exit(&cpus[0]));
-	DONE(registry_local_release(&cpus[0], &locals[0]));
-	close_all();
-	EXPECT(blocks == 0);
-	refuse_from = 0;
 }
 
 int main(void)
@@ -203,7 +168,6 @@ int main(void)
 	refuse_from = 0;
 	journey_without_memory(&wm);
 	EXPECT(blocks == 0);
-	keep_of_refused(&wm);
 	printf("allocations refused in turn: %" PRIu64 "\n", refused - 1);
 	return refused < 2;
 }

@@ -65,11 +65,6 @@ static uint64_t look_up(unsigned thread, const struct key *key)
 	return right ? found.value : UINT64_MAX;
 }
 
-static uint64_t lookups(unsigned thread, uint64_t count)
-{
-	return in_turn(thread, count, look_up);
-}
-
 static void enter(unsigned thread)
 {
 	DONE(registry_enter(&seats[thread].cpu));
@@ -101,11 +96,6 @@ static uint64_t read_in_section(unsigned thread, const struct key *key)
 	return right ? found.value : UINT64_MAX;
 }
 
-static uint64_t reads(unsigned thread, uint64_t count)
-{
-	return in_turn(thread, count, read_in_section);
-}
-
 static uint64_t look_up_at_once(unsigned thread, const struct key *key)
 {
 	struct registry_entry found;
@@ -113,21 +103,11 @@ static uint64_t look_up_at_once(unsigned thread, const struct key *key)
 	return answer == REGISTRY_DONE ? found.value : UINT64_MAX;
 }
 
-static uint64_t lookups_at_once(unsigned thread, uint64_t count)
-{
-	return in_turn(thread, count, look_up_at_once);
-}
-
 static uint64_t miss(unsigned thread, const struct key *key)
 {
 	struct registry_entry found;
 	uint32_t answer = registry_look_up(&seats[thread].cpu, REGISTRY_DRIVER, &absent_names[key - keys], &found);
 	return answer == REGISTRY_NOT_FOUND ? (uint64_t)(key - keys) : UINT64_MAX;
-}
-
-static uint64_t misses(unsigned thread, uint64_t count)
-{
-	return in_turn(thread, count, miss);
 }
 
 static uint64_t get(unsigned thread, const struct key *key)
@@ -139,10 +119,18 @@ static uint64_t get(unsigned thread, const struct key *key)
 	return right ? found.value : UINT64_MAX;
 }
 
-static uint64_t gets(unsigned thread, uint64_t count)
-{
-	return in_turn(thread, count, get);
-}
+/* All names in turn. */
+#define IN_TURN(name, look_up)                                                                                                     \
+	static uint64_t name(unsigned thread, uint64_t count)                                                                      \
+	{                                                                                                                          \
+		return in_turn(thread, count, look_up);                                                                            \
+	}
+
+IN_TURN(lookups, look_up)
+IN_TURN(reads, read_in_section)
+IN_TURN(lookups_at_once, look_up_at_once)
+IN_TURN(misses, miss)
+IN_TURN(gets, get)
 
 static uint64_t walks(unsigned thread, uint64_t count)
 {
@@ -164,13 +152,9 @@ static void replace(void)
 {
 	const struct registry_name *name = &names[entries - 1];
 	struct registry_entry entry;
-	pthread_mutex_lock(&interlock);
-	DONE(registry_detach(&keeper, changer, REGISTRY_DRIVER, name, NULL));
-	pthread_mutex_unlock(&interlock);
+	DONE_UNDER(&interlock, registry_detach(&keeper, changer, REGISTRY_DRIVER, name, NULL));
 	DONE(registry_destroy_wait(&lock, &keeper, changer, newest_number, NULL, NULL));
-	pthread_mutex_lock(&interlock);
-	DONE(registry_attach(&keeper, changer, name, entries - 1, &entry));
-	pthread_mutex_unlock(&interlock);
+	DONE_UNDER(&interlock, registry_attach(&keeper, changer, name, entries - 1, &entry));
 	newest_number = entry.number;
 }
 
@@ -213,9 +197,7 @@ static uint64_t locals(unsigned thread, uint64_t count)
 static const struct contender FACE = {
 	.name = "registry.h",
 	.open = open_registry,
-	.begin = do_nothing,
-	.end = do_nothing,
-	.rest = do_nothing,
+	NOTHING_AROUND,
 	.lookups = lookups,
 	.batches = batches,
 	.walks = walks,

@@ -7,7 +7,7 @@
  *
  * Each step has a letter, and the model knows which come next: l and u a mutex locked and unlocked; d a destroy's turn; b and p a perform's begin and
  * turn; a one of a barrier; y a yield; s a sleep; r a local reference's release and c its being given up.
- * With `emulated` waits are shorter, and no robust mutex is tried: qemu-user marks none whose owner has ended.
+ * With `emulated` waits are shorter.
  */
 #include <errno.h>
 #include <inttypes.h>
@@ -20,6 +20,7 @@
 #include "client.h"
 #include "pauses.h"
 #include "waiting.h"
+#include "wrapped_heap.h"
 
 enum { SPINS = 16, MOST_PAUSES = 256, YIELDS = 8, FIRST_SLEEP = 16000, LONGEST_SLEEP = 8000000, TURN = 100 };
 enum { WAITS = 20000, PLACES = 5, DEEPEST = 4, MOST_TURNS = 60, MANY = 5000001, SECOND = 1000000000, MOST_ERROR = 133 };
@@ -62,19 +63,17 @@ static struct registry_cpu cpus[PLACES];
 static pthread_mutex_t mutexes[PLACES];
 static struct registry_lock locks[PLACES];
 
-int __wrap_clock_gettime(clockid_t clock, struct timespec *time);
-int __wrap_nanosleep(const struct timespec *length, struct timespec *left);
-int __wrap_sched_yield(void);
-uint32_t __wrap_registry_destroy(struct registry_keeper *of, struct registry_cpu *on, uint64_t number, struct registry_stage *stage);
-uint32_t __wrap_registry_perform_begin(struct registry_keeper *of, struct registry_cpu *on, struct registry_wait *wait);
-uint32_t __wrap_registry_perform_turn(struct registry_keeper *of, struct registry_cpu *on, struct registry_wait *wait, uint64_t *waited);
-uint32_t __wrap_registry_local_release(struct registry_cpu *on, struct registry_local *of);
-uint32_t __wrap_registry_local_give_up(struct registry_keeper *of, struct registry_local *local);
-uint32_t __wrap_registry_advance(struct registry_keeper *of, uint64_t number, struct registry_stage *stage);
-int __real_pthread_mutex_lock(pthread_mutex_t *mutex);
-int __real_pthread_mutex_unlock(pthread_mutex_t *mutex);
-int __wrap_pthread_mutex_lock(pthread_mutex_t *mutex);
-int __wrap_pthread_mutex_unlock(pthread_mutex_t *mutex);
+WRAPPED(clock_gettime);
+WRAPPED(nanosleep);
+WRAPPED(sched_yield);
+WRAPPED(registry_destroy);
+WRAPPED(registry_perform_begin);
+WRAPPED(registry_perform_turn);
+WRAPPED(registry_local_release);
+WRAPPED(registry_local_give_up);
+WRAPPED(registry_advance);
+WRAPPED(pthread_mutex_lock);
+WRAPPED(pthread_mutex_unlock);
 
 /* What locking and unlocking a mutex fail with, unless it is 0. */
 static int lock_error, unlock_error;
@@ -347,8 +346,8 @@ static void test_many_turns(unsigned turns)
 	alone = false;
 }
 
-/* A child that takes the interlock so often and gives it up so often is aborted, and says that this call failed so. */
-static void expect_abort(const struct registry_lock *of_mutex, unsigned takes, unsigned gives, const char *call, int error)
+/* A child that takes the interlock and gives it up is aborted, and says that this call failed so. */
+static void expect_abort(const struct registry_lock *of_mutex, const char *call, int error)
 {
 	int status, ends[2];
 	char wanted[200], said_last[200] = "";
@@ -358,10 +357,8 @@ static void expect_abort(const struct registry_lock *of_mutex, unsigned takes, u
 	EXPECT(child >= 0);
 	if (child == 0) {
 		EXPECT(dup2(ends[1], STDERR_FILENO) >= 0);
-		while (takes-- > 0)
-			of_mutex->take(of_mutex->of);
-		while (gives-- > 0)
-			of_mutex->give(of_mutex->of);
+		of_mutex->take(of_mutex->of);
+		of_mutex->give(of_mutex->of);
 		_exit(0);
 	}
 	EXPECT(close(ends[1]) == 0 && read(ends[0], said_last, sizeof said_last - 1) > 0 && close(ends[0]) == 0);
@@ -370,72 +367,19 @@ static void expect_abort(const struct registry_lock *of_mutex, unsigned takes, u
 	EXPECT(waitpid(child, &status, 0) == child && WIFSIGNALED(status) && WTERMSIG(status) == SIGABRT);
 }
 
-/* Makes a mutex of this type, and its interlock. */
-static struct registry_lock make_mutex(pthread_mutex_t *mutex, int type, int robust)
-{
-	pthread_mutexattr_t kind;
-	EXPECT(pthread_mutexattr_init(&kind) == 0 && pthread_mutexattr_settype(&kind, type) == 0);
-	EXPECT(pthread_mutexattr_setrobust(&kind, robust) == 0);
-	EXPECT(pthread_mutex_init(mutex, &kind) == 0 && pthread_mutexattr_destroy(&kind) == 0);
-	return registry_lock_of_mutex(mutex);
-}
-
-/* The interlock of a mutex takes it and gives it up; one that refuses either aborts the program. */
-static void test_mutex(void)
-{
-	pthread_mutex_t mutex;
-	const struct registry_lock of_mutex = make_mutex(&mutex, PTHREAD_MUTEX_ERRORCHECK, PTHREAD_MUTEX_STALLED);
-	expect_abort(&of_mutex, 0, 1, "pthread_mutex_unlock", EPERM);
-	expect_abort(&of_mutex, 2, 0, "pthread_mutex_lock", EDEADLK);
-	expect_abort(&of_mutex, 1, 2, "pthread_mutex_unlock", EPERM);
-	of_mutex.take(of_mutex.of);
-	EXPECT(pthread_mutex_trylock(&mutex) != 0);
-	of_mutex.give(of_mutex.of);
-	EXPECT(pthread_mutex_trylock(&mutex) == 0 && pthread_mutex_unlock(&mutex) == 0);
-}
-
 /* The program is aborted if a mutex fails, with any error. */
 static void test_errors(void)
 {
-	pthread_mutex_t mutex;
-	const struct registry_lock of_mutex = make_mutex(&mutex, PTHREAD_MUTEX_NORMAL, PTHREAD_MUTEX_STALLED);
+	pthread_mutex_t mutex = PTHREAD_MUTEX_INITIALIZER;
+	const struct registry_lock of_mutex = registry_lock_of_mutex(&mutex);
 	for (int i = 0; i < 2 * MOST_ERROR; i++) {
 		bool by_lock = i % 2 == 0;
 		int error = 1 + i / 2;
 		lock_error = by_lock ? error : 0;
 		unlock_error = by_lock ? 0 : error;
-		expect_abort(&of_mutex, 1, 1, by_lock ? "pthread_mutex_lock" : "pthread_mutex_unlock", error);
+		expect_abort(&of_mutex, by_lock ? "pthread_mutex_lock" : "pthread_mutex_unlock", error);
 	}
 	lock_error = unlock_error = 0;
-}
-
-static void *take_and_end(void *of_mutex)
-{
-	const struct registry_lock *taken = of_mutex;
-	taken->take(taken->of);
-	return NULL;
-}
-
-/* A recursive mutex nests. */
-static void test_recursive(void)
-{
-	pthread_mutex_t mutex;
-	const struct registry_lock nests = make_mutex(&mutex, PTHREAD_MUTEX_RECURSIVE, PTHREAD_MUTEX_STALLED);
-	for (unsigned i = 0; i < 3; i++)
-		nests.take(nests.of);
-	for (unsigned i = 0; i < 3; i++)
-		nests.give(nests.of);
-	expect_abort(&nests, 0, 1, "pthread_mutex_unlock", EPERM);
-}
-
-/* A robust mutex whose owner has ended with it aborts the program. */
-static void test_robust(void)
-{
-	pthread_mutex_t robust;
-	pthread_t owner;
-	struct registry_lock dies = make_mutex(&robust, PTHREAD_MUTEX_NORMAL, PTHREAD_MUTEX_ROBUST);
-	EXPECT(pthread_create(&owner, NULL, take_and_end, &dies) == 0 && pthread_join(owner, NULL) == 0);
-	expect_abort(&dies, 1, 0, "pthread_mutex_lock", EOWNERDEAD);
 }
 
 int main(int argc, char **argv)
@@ -443,11 +387,7 @@ int main(int argc, char **argv)
 	const bool is_emulated = argc == 2 && strcmp(argv[1], "emulated") == 0;
 	test_waits();
 	test_many_turns(is_emulated ? MANY / 100 : MANY);
-	test_mutex();
 	test_errors();
-	test_recursive();
-	if (!is_emulated)
-		test_robust();
 	printf("turns: %" PRIu64 " turns\n", turns_made);
 	return 0;
 }

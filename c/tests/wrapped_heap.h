@@ -7,7 +7,7 @@
 #ifndef WRAPPED_HEAP_H
 #define WRAPPED_HEAP_H
 
-#include <stddef.h>
+#include <stdlib.h>
 
 /*
  * The words of a registry's table by its settings, as `words_of` of cpu_words has them: where the row of a CPU begins, and how many bytes there are. They
@@ -16,11 +16,11 @@
 #define TABLE_ROW(slots, cpu) (32 + 8 * (slots) + (cpu) * (16 + 2 * (slots)))
 #define TABLE_BYTES(slots, cpus) (8 * TABLE_ROW(slots, cpus))
 
-void *__real_malloc(size_t size);
-void *__real_realloc(void *block, size_t size);
-void __real_free(void *block);
-void *__wrap_malloc(size_t size);
-void *__wrap_realloc(void *block, size_t size);
-void __wrap_free(void *block);
+/* A call that the linker leads to the program. */
+#define WRAPPED(call) extern __typeof__(call) __real_##call, __wrap_##call
+
+WRAPPED(malloc);
+WRAPPED(realloc);
+WRAPPED(free);
 
 #endif

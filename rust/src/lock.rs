@@ -70,3 +70,25 @@ impl Tasks {
         woken.into_iter().for_each(Waker::wake);
     }
 }
+
+#[cfg(test)]
+mod tests {
+    use super::Tasks;
+    use std::sync::atomic::Ordering;
+    use std::sync::Arc;
+    use std::task::{Poll, Wake};
+
+    struct Still;
+
+    impl Wake for Still {
+        fn wake(self: Arc<Self>) {}
+    }
+
+    /// Before that nobody knows of the task, so it isn't woken.
+    #[test]
+    fn a_task_that_is_noted_looks_once_more() {
+        let tasks = Tasks::default();
+        let polled = tasks.poll(&Arc::new(Still).into(), || tasks.are_any.load(Ordering::SeqCst).then_some(7));
+        assert_eq!(polled, Poll::Ready(7));
+    }
+}

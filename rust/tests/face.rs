@@ -96,40 +96,6 @@ fn sections_nest_to_the_greatest_depth() {
 }
 
 #[test]
-fn a_call_outside_counts_as_a_section_except_of_an_entry_that_its_cpu_remembers() {
-    let (registry, cpus) = Registry::open(Settings::new(1, 1).sections(2)).unwrap();
-    let cpu = &cpus[0];
-    registry.attach(cpu, &WM, 7).unwrap();
-    let section = cpu.enter().unwrap();
-    assert_eq!((cpu.look_up(Kind::Driver, &WM).unwrap().number, *cpu.get(Kind::Driver, &WM).unwrap()), (1, 7));
-    assert_eq!(*cpu.read(Kind::Driver, &WM).unwrap(), 7);
-    section.exit();
-    for _ in 0..9 {
-        assert_eq!((cpu.look_up(Kind::Driver, &WM).unwrap().number, *cpu.get(Kind::Driver, &WM).unwrap()), (1, 7));
-    }
-    assert_eq!(*cpu.read(Kind::Driver, &WM).unwrap(), 7);
-    let spent = [cpu.enter().map(drop), cpu.read(Kind::Driver, &WM).map(drop), cpu.get_local(Kind::Driver, &WM).map(drop)];
-    let of_others = [cpu.look_up(Kind::Iface, &WM).map(drop), cpu.get(Kind::Iface, &WM).map(drop)];
-    assert!(spent.iter().chain(&of_others).all(|told| told.map_err(why) == Err(Refusal::SectionsSpent)));
-}
-
-#[test]
-fn all_slots_and_names_are_told_apart() {
-    let (registry, cpus) = Registry::open(Settings::new(1, LIMITS.slots as u8)).unwrap();
-    for i in 0..LIMITS.slots {
-        let made = registry.attach(&cpus[0], &name(&format!("d{i}")), i).unwrap();
-        assert_eq!((u64::from(made.slot), made.number), (i, i + 1));
-    }
-    let section = cpus[0].enter().unwrap();
-    assert!((0..LIMITS.slots).all(|i| *section.find(Kind::Driver, &name(&format!("d{i}"))).unwrap() == i));
-    assert!(section.entries().map(|listed| *listed).eq((0..LIMITS.slots).rev()));
-    section.exit();
-    drop((0..LIMITS.slots).map(|i| local(&cpus[0], &format!("d{i}"))).collect::<Vec<_>>());
-    assert_eq!((registry.dropped() as u64, registry.audit(&cpus).unwrap().len() as u64), (LIMITS.slots, LIMITS.slots));
-    assert!((0..LIMITS.slots).rev().all(|i| detach(&registry, &cpus[0], &format!("d{i}")).freed().value == i));
-}
-
-#[test]
 fn a_dropped_cpu_may_be_had_again() {
     let (registry, mut cpus) = with_driver(7);
     assert!(registry.cpu(1).is_none() && registry.cpu(2).is_none() && registry.cpu(255).is_none() && registry.any_cpu().is_none());

@@ -2,69 +2,16 @@
 
 mod common;
 
-use common::{local, name, passive, LONG};
-use kupaldiz::{Cpu, Kind, LocalRef, Name, PassiveRef, Patience, Registry, Retired, Settings};
-use std::cell::RefCell;
-use std::future::Future;
+use common::{local, name, passive, Task};
+use kupaldiz::{Cpu, Kind, LocalRef, Name, PassiveRef, Patience, Registry, Settings};
 use std::mem;
 use std::panic::{self, AssertUnwindSafe};
-use std::pin::Pin;
-use std::process;
-use std::sync::atomic::{AtomicU32, AtomicUsize, Ordering};
-use std::sync::Arc;
-use std::task::{Context, Poll, RawWaker, RawWakerVTable, Wake, Waker};
-use std::thread::{self, Thread};
-use std::time::Instant;
+use std::sync::atomic::{AtomicU32, Ordering};
+use std::task::Poll;
+use std::thread;
 
 const WM: Name = Name::from_static("wm");
 const WM0: Name = Name::from_static("wm0");
-
-/// A task that is told how often it is woken, and the thread that runs it.
-struct Task {
-    woken: AtomicUsize,
-    thread: Thread,
-}
-
-impl Wake for Task {
-    fn wake(self: Arc<Self>) {
-        self.woken.fetch_add(1, Ordering::SeqCst);
-        self.thread.unpark();
-    }
-}
-
-impl Task {
-    fn here() -> Arc<Task> {
-        Arc::new(Task { woken: AtomicUsize::new(0), thread: thread::current() })
-    }
-
-    fn woken(&self) -> usize {
-        self.woken.load(Ordering::SeqCst)
-    }
-
-    fn poll<T>(self: &Arc<Self>, retired: &mut Retired<T>) -> Poll<T> {
-        let waker = Waker::from(Arc::clone(self));
-        Pin::new(retired).poll(&mut Context::from_waker(&waker)).map(|freed| freed.value)
-    }
-
-    /// Runs until the entry is freed. It polls only once it is woken, and fails if nobody wakes it.
-    fn run<T>(self: &Arc<Self>, mut retired: Retired<T>) -> T {
-        loop {
-            let before = self.woken();
-            if let Poll::Ready(value) = self.poll(&mut retired) {
-                return value;
-            }
-            let began = Instant::now();
-            while self.woken() == before {
-                if began.elapsed() >= LONG {
-                    // A panic would leave the other threads where they meet.
-                    eprintln!("a task that nobody woke");
-                    process::abort();
-                }
-                thread::park_timeout(LONG);
-            }
-        }
-    }
-}
 
 /// Two CPUs for the holders, and one for the changes.
 fn with_wm() -> (Registry<u32>, Vec<Cpu<u32>>) {
@@ -197,34 +144,6 @@ fn no_wake_is_lost_between_threads() {
             }
         });
     }
-}
-
-/// Lets the reference go that it has, as it is cloned: after the poll's first turn, and before anybody knows of the task.
-fn lets_go_as_it_is_cloned(held: &RefCell<Option<LocalRef<u32>>>) -> RawWaker {
-    const NONE: RawWakerVTable = RawWakerVTable::new(|data| RawWaker::new(data, &NONE), |_| {}, |_| {}, |_| {});
-    const CLONED: RawWakerVTable = RawWakerVTable::new(
-        |data| {
-            // SAFETY: the cell outlives the first waker, which this thread alone has.
-            drop(unsafe { &*data.cast::<RefCell<Option<LocalRef<u32>>>>() }.take());
-            RawWaker::new(data, &NONE)
-        },
-        |_| {},
-        |_| {},
-        |_| {},
-    );
-    RawWaker::new(std::ptr::addr_of!(*held).cast(), &CLONED)
-}
-
-#[test]
-fn what_is_let_go_before_the_task_is_known_is_seen_by_the_same_poll() {
-    let (registry, cpus) = with_wm();
-    let held = RefCell::new(Some(local(&cpus[0], "wm")));
-    let mut retired = registry.detach(&cpus[2], Kind::Driver, &WM).unwrap();
-    // SAFETY: its functions keep to what a waker is, and the cell outlives it.
-    let waker = unsafe { Waker::from_raw(lets_go_as_it_is_cloned(&held)) };
-    let done = Pin::new(&mut retired).poll(&mut Context::from_waker(&waker));
-    assert_eq!(done.map(|freed| freed.value), Poll::Ready(7));
-    assert!(held.take().is_none());
 }
 
 #[test]

@@ -2,15 +2,15 @@
 
 mod common;
 
-use common::{local, name, passive, with_driver, LONG};
+use common::{local, name, passive, with_driver, Task, LONG};
 use kupaldiz::{CpuPool, LocalRef, Registry};
 use std::future::Future;
 use std::mem;
 use std::panic::{catch_unwind, AssertUnwindSafe};
-use std::sync::atomic::{AtomicBool, AtomicU32, Ordering};
+use std::sync::atomic::{AtomicBool, Ordering};
 use std::sync::mpsc::channel;
 use std::sync::Arc;
-use std::task::{Context, Poll, Wake, Waker};
+use std::task::{Context, Poll, Waker};
 use std::thread;
 use std::time::{Duration, Instant};
 
@@ -20,31 +20,21 @@ fn with_pool() -> (Registry<u32>, Arc<CpuPool<u32>>) {
     (registry, Arc::new(CpuPool::new(cpus.drain(..1)).unwrap()))
 }
 
-/// Counts how often a task is woken.
-#[derive(Default)]
-struct Woken(AtomicU32);
-
-impl Wake for Woken {
-    fn wake(self: Arc<Self>) {
-        self.0.fetch_add(1, Ordering::SeqCst);
-    }
-}
-
 #[test]
 fn a_task_is_woken_as_a_cpu_comes_back() {
     let (_registry, pool) = with_pool();
-    let woken = Arc::new(Woken::default());
+    let woken = Task::here();
     let waker = Waker::from(Arc::clone(&woken));
     let (mut context, mut task, held) = (Context::from_waker(&waker), Box::pin(pool.lend_async()), pool.lend());
     assert!(task.as_mut().poll(&mut context).is_pending());
-    assert!(pool.poll_lend(&mut context).is_pending() && woken.0.load(Ordering::SeqCst) == 0);
+    assert!(pool.poll_lend(&mut context).is_pending() && woken.woken() == 0);
     drop(held);
-    assert_eq!(woken.0.load(Ordering::SeqCst), 1);
+    assert_eq!(woken.woken(), 1);
     // Another one may take it before.
     let other = pool.try_lend().unwrap();
     assert!(task.as_mut().poll(&mut context).is_pending());
     drop(other);
-    assert_eq!(woken.0.load(Ordering::SeqCst), 2);
+    assert_eq!(woken.woken(), 2);
     assert_eq!(task.as_mut().poll(&mut context).map(|lent| lent.id()), Poll::Ready(0));
     assert!(pool.poll_lend(&mut context).is_ready());
 }

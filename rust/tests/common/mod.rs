@@ -5,9 +5,14 @@ pub mod watched;
 
 use kupaldiz::{Cpu, DestroyError, Entry, Freed, Holder, Kind, LocalRef, Name, PassiveRef, Refusal, Refused, Registry, Retired, Settings};
 use std::cell::RefCell;
+use std::future::Future;
+use std::pin::Pin;
+use std::process;
 use std::sync::atomic::{AtomicUsize, Ordering};
 use std::sync::Arc;
-use std::time::Duration;
+use std::task::{Context, Poll, Wake, Waker};
+use std::thread::{self, Thread};
+use std::time::{Duration, Instant};
 
 pub fn name(text: &str) -> Name {
     Name::parse(text).unwrap()
@@ -153,5 +158,52 @@ impl Drop for Tracked {
         self.words.iter_mut().for_each(|word| *word = !self.label);
         assert_eq!(self.words[7], !self.label);
         self.dropped.fetch_add(1, Ordering::Relaxed);
+    }
+}
+
+/// A task that is told how often it is woken, and the thread that runs it.
+pub struct Task {
+    woken: AtomicUsize,
+    thread: Thread,
+}
+
+impl Wake for Task {
+    fn wake(self: Arc<Self>) {
+        self.woken.fetch_add(1, Ordering::SeqCst);
+        self.thread.unpark();
+    }
+}
+
+impl Task {
+    pub fn here() -> Arc<Task> {
+        Arc::new(Task { woken: AtomicUsize::new(0), thread: thread::current() })
+    }
+
+    pub fn woken(&self) -> usize {
+        self.woken.load(Ordering::SeqCst)
+    }
+
+    pub fn poll<T>(self: &Arc<Self>, retired: &mut Retired<T>) -> Poll<T> {
+        let waker = Waker::from(Arc::clone(self));
+        Pin::new(retired).poll(&mut Context::from_waker(&waker)).map(|freed| freed.value)
+    }
+
+    /// Runs until the entry is freed. It polls only once it is woken, and fails if nobody wakes it.
+    pub fn run<T>(self: &Arc<Self>, mut retired: Retired<T>) -> T {
+        loop {
+            let before = self.woken();
+            if let Poll::Ready(value) = self.poll(&mut retired) {
+                return value;
+            }
+            let began = Instant::now();
+            while self.woken() == before {
+                if began.elapsed() >= LONG {
+                    // A panic would leave the other threads where they meet.
+                    eprintln!("a task that nobody woke");
+                    process::abort();
+                }
+                thread::park_timeout(LONG);
+            }
+        }
     }
 }
