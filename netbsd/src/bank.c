@@ -14,15 +14,8 @@ static unsigned roomy;			/* where the next target is tried first; under the inte
 static unsigned used_up;		/* banks that are */
 static uint64_t serials;
 
-void enter_interlock(void)
-{
-	pthread_mutex_lock(&interlock);
-}
-
-void exit_interlock(void)
-{
-	pthread_mutex_unlock(&interlock);
-}
+void enter_interlock(void) { pthread_mutex_lock(&interlock); }
+void exit_interlock(void) { pthread_mutex_unlock(&interlock); }
 
 struct registry_cpu *writers(struct bank *bank)
 {

@@ -8,13 +8,9 @@ void cv_init(kcondvar_t *cv, const char *name)
 	*cv = (kcondvar_t){.cv_name = name, .cv_made = A_CV};
 }
 
-/* Stops where it isn't a condition variable. */
 static void require_cv(const struct thread *me, const kcondvar_t *cv)
 {
-	if (cv->cv_made == ENDED)
-		stop(me, "the condition variable was destroyed");
-	if (cv->cv_made != A_CV)
-		stop(me, "the condition variable was never initialised");
+	require_made(me, cv->cv_made, A_CV, "the condition variable");
 }
 
 void cv_destroy(kcondvar_t *cv)

@@ -9,8 +9,7 @@ enum { DRAINED = 1, FINISHED, FIRST_ROOM = 8 };
 
 void localcount_init(struct localcount *lc)
 {
-	struct thread *me = begin_call(__func__);
-	require_sleepable(me);
+	struct thread *me = sleepable(begin_call(__func__));
 	attach_row(me, lc, &lc->lc_serial, &lc->lc_row);
 }
 
@@ -109,8 +108,7 @@ void localcount_acquire(struct localcount *lc)
 		stop(me, "the count is being drained");
 	must_succeed(me, answer);
 	push(me, at.row, &reference);
-	unhold_cpu(me);
-	end_call(me);
+	leave_cpu(me);
 }
 
 /* Gives up a reference that a drain waits for, and wakes the drain, which goes on once the caller's lock is free. A soft interrupt takes that lock, too,
@@ -149,7 +147,6 @@ void localcount_release(struct localcount *lc, kcondvar_t *cv, kmutex_t *interlo
 /* Says what a drain waits for. */
 static void report_wait(struct thread *me, struct row *row, const struct registry_stage *met)
 {
-	char where[256];
 	if (met->stage == REGISTRY_GRACE) {
 		report_section_wait(me, met->what);
 		return;
@@ -161,8 +158,7 @@ static void report_wait(struct thread *me, struct row *row, const struct registr
 	if (count == 0)
 		report(me, "waits for a release that is under way");
 	else
-		report(me, count == 1 ? "waits for %zu reference, acquired%s" : "waits for %zu references, one of them acquired%s", count,
-		    at_place(place, where, sizeof(where)));
+		report(me, count == 1 ? "waits for %zu reference, acquired%s" : "waits for %zu references, one of them acquired%s", count, AT_PLACE(place));
 }
 
 /* Lets others run, without the interlock: until the last release wakes it, or for a while where a section is waited for, whose end wakes nobody. Whether it
@@ -189,10 +185,9 @@ static void let_others_in(struct thread *me, kmutex_t *interlock)
 
 void localcount_drain(struct localcount *lc, kcondvar_t *cv, kmutex_t *interlock)
 {
-	struct thread *me = begin_call(__func__);
+	struct thread *me = sleepable(begin_call(__func__));
 	struct pauses pauses = begin_pauses();
 	struct registry_stage met = {0, 0};
-	require_sleepable(me);
 	if (!has_mutex(me, interlock))
 		stop(me, "the thread does not have the interlock");
 	struct found_row at = count_row(me, lc);

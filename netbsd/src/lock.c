@@ -35,15 +35,8 @@ struct sleepq *sleepq_of(const void *address)
 	return &sleepqs[place_of(address)];
 }
 
-void sleepq_lock(struct sleepq *sleepq)
-{
-	pthread_mutex_lock(&sleepq->mutex);
-}
-
-void sleepq_unlock(struct sleepq *sleepq)
-{
-	pthread_mutex_unlock(&sleepq->mutex);
-}
+void sleepq_lock(struct sleepq *sleepq) { pthread_mutex_lock(&sleepq->mutex); }
+void sleepq_unlock(struct sleepq *sleepq) { pthread_mutex_unlock(&sleepq->mutex); }
 
 /* The time of the monotonic clock so many nanoseconds from now. */
 struct timespec time_after(int64_t nanoseconds)
@@ -171,12 +164,12 @@ void lock_acquire(uintptr_t *word, struct thread *me, report_fn *reporter)
 	if (lock_tryacquire(word, me))
 		return;
 	struct sleepq *sleepq = &lock_sleepqs[place_of(word)];
-	struct timespec patience = time_after(KUPALDIZ_PATIENCE * INT64_C(1000000));
+	struct timespec tells = patience();
 	bool reported = reporter == NULL;
 	int waits = begin_wait();
 	sleepq_lock(sleepq);
 	for (me->tries = 0; !acquire_or_mark(sleepq, word, me); me->tries++) {
-		if (sleepq_wait(sleepq, word, me, reported ? NULL : &patience) || reported)
+		if (sleepq_wait(sleepq, word, me, reported ? NULL : &tells) || reported)
 			continue;
 		reported = true;
 		sleepq_unlock(sleepq);
@@ -241,7 +234,7 @@ void lock_wait(uintptr_t *word, struct thread *me)
 
 struct pauses begin_pauses(void)
 {
-	return (struct pauses){0, time_after(KUPALDIZ_PATIENCE * INT64_C(1000000))};
+	return (struct pauses){0, patience()};
 }
 
 static bool is_past(const struct timespec *time)

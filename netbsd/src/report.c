@@ -26,15 +26,6 @@ static void write_line(const char *call, const char *place, const char *format, 
 	end_wait(waits);
 }
 
-void stop(const struct thread *me, const char *format, ...)
-{
-	va_list words;
-	va_start(words, format);
-	write_line(me->call, me->place, format, words);
-	va_end(words);
-	abort();
-}
-
 void stop_at(const char *call, const char *place, const char *format, ...)
 {
 	va_list words;
@@ -50,6 +41,12 @@ void report(const struct thread *me, const char *format, ...)
 	va_start(words, format);
 	write_line(me->call, NULL, format, words);
 	va_end(words);
+}
+
+/* When a wait says what it waits for: so long from now on. */
+struct timespec patience(void)
+{
+	return time_after(KUPALDIZ_PATIENCE * INT64_C(1000000));
 }
 
 /* Stops where the registry refuses, as at a limit. */
@@ -91,12 +88,20 @@ const char *at_place(const char *place, char *text, size_t room)
 	return text;
 }
 
+/* Stops where a thing isn't what was made as such: its word is another one. */
+void require_made(const struct thread *me, uint32_t made, uint32_t wanted, const char *what)
+{
+	if (made == ENDED)
+		stop(me, "%s was destroyed", what);
+	if (made != wanted)
+		stop(me, "%s was never initialised", what);
+}
+
 /* Stops where the thread mustn't sleep. */
 void require_sleepable(const struct thread *me)
 {
-	char text[192];
 	if (me->depth > 0)
-		stop(me, "inside a read section, entered%s", at_place(me->entered, text, sizeof(text)));
+		stop(me, "inside a read section, entered%s", AT_PLACE(me->entered));
 	if (me->softint)
 		stop(me, "in a soft interrupt");
 	if (me->spins > 0)

@@ -6,13 +6,11 @@ void rw_init(krwlock_t *rw)
 	*rw = (krwlock_t){.rw_made = A_RW};
 }
 
-/* Stops where it isn't a lock. */
-static void require_rw(const struct thread *me, const krwlock_t *rw)
+/* A call of a lock begins. */
+static struct thread *require_rw(struct thread *me, const krwlock_t *rw)
 {
-	if (rw->rw_made == ENDED)
-		stop(me, "the lock was destroyed");
-	if (rw->rw_made != A_RW)
-		stop(me, "the lock was never initialised");
+	require_made(me, rw->rw_made, A_RW, "the lock");
+	return me;
 }
 
 void rw_destroy(krwlock_t *rw)
@@ -43,21 +41,13 @@ static bool rw_tryacquire(struct thread *me, krwlock_t *rw, krw_t how)
 /* Says who has the lock. Whether anybody has it. The caller has the sleep queue's lock. */
 static bool report_wait(struct thread *me, const krwlock_t *rw)
 {
-	char name[64], where[256];
 	if (rw->rw_writer == 0 && rw->rw_readers == 0)
 		return false;
 	if (rw->rw_writer != 0)
-		report(me, "waits for the lock that thread \"%s\" took as a writer%s",
-		    name_of((const struct thread *)rw->rw_writer, name, sizeof(name)), at_place(rw->rw_place, where, sizeof(where)));
+		report(me, "waits for the lock that thread \"%s\" took as a writer%s", NAME_OF((const struct thread *)rw->rw_writer), AT_PLACE(rw->rw_place));
 	else
-		report(me, "waits for %u readers, the last of which took the lock%s", rw->rw_readers, at_place(rw->rw_place, where, sizeof(where)));
+		report(me, "waits for %u readers, the last of which took the lock%s", rw->rw_readers, AT_PLACE(rw->rw_place));
 	return true;
-}
-
-/* When a wait says what it waits for: so long from now on. */
-static struct timespec patience(void)
-{
-	return time_after(KUPALDIZ_PATIENCE * INT64_C(1000000));
 }
 
 /* Waits until it has the lock. The caller has the sleep queue's lock. */

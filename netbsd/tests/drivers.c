@@ -72,11 +72,7 @@ static void change_members(void)
 
 /* ---- ifindex.c ---- */
 
-static void transmit(unsigned index)
-{
-	sleep_for(10);
-	atomic_fetch_add(&seen, index > 0);
-}
+static void transmit(unsigned index) { sleep_for(10); atomic_fetch_add(&seen, index > 0); }
 
 static void *transmit_all(void *of)
 {
@@ -111,10 +107,7 @@ static int open_it(unsigned minor)
 	return 0;
 }
 
-static int close_it(unsigned minor)
-{
-	return minor < 2 ? 0 : EIO;
-}
+static int close_it(unsigned minor) { return minor < 2 ? 0 : EIO; }
 
 static const struct devsw device = {open_it, close_it};
 

@@ -30,10 +30,7 @@
 
 /* ---- spl(9), and the levels' names. ---- */
 
-static int level_now(void)
-{
-	return splraiseipl(makeiplcookie(IPL_NONE));
-}
+static int level_now(void) { return splraiseipl(makeiplcookie(IPL_NONE)); }
 
 /* Each name raises the level to its own, and splx lowers it again. */
 #define TEST_LEVEL(raise, level) \
@@ -127,11 +124,7 @@ static int make(void *arg, void *object, int flags)
 	return made == 3 ? ENOMEM : 0;
 }
 
-static void end(void *arg, void *object)
-{
-	EXPECT(arg == &made && *(int *)object == 5);
-	ended++;
-}
+static void end(void *arg, void *object) { EXPECT(arg == &made && *(int *)object == 5); ended++; }
 
 /* An object is constructed once, and the third one can't be. What was given back last is got first. */
 static void test_cache(void)
@@ -428,10 +421,7 @@ struct sum_hook_t sum_hook;
 MODULE_HOOK(tell_hook, void, (void *));
 struct tell_hook_t tell_hook;
 
-static int sum(int one, int two)
-{
-	return one + two;
-}
+static int sum(int one, int two) { return one + two; }
 
 static int call_sum(int one, int two)
 {

@@ -57,10 +57,7 @@ static unsigned below(struct actor *actor, unsigned bound)
 	return (unsigned)((actor->random >> 11) % bound);
 }
 
-static void judge(const struct object *object)
-{
-	EXPECT(object->state == LIVE && object->place < OBJECTS);
-}
+static void judge(const struct object *object) { EXPECT(object->state == LIVE && object->place < OBJECTS); }
 
 /* ---- Sections. ---- */
 

@@ -7,32 +7,16 @@
  */
 #include <fcntl.h>
 #include <stdarg.h>
-#include <sys/callout.h>
-#include <sys/condvar.h>
-#include <sys/cpu.h>
-#include <sys/intr.h>
-#include <sys/kthread.h>
-#include <sys/localcount.h>
-#include <sys/mutex.h>
-#include <sys/percpu.h>
 #include <sys/prctl.h>
-#include <sys/pserialize.h>
-#include <sys/psref.h>
-#include <sys/rwlock.h>
-#include <sys/systm.h>
-#include <sys/xcall.h>
 
 #include "stops.h"
 
 #include "registry.h"
 #include "wraps.h"
 
-static struct psref_class *things;
-static struct psref_target target;
-static struct localcount count;
-static pserialize_t psz;
-static kmutex_t lock, countlock, spin;
-static kcondvar_t cv;
+#include "things.h"
+
+static kmutex_t spin;
 static krwlock_t rw;
 static atomic_bool ready, told;
 
@@ -84,15 +68,9 @@ uint32_t __wrap_registry_local_release(struct registry_cpu *cpu, struct registry
 
 static void begin(void)
 {
-	things = psref_class_create("thing", IPL_SOFTNET);
-	psz = pserialize_create();
-	mutex_init(&lock, MUTEX_DEFAULT, IPL_SOFTNET);
-	mutex_init(&countlock, MUTEX_DEFAULT, IPL_NONE);
+	make_things(IPL_NONE);
 	mutex_init(&spin, MUTEX_DEFAULT, IPL_VM);
-	cv_init(&cv, "count");
 	rw_init(&rw);
-	psref_target_init(&target, things);
-	localcount_init(&count);
 }
 
 /* Runs a body on a thread with a name, on CPU 3, until it has what another thread will wait for. */
@@ -112,14 +90,7 @@ static pthread_t hold(const char *name, void *(*body)(void *))
 /* Makes a call while such a thread has what the call waits for. */
 #define BESIDE(name, body, ...)	pthread_t holder = hold(name, body); __VA_ARGS__; end_thread(holder)
 
-static void drain(void)
-{
-	mutex_enter(&countlock);
-	localcount_drain(&count, &cv, &countlock);
-	mutex_exit(&countlock);
-}
-
-static void release_count(void) { localcount_release(&count, &cv, &countlock); }
+static void release_count(void) { localcount_release(&count, &cv, &lock); }
 
 /* ---- Sections. ---- */
 
@@ -127,14 +98,10 @@ static void release_count(void) { localcount_release(&count, &cv, &countlock); }
 
 HOLDER(read_long, int s = pserialize_read_enter(); keep(); pserialize_read_exit(s))
 HANDLER(nothing, (void)0)
-static void add_nothing(void *arg, void *other)
-{
-	nothing(arg);
-	nothing(other);
-}
+static void add_nothing(void *arg, void *other) { nothing(arg); nothing(other); }
 WAITS("pserialize_perform: " FOR_READER, BESIDE("reader", read_long, pserialize_perform(psz)))
 WAITS("psref_target_destroy: " FOR_READER, BESIDE("reader", read_long, psref_target_destroy(&target, things)))
-WAITS("localcount_drain: " FOR_READER, BESIDE("reader", read_long, drain()))
+WAITS("localcount_drain: " FOR_READER, BESIDE("reader", read_long, drain(&count)))
 WAITS("xc_barrier: " FOR_READER, BESIDE("reader", read_long, xc_barrier(0)))
 WAITS("xc_broadcast: " FOR_READER, BESIDE("reader", read_long, xc_wait(xc_broadcast(XC_HIGHPRI, add_nothing, NULL, NULL))))
 WAITS("pserialize_read_enter: " FOR_READER,
@@ -195,12 +162,12 @@ WAITS("psref_target_destroy: waits for CPU 3, whose thread \"ifconfig\" holds on
     BESIDE("ifconfig", refer_elsewhere, psref_target_destroy(&target, things)); end_thread(keeper))
 
 HOLDER(count_long, localcount_acquire(&count); keep(); release_count())
-WAITS("localcount_drain: waits for 1 reference, acquired at PLACE", BESIDE("open", count_long, drain()))
+WAITS("localcount_drain: waits for 1 reference, acquired at PLACE", BESIDE("open", count_long, drain(&count)))
 HOLDER(count_twice, localcount_acquire(&count); localcount_acquire(&count); keep(); release_count(); release_count())
-WAITS("localcount_drain: waits for 2 references, one of them acquired at PLACE", BESIDE("open", count_twice, drain()))
+WAITS("localcount_drain: waits for 2 references, one of them acquired at PLACE", BESIDE("open", count_twice, drain(&count)))
 /* The reference isn't noted any more, and not released yet. */
 HOLDER(release_long, localcount_acquire(&count); atomic_store(&lasts, true); release_count())
-WAITS("localcount_drain: waits for a release that is under way", BESIDE("close", release_long, drain()))
+WAITS("localcount_drain: waits for a release that is under way", BESIDE("close", release_long, drain(&count)))
 
 /* ---- Locks. ---- */
 

@@ -78,7 +78,7 @@ def lines():
         Fault("a line that another file's test wants", 'callout.c: no test wants "the thread does not have the lock"',
               ((ASKED[0], "callout_halt: the thread does not have the lock", "callout_halt: it is free"),)),
         Fault("a line about what no row of calls is given", 'callout.c: no test wants "the timer was destroyed"',
-              (("netbsd/src/callout.c", "the callout was destroyed", "the timer was destroyed"),)),
+              (("netbsd/src/callout.c", '"the callout")', '"the timer")'),)),
         Fault("a file of tests that is gone", "lacks isn't there", ((ASKED[1], "#include", None),)),
     )
     return Case("lines", [], real(LINES, "netbsd/src/*.c", TESTS), [LINES], faults)

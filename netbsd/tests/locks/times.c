@@ -80,12 +80,7 @@ ssize_t __wrap_write(int file, const void *bytes, size_t length)
 	return (ssize_t)length;
 }
 
-static void see_from(int64_t time)
-{
-	now = time;
-	lines = yields = readings = 0;
-	is_seen = true;
-}
+static void see_from(int64_t time) { now = time; lines = yields = readings = 0; is_seen = true; }
 
 static kmutex_t lock;
 static kcondvar_t cv;

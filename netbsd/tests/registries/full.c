@@ -4,29 +4,15 @@
  *
  * The last line counts the cases.
  */
-#include <sys/condvar.h>
-#include <sys/localcount.h>
-#include <sys/mutex.h>
-#include <sys/psref.h>
-#include <sys/systm.h>
-
 #include "stops.h"
+#include "things.h"
 
 /* The writers' CPU counts as many as any other one. */
 enum { REFERENCES = 2 * KUPALDIZ_REFERENCES, LIVE = KUPALDIZ_BANKS * KUPALDIZ_ROWS };
 
-static struct psref_class *things;
-static struct psref_target target;
 static struct psref psrefs[REFERENCES + 1];
-static struct localcount count;
 
-static void begin(void)
-{
-	kupaldiz_bind(1);
-	things = psref_class_create("thing", IPL_SOFTNET);
-	psref_target_init(&target, things);
-	localcount_init(&count);
-}
+static void begin(void) { kupaldiz_bind(1); make_things(IPL_NONE); }
 
 static void refer(unsigned references)
 {

@@ -2,23 +2,13 @@
  * limits - more than one registry takes: over a layer whose registries have four rows, forty changes, twenty thousand sections of a CPU and two
  * thousand references. With `full` over the true limits, as far as a test comes to them: more than two million changes, and hundreds of live targets.
  */
-#include <sys/condvar.h>
-#include <sys/intr.h>
-#include <sys/localcount.h>
-#include <sys/mutex.h>
-#include <sys/pserialize.h>
-#include <sys/psref.h>
-
 #include <sched.h>
 
 #include "test.h"
+#include "things.h"
 
 enum { MOST_LIVE = 300, READERS = 4, MANY = 300000, MANY_CHANGES = 2200000, REFERENCES = 3501 };	/* no multiple of 7 */
 
-static struct psref_class *things;
-static pserialize_t psz;
-static kmutex_t lock;
-static kcondvar_t drained;
 static struct psref_target targets[MOST_LIVE];
 static struct localcount counts[MOST_LIVE];
 static atomic_bool over;
@@ -39,13 +29,11 @@ static void test_live(unsigned live)
 		psref_release(&psref, &targets[i], things);
 		localcount_acquire(&counts[i]);
 		EXPECT(localcount_debug_refcnt(&counts[i]) == 1);
-		localcount_release(&counts[i], &drained, &lock);
+		localcount_release(&counts[i], &cv, &lock);
 	}
 	for (unsigned i = 0; i < live; i++) {
 		psref_target_destroy(&targets[i], things);
-		mutex_enter(&lock);
-		localcount_drain(&counts[i], &drained, &lock);
-		mutex_exit(&lock);
+		drain(&counts[i]);
 		localcount_fini(&counts[i]);
 	}
 }
@@ -121,7 +109,7 @@ static void *release_all(void *of)
 {
 	kupaldiz_bind(5);
 	for (unsigned i = 0; i < *(unsigned *)of; i++)
-		localcount_release(&counts[0], &drained, &lock);
+		localcount_release(&counts[0], &cv, &lock);
 	return NULL;
 }
 
@@ -136,9 +124,7 @@ static void test_one_way(unsigned references)
 	start_thread(&other, release_all, &references);
 	end_thread(other);
 	EXPECT(localcount_debug_refcnt(&counts[0]) == 0);
-	mutex_enter(&lock);
-	localcount_drain(&counts[0], &drained, &lock);
-	mutex_exit(&lock);
+	drain(&counts[0]);
 	localcount_fini(&counts[0]);
 }
 
@@ -218,10 +204,7 @@ static void test_moved(void)
 int main(int argc, char **argv)
 {
 	bool full = argc == 2 && strcmp(argv[1], "full") == 0;
-	things = psref_class_create("thing", IPL_NONE);
-	psz = pserialize_create();
-	mutex_init(&lock, MUTEX_DEFAULT, IPL_NONE);
-	cv_init(&drained, "drained");
+	make_things(IPL_NONE);
 	kupaldiz_bind(1);
 	test_live(full ? MOST_LIVE : 40);
 	test_changes(full ? MANY_CHANGES : 2000);
@@ -236,10 +219,7 @@ int main(int argc, char **argv)
 		test_one_way(3000);
 	test_sections(full ? 2000 : 150);
 	test_live(full ? MOST_LIVE : 40);
-	psref_class_destroy(things);
-	pserialize_destroy(psz);
-	cv_destroy(&drained);
-	mutex_destroy(&lock);
+	end_things();
 	puts(full ? "more than two million changes" : "more than each registry takes");
 	return 0;
 }

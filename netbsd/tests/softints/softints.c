@@ -2,17 +2,9 @@
  * softints - soft interrupts run on the CPU that scheduled them: between two calls of the thread that has it, inside its section too, and at once
  * where nobody has it; levels keep them off; one that waits for a lock lets the thread go on
  */
-#include <sys/intr.h>
-#include <sys/mutex.h>
-#include <sys/pserialize.h>
-#include <sys/psref.h>
-#include <sys/rwlock.h>
-
 #include "test.h"
+#include "things.h"
 
-static struct psref_class *things;
-static struct psref_target target;
-static kmutex_t lock;
 static atomic_uint runs, waits;
 static atomic_int ran_on;
 static unsigned order[4], ordered;
@@ -372,9 +364,7 @@ static void test_storm(void)
 
 int main(void)
 {
-	things = psref_class_create("thing", IPL_SOFTNET);
-	psref_target_init(&target, things);
-	mutex_init(&lock, MUTEX_DEFAULT, IPL_SOFTNET);
+	make_things(IPL_SOFTNET);
 	kupaldiz_bind(2);
 	test_inside();
 	test_alone();
@@ -388,9 +378,7 @@ int main(void)
 	test_raised();
 	test_spin();
 	test_storm();
-	psref_target_destroy(&target, things);
-	psref_class_destroy(things);
-	mutex_destroy(&lock);
+	end_things();
 	puts("soft interrupts ran where and when they may");
 	return 0;
 }

@@ -3,24 +3,12 @@
  *
  * A thread is in a section when its CPU's callout becomes due, and makes one kind of call until the callout has run.
  */
-#include <sys/callout.h>
-#include <sys/condvar.h>
-#include <sys/intr.h>
-#include <sys/localcount.h>
-#include <sys/mutex.h>
-#include <sys/percpu.h>
-#include <sys/pserialize.h>
-#include <sys/psref.h>
-
 #include "test.h"
+#include "things.h"
 
 enum { MOST = 200 };
 
-static struct psref_class *things;
-static struct psref_target target;
-static struct localcount count;
-static kmutex_t lock, spin;
-static kcondvar_t cv;
+static kmutex_t spin;
 static percpu_t *percpu;
 static callout_t callout;
 static void *other;
@@ -87,12 +75,8 @@ static void test_offer(const struct offer *offer)
 int main(void)
 {
 	kupaldiz_bind(2);
-	things = psref_class_create("thing", IPL_SOFTNET);
-	psref_target_init(&target, things);
-	localcount_init(&count);
-	mutex_init(&lock, MUTEX_DEFAULT, IPL_NONE);
+	make_things(IPL_NONE);
 	mutex_init(&spin, MUTEX_DEFAULT, IPL_VM);
-	cv_init(&cv, "count");
 	percpu = percpu_alloc(sizeof(int));
 	callout_init(&callout, CALLOUT_MPSAFE);
 	other = softint_establish(SOFTINT_CLOCK, nothing, NULL);
@@ -100,18 +84,11 @@ int main(void)
 	for (unsigned place = 0; place < sizeof(offers) / sizeof(offers[0]); place++)
 		test_offer(&offers[place]);
 	psref_release(&held, &target, things);
-	psref_target_destroy(&target, things);
-	psref_class_destroy(things);
-	mutex_enter(&lock);
-	localcount_drain(&count, &cv, &lock);
-	mutex_exit(&lock);
-	localcount_fini(&count);
 	callout_destroy(&callout);
 	softint_disestablish(other);
 	percpu_free(percpu, sizeof(int));
-	cv_destroy(&cv);
 	mutex_destroy(&spin);
-	mutex_destroy(&lock);
+	end_things();
 	puts("each call offered the CPU to the soft interrupt that waited");
 	return 0;
 }

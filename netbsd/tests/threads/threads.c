@@ -97,21 +97,13 @@ void *__wrap_calloc(size_t count, size_t size)
 	return __real_calloc(count, size);
 }
 
-void __wrap_free(void *block)
-{
-	blocks -= block != NULL;
-	__real_free(block);
-}
+void __wrap_free(void *block) { blocks -= block != NULL; __real_free(block); }
 
 /* How a thread begins that this one starts: at once, or only when somebody waits. */
 static _Thread_local enum { AT_ONCE, AWAITED } begins;
 static void *(*awaited)(void *);
 
-static void *begin_awaited(void *arg)
-{
-	await_flag(&waited);
-	return awaited(arg);
-}
+static void *begin_awaited(void *arg) { await_flag(&waited); return awaited(arg); }
 
 int __wrap_pthread_create(pthread_t *thread, const pthread_attr_t *how, void *(*body)(void *), void *arg)
 {
@@ -177,11 +169,7 @@ static void call_in(struct guest *guest)
 		sleep_for(50);
 }
 
-static void send_off(struct guest *guest)
-{
-	atomic_store(&guest->leaves, true);
-	end_thread(guest->thread);
-}
+static void send_off(struct guest *guest) { atomic_store(&guest->leaves, true); end_thread(guest->thread); }
 
 static bool is_other(struct guest *guest, const lwp_t *lwp)
 {
@@ -343,12 +331,7 @@ static void *join_it(void *arg)
 	return arg;
 }
 
-static void join_beside(void)
-{
-	pthread_t thread;
-	start_thread(&thread, join_it, NULL);
-	end_thread(thread);
-}
+static void join_beside(void) { pthread_t thread; start_thread(&thread, join_it, NULL); end_thread(thread); }
 
 /* The thread says who it is, and another one joins it before the call is over that made it. */
 static void test_joined_early(void)
@@ -462,11 +445,7 @@ static void want(unsigned cpu, int wanted)
 }
 
 /* This thread isn't bound, and was on that CPU last. */
-static void come_from(unsigned cpu)
-{
-	kupaldiz_bind(cpu);
-	kupaldiz_unbind();
-}
+static void come_from(unsigned cpu) { kupaldiz_bind(cpu); kupaldiz_unbind(); }
 
 /* No other CPU is free or without a bound thread. */
 static void test_free(unsigned cpu)
