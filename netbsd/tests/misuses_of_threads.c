@@ -2,8 +2,7 @@
  * misuses_of_threads - misuses that depend on a fork, on a cancellation, or on when a thread ends or joins; and the line itself: the places that it has
  * where many were noted, the names of threads, and one that is too long or can't be written. Each case ends its process with its line
  *
- * The linker leads here (--wrap) pthread_mutex_unlock, as a thread may do something once it has given a lock back, while its call goes on; pthread_create;
- * write, open and close. The last line counts the cases.
+ * The linker leads here (--wrap) pthread_mutex_unlock, pthread_create, write, open and close. The last line counts the cases.
  */
 #include <fcntl.h>
 #include <limits.h>
@@ -13,20 +12,8 @@
 #include "stops.h"
 #include "wraps.h"
 
+#include "after.h"
 #include "things.h"
-
-/* What this thread does once it has given back the next lock of the layer's. */
-static _Thread_local void (*after)(void);
-
-int __wrap_pthread_mutex_unlock(pthread_mutex_t *mutex)
-{
-	void (*does)(void) = after;
-	after = NULL;
-	int answer = __real_pthread_mutex_unlock(mutex);
-	if (does != NULL)
-		does();
-	return answer;
-}
 
 /* What runs on a thread of its own before the body of the next one that is started. */
 static _Atomic(void *(*)(void *)) comes_before;
