@@ -213,10 +213,10 @@ int main(int argc, char **argv)
 #ifdef KUPALDIZ_SECTIONS
 	test_spent();
 #endif
-	if (!full)
+	if (!full) {
 		test_moved();
-	if (!full)
 		test_one_way(3000);
+	}
 	test_sections(full ? 2000 : 150);
 	test_live(full ? MOST_LIVE : 40);
 	end_things();

@@ -24,33 +24,23 @@ static void handle(void *arg)
 	atomic_fetch_add((atomic_uint *)arg, 1);
 }
 
-/* The thread has its CPU: the handler has run when the call that scheduled it returns. */
-static void test_inside(void)
-{
-	void *cookie = softint_establish(SOFTINT_NET | SOFTINT_MPSAFE, handle, &runs);
-	EXPECT(cookie != NULL);
-	for (unsigned round = 0; round < 50; round++) {
-		atomic_store(&ran_on, -1);
-		int s = pserialize_read_enter();
-		EXPECT(!cpu_softintr_p());
-		softint_schedule(cookie);
-		EXPECT(atomic_load(&runs) == round + 1 && atomic_load(&ran_on) == (int)cpu_number());
-		EXPECT(pserialize_in_read_section());
-		pserialize_read_exit(s);
-	}
-	softint_disestablish(cookie);
-}
-
-/* Nobody has the CPU: it runs soon. */
-static void test_alone(void)
+/* If the thread has its CPU, the handler has run when the call that scheduled it returns. If nobody has it, it runs soon. */
+static void test_runs(bool is_inside)
 {
 	void *cookie = softint_establish(SOFTINT_NET | SOFTINT_MPSAFE, handle, &runs);
 	unsigned before = atomic_load(&runs);
+	EXPECT(cookie != NULL);
 	for (unsigned round = 0; round < 50; round++) {
+		atomic_store(&ran_on, -1);
+		int s = is_inside ? pserialize_read_enter() : 0;
+		EXPECT(!cpu_softintr_p());
 		softint_schedule(cookie);
-		while (atomic_load(&runs) == before + round)
+		while (!is_inside && atomic_load(&runs) == before + round)
 			sleep_for(10);
-		EXPECT(atomic_load(&ran_on) == (int)cpu_number());
+		EXPECT(atomic_load(&runs) == before + round + 1 && atomic_load(&ran_on) == (int)cpu_number());
+		EXPECT(pserialize_in_read_section() == is_inside);
+		if (is_inside)
+			pserialize_read_exit(s);
 	}
 	softint_disestablish(cookie);
 }
@@ -109,19 +99,25 @@ static void test_levels(void)
 	softint_disestablish(high);
 }
 
-/* It is scheduled three times before it can run, and runs once. */
-static void test_once(void)
+/* It is scheduled three times before it can run, and runs once: kept off by a level, or by a spin lock, up to whose level no other one runs. */
+static void test_once(unsigned flags, bool spins)
 {
-	void *cookie = softint_establish(SOFTINT_NET, handle, &runs);
+	kmutex_t spin;
+	void *cookie = softint_establish(flags, handle, &runs);
 	unsigned before = atomic_load(&runs);
-	int s = splnet();
+	mutex_init(&spin, MUTEX_DEFAULT, IPL_NET);
+	int s = spins ? mutex_enter(&spin), IPL_NONE : splnet();
 	for (unsigned i = 0; i < 3; i++)
 		softint_schedule(cookie);
-	EXPECT(atomic_load(&runs) == before);
+	EXPECT(atomic_load(&runs) == before && mutex_owned(&spin) == spins);
 	kpreempt_disable();
-	splx(s);
+	if (spins)
+		mutex_exit(&spin);
+	else
+		splx(s);
 	EXPECT(atomic_load(&runs) == before + 1);
 	kpreempt_enable();
+	mutex_destroy(&spin);
 	softint_disestablish(cookie);
 }
 
@@ -162,8 +158,7 @@ static void test_blocked(void)
 		sleep_for(20);
 		EXPECT(atomic_load(&done) == round);
 		mutex_exit(&lock);
-		while (atomic_load(&done) == round)
-			sleep_for(10);
+		await_least(&done, round + 1);
 	}
 	atomic_store(&blocked_over, true);
 	end_thread(other);
@@ -181,19 +176,16 @@ static void test_levels_apart(void)
 	unsigned before = atomic_load(&waits);
 	mutex_enter(&lock);
 	softint_schedule(cookie);
-	while (atomic_load(&waits) == before)
-		sleep_for(10);
+	await_least(&waits, before + 1);
 	for (unsigned at = 0; at < 4; at++) {
 		others[at] = softint_establish(flags[at], count_run, &ran[at]);
 		softint_schedule(others[at]);
 	}
 	for (unsigned at = 1; at < 4; at++)
-		while (atomic_load(&ran[at]) == 0)
-			sleep_for(10);
+		await_least(&ran[at], 1);
 	EXPECT(atomic_load(&done) == 0 && atomic_load(&ran[0]) == 0);
 	mutex_exit(&lock);
-	while (atomic_load(&ran[0]) == 0)
-		sleep_for(10);
+	await_least(&ran[0], 1);
 	EXPECT(atomic_load(&done) == 1);
 	for (unsigned at = 0; at < 4; at++)
 		softint_disestablish(others[at]);
@@ -307,24 +299,6 @@ static void test_raised(void)
 	rw_destroy(&rw);
 }
 
-/* A spin lock keeps off those up to its level. */
-static void test_spin(void)
-{
-	kmutex_t spin;
-	void *cookie = softint_establish(SOFTINT_SERIAL, handle, &runs);
-	unsigned before = atomic_load(&runs);
-	mutex_init(&spin, MUTEX_DEFAULT, IPL_NET);
-	mutex_enter(&spin);
-	softint_schedule(cookie);
-	EXPECT(atomic_load(&runs) == before && mutex_owned(&spin));
-	kpreempt_disable();
-	mutex_exit(&spin);
-	EXPECT(atomic_load(&runs) == before + 1);
-	kpreempt_enable();
-	mutex_destroy(&spin);
-	softint_disestablish(cookie);
-}
-
 enum { STORMERS = 12, STORM = 200 };
 
 static void *cookies[4];
@@ -366,17 +340,17 @@ int main(void)
 {
 	make_things(IPL_SOFTNET);
 	kupaldiz_bind(2);
-	test_inside();
-	test_alone();
+	test_runs(true);
+	test_runs(false);
 	test_own_level();
 	test_levels();
-	test_once();
+	test_once(SOFTINT_NET, false);
+	test_once(SOFTINT_SERIAL, true);
 	test_blocked();
 	test_levels_apart();
 	test_blocked_inside();
 	test_ended_waiting();
 	test_raised();
-	test_spin();
 	test_storm();
 	end_things();
 	puts("soft interrupts ran where and when they may");

@@ -64,8 +64,7 @@ static void test_offer(const struct offer *offer)
 		sleep_for(5000);
 		offer->call();
 	}
-	if (atomic_load(&fired) == 0)
-		fprintf(stderr, "%s offers the CPU to nobody\n", offer->name);
+	printf("%s: offers the CPU to %s\n", offer->name, atomic_load(&fired) == 0 ? "nobody" : "the soft interrupt that waited");
 	EXPECT(atomic_load(&fired) == 1);
 	while (made > 0)
 		offer->undo();
@@ -89,6 +88,5 @@ int main(void)
 	percpu_free(percpu, sizeof(int));
 	mutex_destroy(&spin);
 	end_things();
-	puts("each call offered the CPU to the soft interrupt that waited");
 	return 0;
 }
