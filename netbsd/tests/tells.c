@@ -34,10 +34,11 @@ static int64_t milliseconds(void)
 	return (int64_t)now.tv_sec * 1000 + now.tv_nsec / 1000000;
 }
 
-static void await_told(void)
+static void await(atomic_bool *what)
 {
-	for (unsigned turn = 0; turn < 10000 && !atomic_load(&told); turn++)
+	for (unsigned turn = 0; turn < 10000 && !atomic_load(what); turn++)
 		sleep_for(1000);
+	EXPECT(atomic_load(what));
 }
 
 /* It has it now, and keeps it until the line was written, which isn't soon, and somewhat longer: no second line follows. */
@@ -45,26 +46,22 @@ static void keep(void)
 {
 	int64_t began = milliseconds();
 	atomic_store(&ready, true);
-	await_told();
+	await(&told);
 	EXPECT(milliseconds() - began > KUPALDIZ_PATIENCE / 2);
 	sleep_for(20000);
 }
 
 static atomic_bool lasts, lasts_inside;
 
-uint32_t __wrap_registry_local_acquire(struct registry_cpu *cpu, struct registry_local *reference)
-{
-	if (atomic_load(&lasts_inside))
-		keep();
-	return __real_registry_local_acquire(cpu, reference);
-}
-
-uint32_t __wrap_registry_local_release(struct registry_cpu *cpu, struct registry_local *reference)
-{
-	if (atomic_load(&lasts))
-		keep();
-	return __real_registry_local_release(cpu, reference);
-}
+#define LASTS(call, flag) \
+	uint32_t __wrap_##call(struct registry_cpu *cpu, struct registry_local *reference) \
+	{ \
+		if (atomic_load(flag)) \
+			keep(); \
+		return __real_##call(cpu, reference); \
+	}
+LASTS(registry_local_acquire, &lasts_inside)
+LASTS(registry_local_release, &lasts)
 
 static void begin(void)
 {
@@ -97,21 +94,16 @@ static void release_count(void) { localcount_release(&count, &cv, &lock); }
 #define FOR_READER	"waits for CPU 3, whose thread \"reader\" is inside a read section, entered at PLACE"
 
 HOLDER(read_long, int s = pserialize_read_enter(); keep(); pserialize_read_exit(s))
-HANDLER(nothing, (void)0)
-static void add_nothing(void *arg, void *other) { nothing(arg); nothing(other); }
 WAITS("pserialize_perform: " FOR_READER, BESIDE("reader", read_long, pserialize_perform(psz)))
 WAITS("psref_target_destroy: " FOR_READER, BESIDE("reader", read_long, psref_target_destroy(&target, things)))
 WAITS("localcount_drain: " FOR_READER, BESIDE("reader", read_long, drain(&count)))
 WAITS("xc_barrier: " FOR_READER, BESIDE("reader", read_long, xc_barrier(0)))
-WAITS("xc_broadcast: " FOR_READER, BESIDE("reader", read_long, xc_wait(xc_broadcast(XC_HIGHPRI, add_nothing, NULL, NULL))))
 WAITS("pserialize_read_enter: " FOR_READER,
     BESIDE("reader", read_long, kupaldiz_bind(3); int s = pserialize_read_enter(); pserialize_read_exit(s)))
 /* What the function calls isn't what waits. */
-static void look_where(void *arg, void *other)
-{
-	EXPECT(arg == NULL && other == NULL && cpu_number() < KUPALDIZ_CPUS);
-}
+static void look_where(void *arg, void *other) { EXPECT(arg == NULL && other == NULL && cpu_number() < KUPALDIZ_CPUS); }
 WAITS("xc_broadcast: " FOR_READER, BESIDE("reader", read_long, xc_wait(xc_broadcast(0, look_where, NULL, NULL))))
+WAITS("xc_broadcast: " FOR_READER, BESIDE("reader", read_long, xc_wait(xc_broadcast(XC_HIGHPRI, look_where, NULL, NULL))))
 /* The section is a call's own, and nobody has entered it by name. It was inside a section before, and isn't any more. */
 HOLDER(acquire_long,
     pserialize_read_exit(pserialize_read_enter()); atomic_store(&lasts_inside, true); localcount_acquire(&count); release_count())
@@ -119,9 +111,9 @@ WAITS("pserialize_perform: waits for CPU 3", BESIDE("acquirer", acquire_long, ps
 
 /* ---- References. ---- */
 
-static struct psref first, second, first_beside, second_beside, counted[KUPALDIZ_REFERENCES];
+static struct psref first, second, first_beside, second_beside;
 static struct psref_target next;
-static atomic_bool joined, taken;
+static atomic_bool joined;
 
 HOLDER(refer_long, psref_acquire(&first, &target, things); keep(); psref_release(&first, &target, things))
 WAITS("psref_target_destroy: waits for CPU 3, whose thread \"bridge_input\" holds one reference, acquired at PLACE",
@@ -135,7 +127,7 @@ WAITS("psref_target_destroy: waits for CPU 3, whose thread \"bridge_output\" hol
 /* Has a reference to each of two targets, with the first one's CPU. Only what the thread has to this target counts. */
 THREAD(refer_beside,
     kupaldiz_bind(3); psref_acquire(&first_beside, &target, things); psref_acquire(&second_beside, &next, things); atomic_store(&joined, true);
-    await_told(); psref_release(&first_beside, &target, things); psref_release(&second_beside, &next, things))
+    await(&told); psref_release(&first_beside, &target, things); psref_release(&second_beside, &next, things))
 HOLDER(refer_to_two,
     pthread_t beside; psref_target_init(&next, things); psref_acquire(&first, &target, things); psref_acquire(&second, &next, things);
     start_thread(&beside, refer_beside, NULL);
@@ -143,23 +135,6 @@ HOLDER(refer_to_two,
     keep(); psref_release(&first, &target, things); psref_release(&second, &next, things); end_thread(beside))
 WAITS("psref_target_destroy: waits for CPU 3, whose thread \"bridge_ioctl\" holds one reference, acquired at PLACE",
     BESIDE("bridge_ioctl", refer_to_two, psref_target_destroy(&target, things)))
-
-/* One reference more than its CPU counts, and then that one alone, which the writers' CPU counts. */
-HOLDER(refer_elsewhere,
-    for (unsigned i = 0; i < KUPALDIZ_REFERENCES; i++)
-	    psref_acquire(&counted[i], &target, things);
-    psref_acquire(&first, &target, things);
-    for (unsigned i = 0; i < KUPALDIZ_REFERENCES; i++)
-	    psref_release(&counted[i], &target, things);
-    EXPECT(psref_held(&target, things)); keep(); psref_release(&first, &target, things))
-WAITS("psref_target_destroy: waits for CPU 3, whose thread \"ifconfig\" holds one reference, acquired at PLACE",
-    BESIDE("ifconfig", refer_elsewhere, psref_target_destroy(&target, things)))
-/* The same, where the table of another CPU can't be looked into: a thread has CPU 0, outside any section. */
-THREAD(keep_first, kupaldiz_bind(0); kpreempt_disable(); atomic_store(&taken, true); await_told(); kpreempt_enable())
-WAITS("psref_target_destroy: waits for CPU 3, whose thread \"ifconfig\" holds one reference, acquired at PLACE",
-    pthread_t keeper; start_thread(&keeper, keep_first, NULL);
-    await_flag(&taken);
-    BESIDE("ifconfig", refer_elsewhere, psref_target_destroy(&target, things)); end_thread(keeper))
 
 HOLDER(count_long, localcount_acquire(&count); keep(); release_count())
 WAITS("localcount_drain: waits for 1 reference, acquired at PLACE", BESIDE("open", count_long, drain(&count)))
@@ -279,13 +254,6 @@ struct holder {
 	enum { FREES, LETS_GO, KEEPS } cpu_is;
 	pthread_t thread;
 };
-
-static void await(atomic_bool *what)
-{
-	for (unsigned turn = 0; turn < 10000 && !atomic_load(what); turn++)
-		sleep_for(1000);
-	EXPECT(atomic_load(what));
-}
 
 static void *hold_one(void *of)
 {

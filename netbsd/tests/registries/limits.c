@@ -105,13 +105,10 @@ static void test_spent(void)
 }
 #endif
 
-static void *release_all(void *of)
-{
-	kupaldiz_bind(5);
-	for (unsigned i = 0; i < *(unsigned *)of; i++)
-		localcount_release(&counts[0], &cv, &lock);
-	return NULL;
-}
+THREAD(release_all,
+    kupaldiz_bind(5);
+    for (unsigned i = 0; i < *(unsigned *)arg; i++)
+	    localcount_release(&counts[0], &cv, &lock))
 
 /* References that go one way: acquired on one CPU, and released on another. */
 static void test_one_way(unsigned references)
@@ -144,21 +141,24 @@ static void *read_all(void *arg)
 	return arg;
 }
 
+/* Shows another one. The one before. */
+static int *show(void)
+{
+	int *next = malloc(sizeof(*next));
+	EXPECT(next != NULL);
+	*next = 77;
+	return atomic_exchange(&shown, next);
+}
+
 /* A perform waits for sections in any registry. */
 static void test_sections(unsigned rounds)
 {
 	pthread_t readers[READERS];
-	int *now = malloc(sizeof(*now));
-	EXPECT(now != NULL);
-	*now = 77;
-	atomic_store(&shown, now);
+	show();
 	for (unsigned i = 0; i < READERS; i++)
 		start_thread(&readers[i], read_all, NULL);
 	for (unsigned i = 0; i < rounds || atomic_load(&sections) < MANY; i++) {
-		int *next = malloc(sizeof(*next)), *before = atomic_load(&shown);
-		EXPECT(next != NULL);
-		*next = 77;
-		atomic_store(&shown, next);
+		int *before = show();
 		pserialize_perform(psz);
 		*before = 0;
 		free(before);
@@ -178,8 +178,7 @@ static void *read_moved(void *arg)
 		pserialize_read_exit(pserialize_read_enter());
 	int s = pserialize_read_enter();
 	atomic_store(&step, 1);
-	while (atomic_load(&step) == 1)
-		sleep_for(100);
+	await_least(&step, 2);
 	pserialize_read_exit(s);
 	return arg;
 }
