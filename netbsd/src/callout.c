@@ -131,6 +131,13 @@ static struct thread *lock_callout(struct thread *me, const callout_t *callout)
 	return me;
 }
 
+/* It returns this, without the lock. */
+static bool unlock_with(bool answer)
+{
+	pthread_mutex_unlock(&lock);
+	return answer;
+}
+
 void callout_init(callout_t *callout, unsigned flags)
 {
 	(void)flags;
@@ -200,9 +207,7 @@ void callout_schedule(callout_t *callout, int ticks)
 bool callout_stop(callout_t *callout)
 {
 	lock_callout(begin_plain(__func__), callout);
-	bool expired = cancel(callout);
-	pthread_mutex_unlock(&lock);
-	return expired;
+	return unlock_with(cancel(callout));
 }
 
 /* What a callout sets ends with its body, wherever that runs now. The caller has the lock. */
@@ -254,9 +259,7 @@ bool callout_halt(callout_t *callout, void *interlock)
 static bool has_state(const char *call, callout_t *callout, uint32_t states)
 {
 	lock_callout(begin_plain(call), callout);
-	bool holds = (callout->c_state & states) != 0;
-	pthread_mutex_unlock(&lock);
-	return holds;
+	return unlock_with((callout->c_state & states) != 0);
 }
 
 bool callout_pending(callout_t *callout) { return has_state(__func__, callout, PENDING); }
