@@ -31,7 +31,7 @@ UNPAGED = {"names", "registry_limits", "sys_types"}
 OVERVIEW = PAGES / "kupaldiz_netbsd.7"
 SHOWN = re.compile(r'(?<=^\.\\" netbsd/)(\S+)(\n\.Bd -literal\n).*?(?=^\.Ed$)', re.M | re.S)
 COMMENT = re.compile(r"/\*(.*?)\*/", re.S)
-PROTOTYPE = re.compile(r"^(?:static inline )?((?:[a-z_0-9]+ )+\**)([a-z_0-9]+)\((.*?)\)(?: __attribute__.*)?;?$")
+PROTOTYPE = re.compile(r"^(?:static inline )?((?:[a-z_0-9]+ )+\**)([a-z_0-9]+)\((.*?)\)(?: __attribute__.*)?(?:;| \{.*)?$")
 MACRO = re.compile(r"^#define ([A-Za-z_0-9]+)(?:\((.*?)\))?")
 # What stands before a parenthesis and is no call.
 NO_CALLS = {"__attribute__", "KUPALDIZ_NAMED"}

@@ -3,10 +3,7 @@
 
 #include "layer.h"
 
-void cv_init(kcondvar_t *cv, const char *name)
-{
-	*cv = (kcondvar_t){.cv_name = name, .cv_made = A_CV};
-}
+void cv_init(kcondvar_t *cv, const char *name) { *cv = (kcondvar_t){.cv_name = name, .cv_made = A_CV}; }
 
 static void require_cv(const struct thread *me, const kcondvar_t *cv)
 {
@@ -86,10 +83,7 @@ static int timedwait(struct thread *me, kcondvar_t *cv, kmutex_t *mutex, int tic
 	}
 }
 
-void cv_wait(kcondvar_t *cv, kmutex_t *mutex)
-{
-	(void)timedwait(begin_call(__func__), cv, mutex, 0, false);
-}
+void cv_wait(kcondvar_t *cv, kmutex_t *mutex) { (void)timedwait(begin_call(__func__), cv, mutex, 0, false); }
 
 int cv_wait_sig(kcondvar_t *cv, kmutex_t *mutex)
 {
@@ -129,7 +123,4 @@ bool cv_has_waiters(kcondvar_t *cv)
 	return waited;
 }
 
-bool cv_is_valid(kcondvar_t *cv)
-{
-	return cv->cv_made == A_CV;
-}
+bool cv_is_valid(kcondvar_t *cv) { return cv->cv_made == A_CV; }

@@ -39,10 +39,7 @@ void kupaldiz_failed_with(const char *place, const char *text, const char *forma
 	stop_at("KASSERTMSG", place, "not so: %s: %s", text, more);
 }
 
-void kupaldiz_assert_sleepable(void)
-{
-	require_sleepable(begin_call("ASSERT_SLEEPABLE"));
-}
+void kupaldiz_assert_sleepable(void) { require_sleepable(begin_call("ASSERT_SLEEPABLE")); }
 
 /* ---- Time. ---- */
 
@@ -212,10 +209,7 @@ int kthread_join(lwp_t *thread)
 /* ---- copy_user(9) ---- */
 
 /* Whether an address may be the user's. */
-static bool is_mapped(const void *user)
-{
-	return (uintptr_t)user >= 4096;
-}
+static bool is_mapped(const void *user) { return (uintptr_t)user >= 4096; }
 
 static int copy_user(struct thread *me, const void *from, void *to, const void *user, size_t length)
 {

@@ -288,10 +288,7 @@ static inline struct thread *begin_call(const char *call)
 	return me;
 }
 
-static inline bool is_bound(const struct thread *me)
-{
-	return (me->lwp.l_pflag & LP_BOUND) != 0;
-}
+static inline bool is_bound(const struct thread *me) { return (me->lwp.l_pflag & LP_BOUND) != 0; }
 
 /* A call that waits isn't cancelled meanwhile: what it has would stay taken. What end_wait needs. */
 static inline int begin_wait(void)
@@ -301,10 +298,7 @@ static inline int begin_wait(void)
 	return before;
 }
 
-static inline void end_wait(int before)
-{
-	pthread_setcancelstate(before, NULL);
-}
+static inline void end_wait(int before) { pthread_setcancelstate(before, NULL); }
 
 /* ---- kernel.c, for other calls. ---- */
 

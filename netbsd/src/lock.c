@@ -115,17 +115,11 @@ static struct thread *first_for(struct sleepq *sleepq, const void *of)
 	return at;
 }
 
-bool sleepq_has_waiter(struct sleepq *sleepq, const void *of)
-{
-	return first_for(sleepq, of) != NULL;
-}
+bool sleepq_has_waiter(struct sleepq *sleepq, const void *of) { return first_for(sleepq, of) != NULL; }
 
 /* ---- The lock. ---- */
 
-static uintptr_t word_of(const uintptr_t *word)
-{
-	return __atomic_load_n(word, __ATOMIC_ACQUIRE);
-}
+static uintptr_t word_of(const uintptr_t *word) { return __atomic_load_n(word, __ATOMIC_ACQUIRE); }
 
 /* A strong exchange: a weak one may fail without reason, and mutex_tryenter with it though the lock is free. No test on x86-64 sees the difference. */
 static bool replace(uintptr_t *word, uintptr_t before, uintptr_t after)
@@ -138,10 +132,7 @@ struct thread *lock_owner(const uintptr_t *word)
 	return (struct thread *)(word_of(word) & ~(uintptr_t)WAITED);
 }
 
-bool lock_tryacquire(uintptr_t *word, struct thread *me)
-{
-	return replace(word, 0, (uintptr_t)me);
-}
+bool lock_tryacquire(uintptr_t *word, struct thread *me) { return replace(word, 0, (uintptr_t)me); }
 
 /* Takes it where it is free, or has been passed to this thread; else notes that somebody waits. The caller has the sleep queue's lock. */
 static bool acquire_or_mark(struct sleepq *sleepq, uintptr_t *word, struct thread *me)

@@ -29,10 +29,7 @@ struct percpu {
 };
 
 /* What marks the objects of a pool; with NULL, the blocks of kmem. */
-static uint64_t mark_of(const struct pool *pool)
-{
-	return 0x6b6d656d2d6c6976 ^ (uint64_t)(uintptr_t)pool;
-}
+static uint64_t mark_of(const struct pool *pool) { return 0x6b6d656d2d6c6976 ^ (uint64_t)(uintptr_t)pool; }
 
 /* ---- kmem(9) ---- */
 
@@ -85,10 +82,7 @@ static void *kmem_block(struct thread *me, size_t size, km_flag_t flags)
 	return alloc_block(me, size, (flags & KM_SLEEP) != 0, NULL);
 }
 
-static void *zeroed(void *block, size_t size)
-{
-	return block == NULL ? NULL : memset(block, 0, size);
-}
+static void *zeroed(void *block, size_t size) { return block == NULL ? NULL : memset(block, 0, size); }
 
 /* What stands before a block that is in use. Stops where it isn't. */
 static struct head *head_of(struct thread *me, void *block, const struct pool *pool)
@@ -144,10 +138,7 @@ void *kmem_intr_zalloc(size_t size, km_flag_t flags)
 	return zeroed(kmem_block(begin_call(__func__), size, flags), size);
 }
 
-void kmem_intr_free(void *block, size_t size)
-{
-	free_block(begin_call(__func__), block, size);
-}
+void kmem_intr_free(void *block, size_t size) { free_block(begin_call(__func__), block, size); }
 
 char *kmem_strdupsize(const char *text, size_t *size, km_flag_t flags)
 {
@@ -321,10 +312,7 @@ percpu_t *percpu_create(size_t size, percpu_callback_t make, percpu_callback_t e
 	return create(begin_plain(__func__), size, make, end, arg);
 }
 
-percpu_t *percpu_alloc(size_t size)
-{
-	return create(begin_plain(__func__), size, NULL, NULL, NULL);
-}
+percpu_t *percpu_alloc(size_t size) { return create(begin_plain(__func__), size, NULL, NULL, NULL); }
 
 void percpu_free(percpu_t *percpu, size_t size)
 {

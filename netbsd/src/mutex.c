@@ -33,10 +33,7 @@ static void destroy(struct thread *me, kmutex_t *mutex)
 	mutex->mtx_made = ENDED;
 }
 
-void mutex_destroy(kmutex_t *mutex)
-{
-	destroy(begin_call(__func__), mutex);
-}
+void mutex_destroy(kmutex_t *mutex) { destroy(begin_call(__func__), mutex); }
 
 /* Stops where the thread mustn't wait for a lock that doesn't spin. */
 void require_blockable(const struct thread *me)
@@ -134,10 +131,7 @@ void release_mutex(struct thread *me, kmutex_t *mutex)
 		me->locks--;
 }
 
-bool has_mutex(const struct thread *me, const kmutex_t *mutex)
-{
-	return lock_owner(&mutex->mtx_word) == me;
-}
+bool has_mutex(const struct thread *me, const kmutex_t *mutex) { return lock_owner(&mutex->mtx_word) == me; }
 
 /* Stops where a soft interrupt takes a lock that isn't for it. */
 static void require_for_softint(const struct thread *me, const kmutex_t *mutex)
@@ -152,10 +146,7 @@ void enter_mutex(struct thread *me, kmutex_t *mutex)
 	acquire_mutex(me, mutex);
 }
 
-void mutex_enter(kmutex_t *mutex)
-{
-	enter_mutex(begin_call(__func__), mutex);
-}
+void mutex_enter(kmutex_t *mutex) { enter_mutex(begin_call(__func__), mutex); }
 
 void mutex_exit(kmutex_t *mutex)
 {
@@ -201,10 +192,7 @@ void mutex_spin_exit(kmutex_t *mutex)
 	end_call(me);
 }
 
-int mutex_owned(const kmutex_t *mutex)
-{
-	return has_mutex(begin_plain(__func__), mutex);
-}
+int mutex_owned(const kmutex_t *mutex) { return has_mutex(begin_plain(__func__), mutex); }
 
 int mutex_ownable(const kmutex_t *mutex)
 {

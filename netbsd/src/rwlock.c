@@ -1,10 +1,7 @@
 /* rwlock.c - rwlock(9): its words are read and written under the lock of the sleep queue in which its threads wait */
 #include "layer.h"
 
-void rw_init(krwlock_t *rw)
-{
-	*rw = (krwlock_t){.rw_made = A_RW};
-}
+void rw_init(krwlock_t *rw) { *rw = (krwlock_t){.rw_made = A_RW}; }
 
 /* A call of a lock begins: it takes the sleep queue's lock. */
 static struct thread *lock_rw(struct thread *me, const krwlock_t *rw)

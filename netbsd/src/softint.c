@@ -41,10 +41,7 @@ void lower_level(struct thread *me, int level)
 		unhold_cpu(me);
 }
 
-int kupaldiz_splraise(int level)
-{
-	return raise_level(begin_call("splraise"), level);
-}
+int kupaldiz_splraise(int level) { return raise_level(begin_call("splraise"), level); }
 
 /* The highest level of the spin locks that the thread has. */
 static int level_of_spins(const struct thread *me)

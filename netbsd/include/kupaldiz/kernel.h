@@ -148,16 +148,10 @@ static inline void evcnt_attach_dynamic(struct evcnt *counter, int type, const s
 }
 
 /* evcnt_attach_static - nothing: a counter that was initialised has its names. */
-static inline void evcnt_attach_static(struct evcnt *counter)
-{
-	(void)counter;
-}
+static inline void evcnt_attach_static(struct evcnt *counter) { (void)counter; }
 
 /* evcnt_detach - it has no name any more. */
-static inline void evcnt_detach(struct evcnt *counter)
-{
-	counter->ev_name = NULL;
-}
+static inline void evcnt_detach(struct evcnt *counter) { counter->ev_name = NULL; }
 
 /* ---- module(9) ---- */
 

@@ -60,10 +60,7 @@ void *__tsan_memset(void *to, int byte, size_t size);
 #define memset	__tsan_memset
 #else
 void kupaldiz_unseen(const char *file);
-static void __attribute__((constructor)) kupaldiz_unseen_here(void)
-{
-	kupaldiz_unseen(__BASE_FILE__);
-}
+static void __attribute__((constructor)) kupaldiz_unseen_here(void) { kupaldiz_unseen(__BASE_FILE__); }
 #endif
 #else
 #define KUPALDIZ_POINT(address, how)	((void)0)

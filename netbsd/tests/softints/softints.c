@@ -1,10 +1,11 @@
 /*
  * softints - soft interrupts run on the CPU that scheduled them: between two calls of the thread that has it, inside its section too, and at once
- * where nobody has it; levels keep them off; one that waits for a lock lets the thread go on
+ * where nobody has it; levels keep them off; one that waits for a lock lets the thread go on; a thread offers its CPU at the end of each call
  */
 #include "test.h"
 #include "things.h"
 
+static kmutex_t spin;
 static atomic_uint runs, waits;
 static atomic_int ran_on;
 static unsigned order[4], ordered;
@@ -102,10 +103,8 @@ static void test_levels(void)
 /* It is scheduled three times before it can run, and runs once: kept off by a level, or by a spin lock, up to whose level no other one runs. */
 static void test_once(unsigned flags, bool spins)
 {
-	kmutex_t spin;
 	void *cookie = softint_establish(flags, handle, &runs);
 	unsigned before = atomic_load(&runs);
-	mutex_init(&spin, MUTEX_DEFAULT, IPL_NET);
 	int s = spins ? mutex_enter(&spin), IPL_NONE : splnet();
 	for (unsigned i = 0; i < 3; i++)
 		softint_schedule(cookie);
@@ -117,7 +116,6 @@ static void test_once(unsigned flags, bool spins)
 		splx(s);
 	EXPECT(atomic_load(&runs) == before + 1);
 	kpreempt_enable();
-	mutex_destroy(&spin);
 	softint_disestablish(cookie);
 }
 
@@ -336,9 +334,90 @@ static void test_storm(void)
 		softint_disestablish(cookies[i]);
 }
 
+/* ---- Each call at whose end a thread that goes on with its CPU offers it to the soft interrupts that wait. ---- */
+
+enum { MOST = 200 };
+
+static percpu_t *percpu;
+static callout_t callout;
+static void *other;
+static atomic_uint fired;
+static struct psref held, psrefs[MOST];
+static int sections[MOST];
+static unsigned made;	/* calls so far: so many references or sections are there */
+
+HANDLER(fire, atomic_store((atomic_uint *)arg, 1))
+HANDLER(nothing, (void)0)
+
+/* The calls, and what undoes them. */
+static void enter_section(void) { sections[made++] = pserialize_read_enter(); }
+static void exit_section(void) { pserialize_read_exit(sections[--made]); }
+static void acquire(void) { psref_acquire(&psrefs[made++], &target, things); }
+static void release(void) { psref_release(&psrefs[--made], &target, things); }
+static void copy(void) { psref_copy(&psrefs[made++], &held, things); }
+static void ask(void) { EXPECT(psref_held(&target, things)); }
+static void count_in(void) { localcount_acquire(&count), made++; }
+static void count_out(void) { localcount_release(&count, &cv, &lock), made--; }
+static void signal_cv(void) { cv_signal(&cv); }
+static void broadcast_cv(void) { cv_broadcast(&cv); }
+static void schedule(void) { softint_schedule(other); }
+static void exit_mutex(void) { mutex_enter(&spin), mutex_exit(&spin); }
+static void exit_spin_mutex(void) { mutex_spin_enter(&spin), mutex_spin_exit(&spin); }
+static void lower(void) { splx(splsoftserial()); }
+static void enable_preemption(void) { kpreempt_disable(), kpreempt_enable(); }
+static void put_percpu(void) { (void)percpu_getref(percpu), percpu_putref(percpu); }
+
+/* A call, and what goes before it MOST times, or undoes it afterwards. */
+static const struct offer {
+	const char *name;
+	void (*call)(void), (*before)(void), (*undo)(void);
+} offers[] = {
+    {"pserialize_read_enter", enter_section, NULL, exit_section}, {"pserialize_read_exit", exit_section, enter_section, exit_section},
+    {"psref_acquire", acquire, NULL, release}, {"psref_release", release, acquire, release}, {"psref_copy", copy, NULL, release},
+    {"psref_held", ask, NULL, NULL}, {"localcount_acquire", count_in, NULL, count_out}, {"localcount_release", count_out, count_in, count_out},
+    {"cv_signal", signal_cv, NULL, NULL}, {"cv_broadcast", broadcast_cv, NULL, NULL}, {"softint_schedule", schedule, NULL, NULL},
+    {"mutex_exit", exit_mutex, NULL, NULL}, {"mutex_spin_exit", exit_spin_mutex, NULL, NULL}, {"splx", lower, NULL, NULL},
+    {"kpreempt_enable", enable_preemption, NULL, NULL}, {"percpu_putref", put_percpu, NULL, NULL},
+};
+
+/* Makes the call until the callout has run. Between two calls the clock has time to find it due. */
+static void test_offer(const struct offer *offer)
+{
+	atomic_store(&fired, 0);
+	int s = pserialize_read_enter();
+	while (offer->before != NULL && made < MOST)
+		offer->before();
+	callout_reset(&callout, 1, fire, &fired);
+	for (unsigned turn = 0; turn < MOST && atomic_load(&fired) == 0; turn++) {
+		sleep_for(5000);
+		offer->call();
+	}
+	if (atomic_load(&fired) == 0)
+		fprintf(stderr, "%s offers the CPU to nobody\n", offer->name);
+	EXPECT(atomic_load(&fired) == 1);
+	while (made > 0)
+		offer->undo();
+	pserialize_read_exit(s);
+}
+
+static void test_offers(void)
+{
+	percpu = percpu_alloc(sizeof(int));
+	callout_init(&callout, CALLOUT_MPSAFE);
+	other = softint_establish(SOFTINT_CLOCK, nothing, NULL);
+	psref_acquire(&held, &target, things);
+	for (unsigned place = 0; place < sizeof(offers) / sizeof(offers[0]); place++)
+		test_offer(&offers[place]);
+	psref_release(&held, &target, things);
+	callout_destroy(&callout);
+	softint_disestablish(other);
+	percpu_free(percpu, sizeof(int));
+}
+
 int main(void)
 {
 	make_things(IPL_SOFTNET);
+	mutex_init(&spin, MUTEX_DEFAULT, IPL_NET);
 	kupaldiz_bind(2);
 	test_runs(true);
 	test_runs(false);
@@ -352,6 +431,8 @@ int main(void)
 	test_ended_waiting();
 	test_raised();
 	test_storm();
+	test_offers();
+	mutex_destroy(&spin);
 	end_things();
 	puts("soft interrupts ran where and when they may");
 	return 0;
