@@ -355,6 +355,7 @@ const char *name_of(const struct thread *thread, char *text, size_t room);
 const char *at_place(const char *place, char *text, size_t room);
 void require_made(const struct thread *me, uint32_t made, uint32_t wanted, const char *what);
 void require_sleepable(const struct thread *me);
+void *grow_row(const struct thread *me, void *row, size_t size);
 void *memory(const struct thread *me, size_t size);
 
 /* Where a call begins that may sleep. */

@@ -43,11 +43,12 @@ static void require_same(struct thread *me, struct row *row, const kcondvar_t *c
 
 /* ---- The stack of references. ---- */
 
-/* How many references of a row's are held. */
-static size_t held_count(struct row *row)
+/* How many references of a row's are held, and where the last one was acquired. */
+static size_t held_count(struct row *row, const char **place)
 {
 	pthread_mutex_lock(&row->lock);
 	size_t count = row->count;
+	*place = count > 0 ? row->held[count - 1].place : NULL;
 	pthread_mutex_unlock(&row->lock);
 	return count;
 }
@@ -57,12 +58,8 @@ static void push(struct thread *me, struct row *row, const struct registry_local
 {
 	pthread_mutex_lock(&row->lock);
 	if (row->count == row->room) {
-		size_t room = row->room == 0 ? FIRST_ROOM : row->room * 2;
-		struct held *held = realloc(row->held, room * sizeof(*held));
-		if (held == NULL)
-			stop(me, "out of memory");
-		row->held = held;
-		row->room = room;
+		row->room = row->room == 0 ? FIRST_ROOM : row->room * 2;
+		row->held = grow_row(me, row->held, row->room * sizeof(*row->held));
 	}
 	row->held[row->count++] = (struct held){*reference, me->place};
 	pthread_mutex_unlock(&row->lock);
@@ -151,10 +148,8 @@ static void report_wait(struct thread *me, struct row *row, const struct registr
 		report_section_wait(me, met->what);
 		return;
 	}
-	pthread_mutex_lock(&row->lock);
-	size_t count = row->count;
-	const char *place = count > 0 ? row->held[count - 1].place : NULL;
-	pthread_mutex_unlock(&row->lock);
+	const char *place;
+	size_t count = held_count(row, &place);
 	if (count == 0)
 		report(me, "waits for a release that is under way");
 	else
@@ -208,6 +203,6 @@ void localcount_drain(struct localcount *lc, kcondvar_t *cv, kmutex_t *interlock
 
 uint32_t localcount_debug_refcnt(const struct localcount *lc)
 {
-	struct thread *me = begin_plain(__func__);
-	return (uint32_t)held_count(count_row(me, lc).row);
+	const char *place;
+	return (uint32_t)held_count(count_row(begin_plain(__func__), lc).row, &place);
 }

@@ -74,15 +74,6 @@ static void require_unheld(const struct thread *me, const struct psref *psref)
 		stop(me, "the reference is held already");
 }
 
-/* Memory for a row that this one goes on with. */
-static void *grow_row(struct thread *me, void *row, size_t size)
-{
-	row = realloc(row, size);
-	if (row == NULL)
-		stop(me, "out of memory");
-	return row;
-}
-
 static void add_to_chain(struct cpu *cpu, uint32_t place)
 {
 	uint32_t *chain = chain_of(cpu, cpu->references[place].psref);
@@ -338,15 +329,13 @@ void psref_target_destroy(struct psref_target *target, struct psref_class *psref
 
 /* ---- Lines. ---- */
 
-/* What a CPU's table says of a target. The caller has that CPU. */
-static void describe(const struct cpu *cpu, const struct psref_target *target, char *text, size_t room)
+/* What a CPU's table says of a target. Whether it says something. The caller has that CPU. */
+static bool describe(const struct cpu *cpu, const struct psref_target *target, char *text, size_t room)
 {
 	unsigned count = 0;
 	const struct reference *first = find_reference(cpu, target, NULL);
-	if (first == NULL) {
-		snprintf(text, room, ", which holds a reference");
-		return;
-	}
+	if (first == NULL)
+		return false;
 	for (uint32_t place = 0; place < cpu->room; place++)
 		count += cpu->references[place].psref != NULL && cpu->references[place].target == target && cpu->references[place].thread == first->thread;
 	if (count == 1)
@@ -354,6 +343,7 @@ static void describe(const struct cpu *cpu, const struct psref_target *target, c
 	else
 		snprintf(text, room, ", whose thread \"%s\" holds %u references, one of them acquired%s", NAME_OF(first->thread), count,
 		    AT_PLACE(first->place));
+	return true;
 }
 
 /* Takes a CPU for a look at it, if it is free before long. */
@@ -373,16 +363,14 @@ void report_reference_wait(struct thread *me, uint64_t of, const struct psref_ta
 {
 	char text[400] = ", which holds a reference";
 	unsigned first = of == WRITERS ? 0 : (unsigned)of, last = of == WRITERS ? KUPALDIZ_CPUS - 1 : (unsigned)of;
-	for (unsigned cpu = first; cpu <= last; cpu++) {
+	bool found = false;
+	for (unsigned cpu = first; cpu <= last && !found; cpu++) {
 		if (!try_hold_cpu(me, &cpus[cpu]))
 			continue;
-		bool found = find_reference(&cpus[cpu], target, NULL) != NULL;
-		describe(&cpus[cpu], target, text, sizeof(text));
+		found = describe(&cpus[cpu], target, text, sizeof(text));
 		lock_release(&cpus[cpu].hold, me);
 		if (found)
 			of = cpu;
-		if (found)
-			break;
 	}
 	if (of == WRITERS)
 		report(me, "waits for a reference");

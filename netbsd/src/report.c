@@ -112,6 +112,15 @@ void require_sleepable(const struct thread *me)
 		stop(me, "with preemption disabled");
 }
 
+/* Memory for a row that this one goes on with. */
+void *grow_row(const struct thread *me, void *row, size_t size)
+{
+	row = realloc(row, size);
+	if (row == NULL)
+		stop(me, "out of memory");
+	return row;
+}
+
 /* Memory of zeros. */
 void *memory(const struct thread *me, size_t size)
 {

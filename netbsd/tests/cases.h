@@ -7,9 +7,6 @@
 #ifndef NETBSD_CASES_H
 #define NETBSD_CASES_H
 
-#include <ctype.h>
-#include <string.h>
-
 #include "../../c/examples/expect.h"
 #include "bodies.h"
 #include "child.h"
@@ -45,16 +42,6 @@ static inline void on_thread(void *(*body)(void *))
 	pthread_t thread;
 	start_thread(&thread, body, NULL);
 	end_thread(thread);
-}
-
-/* Where the digits of a place begin, FILE.c:NUMBER; NULL where there is none. */
-static inline char *find_place(char *text)
-{
-	char *colon;
-	for (; (colon = strstr(text, ".c:")) != NULL; text = colon + 3)
-		if (isdigit((unsigned char)colon[3]))
-			return colon + 3;
-	return NULL;
 }
 
 /* Whether a case ends rightly. Whoever includes this file to run cases defines it. */

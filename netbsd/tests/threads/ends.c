@@ -200,31 +200,28 @@ static void test_cancelled(void (**wait)(void))
 	pserialize_read_exit(pserialize_read_enter());
 }
 
-HANDLER(note_run, atomic_fetch_add((atomic_uint *)arg, 1))
+static void *cookie;
+static atomic_uint ran;
+
+HANDLER(note_run, atomic_fetch_add(&ran, 1))
 
 /* A thread that was cancelled before binds itself, and schedules the first soft interrupt of a CPU, whose thread begins then. */
-static void *schedule_cancelled(void *of)
+static void schedule_cancelled(void)
 {
 	EXPECT(pthread_cancel(pthread_self()) == 0);
-	in_call = true;
-	int bound = curlwp_bind();
-	curlwp_bindx(bound);
+	curlwp_bindx(curlwp_bind());
 	kupaldiz_bind(6);
-	softint_schedule(of);
-	in_call = false;
-	atomic_fetch_add(&given_back, 1);
-	pthread_testcancel();
-	return NULL;
+	softint_schedule(cookie);
 }
 
 static void test_cancelled_early(void)
 {
+	static void (*wait)(void) = schedule_cancelled;
 	pthread_t thread;
 	void *answer;
-	atomic_uint ran = 0;
 	unsigned before = atomic_load(&given_back);
-	void *cookie = softint_establish(SOFTINT_NET, note_run, &ran);
-	start_thread(&thread, schedule_cancelled, cookie);
+	cookie = softint_establish(SOFTINT_NET, note_run, NULL);
+	start_thread(&thread, wait_in, &wait);
 	EXPECT(pthread_join(thread, &answer) == 0 && answer == PTHREAD_CANCELED && atomic_load(&given_back) == before + 1);
 	softint_schedule(cookie);
 	await_least(&ran, 2);
