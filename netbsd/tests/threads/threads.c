@@ -377,38 +377,32 @@ static void test_passed(void)
 
 /* ---- CPUs. ---- */
 
-enum { FREE, KEPT, OVER };
-
-/* A thread that has one CPU, or is not bound at all. */
+/* A thread that has one CPU. */
 static struct keeper {
 	pthread_t thread;
-	atomic_int wanted, is;
+	atomic_bool has, ends;
 } keepers[KUPALDIZ_CPUS];
 
 static void *keep(void *of)
 {
 	struct keeper *keeper = of;
-	for (int wanted; (wanted = atomic_load(&keeper->wanted)) != OVER; sleep_for(200)) {
-		if (wanted == atomic_load(&keeper->is))
-			continue;
-		if (wanted == KEPT) {
-			kupaldiz_bind((unsigned)(keeper - keepers));
-			kpreempt_disable();
-		} else {
-			kpreempt_enable();
-			kupaldiz_unbind();
-		}
-		atomic_store(&keeper->is, wanted);
-	}
+	kupaldiz_bind((unsigned)(keeper - keepers));
+	kpreempt_disable();
+	atomic_store(&keeper->has, true);
+	await_flag(&keeper->ends);
+	kpreempt_enable();
 	return of;
 }
 
-static void want(unsigned cpu, int wanted)
+static void keep_cpu(unsigned cpu)
 {
-	atomic_store(&keepers[cpu].wanted, wanted);
-	while (atomic_load(&keepers[cpu].is) != wanted)
-		sleep_for(50);
+	atomic_store(&keepers[cpu].has, false);
+	atomic_store(&keepers[cpu].ends, false);
+	start_thread(&keepers[cpu].thread, keep, &keepers[cpu]);
+	await_flag(&keepers[cpu].has);
 }
+
+static void free_cpu(unsigned cpu) { atomic_store(&keepers[cpu].ends, true); end_thread(keepers[cpu].thread); }
 
 /* This thread isn't bound, and was on that CPU last. */
 static void come_from(unsigned cpu) { kupaldiz_bind(cpu); kupaldiz_unbind(); }
@@ -439,18 +433,17 @@ THREAD(enter_from,
 /* A barrier waits for the one CPU that is kept, whichever it is. */
 THREAD(pass, xc_barrier(0); atomic_store(&passed, true))
 
-/* The thread waits as long as the CPU is kept. */
+/* The thread waits as long as the CPU is kept. Then it is free. */
 static void test_kept(unsigned cpu, void *(*body)(void *))
 {
 	pthread_t thread;
-	want(cpu, KEPT);
 	atomic_store(&waited, false);
 	atomic_store(&passed, false);
 	start_thread(&thread, body, &cpu);
 	while (!atomic_load(&waited) && !atomic_load(&passed))
 		sleep_for(50);
 	EXPECT(!atomic_load(&passed));
-	want(cpu, FREE);
+	free_cpu(cpu);
 	end_thread(thread);
 	EXPECT(atomic_load(&passed));
 }
@@ -473,21 +466,18 @@ static void test_cpus(void)
 {
 	test_nested();
 	for (unsigned cpu = 0; cpu < KUPALDIZ_CPUS; cpu++) {
-		start_thread(&keepers[cpu].thread, keep, &keepers[cpu]);
+		keep_cpu(cpu);
 		test_kept(cpu, pass);
 	}
 	for (unsigned cpu = 0; cpu < KUPALDIZ_CPUS; cpu++)
-		want(cpu, KEPT);
+		keep_cpu(cpu);
 	for (unsigned cpu = 0; cpu < KUPALDIZ_CPUS; cpu++) {
 		test_kept(cpu, enter_from);
 		test_free(cpu);
-		want(cpu, KEPT);
+		keep_cpu(cpu);
 	}
-	for (unsigned cpu = 0; cpu < KUPALDIZ_CPUS; cpu++) {
-		want(cpu, FREE);
-		atomic_store(&keepers[cpu].wanted, OVER);
-		end_thread(keepers[cpu].thread);
-	}
+	for (unsigned cpu = 0; cpu < KUPALDIZ_CPUS; cpu++)
+		free_cpu(cpu);
 }
 
 int main(void)
