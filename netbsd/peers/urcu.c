@@ -9,10 +9,7 @@ static pthread_mutex_t lock = PTHREAD_MUTEX_INITIALIZER;
 static pthread_cond_t called = PTHREAD_COND_INITIALIZER;
 static struct rcu_head *heads;	/* what is to be called; under `lock` */
 
-void rcu_register_thread(void)
-{
-}
-
+void rcu_register_thread(void) { }
 void rcu_unregister_thread(void) { give_cpu_back(); }
 void rcu_read_lock(void) { begin_section(); }
 void rcu_read_unlock(void) { end_section(); }

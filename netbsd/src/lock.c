@@ -30,11 +30,7 @@ static size_t place_of(const void *address)
 	return (word >> 4 ^ word >> 10 ^ word >> 16) % SLEEPQS;
 }
 
-struct sleepq *sleepq_of(const void *address)
-{
-	return &sleepqs[place_of(address)];
-}
-
+struct sleepq *sleepq_of(const void *address) { return &sleepqs[place_of(address)]; }
 void sleepq_lock(struct sleepq *sleepq) { pthread_mutex_lock(&sleepq->mutex); }
 void sleepq_unlock(struct sleepq *sleepq) { pthread_mutex_unlock(&sleepq->mutex); }
 
@@ -223,10 +219,7 @@ void lock_wait(uintptr_t *word, struct thread *me)
 
 /* ---- The pauses of a wait, between two looks at what it waits for. ---- */
 
-struct pauses begin_pauses(void)
-{
-	return (struct pauses){0, patience()};
-}
+struct pauses begin_pauses(void) { return (struct pauses){0, patience()}; }
 
 static bool is_past(const struct timespec *time)
 {

@@ -44,10 +44,7 @@ void report(const struct thread *me, const char *format, ...)
 }
 
 /* When a wait says what it waits for: so long from now on. */
-struct timespec patience(void)
-{
-	return time_after(KUPALDIZ_PATIENCE * INT64_C(1000000));
-}
+struct timespec patience(void) { return time_after(KUPALDIZ_PATIENCE * INT64_C(1000000)); }
 
 /* Stops where the registry refuses, as at a limit. */
 void must_succeed(const struct thread *me, uint32_t answer)

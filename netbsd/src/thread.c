@@ -103,10 +103,7 @@ struct thread *named_thread(const char *call, const char *name)
 	return me;
 }
 
-struct thread *new_thread(const char *call)
-{
-	return named_thread(call, "");
-}
+struct thread *new_thread(const char *call) { return named_thread(call, ""); }
 
 /* Stops where the thread has passive references. */
 static void require_unreferring(const struct thread *me)
@@ -230,10 +227,7 @@ void report_cpu_wait(struct thread *me, const uintptr_t *word)
 
 /* ---- The calls. ---- */
 
-struct lwp *kupaldiz_curlwp(void)
-{
-	return &begin_plain("curlwp")->lwp;
-}
+struct lwp *kupaldiz_curlwp(void) { return &begin_plain("curlwp")->lwp; }
 
 struct cpu_info *kupaldiz_cpu(unsigned cpu)
 {
@@ -304,10 +298,7 @@ void curlwp_bindx(int bound)
 		unbind(me);
 }
 
-struct cpu_info *curcpu(void)
-{
-	return &cpu_of(begin_plain(__func__))->info;
-}
+struct cpu_info *curcpu(void) { return &cpu_of(begin_plain(__func__))->info; }
 
 void disable_preemption(struct thread *me)
 {

@@ -70,7 +70,6 @@ static void count_in(void)
 }
 
 static void count_out(void) { localcount_release(&count, &cv, &lock); }
-
 static void drain_count(void) { drain(&count); }
 THREAD(drain_beside, mutex_enter(&lock); atomic_store(&ready, true); localcount_drain(&count, &cv, &lock); mutex_exit(&lock))
 

@@ -301,10 +301,7 @@ static __noinline int noinline_sum(int32_t one, int two __diagused)
 	return one + two;
 }
 
-static __dead void dies(void)
-{
-	panic("not called");
-}
+static __dead void dies(void) { panic("not called"); }
 
 static void test_words(void)
 {

@@ -42,27 +42,23 @@ void module_hook_exit(struct localcount *lc);
 /* MODULE_HOOK_UNSET - no call reaches the function any more: waits for those under way. Stops where the hook isn't set, and where the thread mustn't sleep. */
 #define MODULE_HOOK_UNSET(hook)	module_hook_unset(&(hook).hooked, &(hook).lc)
 
-/* MODULE_HOOK_CALL - call the function with the arguments `words`, in parentheses, and set `result`: to `otherwise` where the hook isn't set. */
-#define MODULE_HOOK_CALL(hook, words, otherwise, result) \
+/* A call of the hook, or what is done otherwise. */
+#define KUPALDIZ_HOOK_CALL(hook, call, otherwise) \
 	do { \
 		if (module_hook_tryenter(&(hook).hooked, &(hook).lc)) { \
-			(result) = (*(hook).f)words; \
-			module_hook_exit(&(hook).lc); \
-		} else { \
-			(result) = (otherwise); \
-		} \
-	} while (0)
-
-/* MODULE_HOOK_CALL_VOID - the same of a function without a result; `otherwise` is evaluated where the hook isn't set. */
-#define MODULE_HOOK_CALL_VOID(hook, words, otherwise) \
-	do { \
-		if (module_hook_tryenter(&(hook).hooked, &(hook).lc)) { \
-			(*(hook).f)words; \
+			call; \
 			module_hook_exit(&(hook).lc); \
 		} else { \
 			otherwise; \
 		} \
 	} while (0)
+
+/* MODULE_HOOK_CALL - call the function with the arguments `words`, in parentheses, and set `result`: to `otherwise` where the hook isn't set. */
+#define MODULE_HOOK_CALL(hook, words, otherwise, result) \
+	KUPALDIZ_HOOK_CALL(hook, (result) = (*(hook).f)words, (result) = (otherwise))
+
+/* MODULE_HOOK_CALL_VOID - the same of a function without a result; `otherwise` is evaluated where the hook isn't set. */
+#define MODULE_HOOK_CALL_VOID(hook, words, otherwise)	KUPALDIZ_HOOK_CALL(hook, (*(hook).f)words, otherwise)
 
 __END_DECLS
 #endif

@@ -95,10 +95,7 @@ typedef int pri_t;
 #endif
 
 /* makeiplcookie - the level itself. */
-static inline ipl_cookie_t makeiplcookie(int level)
-{
-	return level;
-}
+static inline ipl_cookie_t makeiplcookie(int level) { return level; }
 
 __END_DECLS
 #endif

@@ -230,9 +230,7 @@ static void test_call_after_end(void)
 	send_off(&beside);
 }
 #else
-static void test_call_after_end(void)
-{
-}
+static void test_call_after_end(void) { }
 #endif
 
 /* ---- Threads of kthread_create's. ---- */
