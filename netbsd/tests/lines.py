@@ -8,7 +8,7 @@ import sys
 from pathlib import Path
 
 HERE = Path(__file__).resolve().parent
-TESTS = ("misuses", "misuses_of_threads", "lacks", "full", "tells")
+TESTS = ("misuses", "misuses_of_threads", "lacks", "tells")
 # Some files have the same line: each needs a test of its own call.
 CALLS = {"rwlock.c": r"rw_[a-z]+", "mutex.c": r"(?:mutex|cv)_[a-z_]+", "callout.c": r"callout_[a-z]+"}
 # What a row USES of misuses.c tests of its call, where the thing has this name there.
