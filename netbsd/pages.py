@@ -26,7 +26,7 @@ HEADERS = {
     "kernel": (["sys/systm.h", "sys/kthread.h", "sys/proc.h", "sys/module.h", "sys/evcnt.h"], "assertions, panic(9), kthread(9), kpause(9), copy(9)"),
 }
 # Headers without a page: what each of the others includes.
-UNPAGED = {"names", "registry_limits", "sys_types"}
+UNPAGED = {"names", "places", "registry_limits", "sys_types"}
 # The page that isn't made from a header, and where it shows a program.
 OVERVIEW = PAGES / "kupaldiz_netbsd.7"
 SHOWN = re.compile(r'(?<=^\.\\" netbsd/)(\S+)(\n\.Bd -literal\n).*?(?=^\.Ed$)', re.M | re.S)

@@ -108,12 +108,8 @@ static inline bool cpu_intr_p(void) { return false; }
 /* cpu_softintr_p - whether this is a soft interrupt. */
 bool cpu_softintr_p(void);
 
-#ifndef KUPALDIZ_WITHOUT_PLACES
-#define kupaldiz_bind(cpu)	(kupaldiz_at(KUPALDIZ_HERE), kupaldiz_bind(cpu))
-#define kupaldiz_unbind()	(kupaldiz_at(KUPALDIZ_HERE), kupaldiz_unbind())
-#define curlwp_bindx(bound)	(kupaldiz_at(KUPALDIZ_HERE), curlwp_bindx(bound))
-#define kpreempt_enable()	(kupaldiz_at(KUPALDIZ_HERE), kpreempt_enable())
-#endif
+#define KUPALDIZ_PLACES_OF_CPU
+#include "places.h"
 
 __END_DECLS
 #endif

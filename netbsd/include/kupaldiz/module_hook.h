@@ -25,12 +25,8 @@ void module_hook_unset(bool *hooked, struct localcount *lc);
 bool module_hook_tryenter(const bool *hooked, struct localcount *lc);
 void module_hook_exit(struct localcount *lc);
 
-#ifndef KUPALDIZ_WITHOUT_PLACES
-#define module_hook_set(hooked, lc)	(kupaldiz_at(KUPALDIZ_HERE), module_hook_set(hooked, lc))
-#define module_hook_unset(hooked, lc)	(kupaldiz_at(KUPALDIZ_HERE), module_hook_unset(hooked, lc))
-#define module_hook_tryenter(hooked, lc)	(kupaldiz_at(KUPALDIZ_HERE), module_hook_tryenter(hooked, lc))
-#define module_hook_exit(lc)		(kupaldiz_at(KUPALDIZ_HERE), module_hook_exit(lc))
-#endif
+#define KUPALDIZ_PLACES_OF_MODULE_HOOK
+#include "places.h"
 
 /* MODULE_HOOK_SET - from now on calls of the hook call the function. Stops where the hook is set, and where the thread mustn't sleep. */
 #define MODULE_HOOK_SET(hook, function) \
