@@ -24,7 +24,7 @@ NAMES
 
 # is_made FILE FROM: whether a file is there, and no older than what it is made from.
 is_made() {
-    [ -f "$1" ] && ! [ "$1" -ot "$2" ]
+    [ -f "$1" ] && [ -z "$(find "$2" -newer "$1")" ]
 }
 
 cd ../kupaldiz || exit
@@ -36,7 +36,7 @@ done
 write_places() {
     printf '/* places.h - macros of the names of a header'"'"'s calls, which note where each is made */\n#ifndef KUPALDIZ_WITHOUT_PLACES\n'
     while read -r header calls; do
-        printf '#ifdef KUPALDIZ_PLACES_OF_%s\n' "$(echo "$header" | tr a-z A-Z)"
+        printf '#ifdef KUPALDIZ_PLACES_OF_%s\n' "$(echo "$header" | tr '[:lower:]' '[:upper:]')"
         for call in $calls; do
             echo "#define $call(...) (kupaldiz_at(KUPALDIZ_HERE), $call(__VA_ARGS__))"
         done
