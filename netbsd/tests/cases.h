@@ -56,16 +56,11 @@ static inline void judge_case(void (*begin)(void), const struct stop_case *the_c
 	failed += !right;
 }
 
-static inline void judge_cases(void (*begin)(void))
-{
-	for (unsigned place = 0; place < case_count; place++)
-		judge_case(begin, &cases[place]);
-}
-
 /* Runs all cases, and prints how many passed, with those that were judged before. The program's status. */
 static inline int run_cases(void (*begin)(void))
 {
-	judge_cases(begin);
+	for (unsigned place = 0; place < case_count; place++)
+		judge_case(begin, &cases[place]);
 	printf("%u passed, %u failed\n", passed, failed);
 	return failed != 0 || passed == 0;
 }

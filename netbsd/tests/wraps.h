@@ -38,7 +38,6 @@ WRAP(void *, calloc, size_t count, size_t size);
 WRAP(void *, realloc, void *block, size_t size);
 WRAP(int, posix_memalign, void **block, size_t align, size_t size);
 WRAP(void, free, void *block);
-WRAP(void *, memcpy, void *to, const void *from, size_t length);
 
 #undef registry_open
 WRAP(uint32_t, registry_open, const struct registry_settings *settings, struct registry_keeper *keeper, struct registry_cpu *cpus, size_t count);
