@@ -104,7 +104,7 @@ for way in plain sanitized; do
     counted "what it finds, data races too, $way" "$out/$way/finds"
     counted "callouts, $way" "$out/$way/callouts"
     counted "failures, works, callouts and hooks, $way" "$out/$way/failures"
-    check "three files in the idiom of the kernel's own, $way" "$out/$way/kernel_files"
+    check "four files in the idiom of the kernel's own, $way" "$out/$way/kernel_files"
     counted "what it refuses, $way" "$out/$way/refusals"
     check "each name that a driver may use does what its page says, $way" "$out/$way/named"
 done

@@ -6,6 +6,7 @@
 #include "../../netbsd/examples/kernel/if.c"
 #include "../../netbsd/examples/kernel/if_bridge.c"
 #include "../../netbsd/examples/kernel/key.c"
+#include "../../netbsd/examples/kernel/subr_devsw.c"
 #include "cases.h"
 
 /* ---- if.c: a packet goes by an interface, whose link changes, while it is detached. ---- */
@@ -45,6 +46,55 @@ static void begin_key(void)
 }
 
 static void end_key(void) { KASSERT(unrefs <= 1 && in_flight == NULL); key_fini(); }
+
+/* ---- subr_devsw.c: a device is opened while its driver is detached, and another driver is attached, so that the table grows. ---- */
+
+static u_int in_first;
+static int attached;
+
+static int open_first(devminor_t minor)
+{
+	atomic_inc_uint(&in_first);
+	atomic_dec_uint(&in_first);
+	return minor;
+}
+
+static int open_second(devminor_t minor)
+{
+	return minor;
+}
+
+static const struct cdevsw first_cdev = {.d_open = open_first}, second_cdev = {.d_open = open_second};
+
+BODY(open_devices)
+{
+	for (devmajor_t major = 1; major <= 5; major += 4) {
+		int error = cdev_open(major, 0);
+		KASSERT(error == 0 || error == ENXIO);
+	}
+}
+
+HANDLER(detach_first, devsw_detach(&first_cdev); KASSERT(atomic_load_relaxed(&in_first) == 0))
+HANDLER(attach_second, attached = devsw_attach(&second_cdev, 5); KASSERT(attached == 0 || attached == ENOMEM))
+
+static void begin_devsw(void)
+{
+	attached = -1;
+	devsw_init();
+	int error = devsw_attach(&first_cdev, 1);
+	KASSERT(error == 0 || error == ENOMEM);
+	bench_thread("open", open_devices, NULL);
+	if (error == 0)
+		bench_thread("detach", detach_first, NULL);
+	bench_thread("attach", attach_second, NULL);
+}
+
+static void end_devsw(void)
+{
+	if (attached == 0)
+		devsw_detach(&second_cdev);
+	devsw_fini();
+}
 
 /* ---- if_bridge.c: packets are forwarded while a member is deleted, and while old addresses go. ---- */
 
@@ -101,6 +151,7 @@ static void end_bridge(void)
 static const struct driver_case file_cases[] = {
 	{"if", begin_if, ifnet_fini, 0, true},
 	{"key", begin_key, end_key, 0, false},
+	{"subr_devsw", begin_devsw, end_devsw, 0, false},
 	{"forward", begin_forward, end_bridge, 0, false},
 	{"age", begin_age, end_bridge, 0, false},
 };
