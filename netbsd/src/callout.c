@@ -131,7 +131,7 @@ static struct thread *lock_callout(struct thread *me, const callout_t *callout)
 	return me;
 }
 
-/* It returns this, without the lock. */
+/* Gives the lock back where a call returns this. */
 static bool unlock_with(bool answer)
 {
 	pthread_mutex_unlock(&lock);

@@ -365,7 +365,7 @@ static inline struct thread *sleepable(struct thread *me)
 	return me;
 }
 
-/* Both texts in memory of the block around. */
+/* The same two, in memory of the block in which they are called. */
 #define NAME_OF(thread)	name_of(thread, (char[64]){""}, 64)
 #define AT_PLACE(place)	at_place(place, (char[256]){""}, 256)
 

@@ -74,7 +74,7 @@ static void *alloc_block(struct thread *me, size_t size, bool sleeps, const stru
 	return head + 1;
 }
 
-/* For so long as it is given back by kmem_free or its like. */
+/* A block of kmem's own, for a call with these flags. */
 static void *kmem_block(struct thread *me, size_t size, km_flag_t flags)
 {
 	if ((flags & (KM_SLEEP | KM_NOSLEEP)) == 0 || (flags & (KM_SLEEP | KM_NOSLEEP)) == (KM_SLEEP | KM_NOSLEEP))

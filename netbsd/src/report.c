@@ -85,7 +85,7 @@ const char *at_place(const char *place, char *text, size_t room)
 	return text;
 }
 
-/* Stops where a thing isn't what was made as such: its word is another one. */
+/* Stops where a thing was destroyed, or never made: its word isn't the wanted one. */
 void require_made(const struct thread *me, uint32_t made, uint32_t wanted, const char *what)
 {
 	if (made == ENDED)

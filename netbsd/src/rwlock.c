@@ -11,7 +11,7 @@ static struct thread *lock_rw(struct thread *me, const krwlock_t *rw)
 	return me;
 }
 
-/* It returns this, without that lock. */
+/* Gives that lock back where a call returns this. */
 static int unlock_rw(const krwlock_t *rw, int answer)
 {
 	sleepq_unlock(sleepq_of(rw));
