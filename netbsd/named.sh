@@ -27,7 +27,7 @@ is_made() {
     [ -f "$1" ] && [ -z "$(find "$2" -newer "$1")" ]
 }
 
-cd ../kupaldiz || exit
+cd ../kupaldiz 2>/dev/null || exit
 for limits in ../../../include/registry_limits.h ../../../crates/registry_c/include/registry_limits.h; do
     [ ! -f "$limits" ] || is_made registry_limits.h "$limits" || cp "$limits" registry_limits.h
 done
