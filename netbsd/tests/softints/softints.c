@@ -215,50 +215,6 @@ static void test_blocked_inside(void)
 	softint_disestablish(cookie);
 }
 
-static atomic_uint counted;
-static atomic_bool entered, let_go;
-
-HANDLER(count_and_stay, atomic_fetch_add(&counted, 1); await_flag(&let_go))
-THREAD(schedule_elsewhere, kupaldiz_bind(3); softint_schedule(arg))
-THREAD(disestablish, atomic_store(&entered, true); softint_disestablish(arg))
-
-/* It runs on CPU 3 and waits on another one when its end begins: there it doesn't run any more. */
-static void *end_while_waiting(void *of)
-{
-	pthread_t scheduler, ender;
-	kupaldiz_bind(*(unsigned *)of);
-	void *cookie = softint_establish(SOFTINT_NET, count_and_stay, NULL);
-	atomic_store(&counted, 0);
-	atomic_store(&entered, false);
-	atomic_store(&let_go, false);
-	int s = splsoftnet();
-	softint_schedule(cookie);
-	start_thread(&scheduler, schedule_elsewhere, cookie);
-	await_least(&counted, 1);
-	start_thread(&ender, disestablish, cookie);
-	await_flag(&entered);
-	sleep_for(20000);
-	splx(s);
-	sleep_for(3000);
-	EXPECT(atomic_load(&counted) == 1);
-	atomic_store(&let_go, true);
-	end_thread(ender);
-	end_thread(scheduler);
-	EXPECT(atomic_load(&counted) == 1);
-	return of;
-}
-
-static void test_ended_waiting(void)
-{
-	pthread_t thread;
-	for (unsigned cpu = 0; cpu < KUPALDIZ_CPUS; cpu++) {
-		if (cpu == 3)
-			continue;
-		start_thread(&thread, end_while_waiting, &cpu);
-		end_thread(thread);
-	}
-}
-
 static krwlock_t rw;
 static atomic_bool holds;
 
@@ -428,7 +384,6 @@ int main(void)
 	test_blocked();
 	test_levels_apart();
 	test_blocked_inside();
-	test_ended_waiting();
 	test_raised();
 	test_storm();
 	test_offers();
