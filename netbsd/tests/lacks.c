@@ -11,7 +11,7 @@
 #include "things.h"
 
 /* What is refused from now on. */
-static enum { NOTHING_LACKS, CALLOC, MALLOC, REALLOC, ALIGNED, THREADS, KEY, VALUE, AT_FORK } lacks;
+static enum lack { NOTHING_LACKS, CALLOC, MALLOC, REALLOC, ALIGNED, THREADS, KEY, VALUE, AT_FORK } lacks;
 
 /* A call that fails where it lacks. */
 #define LACKS(what, type, failed, name, parameters, arguments) \
@@ -70,7 +70,7 @@ static char long_text[500], long_place[400], cut_line[511];
 static void begin(void) { }
 
 /* The layer is open, with a live target and a live count. From now on something lacks. */
-static void open_without(int what)
+static void open_without(enum lack what)
 {
 	kupaldiz_bind(0);
 	make_things(IPL_NONE);
