@@ -13,7 +13,7 @@ static struct psref_target targets[MOST_LIVE];
 static struct localcount counts[MOST_LIVE];
 static atomic_bool over;
 static _Atomic(int *) shown;
-static atomic_uint sections;
+static atomic_uint sections, step, performed;
 
 /* Many are live at once. Each can be referred to, and each ends. */
 static void test_live(unsigned live)
@@ -105,6 +105,26 @@ static void test_spent(void)
 }
 #endif
 
+THREAD(release_all,
+    kupaldiz_bind(5);
+    for (unsigned i = 0; i < *(unsigned *)arg; i++)
+	    localcount_release(&counts[0], &cv, &lock))
+
+/* References that go one way: acquired on one CPU, and released on another. */
+static void test_one_way(unsigned references)
+{
+	pthread_t other;
+	localcount_init(&counts[0]);
+	for (unsigned i = 0; i < references; i++)
+		localcount_acquire(&counts[0]);
+	EXPECT(localcount_debug_refcnt(&counts[0]) == references);
+	start_thread(&other, release_all, &references);
+	end_thread(other);
+	EXPECT(localcount_debug_refcnt(&counts[0]) == 0);
+	drain(&counts[0]);
+	localcount_fini(&counts[0]);
+}
+
 /* Reads what is shown, in more sections than a registry has. */
 static void *read_all(void *arg)
 {
@@ -151,6 +171,35 @@ static void test_sections(unsigned rounds)
 	free(atomic_load(&shown));
 }
 
+static void *read_moved(void *arg)
+{
+	kupaldiz_bind(3);
+	for (unsigned turn = 0; turn < MANY; turn++)
+		pserialize_read_exit(pserialize_read_enter());
+	int s = pserialize_read_enter();
+	atomic_store(&step, 1);
+	await_least(&step, 2);
+	pserialize_read_exit(s);
+	return arg;
+}
+
+THREAD(perform_it, pserialize_perform(psz); atomic_fetch_add(&performed, 1))
+
+/* A reader whose CPU takes another registry for its sections than the others: a perform waits for it. */
+static void test_moved(void)
+{
+	pthread_t reader, performer;
+	start_thread(&reader, read_moved, NULL);
+	await_least(&step, 1);
+	start_thread(&performer, perform_it, NULL);
+	sleep_for(20000);
+	EXPECT(atomic_load(&performed) == 0);
+	atomic_store(&step, 2);
+	end_thread(reader);
+	end_thread(performer);
+	EXPECT(atomic_load(&performed) == 1);
+}
+
 int main(int argc, char **argv)
 {
 	bool full = argc == 2 && strcmp(argv[1], "full") == 0;
@@ -163,6 +212,10 @@ int main(int argc, char **argv)
 #ifdef KUPALDIZ_SECTIONS
 	test_spent();
 #endif
+	if (!full) {
+		test_moved();
+		test_one_way(3000);
+	}
 	test_sections(full ? 2000 : 150);
 	test_live(full ? MOST_LIVE : 40);
 	end_things();
