@@ -52,8 +52,8 @@ TAIL = """
 #endif
 """
 
-# Where the header is: beside registry.h, and again in a crate that is used alone and beside the layer's headers. `rt ci` takes no links.
-PLACED = ("crates/registry_c/include/registry_limits.h", "rust/registry_limits.h", "netbsd/include/kupaldiz/registry_limits.h")
+# Where the header is: beside registry.h, and again in a crate that is used alone. `rt ci` takes no links.
+PLACED = ("crates/registry_c/include/registry_limits.h", "rust/registry_limits.h")
 
 # Which constant a place has, and how it says it.
 PLACES = (

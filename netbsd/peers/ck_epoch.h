@@ -39,10 +39,7 @@ typedef struct ck_epoch_record {
 	unsigned n_pending, n_peak, n_dispatch;
 } ck_epoch_record_t;
 
-static inline void ck_epoch_init(ck_epoch_t *epoch)
-{
-	epoch->unused = 0;
-}
+static inline void ck_epoch_init(ck_epoch_t *epoch) { epoch->unused = 0; }
 
 static inline void ck_epoch_register(ck_epoch_t *epoch, ck_epoch_record_t *record, void *context)
 {
@@ -51,11 +48,7 @@ static inline void ck_epoch_register(ck_epoch_t *epoch, ck_epoch_record_t *recor
 	*record = (ck_epoch_record_t){NULL, 0, 0, 0};
 }
 
-static inline void ck_epoch_unregister(ck_epoch_record_t *record)
-{
-	(void)record;
-	give_cpu_back();
-}
+static inline void ck_epoch_unregister(ck_epoch_record_t *record) { (void)record; give_cpu_back(); }
 
 static inline void ck_epoch_begin(ck_epoch_record_t *record, ck_epoch_section_t *section)
 {
@@ -85,11 +78,7 @@ static inline void ck_epoch_call_strict(ck_epoch_record_t *record, ck_epoch_entr
 	ck_epoch_call(record, entry, function);
 }
 
-static inline void ck_epoch_synchronize(ck_epoch_record_t *record)
-{
-	(void)record;
-	wait_for_sections();
-}
+static inline void ck_epoch_synchronize(ck_epoch_record_t *record) { (void)record; wait_for_sections(); }
 
 /* Calls all that is kept. What is called meanwhile is kept for the next time. */
 static inline void ck_epoch_reclaim(ck_epoch_record_t *record)

@@ -20,11 +20,7 @@ static inline void begin_section(void)
 }
 
 /* Ends one section. Whether it was the last. */
-static inline bool end_section(void)
-{
-	pserialize_read_exit(--open_sections);
-	return open_sections == 0;
-}
+static inline bool end_section(void) { pserialize_read_exit(--open_sections); return open_sections == 0; }
 
 static inline void give_cpu_back(void)
 {

@@ -9,29 +9,11 @@ static pthread_mutex_t lock = PTHREAD_MUTEX_INITIALIZER;
 static pthread_cond_t called = PTHREAD_COND_INITIALIZER;
 static struct rcu_head *heads;	/* what is to be called; under `lock` */
 
-void rcu_register_thread(void)
-{
-}
-
-void rcu_unregister_thread(void)
-{
-	give_cpu_back();
-}
-
-void rcu_read_lock(void)
-{
-	begin_section();
-}
-
-void rcu_read_unlock(void)
-{
-	end_section();
-}
-
-void synchronize_rcu(void)
-{
-	wait_for_sections();
-}
+void rcu_register_thread(void) { }
+void rcu_unregister_thread(void) { give_cpu_back(); }
+void rcu_read_lock(void) { begin_section(); }
+void rcu_read_unlock(void) { end_section(); }
+void synchronize_rcu(void) { wait_for_sections(); }
 
 /* Takes all callbacks, waiting until there is one. */
 static struct rcu_head *take_heads(void)

@@ -32,35 +32,11 @@ static inline struct call_rcu_data *create_call_rcu_data(unsigned long flags, in
 	return NULL;
 }
 
-static inline int create_all_cpu_call_rcu_data(unsigned long flags)
-{
-	(void)flags;
-	return 0;
-}
-
-static inline struct call_rcu_data *get_cpu_call_rcu_data(int cpu)
-{
-	(void)cpu;
-	return NULL;
-}
-
-static inline struct call_rcu_data *get_thread_call_rcu_data(void)
-{
-	return NULL;
-}
-
-static inline void set_thread_call_rcu_data(struct call_rcu_data *data)
-{
-	(void)data;
-}
-
-static inline void call_rcu_data_free(struct call_rcu_data *data)
-{
-	(void)data;
-}
-
-static inline void free_all_cpu_call_rcu_data(void)
-{
-}
+static inline int create_all_cpu_call_rcu_data(unsigned long flags) { (void)flags; return 0; }
+static inline struct call_rcu_data *get_cpu_call_rcu_data(int cpu) { (void)cpu; return NULL; }
+static inline struct call_rcu_data *get_thread_call_rcu_data(void) { return NULL; }
+static inline void set_thread_call_rcu_data(struct call_rcu_data *data) { (void)data; }
+static inline void call_rcu_data_free(struct call_rcu_data *data) { (void)data; }
+static inline void free_all_cpu_call_rcu_data(void) { }
 
 #endif

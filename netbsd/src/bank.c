@@ -14,20 +14,9 @@ static unsigned roomy;			/* where the next target is tried first; under the inte
 static unsigned used_up;		/* banks that are */
 static uint64_t serials;
 
-void enter_interlock(void)
-{
-	pthread_mutex_lock(&interlock);
-}
-
-void exit_interlock(void)
-{
-	pthread_mutex_unlock(&interlock);
-}
-
-struct registry_cpu *writers(struct bank *bank)
-{
-	return &bank->cpus[WRITERS].cpu;
-}
+void enter_interlock(void) { pthread_mutex_lock(&interlock); }
+void exit_interlock(void) { pthread_mutex_unlock(&interlock); }
+struct registry_cpu *writers(struct bank *bank) { return &bank->cpus[WRITERS].cpu; }
 
 /* The handle of this thread's CPU in a bank. The thread has its CPU. */
 struct registry_cpu *handle_of(struct thread *me, struct bank *bank)

@@ -17,12 +17,6 @@ static struct thread *runners[KUPALDIZ_CPUS];
 static void *softint;
 static pthread_once_t begun = PTHREAD_ONCE_INIT;
 
-static int64_t now(void)
-{
-	struct timespec time = time_after(0);
-	return (int64_t)time.tv_sec * 1000000000 + time.tv_nsec;
-}
-
 /* Takes it out of the list. The caller has the lock. */
 static void unlink_callout(callout_t *callout)
 {
@@ -122,23 +116,26 @@ static _Noreturn void *run_clock(void *arg)
 static void start_clock(void)
 {
 	pthread_t thread;
-	pthread_condattr_t monotonic;
-	pthread_condattr_init(&monotonic);
-	pthread_condattr_setclock(&monotonic, CLOCK_MONOTONIC);
-	pthread_cond_init(&changed, &monotonic);
-	pthread_condattr_destroy(&monotonic);
+	init_cond(&changed);
 	softint = make_softint(SOFTINT_CLOCK, run_due, NULL);
 	if (softint == NULL || pthread_create(&thread, NULL, run_clock, NULL) != 0)
 		stop_at("callout_init", NULL, "out of memory");
 	pthread_detach(thread);
 }
 
-static void require_callout(const struct thread *me, const callout_t *callout)
+/* A call of a callout begins: it takes the lock. */
+static struct thread *lock_callout(struct thread *me, const callout_t *callout)
 {
-	if (callout->c_made == ENDED)
-		stop(me, "the callout was destroyed");
-	if (callout->c_made != A_CALLOUT)
-		stop(me, "the callout was never initialised");
+	require_made(me, callout->c_made, A_CALLOUT, "the callout");
+	pthread_mutex_lock(&lock);
+	return me;
+}
+
+/* Gives the lock back where a call returns this. */
+static bool unlock_with(bool answer)
+{
+	pthread_mutex_unlock(&lock);
+	return answer;
 }
 
 void callout_init(callout_t *callout, unsigned flags)
@@ -160,9 +157,7 @@ static unsigned running_cpu(const struct thread *me, const callout_t *callout)
 
 void callout_destroy(callout_t *callout)
 {
-	struct thread *me = begin_call(__func__);
-	require_callout(me, callout);
-	pthread_mutex_lock(&lock);
+	struct thread *me = lock_callout(begin_call(__func__), callout);
 	if ((callout->c_state & PENDING) != 0)
 		stop(me, "the callout is pending");
 	if (running_cpu(me, callout) < KUPALDIZ_CPUS)
@@ -173,9 +168,7 @@ void callout_destroy(callout_t *callout)
 
 void callout_setfunc(callout_t *callout, void (*body)(void *), void *arg)
 {
-	struct thread *me = begin_plain(__func__);
-	require_callout(me, callout);
-	pthread_mutex_lock(&lock);
+	lock_callout(begin_plain(__func__), callout);
 	callout->c_body = body;
 	callout->c_arg = arg;
 	pthread_mutex_unlock(&lock);
@@ -198,9 +191,7 @@ static void make_pending(struct thread *me, callout_t *callout, int ticks)
 
 void callout_reset(callout_t *callout, int ticks, void (*body)(void *), void *arg)
 {
-	struct thread *me = begin_plain(__func__);
-	require_callout(me, callout);
-	pthread_mutex_lock(&lock);
+	struct thread *me = lock_callout(begin_plain(__func__), callout);
 	callout->c_body = body;
 	callout->c_arg = arg;
 	make_pending(me, callout, ticks);
@@ -209,21 +200,14 @@ void callout_reset(callout_t *callout, int ticks, void (*body)(void *), void *ar
 
 void callout_schedule(callout_t *callout, int ticks)
 {
-	struct thread *me = begin_plain(__func__);
-	require_callout(me, callout);
-	pthread_mutex_lock(&lock);
-	make_pending(me, callout, ticks);
+	make_pending(lock_callout(begin_plain(__func__), callout), callout, ticks);
 	pthread_mutex_unlock(&lock);
 }
 
 bool callout_stop(callout_t *callout)
 {
-	struct thread *me = begin_plain(__func__);
-	require_callout(me, callout);
-	pthread_mutex_lock(&lock);
-	bool expired = cancel(callout);
-	pthread_mutex_unlock(&lock);
-	return expired;
+	lock_callout(begin_plain(__func__), callout);
+	return unlock_with(cancel(callout));
 }
 
 /* What a callout sets ends with its body, wherever that runs now. The caller has the lock. */
@@ -237,7 +221,7 @@ static void note_halt(const callout_t *callout)
 /* Waits until it doesn't run, and says after a while that it waits. The caller has the lock. */
 static void await_end(struct thread *me, const callout_t *callout)
 {
-	const struct timespec tells = time_after(KUPALDIZ_PATIENCE * INT64_C(1000000));
+	const struct timespec tells = patience();
 	bool told = false;
 	int waits = begin_wait();
 	unsigned cpu;
@@ -253,11 +237,9 @@ static void await_end(struct thread *me, const callout_t *callout)
 
 bool callout_halt(callout_t *callout, void *interlock)
 {
-	struct thread *me = begin_call(__func__);
-	require_callout(me, callout);
+	struct thread *me = lock_callout(begin_call(__func__), callout);
 	if (interlock != NULL && !has_mutex(me, interlock))
 		stop(me, "the thread does not have the lock");
-	pthread_mutex_lock(&lock);
 	bool expired = cancel(callout), runs = running_cpu(me, callout) < KUPALDIZ_CPUS;
 	if (runs) {
 		if (interlock != NULL)
@@ -276,37 +258,18 @@ bool callout_halt(callout_t *callout, void *interlock)
 /* Whether one of these holds of it. */
 static bool has_state(const char *call, callout_t *callout, uint32_t states)
 {
-	require_callout(begin_plain(call), callout);
-	pthread_mutex_lock(&lock);
-	bool holds = (callout->c_state & states) != 0;
-	pthread_mutex_unlock(&lock);
-	return holds;
+	lock_callout(begin_plain(call), callout);
+	return unlock_with((callout->c_state & states) != 0);
 }
 
-bool callout_pending(callout_t *callout)
-{
-	return has_state(__func__, callout, PENDING);
-}
-
-bool callout_expired(callout_t *callout)
-{
-	return has_state(__func__, callout, FIRED);
-}
-
-bool callout_active(callout_t *callout)
-{
-	return has_state(__func__, callout, PENDING | FIRED);
-}
-
-bool callout_invoking(callout_t *callout)
-{
-	return has_state(__func__, callout, INVOKING);
-}
+bool callout_pending(callout_t *callout) { return has_state(__func__, callout, PENDING); }
+bool callout_expired(callout_t *callout) { return has_state(__func__, callout, FIRED); }
+bool callout_active(callout_t *callout) { return has_state(__func__, callout, PENDING | FIRED); }
+bool callout_invoking(callout_t *callout) { return has_state(__func__, callout, INVOKING); }
 
 void callout_ack(callout_t *callout)
 {
-	require_callout(begin_plain(__func__), callout);
-	pthread_mutex_lock(&lock);
+	lock_callout(begin_plain(__func__), callout);
 	callout->c_state &= ~(uint32_t)INVOKING;
 	pthread_mutex_unlock(&lock);
 }

@@ -3,18 +3,11 @@
 
 #include "layer.h"
 
-void cv_init(kcondvar_t *cv, const char *name)
-{
-	*cv = (kcondvar_t){.cv_name = name, .cv_made = A_CV};
-}
+void cv_init(kcondvar_t *cv, const char *name) { *cv = (kcondvar_t){.cv_name = name, .cv_made = A_CV}; }
 
-/* Stops where it isn't a condition variable. */
 static void require_cv(const struct thread *me, const kcondvar_t *cv)
 {
-	if (cv->cv_made == ENDED)
-		stop(me, "the condition variable was destroyed");
-	if (cv->cv_made != A_CV)
-		stop(me, "the condition variable was never initialised");
+	require_made(me, cv->cv_made, A_CV, "the condition variable");
 }
 
 void cv_destroy(kcondvar_t *cv)
@@ -90,10 +83,7 @@ static int timedwait(struct thread *me, kcondvar_t *cv, kmutex_t *mutex, int tic
 	}
 }
 
-void cv_wait(kcondvar_t *cv, kmutex_t *mutex)
-{
-	(void)timedwait(begin_call(__func__), cv, mutex, 0, false);
-}
+void cv_wait(kcondvar_t *cv, kmutex_t *mutex) { (void)timedwait(begin_call(__func__), cv, mutex, 0, false); }
 
 int cv_wait_sig(kcondvar_t *cv, kmutex_t *mutex)
 {
@@ -133,7 +123,4 @@ bool cv_has_waiters(kcondvar_t *cv)
 	return waited;
 }
 
-bool cv_is_valid(kcondvar_t *cv)
-{
-	return cv->cv_made == A_CV;
-}
+bool cv_is_valid(kcondvar_t *cv) { return cv->cv_made == A_CV; }

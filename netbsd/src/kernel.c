@@ -20,7 +20,8 @@ void panic(const char *format, ...)
 	va_start(words, format);
 	vsnprintf(text, sizeof(text), format, words);
 	va_end(words);
-	stop(begin_call(__func__), "%s", text);
+	struct thread *me = begin_call(__func__);
+	stop(me, "%s", text);
 }
 
 void kupaldiz_failed(const char *what, const char *text, const char *place)
@@ -38,31 +39,26 @@ void kupaldiz_failed_with(const char *place, const char *text, const char *forma
 	stop_at("KASSERTMSG", place, "not so: %s: %s", text, more);
 }
 
-void kupaldiz_assert_sleepable(void)
-{
-	require_sleepable(begin_call("ASSERT_SLEEPABLE"));
-}
+void kupaldiz_assert_sleepable(void) { require_sleepable(begin_call("ASSERT_SLEEPABLE")); }
 
 /* ---- Time. ---- */
 
-int getticks(void)
+/* The clock that nobody sets, in nanoseconds. */
+int64_t now(void)
 {
-	struct timespec now = time_after(0);
-	return (int)((uint64_t)now.tv_sec * (1000000000 / TICK) + (uint64_t)now.tv_nsec / TICK);
+	struct timespec time = time_after(0);
+	return (int64_t)time.tv_sec * 1000000000 + time.tv_nsec;
 }
 
-time_t getuptime(void)
-{
-	return time_after(0).tv_sec;
-}
+int getticks(void) { return (int)(now() / TICK); }
+time_t getuptime(void) { return time_after(0).tv_sec; }
 
 void delay(unsigned microseconds)
 {
-	struct timespec end = time_after((int64_t)microseconds * 1000), now;
-	do {
+	int64_t end = now() + (int64_t)microseconds * 1000;
+	do
 		sched_yield();
-		now = time_after(0);
-	} while (now.tv_sec < end.tv_sec || (now.tv_sec == end.tv_sec && now.tv_nsec < end.tv_nsec));
+	while (now() < end);
 }
 
 int kpause(const char *name, bool interruptible, int ticks, kmutex_t *mutex)
@@ -147,8 +143,7 @@ static int start_kthread(struct kthread *kthread, lwp_t **made)
 
 int kthread_create(pri_t priority, int flags, struct cpu_info *cpu, void (*body)(void *), void *arg, lwp_t **made, const char *format, ...)
 {
-	struct thread *me = begin_plain(__func__);
-	require_sleepable(me);
+	struct thread *me = sleepable(begin_plain(__func__));
 	if (FAILS())
 		return ENOMEM;
 	struct kthread *kthread = memory(me, sizeof(*kthread));
@@ -182,20 +177,18 @@ void kthread_exit(int code)
 /* Waits for the end of a thread of the layer's, and says after a while that it waits. */
 void await_thread(struct thread *me, pthread_t id, const struct thread *thread)
 {
-	char name[64];
 	struct pauses pauses = begin_pauses();
 	int waits = begin_wait();
 	while (pthread_tryjoin_np(id, NULL) == EBUSY)
 		if (pause_longer(&pauses, NULL))
-			report(me, "waits for thread \"%s\" to end", name_of(thread, name, sizeof(name)));
+			report(me, "waits for thread \"%s\" to end", NAME_OF(thread));
 	end_wait(waits);
 }
 
 int kthread_join(lwp_t *thread)
 {
-	struct thread *me = begin_call(__func__);
+	struct thread *me = sleepable(begin_call(__func__));
 	struct kthread *found = NULL;
-	require_sleepable(me);
 	pthread_mutex_lock(&kthreads_lock);
 	for (struct kthread **at = &kthreads; *at != NULL; at = &(*at)->next) {
 		if (&(*at)->thread->lwp == thread) {
@@ -216,10 +209,7 @@ int kthread_join(lwp_t *thread)
 /* ---- copy_user(9) ---- */
 
 /* Whether an address may be the user's. */
-static bool is_mapped(const void *user)
-{
-	return (uintptr_t)user >= 4096;
-}
+static bool is_mapped(const void *user) { return (uintptr_t)user >= 4096; }
 
 static int copy_user(struct thread *me, const void *from, void *to, const void *user, size_t length)
 {

@@ -254,16 +254,20 @@ static inline const char *pop_place(void)
 	return kupaldiz_places.count == 0 ? NULL : kupaldiz_places.at[--kupaldiz_places.count];
 }
 
+void init_cond(pthread_cond_t *cond);
 struct thread *new_thread(const char *call);
 struct thread *named_thread(const char *call, const char *name);
 void end_of_thread(struct thread *me);
 void reuse_thread(struct thread *ended);
 void hold_cpu(struct thread *me);
 void unhold_cpu(struct thread *me);
+void move_to(struct thread *me, struct cpu *cpu);
 void bind_to(struct thread *me, struct cpu *cpu);
 void report_cpu_wait(struct thread *me, const uintptr_t *word);
 void visit_cpus(struct thread *me);
 struct cpu *cpu_of(struct thread *me);
+void disable_preemption(struct thread *me);
+void enable_preemption(struct thread *me, const char *otherwise);
 
 /* Where each call begins: the thread, with the call's name for its lines. No place is noted for a call that isn't a macro as well. */
 static inline struct thread *begin_plain(const char *call)
@@ -284,10 +288,7 @@ static inline struct thread *begin_call(const char *call)
 	return me;
 }
 
-static inline bool is_bound(const struct thread *me)
-{
-	return (me->lwp.l_pflag & LP_BOUND) != 0;
-}
+static inline bool is_bound(const struct thread *me) { return (me->lwp.l_pflag & LP_BOUND) != 0; }
 
 /* A call that waits isn't cancelled meanwhile: what it has would stay taken. What end_wait needs. */
 static inline int begin_wait(void)
@@ -297,14 +298,12 @@ static inline int begin_wait(void)
 	return before;
 }
 
-static inline void end_wait(int before)
-{
-	pthread_setcancelstate(before, NULL);
-}
+static inline void end_wait(int before) { pthread_setcancelstate(before, NULL); }
 
 /* ---- kernel.c, for other calls. ---- */
 
 void await_thread(struct thread *me, pthread_t id, const struct thread *thread);
+int64_t now(void);
 
 /* ---- softint.c, and the threads of soft interrupts in softint_thread.c ---- */
 
@@ -337,17 +336,38 @@ static inline void end_call(struct thread *me)
 		lend_cpu(me);
 }
 
+/* The thread has its CPU for one reason less, where a call ends. */
+static inline void leave_cpu(struct thread *me)
+{
+	unhold_cpu(me);
+	end_call(me);
+}
+
 /* ---- report.c: lines on standard error. ---- */
 
 /* Ends the process after one line that names the call and its place. */
-_Noreturn void stop(const struct thread *me, const char *format, ...) __attribute__((format(printf, 2, 3)));
 _Noreturn void stop_at(const char *call, const char *place, const char *format, ...) __attribute__((format(printf, 3, 4)));
+#define stop(me, ...)	stop_at((me)->call, (me)->place, __VA_ARGS__)
 void must_succeed(const struct thread *me, uint32_t answer);
 void report(const struct thread *me, const char *format, ...) __attribute__((format(printf, 2, 3)));
+struct timespec patience(void);
 const char *name_of(const struct thread *thread, char *text, size_t room);
 const char *at_place(const char *place, char *text, size_t room);
+void require_made(const struct thread *me, uint32_t made, uint32_t wanted, const char *what);
 void require_sleepable(const struct thread *me);
+void *grow_row(const struct thread *me, void *row, size_t size);
 void *memory(const struct thread *me, size_t size);
+
+/* Where a call begins that may sleep. */
+static inline struct thread *sleepable(struct thread *me)
+{
+	require_sleepable(me);
+	return me;
+}
+
+/* The same two, in memory of the block in which they are called. */
+#define NAME_OF(thread)	name_of(thread, (char[64]){""}, 64)
+#define AT_PLACE(place)	at_place(place, (char[256]){""}, 256)
 
 /* ---- bank.c: registries. ---- */
 

@@ -9,8 +9,7 @@ enum { DRAINED = 1, FINISHED, FIRST_ROOM = 8 };
 
 void localcount_init(struct localcount *lc)
 {
-	struct thread *me = begin_call(__func__);
-	require_sleepable(me);
+	struct thread *me = sleepable(begin_call(__func__));
 	attach_row(me, lc, &lc->lc_serial, &lc->lc_row);
 }
 
@@ -44,11 +43,12 @@ static void require_same(struct thread *me, struct row *row, const kcondvar_t *c
 
 /* ---- The stack of references. ---- */
 
-/* How many references of a row's are held. */
-static size_t held_count(struct row *row)
+/* How many references of a row's are held, and where the last one was acquired. */
+static size_t held_count(struct row *row, const char **place)
 {
 	pthread_mutex_lock(&row->lock);
 	size_t count = row->count;
+	*place = count > 0 ? row->held[count - 1].place : NULL;
 	pthread_mutex_unlock(&row->lock);
 	return count;
 }
@@ -58,12 +58,8 @@ static void push(struct thread *me, struct row *row, const struct registry_local
 {
 	pthread_mutex_lock(&row->lock);
 	if (row->count == row->room) {
-		size_t room = row->room == 0 ? FIRST_ROOM : row->room * 2;
-		struct held *held = realloc(row->held, room * sizeof(*held));
-		if (held == NULL)
-			stop(me, "out of memory");
-		row->held = held;
-		row->room = room;
+		row->room = row->room == 0 ? FIRST_ROOM : row->room * 2;
+		row->held = grow_row(me, row->held, row->room * sizeof(*row->held));
 	}
 	row->held[row->count++] = (struct held){*reference, me->place};
 	pthread_mutex_unlock(&row->lock);
@@ -109,8 +105,7 @@ void localcount_acquire(struct localcount *lc)
 		stop(me, "the count is being drained");
 	must_succeed(me, answer);
 	push(me, at.row, &reference);
-	unhold_cpu(me);
-	end_call(me);
+	leave_cpu(me);
 }
 
 /* Gives up a reference that a drain waits for, and wakes the drain, which goes on once the caller's lock is free. A soft interrupt takes that lock, too,
@@ -149,20 +144,16 @@ void localcount_release(struct localcount *lc, kcondvar_t *cv, kmutex_t *interlo
 /* Says what a drain waits for. */
 static void report_wait(struct thread *me, struct row *row, const struct registry_stage *met)
 {
-	char where[256];
 	if (met->stage == REGISTRY_GRACE) {
 		report_section_wait(me, met->what);
 		return;
 	}
-	pthread_mutex_lock(&row->lock);
-	size_t count = row->count;
-	const char *place = count > 0 ? row->held[count - 1].place : NULL;
-	pthread_mutex_unlock(&row->lock);
+	const char *place;
+	size_t count = held_count(row, &place);
 	if (count == 0)
 		report(me, "waits for a release that is under way");
 	else
-		report(me, count == 1 ? "waits for %zu reference, acquired%s" : "waits for %zu references, one of them acquired%s", count,
-		    at_place(place, where, sizeof(where)));
+		report(me, count == 1 ? "waits for %zu reference, acquired%s" : "waits for %zu references, one of them acquired%s", count, AT_PLACE(place));
 }
 
 /* Lets others run, without the interlock: until the last release wakes it, or for a while where a section is waited for, whose end wakes nobody. Whether it
@@ -189,10 +180,9 @@ static void let_others_in(struct thread *me, kmutex_t *interlock)
 
 void localcount_drain(struct localcount *lc, kcondvar_t *cv, kmutex_t *interlock)
 {
-	struct thread *me = begin_call(__func__);
+	struct thread *me = sleepable(begin_call(__func__));
 	struct pauses pauses = begin_pauses();
 	struct registry_stage met = {0, 0};
-	require_sleepable(me);
 	if (!has_mutex(me, interlock))
 		stop(me, "the thread does not have the interlock");
 	struct found_row at = count_row(me, lc);
@@ -213,6 +203,6 @@ void localcount_drain(struct localcount *lc, kcondvar_t *cv, kmutex_t *interlock
 
 uint32_t localcount_debug_refcnt(const struct localcount *lc)
 {
-	struct thread *me = begin_plain(__func__);
-	return (uint32_t)held_count(count_row(me, lc).row);
+	const char *place;
+	return (uint32_t)held_count(count_row(begin_plain(__func__), lc).row, &place);
 }

@@ -30,20 +30,9 @@ static size_t place_of(const void *address)
 	return (word >> 4 ^ word >> 10 ^ word >> 16) % SLEEPQS;
 }
 
-struct sleepq *sleepq_of(const void *address)
-{
-	return &sleepqs[place_of(address)];
-}
-
-void sleepq_lock(struct sleepq *sleepq)
-{
-	pthread_mutex_lock(&sleepq->mutex);
-}
-
-void sleepq_unlock(struct sleepq *sleepq)
-{
-	pthread_mutex_unlock(&sleepq->mutex);
-}
+struct sleepq *sleepq_of(const void *address) { return &sleepqs[place_of(address)]; }
+void sleepq_lock(struct sleepq *sleepq) { pthread_mutex_lock(&sleepq->mutex); }
+void sleepq_unlock(struct sleepq *sleepq) { pthread_mutex_unlock(&sleepq->mutex); }
 
 /* The time of the monotonic clock so many nanoseconds from now. */
 struct timespec time_after(int64_t nanoseconds)
@@ -122,17 +111,11 @@ static struct thread *first_for(struct sleepq *sleepq, const void *of)
 	return at;
 }
 
-bool sleepq_has_waiter(struct sleepq *sleepq, const void *of)
-{
-	return first_for(sleepq, of) != NULL;
-}
+bool sleepq_has_waiter(struct sleepq *sleepq, const void *of) { return first_for(sleepq, of) != NULL; }
 
 /* ---- The lock. ---- */
 
-static uintptr_t word_of(const uintptr_t *word)
-{
-	return __atomic_load_n(word, __ATOMIC_ACQUIRE);
-}
+static uintptr_t word_of(const uintptr_t *word) { return __atomic_load_n(word, __ATOMIC_ACQUIRE); }
 
 /* A strong exchange: a weak one may fail without reason, and mutex_tryenter with it though the lock is free. No test on x86-64 sees the difference. */
 static bool replace(uintptr_t *word, uintptr_t before, uintptr_t after)
@@ -145,10 +128,7 @@ struct thread *lock_owner(const uintptr_t *word)
 	return (struct thread *)(word_of(word) & ~(uintptr_t)WAITED);
 }
 
-bool lock_tryacquire(uintptr_t *word, struct thread *me)
-{
-	return replace(word, 0, (uintptr_t)me);
-}
+bool lock_tryacquire(uintptr_t *word, struct thread *me) { return replace(word, 0, (uintptr_t)me); }
 
 /* Takes it where it is free, or has been passed to this thread; else notes that somebody waits. The caller has the sleep queue's lock. */
 static bool acquire_or_mark(struct sleepq *sleepq, uintptr_t *word, struct thread *me)
@@ -171,12 +151,12 @@ void lock_acquire(uintptr_t *word, struct thread *me, report_fn *reporter)
 	if (lock_tryacquire(word, me))
 		return;
 	struct sleepq *sleepq = &lock_sleepqs[place_of(word)];
-	struct timespec patience = time_after(KUPALDIZ_PATIENCE * INT64_C(1000000));
+	struct timespec tells = patience();
 	bool reported = reporter == NULL;
 	int waits = begin_wait();
 	sleepq_lock(sleepq);
 	for (me->tries = 0; !acquire_or_mark(sleepq, word, me); me->tries++) {
-		if (sleepq_wait(sleepq, word, me, reported ? NULL : &patience) || reported)
+		if (sleepq_wait(sleepq, word, me, reported ? NULL : &tells) || reported)
 			continue;
 		reported = true;
 		sleepq_unlock(sleepq);
@@ -239,10 +219,7 @@ void lock_wait(uintptr_t *word, struct thread *me)
 
 /* ---- The pauses of a wait, between two looks at what it waits for. ---- */
 
-struct pauses begin_pauses(void)
-{
-	return (struct pauses){0, time_after(KUPALDIZ_PATIENCE * INT64_C(1000000))};
-}
+struct pauses begin_pauses(void) { return (struct pauses){0, patience()}; }
 
 static bool is_past(const struct timespec *time)
 {

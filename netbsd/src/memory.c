@@ -29,10 +29,7 @@ struct percpu {
 };
 
 /* What marks the objects of a pool; with NULL, the blocks of kmem. */
-static uint64_t mark_of(const struct pool *pool)
-{
-	return 0x6b6d656d2d6c6976 ^ (uint64_t)(uintptr_t)pool;
-}
+static uint64_t mark_of(const struct pool *pool) { return 0x6b6d656d2d6c6976 ^ (uint64_t)(uintptr_t)pool; }
 
 /* ---- kmem(9) ---- */
 
@@ -77,10 +74,15 @@ static void *alloc_block(struct thread *me, size_t size, bool sleeps, const stru
 	return head + 1;
 }
 
-static void *zeroed(void *block, size_t size)
+/* A block of kmem's own, for a call with these flags. */
+static void *kmem_block(struct thread *me, size_t size, km_flag_t flags)
 {
-	return block == NULL ? NULL : memset(block, 0, size);
+	if ((flags & (KM_SLEEP | KM_NOSLEEP)) == 0 || (flags & (KM_SLEEP | KM_NOSLEEP)) == (KM_SLEEP | KM_NOSLEEP))
+		stop(me, "neither KM_SLEEP nor KM_NOSLEEP alone");
+	return alloc_block(me, size, (flags & KM_SLEEP) != 0, NULL);
 }
+
+static void *zeroed(void *block, size_t size) { return block == NULL ? NULL : memset(block, 0, size); }
 
 /* What stands before a block that is in use. Stops where it isn't. */
 static struct head *head_of(struct thread *me, void *block, const struct pool *pool)
@@ -111,62 +113,37 @@ static void free_block(struct thread *me, void *block, size_t size)
 }
 
 /* kmem_alloc and kmem_free aren't for interrupts. */
-static void require_no_interrupt(const struct thread *me)
+static struct thread *uninterrupted(struct thread *me)
 {
 	if (me->softint)
 		stop(me, "in a soft interrupt");
-}
-
-static bool may_sleep(const struct thread *me, km_flag_t flags)
-{
-	if ((flags & (KM_SLEEP | KM_NOSLEEP)) == 0 || (flags & (KM_SLEEP | KM_NOSLEEP)) == (KM_SLEEP | KM_NOSLEEP))
-		stop(me, "neither KM_SLEEP nor KM_NOSLEEP alone");
-	return (flags & KM_SLEEP) != 0;
+	return me;
 }
 
 void *kmem_alloc(size_t size, km_flag_t flags)
 {
-	struct thread *me = begin_call(__func__);
-	require_no_interrupt(me);
-	return alloc_block(me, size, may_sleep(me, flags), NULL);
+	return kmem_block(uninterrupted(begin_call(__func__)), size, flags);
 }
 
 void *kmem_zalloc(size_t size, km_flag_t flags)
 {
-	struct thread *me = begin_call(__func__);
-	require_no_interrupt(me);
-	return zeroed(alloc_block(me, size, may_sleep(me, flags), NULL), size);
+	return zeroed(kmem_block(uninterrupted(begin_call(__func__)), size, flags), size);
 }
 
-void kmem_free(void *block, size_t size)
-{
-	struct thread *me = begin_call(__func__);
-	require_no_interrupt(me);
-	free_block(me, block, size);
-}
-
-void *kmem_intr_alloc(size_t size, km_flag_t flags)
-{
-	struct thread *me = begin_call(__func__);
-	return alloc_block(me, size, may_sleep(me, flags), NULL);
-}
+void kmem_free(void *block, size_t size) { free_block(uninterrupted(begin_call(__func__)), block, size); }
+void *kmem_intr_alloc(size_t size, km_flag_t flags) { return kmem_block(begin_call(__func__), size, flags); }
 
 void *kmem_intr_zalloc(size_t size, km_flag_t flags)
 {
-	struct thread *me = begin_call(__func__);
-	return zeroed(alloc_block(me, size, may_sleep(me, flags), NULL), size);
+	return zeroed(kmem_block(begin_call(__func__), size, flags), size);
 }
 
-void kmem_intr_free(void *block, size_t size)
-{
-	free_block(begin_call(__func__), block, size);
-}
+void kmem_intr_free(void *block, size_t size) { free_block(begin_call(__func__), block, size); }
 
 char *kmem_strdupsize(const char *text, size_t *size, km_flag_t flags)
 {
-	struct thread *me = begin_plain(__func__);
 	size_t length = strlen(text) + 1;
-	char *copy = alloc_block(me, length, may_sleep(me, flags), NULL);
+	char *copy = kmem_block(begin_plain(__func__), length, flags);
 	if (copy != NULL)
 		memcpy(copy, text, length);
 	if (size != NULL)
@@ -213,28 +190,16 @@ static void pool_release(struct thread *me, struct pool *pool, void *object)
 	__atomic_fetch_sub(&pool->pr_out, 1, __ATOMIC_RELEASE);
 }
 
-void pool_destroy(struct pool *pool)
-{
-	require_unused(begin_call(__func__), pool);
-}
-
-void *pool_get(struct pool *pool, int flags)
-{
-	return pool_alloc(begin_call(__func__), pool, flags);
-}
-
-void pool_put(struct pool *pool, void *object)
-{
-	pool_release(begin_call(__func__), pool, object);
-}
+void pool_destroy(struct pool *pool) { require_unused(begin_call(__func__), pool); }
+void *pool_get(struct pool *pool, int flags) { return pool_alloc(begin_call(__func__), pool, flags); }
+void pool_put(struct pool *pool, void *object) { pool_release(begin_call(__func__), pool, object); }
 
 /* ---- pool_cache(9) ---- */
 
 pool_cache_t pool_cache_init(size_t size, unsigned align, unsigned offset, unsigned flags, const char *name, struct pool_allocator *from,
     int level, int (*make)(void *, void *, int), void (*end)(void *, void *), void *arg)
 {
-	struct thread *me = begin_plain(__func__);
-	require_sleepable(me);
+	struct thread *me = sleepable(begin_plain(__func__));
 	struct pool_cache *cache = memory(me, sizeof(*cache));
 	pool_init(&cache->pool, size, align, offset, (int)flags, name, from, level);
 	cache->make = make;
@@ -347,15 +312,11 @@ percpu_t *percpu_create(size_t size, percpu_callback_t make, percpu_callback_t e
 	return create(begin_plain(__func__), size, make, end, arg);
 }
 
-percpu_t *percpu_alloc(size_t size)
-{
-	return create(begin_plain(__func__), size, NULL, NULL, NULL);
-}
+percpu_t *percpu_alloc(size_t size) { return create(begin_plain(__func__), size, NULL, NULL, NULL); }
 
 void percpu_free(percpu_t *percpu, size_t size)
 {
-	struct thread *me = begin_call(__func__);
-	require_sleepable(me);
+	struct thread *me = sleepable(begin_call(__func__));
 	if (percpu->size != size)
 		stop(me, "%zu bytes are given back of %zu", size, percpu->size);
 	for (unsigned cpu = 0; cpu < KUPALDIZ_CPUS && percpu->end != NULL; cpu++)
@@ -367,20 +328,14 @@ void percpu_free(percpu_t *percpu, size_t size)
 void *percpu_getref(percpu_t *percpu)
 {
 	struct thread *me = begin_plain(__func__);
-	hold_cpu(me);
-	me->preemptions++;
+	disable_preemption(me);
 	return own_of(percpu, me->cpu->info.ci_index);
 }
 
 void percpu_putref(percpu_t *percpu)
 {
-	struct thread *me = begin_call(__func__);
 	(void)percpu;
-	if (me->preemptions == 0)
-		stop(me, "without a percpu_getref");
-	me->preemptions--;
-	unhold_cpu(me);
-	end_call(me);
+	enable_preemption(begin_call(__func__), "without a percpu_getref");
 }
 
 void percpu_foreach(percpu_t *percpu, percpu_callback_t look, void *arg)

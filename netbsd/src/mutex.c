@@ -14,37 +14,32 @@ void mutex_init(kmutex_t *mutex, kmutex_type_t type, int level)
 	*mutex = (kmutex_t){.mtx_made = A_MUTEX, .mtx_level = (uint16_t)level, .mtx_spins = type == MUTEX_SPIN || level >= IPL_VM};
 }
 
-/* Stops where it isn't a lock. */
 void require_mutex(const struct thread *me, const kmutex_t *mutex)
 {
-	if (mutex->mtx_made == ENDED)
-		stop(me, "the lock was destroyed");
-	if (mutex->mtx_made != A_MUTEX)
-		stop(me, "the lock was never initialised");
+	require_made(me, mutex->mtx_made, A_MUTEX, "the lock");
+}
+
+static const char *place_of(const kmutex_t *mutex)
+{
+	return __atomic_load_n(&mutex->mtx_place, __ATOMIC_RELAXED);
 }
 
 static void destroy(struct thread *me, kmutex_t *mutex)
 {
-	char name[64], where[256];
 	require_mutex(me, mutex);
 	struct thread *owner = lock_owner(&mutex->mtx_word);
 	if (owner != NULL)
-		stop(me, "the lock is held: thread \"%s\" took it%s", name_of(owner, name, sizeof(name)),
-		    at_place(__atomic_load_n(&mutex->mtx_place, __ATOMIC_RELAXED), where, sizeof(where)));
+		stop(me, "the lock is held: thread \"%s\" took it%s", NAME_OF(owner), AT_PLACE(place_of(mutex)));
 	mutex->mtx_made = ENDED;
 }
 
-void mutex_destroy(kmutex_t *mutex)
-{
-	destroy(begin_call(__func__), mutex);
-}
+void mutex_destroy(kmutex_t *mutex) { destroy(begin_call(__func__), mutex); }
 
 /* Stops where the thread mustn't wait for a lock that doesn't spin. */
 void require_blockable(const struct thread *me)
 {
-	char where[256];
 	if (me->depth > 0)
-		stop(me, "inside a read section, entered%s", at_place(me->entered, where, sizeof(where)));
+		stop(me, "inside a read section, entered%s", AT_PLACE(me->entered));
 	if (me->spins > 0)
 		stop(me, "with a spin lock, and this lock does not spin");
 	if (me->preemptions > 0)
@@ -54,12 +49,9 @@ void require_blockable(const struct thread *me)
 /* Says who has the lock that this thread waits for. */
 static void report_wait(struct thread *me, const uintptr_t *word)
 {
-	char name[64], where[256];
-	const kmutex_t *mutex = (const kmutex_t *)word;
 	struct thread *owner = lock_owner(word);
 	if (owner != NULL)
-		report(me, "waits for the lock that thread \"%s\" took%s", name_of(owner, name, sizeof(name)),
-		    at_place(__atomic_load_n(&mutex->mtx_place, __ATOMIC_RELAXED), where, sizeof(where)));
+		report(me, "waits for the lock that thread \"%s\" took%s", NAME_OF(owner), AT_PLACE(place_of((const kmutex_t *)word)));
 }
 
 _Static_assert(offsetof(kmutex_t, mtx_word) == 0, "a lock's word is at its head");
@@ -114,10 +106,9 @@ static void acquire_slowly(struct thread *me, kmutex_t *mutex)
 
 void acquire_mutex(struct thread *me, kmutex_t *mutex)
 {
-	char where[256];
 	require_mutex(me, mutex);
 	if (has_mutex(me, mutex))
-		stop(me, "the thread has the lock already, taken%s", at_place(mutex->mtx_place, where, sizeof(where)));
+		stop(me, "the thread has the lock already, taken%s", AT_PLACE(mutex->mtx_place));
 	if (mutex->mtx_spins) {
 		raise_to_level_of(me, mutex);
 		lock_acquire(&mutex->mtx_word, me, report_wait);
@@ -140,10 +131,7 @@ void release_mutex(struct thread *me, kmutex_t *mutex)
 		me->locks--;
 }
 
-bool has_mutex(const struct thread *me, const kmutex_t *mutex)
-{
-	return lock_owner(&mutex->mtx_word) == me;
-}
+bool has_mutex(const struct thread *me, const kmutex_t *mutex) { return lock_owner(&mutex->mtx_word) == me; }
 
 /* Stops where a soft interrupt takes a lock that isn't for it. */
 static void require_for_softint(const struct thread *me, const kmutex_t *mutex)
@@ -158,10 +146,7 @@ void enter_mutex(struct thread *me, kmutex_t *mutex)
 	acquire_mutex(me, mutex);
 }
 
-void mutex_enter(kmutex_t *mutex)
-{
-	enter_mutex(begin_call(__func__), mutex);
-}
+void mutex_enter(kmutex_t *mutex) { enter_mutex(begin_call(__func__), mutex); }
 
 void mutex_exit(kmutex_t *mutex)
 {
@@ -207,10 +192,7 @@ void mutex_spin_exit(kmutex_t *mutex)
 	end_call(me);
 }
 
-int mutex_owned(const kmutex_t *mutex)
-{
-	return has_mutex(begin_plain(__func__), mutex);
-}
+int mutex_owned(const kmutex_t *mutex) { return has_mutex(begin_plain(__func__), mutex); }
 
 int mutex_ownable(const kmutex_t *mutex)
 {
@@ -223,8 +205,7 @@ int mutex_ownable(const kmutex_t *mutex)
 
 kmutex_t *mutex_obj_alloc(kmutex_type_t type, int level)
 {
-	struct thread *me = begin_plain(__func__);
-	require_sleepable(me);
+	struct thread *me = sleepable(begin_plain(__func__));
 	struct counted_mutex *counted = memory(me, sizeof(*counted));
 	mutex_init(&counted->mutex, type, level);
 	counted->references = 1;

@@ -5,8 +5,7 @@
 
 pserialize_t pserialize_create(void)
 {
-	struct thread *me = begin_plain(__func__);
-	require_sleepable(me);
+	struct thread *me = sleepable(begin_plain(__func__));
 	return memory(me, sizeof(struct pserialize));
 }
 
@@ -48,8 +47,7 @@ void pserialize_read_exit(int s)
 
 void pserialize_perform(pserialize_t psz)
 {
-	struct thread *me = begin_call(__func__);
-	require_sleepable(me);
+	struct thread *me = sleepable(begin_call(__func__));
 	int waits = begin_wait();
 	__atomic_fetch_add(&psz->performing, 1, __ATOMIC_ACQ_REL);
 	perform_all(me);
@@ -57,25 +55,16 @@ void pserialize_perform(pserialize_t psz)
 	end_wait(waits);
 }
 
-bool pserialize_in_read_section(void)
-{
-	return begin_plain(__func__)->depth > 0;
-}
-
-bool pserialize_not_in_read_section(void)
-{
-	return begin_plain(__func__)->depth == 0;
-}
+bool pserialize_in_read_section(void) { return begin_plain(__func__)->depth > 0; }
+bool pserialize_not_in_read_section(void) { return begin_plain(__func__)->depth == 0; }
 
 /* Says of a CPU whose section lasts which thread is inside, and since where. */
 void report_section_wait(struct thread *me, uint64_t cpu)
 {
-	char text[64], where[256];
 	struct thread *owner = cpu < KUPALDIZ_CPUS ? lock_owner(&cpus[cpu].hold) : NULL;
 	const char *entered = owner == NULL ? NULL : __atomic_load_n(&owner->entered, __ATOMIC_RELAXED);
 	if (entered == NULL)
 		report(me, "waits for CPU %u", (unsigned)cpu);
 	else
-		report(me, "waits for CPU %u, whose thread \"%s\" is inside a read section, entered%s", (unsigned)cpu,
-		    name_of(owner, text, sizeof(text)), at_place(entered, where, sizeof(where)));
+		report(me, "waits for CPU %u, whose thread \"%s\" is inside a read section, entered%s", (unsigned)cpu, NAME_OF(owner), AT_PLACE(entered));
 }

@@ -15,8 +15,7 @@ enum { FIRST_ROOM = 16 };
 
 struct psref_class *psref_class_create(const char *name, ipl_cookie_t level)
 {
-	struct thread *me = begin_plain(__func__);
-	require_sleepable(me);
+	struct thread *me = sleepable(begin_plain(__func__));
 	struct psref_class *psref_class = memory(me, sizeof(*psref_class));
 	psref_class->name = name;
 	psref_class->level = level;
@@ -75,15 +74,6 @@ static void require_unheld(const struct thread *me, const struct psref *psref)
 		stop(me, "the reference is held already");
 }
 
-/* Memory for a row that this one goes on with. */
-static void *grow_row(struct thread *me, void *row, size_t size)
-{
-	row = realloc(row, size);
-	if (row == NULL)
-		stop(me, "out of memory");
-	return row;
-}
-
 static void add_to_chain(struct cpu *cpu, uint32_t place)
 {
 	uint32_t *chain = chain_of(cpu, cpu->references[place].psref);
@@ -126,7 +116,6 @@ static void note_reference(struct thread *me, struct psref *psref, const struct 
 /* The reference that lies there, which is this thread's; stops where there is none. */
 static struct reference *own_reference(const struct thread *me, const struct psref *psref)
 {
-	char text[64], where[256];
 	if (psref->psref_target == NULL || psref->psref_cpu >= KUPALDIZ_CPUS)
 		stop(me, "the reference is not held");
 	if (psref->psref_cpu != me->cpu->info.ci_index)
@@ -135,10 +124,9 @@ static struct reference *own_reference(const struct thread *me, const struct psr
 	if (found == NULL || found->psref == NULL || found->serial != psref->psref_serial)
 		stop(me, "the reference is not held");
 	if (found->psref != psref)
-		stop(me, "the reference was moved by its bytes: it was acquired elsewhere%s", at_place(found->place, where, sizeof(where)));
+		stop(me, "the reference was moved by its bytes: it was acquired elsewhere%s", AT_PLACE(found->place));
 	if (found->thread != me)
-		stop(me, "the reference is of thread \"%s\", acquired%s", name_of(found->thread, text, sizeof(text)),
-		    at_place(found->place, where, sizeof(where)));
+		stop(me, "the reference is of thread \"%s\", acquired%s", NAME_OF(found->thread), AT_PLACE(found->place));
 	if (found->target != psref->psref_target)
 		stop(me, "the reference was written over");
 	return found;
@@ -239,8 +227,7 @@ void psref_acquire(struct psref *psref, const struct psref_target *target, struc
 	hold_cpu(me);
 	require_unheld(me, psref);
 	note_reference(me, psref, target, acquire(me, at));
-	unhold_cpu(me);
-	end_call(me);
+	leave_cpu(me);
 }
 
 void psref_release(struct psref *psref, const struct psref_target *target, struct psref_class *psref_class)
@@ -257,8 +244,7 @@ void psref_release(struct psref *psref, const struct psref_target *target, struc
 	psref->psref_target = NULL;
 	forget_reference(me, reference);
 	release(me, at, number, via);
-	unhold_cpu(me);
-	end_call(me);
+	leave_cpu(me);
 }
 
 void psref_copy(struct psref *to, const struct psref *from, struct psref_class *psref_class)
@@ -269,8 +255,7 @@ void psref_copy(struct psref *to, const struct psref *from, struct psref_class *
 	require_unheld(me, to);
 	struct found_row at = target_row(me, from->psref_target, psref_class);
 	note_reference(me, to, from->psref_target, copy(me, at, reference->via));
-	unhold_cpu(me);
-	end_call(me);
+	leave_cpu(me);
 }
 
 /* The first reference of this CPU's to a target, of one thread or of all; NULL where there is none. */
@@ -294,8 +279,7 @@ bool psref_held(const struct psref_target *target, struct psref_class *psref_cla
 	must_succeed(me, registry_held(handle_of(me, at.bank), at.row->number, &held));
 	if (!held && me->cpu->counted_elsewhere > 0)
 		held = find_reference(me->cpu, target, NULL) != NULL;
-	unhold_cpu(me);
-	end_call(me);
+	leave_cpu(me);
 	return held;
 }
 
@@ -304,13 +288,12 @@ bool psref_held(const struct psref_target *target, struct psref_class *psref_cla
 /* Stops where this thread has a reference to the target: nobody else could release it. */
 static void require_none_of_own(struct thread *me, const struct psref_target *target)
 {
-	char where[256];
 	if (me->references == 0)
 		return;
 	hold_cpu(me);
 	const struct reference *found = find_reference(me->cpu, target, me);
 	if (found != NULL)
-		stop(me, "this thread has a reference to the target, acquired%s", at_place(found->place, where, sizeof(where)));
+		stop(me, "this thread has a reference to the target, acquired%s", AT_PLACE(found->place));
 	unhold_cpu(me);
 }
 
@@ -325,10 +308,9 @@ static void report_stage(struct thread *me, const struct registry_stage *met, co
 
 void psref_target_destroy(struct psref_target *target, struct psref_class *psref_class)
 {
-	struct thread *me = begin_call(__func__);
+	struct thread *me = sleepable(begin_call(__func__));
 	struct pauses pauses = begin_pauses();
 	struct registry_stage met = {0, 0};
-	require_sleepable(me);
 	struct found_row at = target_row(me, target, psref_class);
 	require_none_of_own(me, target);
 	int waits = begin_wait();
@@ -347,24 +329,21 @@ void psref_target_destroy(struct psref_target *target, struct psref_class *psref
 
 /* ---- Lines. ---- */
 
-/* What a CPU's table says of a target. The caller has that CPU. */
-static void describe(const struct cpu *cpu, const struct psref_target *target, char *text, size_t room)
+/* What a CPU's table says of a target. Whether it says something. The caller has that CPU. */
+static bool describe(const struct cpu *cpu, const struct psref_target *target, char *text, size_t room)
 {
-	char name[64], where[256];
 	unsigned count = 0;
 	const struct reference *first = find_reference(cpu, target, NULL);
-	if (first == NULL) {
-		snprintf(text, room, ", which holds a reference");
-		return;
-	}
+	if (first == NULL)
+		return false;
 	for (uint32_t place = 0; place < cpu->room; place++)
 		count += cpu->references[place].psref != NULL && cpu->references[place].target == target && cpu->references[place].thread == first->thread;
 	if (count == 1)
-		snprintf(text, room, ", whose thread \"%s\" holds one reference, acquired%s", name_of(first->thread, name, sizeof(name)),
-		    at_place(first->place, where, sizeof(where)));
+		snprintf(text, room, ", whose thread \"%s\" holds one reference, acquired%s", NAME_OF(first->thread), AT_PLACE(first->place));
 	else
-		snprintf(text, room, ", whose thread \"%s\" holds %u references, one of them acquired%s",
-		    name_of(first->thread, name, sizeof(name)), count, at_place(first->place, where, sizeof(where)));
+		snprintf(text, room, ", whose thread \"%s\" holds %u references, one of them acquired%s", NAME_OF(first->thread), count,
+		    AT_PLACE(first->place));
+	return true;
 }
 
 /* Takes a CPU for a look at it, if it is free before long. */
@@ -384,16 +363,14 @@ void report_reference_wait(struct thread *me, uint64_t of, const struct psref_ta
 {
 	char text[400] = ", which holds a reference";
 	unsigned first = of == WRITERS ? 0 : (unsigned)of, last = of == WRITERS ? KUPALDIZ_CPUS - 1 : (unsigned)of;
-	for (unsigned cpu = first; cpu <= last; cpu++) {
+	bool found = false;
+	for (unsigned cpu = first; cpu <= last && !found; cpu++) {
 		if (!try_hold_cpu(me, &cpus[cpu]))
 			continue;
-		bool found = find_reference(&cpus[cpu], target, NULL) != NULL;
-		describe(&cpus[cpu], target, text, sizeof(text));
+		found = describe(&cpus[cpu], target, text, sizeof(text));
 		lock_release(&cpus[cpu].hold, me);
 		if (found)
 			of = cpu;
-		if (found)
-			break;
 	}
 	if (of == WRITERS)
 		report(me, "waits for a reference");

@@ -26,15 +26,6 @@ static void write_line(const char *call, const char *place, const char *format, 
 	end_wait(waits);
 }
 
-void stop(const struct thread *me, const char *format, ...)
-{
-	va_list words;
-	va_start(words, format);
-	write_line(me->call, me->place, format, words);
-	va_end(words);
-	abort();
-}
-
 void stop_at(const char *call, const char *place, const char *format, ...)
 {
 	va_list words;
@@ -51,6 +42,9 @@ void report(const struct thread *me, const char *format, ...)
 	write_line(me->call, NULL, format, words);
 	va_end(words);
 }
+
+/* When a wait says what it waits for: so long from now on. */
+struct timespec patience(void) { return time_after(KUPALDIZ_PATIENCE * INT64_C(1000000)); }
 
 /* Stops where the registry refuses, as at a limit. */
 void must_succeed(const struct thread *me, uint32_t answer)
@@ -91,12 +85,20 @@ const char *at_place(const char *place, char *text, size_t room)
 	return text;
 }
 
+/* Stops where a thing was destroyed, or never made: its word isn't the wanted one. */
+void require_made(const struct thread *me, uint32_t made, uint32_t wanted, const char *what)
+{
+	if (made == ENDED)
+		stop(me, "%s was destroyed", what);
+	if (made != wanted)
+		stop(me, "%s was never initialised", what);
+}
+
 /* Stops where the thread mustn't sleep. */
 void require_sleepable(const struct thread *me)
 {
-	char text[192];
 	if (me->depth > 0)
-		stop(me, "inside a read section, entered%s", at_place(me->entered, text, sizeof(text)));
+		stop(me, "inside a read section, entered%s", AT_PLACE(me->entered));
 	if (me->softint)
 		stop(me, "in a soft interrupt");
 	if (me->spins > 0)
@@ -105,6 +107,15 @@ void require_sleepable(const struct thread *me)
 		stop(me, "at a raised level");
 	if (me->holds > 0)
 		stop(me, "with preemption disabled");
+}
+
+/* Memory for a row that this one goes on with. */
+void *grow_row(const struct thread *me, void *row, size_t size)
+{
+	row = realloc(row, size);
+	if (row == NULL)
+		stop(me, "out of memory");
+	return row;
 }
 
 /* Memory of zeros. */

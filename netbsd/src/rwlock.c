@@ -1,25 +1,26 @@
 /* rwlock.c - rwlock(9): its words are read and written under the lock of the sleep queue in which its threads wait */
 #include "layer.h"
 
-void rw_init(krwlock_t *rw)
+void rw_init(krwlock_t *rw) { *rw = (krwlock_t){.rw_made = A_RW}; }
+
+/* A call of a lock begins: it takes the sleep queue's lock. */
+static struct thread *lock_rw(struct thread *me, const krwlock_t *rw)
 {
-	*rw = (krwlock_t){.rw_made = A_RW};
+	require_made(me, rw->rw_made, A_RW, "the lock");
+	sleepq_lock(sleepq_of(rw));
+	return me;
 }
 
-/* Stops where it isn't a lock. */
-static void require_rw(const struct thread *me, const krwlock_t *rw)
+/* Gives that lock back where a call returns this. */
+static int unlock_rw(const krwlock_t *rw, int answer)
 {
-	if (rw->rw_made == ENDED)
-		stop(me, "the lock was destroyed");
-	if (rw->rw_made != A_RW)
-		stop(me, "the lock was never initialised");
+	sleepq_unlock(sleepq_of(rw));
+	return answer;
 }
 
 void rw_destroy(krwlock_t *rw)
 {
-	struct thread *me = begin_call(__func__);
-	require_rw(me, rw);
-	sleepq_lock(sleepq_of(rw));
+	struct thread *me = lock_rw(begin_call(__func__), rw);
 	if (rw->rw_writer != 0 || rw->rw_readers != 0)
 		stop(me, "the lock is held");
 	rw->rw_made = ENDED;
@@ -43,21 +44,13 @@ static bool rw_tryacquire(struct thread *me, krwlock_t *rw, krw_t how)
 /* Says who has the lock. Whether anybody has it. The caller has the sleep queue's lock. */
 static bool report_wait(struct thread *me, const krwlock_t *rw)
 {
-	char name[64], where[256];
 	if (rw->rw_writer == 0 && rw->rw_readers == 0)
 		return false;
 	if (rw->rw_writer != 0)
-		report(me, "waits for the lock that thread \"%s\" took as a writer%s",
-		    name_of((const struct thread *)rw->rw_writer, name, sizeof(name)), at_place(rw->rw_place, where, sizeof(where)));
+		report(me, "waits for the lock that thread \"%s\" took as a writer%s", NAME_OF((const struct thread *)rw->rw_writer), AT_PLACE(rw->rw_place));
 	else
-		report(me, "waits for %u readers, the last of which took the lock%s", rw->rw_readers, at_place(rw->rw_place, where, sizeof(where)));
+		report(me, "waits for %u readers, the last of which took the lock%s", rw->rw_readers, AT_PLACE(rw->rw_place));
 	return true;
-}
-
-/* When a wait says what it waits for: so long from now on. */
-static struct timespec patience(void)
-{
-	return time_after(KUPALDIZ_PATIENCE * INT64_C(1000000));
 }
 
 /* Waits until it has the lock. The caller has the sleep queue's lock. */
@@ -88,9 +81,7 @@ static void require_free_of(struct thread *me, const krwlock_t *rw)
 
 void rw_enter(krwlock_t *rw, const krw_t how)
 {
-	struct thread *me = begin_call(__func__);
-	require_rw(me, rw);
-	sleepq_lock(sleepq_of(rw));
+	struct thread *me = lock_rw(begin_call(__func__), rw);
 	require_free_of(me, rw);
 	if (rw_tryacquire(me, rw, how)) {
 		sleepq_unlock(sleepq_of(rw));
@@ -109,12 +100,8 @@ void rw_enter(krwlock_t *rw, const krw_t how)
 
 int rw_tryenter(krwlock_t *rw, const krw_t how)
 {
-	struct thread *me = begin_call(__func__);
-	require_rw(me, rw);
-	sleepq_lock(sleepq_of(rw));
-	bool taken = rw_tryacquire(me, rw, how);
-	sleepq_unlock(sleepq_of(rw));
-	return taken;
+	struct thread *me = lock_rw(begin_call(__func__), rw);
+	return unlock_rw(rw, rw_tryacquire(me, rw, how));
 }
 
 /* Stops where the thread can't have the lock. The caller has the sleep queue's lock. */
@@ -128,10 +115,7 @@ static void require_held(const struct thread *me, const krwlock_t *rw)
 
 void rw_exit(krwlock_t *rw)
 {
-	struct thread *me = begin_call(__func__);
-	struct sleepq *sleepq = sleepq_of(rw);
-	require_rw(me, rw);
-	sleepq_lock(sleepq);
+	struct thread *me = lock_rw(begin_call(__func__), rw);
 	if (rw->rw_writer != 0 && rw->rw_writer != (uintptr_t)me)
 		stop(me, "another thread has the lock as its writer");
 	require_held(me, rw);
@@ -140,30 +124,25 @@ void rw_exit(krwlock_t *rw)
 	else
 		rw->rw_readers--;
 	me->locks--;
-	sleepq_wake_all(sleepq, rw);
-	sleepq_unlock(sleepq);
+	sleepq_wake_all(sleepq_of(rw), rw);
+	sleepq_unlock(sleepq_of(rw));
 }
 
 int rw_tryupgrade(krwlock_t *rw)
 {
-	struct thread *me = begin_plain(__func__);
-	require_rw(me, rw);
-	sleepq_lock(sleepq_of(rw));
+	struct thread *me = lock_rw(begin_plain(__func__), rw);
 	require_held(me, rw);
 	bool alone = rw->rw_writer == 0 && rw->rw_readers == 1;
 	if (alone) {
 		rw->rw_readers = 0;
 		rw->rw_writer = (uintptr_t)me;
 	}
-	sleepq_unlock(sleepq_of(rw));
-	return alone;
+	return unlock_rw(rw, alone);
 }
 
 void rw_downgrade(krwlock_t *rw)
 {
-	struct thread *me = begin_plain(__func__);
-	require_rw(me, rw);
-	sleepq_lock(sleepq_of(rw));
+	struct thread *me = lock_rw(begin_plain(__func__), rw);
 	if (rw->rw_writer != (uintptr_t)me)
 		stop(me, "the thread is not the lock's writer");
 	rw->rw_writer = 0;
@@ -175,24 +154,18 @@ void rw_downgrade(krwlock_t *rw)
 int rw_read_held(krwlock_t *rw)
 {
 	sleepq_lock(sleepq_of(rw));
-	bool held = rw->rw_readers > 0;
-	sleepq_unlock(sleepq_of(rw));
-	return held;
+	return unlock_rw(rw, rw->rw_readers > 0);
 }
 
 int rw_write_held(krwlock_t *rw)
 {
 	struct thread *me = begin_plain(__func__);
 	sleepq_lock(sleepq_of(rw));
-	bool held = rw->rw_writer == (uintptr_t)me;
-	sleepq_unlock(sleepq_of(rw));
-	return held;
+	return unlock_rw(rw, rw->rw_writer == (uintptr_t)me);
 }
 
 int rw_lock_held(krwlock_t *rw)
 {
 	sleepq_lock(sleepq_of(rw));
-	bool held = rw->rw_readers > 0 || rw->rw_writer != 0;
-	sleepq_unlock(sleepq_of(rw));
-	return held;
+	return unlock_rw(rw, rw->rw_readers > 0 || rw->rw_writer != 0);
 }

@@ -41,10 +41,7 @@ void lower_level(struct thread *me, int level)
 		unhold_cpu(me);
 }
 
-int kupaldiz_splraise(int level)
-{
-	return raise_level(begin_call("splraise"), level);
-}
+int kupaldiz_splraise(int level) { return raise_level(begin_call("splraise"), level); }
 
 /* The highest level of the spin locks that the thread has. */
 static int level_of_spins(const struct thread *me)
@@ -202,8 +199,7 @@ void softint_schedule(void *cookie)
 	struct thread *me = begin_call(__func__);
 	hold_cpu(me);
 	schedule_on(me, cookie, me->cpu);
-	unhold_cpu(me);
-	end_call(me);
+	leave_cpu(me);
 }
 
 /* Waits until no handler of it runs, and says after a while that it waits. The caller has the list. */
@@ -220,9 +216,8 @@ static void await_handlers(struct thread *me, struct softint *softint)
 
 void softint_disestablish(void *cookie)
 {
-	struct thread *me = begin_call(__func__);
+	struct thread *me = sleepable(begin_call(__func__));
 	struct softint *softint = cookie, **at = &softints;
-	require_sleepable(me);
 	int waits = begin_wait();
 	pthread_mutex_lock(&pending_list);
 	require_established(me, softint);

@@ -17,11 +17,6 @@ struct softint_thread {
 
 static struct softint_thread threads[KUPALDIZ_CPUS][LEVELS];
 
-static uint32_t bit_of(int level)
-{
-	return UINT32_C(1) << level;
-}
-
 /* The highest level that waits on a CPU; IPL_NONE where none does. */
 static int highest(const struct cpu *cpu)
 {
@@ -40,13 +35,25 @@ static void return_cpu(struct thread *me)
 		lock_release(&me->cpu->hold, me);
 }
 
-/* The levels of a CPU with a handler that waits for a lock, and those with one that has it and waits for the CPU. */
-static void note_waits(struct cpu *cpu, uint32_t blocked, uint32_t goes_on)
+/* Whether this handler waits for a lock, and whether it has the lock and waits for its CPU. */
+static void note_waits(struct thread *me, bool is_blocked, bool goes_on)
 {
-	cpu->blocked = blocked;
-	cpu->goes_on = goes_on;
+	struct cpu *cpu = me->cpu;
+	uint32_t level = UINT32_C(1) << me->level;
+	pthread_mutex_lock(&pending_list);
+	cpu->blocked = is_blocked ? cpu->blocked | level : cpu->blocked & ~level;
+	cpu->goes_on = goes_on ? cpu->goes_on | level : cpu->goes_on & ~level;
 	note_pending(cpu);
 	pthread_cond_broadcast(&pending_changed);
+	pthread_mutex_unlock(&pending_list);
+}
+
+/* The threads look again at what waits, and at who has their CPU. */
+static void wake_threads(void)
+{
+	pthread_mutex_lock(&pending_list);
+	pthread_cond_broadcast(&pending_changed);
+	pthread_mutex_unlock(&pending_list);
 }
 
 /* Waits for a soft interrupt of this level, above which none waits, or until the CPU is lent. */
@@ -67,10 +74,7 @@ static void run_level(struct thread *me, int level)
 	me->holds = 0;
 	me->level = IPL_NONE;
 	return_cpu(me);
-	/* Lower levels go on. */
-	pthread_mutex_lock(&pending_list);
-	pthread_cond_broadcast(&pending_changed);
-	pthread_mutex_unlock(&pending_list);
+	wake_threads();		/* lower levels go on */
 }
 
 static _Noreturn void *run_all(void *of)
@@ -80,8 +84,7 @@ static _Noreturn void *run_all(void *of)
 	snprintf(name, sizeof(name), "softint/%u", softint_thread->cpu->info.ci_index);
 	struct thread *me = named_thread("softint", name);
 	me->softint = true;
-	me->cpu = softint_thread->cpu;
-	me->lwp.l_cpu = &me->cpu->info;
+	move_to(me, softint_thread->cpu);
 	me->lwp.l_pflag = LP_BOUND | LP_INTR;
 	pthread_mutex_lock(&pending_list);
 	softint_thread->thread = me;
@@ -128,9 +131,7 @@ void lend_cpu(struct thread *me)
 	while ((next = next_above(me)) != NULL) {
 		next->lender = me;
 		lock_hand_over(&me->cpu->hold, next);
-		pthread_mutex_lock(&pending_list);
-		pthread_cond_broadcast(&pending_changed);
-		pthread_mutex_unlock(&pending_list);
+		wake_threads();
 		lock_wait(&me->cpu->hold, me);
 	}
 }
@@ -142,9 +143,7 @@ void yield_cpu(struct thread *me)
 		lock_release(&me->cpu->hold, me);
 		return;
 	}
-	pthread_mutex_lock(&pending_list);
-	note_waits(me->cpu, me->cpu->blocked | bit_of(me->level), me->cpu->goes_on);
-	pthread_mutex_unlock(&pending_list);
+	note_waits(me, true, false);
 	return_cpu(me);
 }
 
@@ -155,12 +154,7 @@ void reclaim_cpu(struct thread *me)
 		lock_acquire(&me->cpu->hold, me, report_cpu_wait);
 		return;
 	}
-	uint32_t level = bit_of(me->level);
-	pthread_mutex_lock(&pending_list);
-	note_waits(me->cpu, me->cpu->blocked & ~level, me->cpu->goes_on | level);
-	pthread_mutex_unlock(&pending_list);
+	note_waits(me, false, true);
 	lock_acquire(&me->cpu->hold, me, NULL);
-	pthread_mutex_lock(&pending_list);
-	note_waits(me->cpu, me->cpu->blocked, me->cpu->goes_on & ~level);
-	pthread_mutex_unlock(&pending_list);
+	note_waits(me, false, false);
 }

@@ -58,10 +58,19 @@ static void open_layer(void)
 	open_banks(&nobody);
 }
 
-/* Memory for a thread: that of one which has ended, or new one. Its condition variable goes by the clock that nobody sets. */
-static struct thread *thread_memory(void)
+/* A condition variable whose waits end by the clock that nobody sets. */
+void init_cond(pthread_cond_t *cond)
 {
 	pthread_condattr_t monotonic;
+	pthread_condattr_init(&monotonic);
+	pthread_condattr_setclock(&monotonic, CLOCK_MONOTONIC);
+	pthread_cond_init(cond, &monotonic);
+	pthread_condattr_destroy(&monotonic);
+}
+
+/* Memory for a thread: that of one which has ended, or new one. */
+static struct thread *thread_memory(void)
+{
 	pthread_mutex_lock(&free_lock);
 	struct thread *me = free_threads;
 	if (me != NULL)
@@ -69,10 +78,7 @@ static struct thread *thread_memory(void)
 	pthread_mutex_unlock(&free_lock);
 	if (me != NULL || (me = calloc(1, sizeof(*me))) == NULL)
 		return me;
-	pthread_condattr_init(&monotonic);
-	pthread_condattr_setclock(&monotonic, CLOCK_MONOTONIC);
-	pthread_cond_init(&me->cond, &monotonic);
-	pthread_condattr_destroy(&monotonic);
+	init_cond(&me->cond);
 	return me;
 }
 
@@ -97,10 +103,7 @@ struct thread *named_thread(const char *call, const char *name)
 	return me;
 }
 
-struct thread *new_thread(const char *call)
-{
-	return named_thread(call, "");
-}
+struct thread *new_thread(const char *call) { return named_thread(call, ""); }
 
 /* Stops where the thread has passive references. */
 static void require_unreferring(const struct thread *me)
@@ -149,7 +152,7 @@ void end_of_thread(struct thread *me)
 /* ---- Having a CPU. ---- */
 
 /* The thread runs on this CPU from now on. */
-static void move_to(struct thread *me, struct cpu *cpu)
+void move_to(struct thread *me, struct cpu *cpu)
 {
 	me->cpu = cpu;
 	me->lwp.l_cpu = &cpu->info;
@@ -213,22 +216,18 @@ void visit_cpus(struct thread *me)
 /* Says who has the CPU that this thread waits for. */
 void report_cpu_wait(struct thread *me, const uintptr_t *word)
 {
-	char text[64], where[256];
 	const struct cpu *cpu = (const struct cpu *)(const void *)((const char *)word - offsetof(struct cpu, hold));
 	struct thread *owner = lock_owner(word);
 	if (owner == NULL)
 		return;
 	const char *entered = __atomic_load_n(&owner->entered, __ATOMIC_RELAXED);
-	report(me, "waits for CPU %u, whose thread \"%s\" %s%s", cpu->info.ci_index, name_of(owner, text, sizeof(text)),
-	    entered == NULL ? "keeps it" : "is inside a read section, entered", at_place(entered, where, sizeof(where)));
+	report(me, "waits for CPU %u, whose thread \"%s\" %s%s", cpu->info.ci_index, NAME_OF(owner),
+	    entered == NULL ? "keeps it" : "is inside a read section, entered", AT_PLACE(entered));
 }
 
 /* ---- The calls. ---- */
 
-struct lwp *kupaldiz_curlwp(void)
-{
-	return &begin_plain("curlwp")->lwp;
-}
+struct lwp *kupaldiz_curlwp(void) { return &begin_plain("curlwp")->lwp; }
 
 struct cpu_info *kupaldiz_cpu(unsigned cpu)
 {
@@ -299,34 +298,24 @@ void curlwp_bindx(int bound)
 		unbind(me);
 }
 
-struct cpu_info *curcpu(void)
-{
-	return &cpu_of(begin_plain(__func__))->info;
-}
+struct cpu_info *curcpu(void) { return &cpu_of(begin_plain(__func__))->info; }
 
-void kpreempt_disable(void)
+void disable_preemption(struct thread *me)
 {
-	struct thread *me = begin_plain(__func__);
 	hold_cpu(me);
 	me->preemptions++;
 }
 
-void kpreempt_enable(void)
+/* Stops with this line where it isn't disabled. */
+void enable_preemption(struct thread *me, const char *otherwise)
 {
-	struct thread *me = begin_call(__func__);
 	if (me->preemptions == 0)
-		stop(me, "preemption is not disabled");
+		stop(me, "%s", otherwise);
 	me->preemptions--;
-	unhold_cpu(me);
-	end_call(me);
+	leave_cpu(me);
 }
 
-bool kpreempt_disabled(void)
-{
-	return begin_plain(__func__)->holds > 0;
-}
-
-bool cpu_softintr_p(void)
-{
-	return begin_plain(__func__)->softint;
-}
+void kpreempt_disable(void) { disable_preemption(begin_plain(__func__)); }
+void kpreempt_enable(void) { enable_preemption(begin_call(__func__), "preemption is not disabled"); }
+bool kpreempt_disabled(void) { return begin_plain(__func__)->holds > 0; }
+bool cpu_softintr_p(void) { return begin_plain(__func__)->softint; }

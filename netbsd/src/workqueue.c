@@ -147,8 +147,7 @@ int workqueue_create(struct workqueue **made, const char *name, void (*body)(str
 
 void workqueue_destroy(struct workqueue *all)
 {
-	struct thread *me = begin_call(__func__);
-	require_sleepable(me);
+	struct thread *me = sleepable(begin_call(__func__));
 	end_queues(me, all, all->count);
 }
 
@@ -192,8 +191,7 @@ static void await_work(struct thread *me, struct queue *queue, const struct work
 
 void workqueue_wait(struct workqueue *all, struct work *work)
 {
-	struct thread *me = begin_call(__func__);
-	require_sleepable(me);
+	struct thread *me = sleepable(begin_call(__func__));
 	for (unsigned at = 0; at < all->count; at++)
 		await_work(me, &all->queues[at], work);
 }

@@ -10,8 +10,7 @@ static void run_on(struct thread *me, struct cpu *cpu, unsigned flags, xcfunc_t 
 	const char *call = me->call, *place = me->place;
 	unsigned locks = me->locks, references = me->references;
 	int flag = me->lwp.l_pflag & LP_BOUND, level = (flags & XC_HIGHPRI) != 0 ? IPL_SOFTSERIAL : IPL_NONE;
-	me->cpu = cpu;
-	me->lwp.l_cpu = &cpu->info;
+	move_to(me, cpu);
 	me->lwp.l_pflag |= LP_BOUND;
 	hold_cpu(me);
 	raise_level(me, level);
@@ -28,16 +27,14 @@ static void run_on(struct thread *me, struct cpu *cpu, unsigned flags, xcfunc_t 
 
 uint64_t xc_unicast(unsigned flags, xcfunc_t body, void *arg_a, void *arg_b, struct cpu_info *cpu)
 {
-	struct thread *me = begin_plain(__func__);
-	require_sleepable(me);
+	struct thread *me = sleepable(begin_plain(__func__));
 	run_on(me, &cpus[cpu->ci_index], flags, body, arg_a, arg_b);
 	return __atomic_add_fetch(&tickets, 1, __ATOMIC_RELAXED);
 }
 
 uint64_t xc_broadcast(unsigned flags, xcfunc_t body, void *arg_a, void *arg_b)
 {
-	struct thread *me = begin_call(__func__);
-	require_sleepable(me);
+	struct thread *me = sleepable(begin_call(__func__));
 	for (unsigned cpu = 0; cpu < KUPALDIZ_CPUS; cpu++)
 		run_on(me, &cpus[cpu], flags, body, arg_a, arg_b);
 	return __atomic_add_fetch(&tickets, 1, __ATOMIC_RELAXED);
@@ -45,16 +42,13 @@ uint64_t xc_broadcast(unsigned flags, xcfunc_t body, void *arg_a, void *arg_b)
 
 void xc_wait(uint64_t ticket)
 {
-	struct thread *me = begin_plain(__func__);
-	require_sleepable(me);
+	struct thread *me = sleepable(begin_plain(__func__));
 	if (ticket == 0 || ticket > __atomic_load_n(&tickets, __ATOMIC_RELAXED))
 		stop(me, "no such call");
 }
 
 void xc_barrier(unsigned flags)
 {
-	struct thread *me = begin_call(__func__);
 	(void)flags;
-	require_sleepable(me);
-	visit_cpus(me);
+	visit_cpus(sleepable(begin_call(__func__)));
 }

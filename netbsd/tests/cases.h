@@ -7,9 +7,6 @@
 #ifndef NETBSD_CASES_H
 #define NETBSD_CASES_H
 
-#include <ctype.h>
-#include <string.h>
-
 #include "../../c/examples/expect.h"
 #include "bodies.h"
 #include "child.h"
@@ -47,16 +44,6 @@ static inline void on_thread(void *(*body)(void *))
 	end_thread(thread);
 }
 
-/* Where the digits of a place begin, FILE.c:NUMBER; NULL where there is none. */
-static inline char *find_place(char *text)
-{
-	char *colon;
-	for (; (colon = strstr(text, ".c:")) != NULL; text = colon + 3)
-		if (isdigit((unsigned char)colon[3]))
-			return colon + 3;
-	return NULL;
-}
-
 /* Whether a case ends rightly. Whoever includes this file to run cases defines it. */
 bool is_right(void (*begin)(void), const struct stop_case *the_case);
 
@@ -69,16 +56,11 @@ static inline void judge_case(void (*begin)(void), const struct stop_case *the_c
 	failed += !right;
 }
 
-static inline void judge_cases(void (*begin)(void))
-{
-	for (unsigned place = 0; place < case_count; place++)
-		judge_case(begin, &cases[place]);
-}
-
 /* Runs all cases, and prints how many passed, with those that were judged before. The program's status. */
 static inline int run_cases(void (*begin)(void))
 {
-	judge_cases(begin);
+	for (unsigned place = 0; place < case_count; place++)
+		judge_case(begin, &cases[place]);
 	printf("%u passed, %u failed\n", passed, failed);
 	return failed != 0 || passed == 0;
 }

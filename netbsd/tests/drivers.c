@@ -1,5 +1,7 @@
 /*
  * drivers - the seven drivers of examples/, each used by threads while parts of it come and go
+ *
+ * The explorer runs them in every order: explorer/tests/drivers.c. Here they run on real threads, for long.
  */
 #include <errno.h>
 #include <sys/module.h>
@@ -8,28 +10,10 @@
 #include "../examples/drivers.h"
 #include "test.h"
 
-enum { THREADS = 5 };
+enum { THREADS = 5, ROUNDS = 60 };
 
 static atomic_bool over;
 static atomic_uint seen;
-
-/* Runs a body on some threads while this one does the rest. */
-static void run_beside(void *(*body)(void *), void (*rest)(void))
-{
-	pthread_t threads[THREADS];
-	static unsigned numbers[THREADS];
-	atomic_store(&over, false);
-	atomic_store(&seen, 0);
-	for (unsigned i = 0; i < THREADS; i++) {
-		numbers[i] = i;
-		start_thread(&threads[i], body, &numbers[i]);
-	}
-	rest();
-	atomic_store(&over, true);
-	for (unsigned i = 0; i < THREADS; i++)
-		end_thread(threads[i]);
-	EXPECT(atomic_load(&seen) > 0);
-}
 
 /* Goes on until the threads have seen so much. */
 static void await_seen(unsigned more)
@@ -39,63 +23,48 @@ static void await_seen(unsigned more)
 		sleep_for(20);
 }
 
+/* What a thread has of its turn: something that it has seen, or nothing, for which others get time. */
+static void note_seen(bool is_some)
+{
+	atomic_fetch_add(&seen, is_some);
+	sleep_for(is_some ? 1 : 20);
+}
+
 /* ---- bridge.c ---- */
 
-static void send_member(void *arg, unsigned index)
+static void send_member(void *sum, unsigned index) { sleep_for(10); *(unsigned *)sum += index; }
+
+static void broadcast(unsigned turn)
 {
-	atomic_uint *sum = arg;
-	sleep_for(10);
-	atomic_fetch_add(sum, index);
-	atomic_fetch_add(&seen, 1);
+	unsigned sum = 0, sent = bridge_broadcast(send_member, &sum);
+	EXPECT(sum >= sent && sum <= 8 * sent);
+	note_seen(sent > turn % 2);
 }
 
-static void *broadcast_all(void *arg)
+static void change_members(unsigned round)
 {
-	while (!atomic_load(&over)) {
-		atomic_uint sum = 0;
-		unsigned sent = bridge_broadcast(send_member, &sum);
-		EXPECT(atomic_load(&sum) >= sent && atomic_load(&sum) <= 8 * sent);
-	}
-	return arg;
-}
-
-static void change_members(void)
-{
-	for (unsigned round = 0; round < 80; round++) {
-		EXPECT(bridge_add(round % 8 + 1) == 0 && bridge_add(round % 8 + 1) == EEXIST);
-		if (round % 8 == 3)
-			await_seen(4);
-		if (round >= 4)
-			EXPECT(bridge_delete((round - 4) % 8 + 1) == 0 && bridge_delete((round - 4) % 8 + 1) == ENOENT);
-	}
+	EXPECT(bridge_add(round % 8 + 1) == 0 && bridge_add(round % 8 + 1) == EEXIST);
+	if (round >= 4)
+		EXPECT(bridge_delete((round - 4) % 8 + 1) == 0 && bridge_delete((round - 4) % 8 + 1) == ENOENT);
 }
 
 /* ---- ifindex.c ---- */
 
-static void transmit(unsigned index)
+static void begin_interfaces(void)
 {
-	sleep_for(10);
-	atomic_fetch_add(&seen, index > 0);
-}
-
-static void *transmit_all(void *of)
-{
-	for (unsigned index = *(unsigned *)of; !atomic_load(&over); index = (index + 3) % 70)
-		if (!if_transmit(index, transmit))
-			sleep_for(20);
-	return of;
-}
-
-static void change_interfaces(void)
-{
-	for (unsigned round = 0; round < 60; round++)
-		EXPECT(if_attach() == round + 1);
+	ifindex_init();
+	for (unsigned index = 1; index <= 60; index++)
+		EXPECT(if_attach() == index);
 	EXPECT(if_limit() == 64);
-	for (unsigned round = 0; round < 60; round++) {
-		unsigned index = round * 7 % 60 + 1;
-		await_seen(round % 8 == 0 ? 4 : 0);
-		EXPECT(if_detach(index) == 0 && if_detach(index) == ENXIO && if_attach() == index);
-	}
+}
+
+static void send_one(unsigned index) { sleep_for(10); EXPECT(index > 0); }
+static void transmit(unsigned turn) { note_seen(if_transmit(turn * 3 % 70, send_one)); }
+
+static void change_interfaces(unsigned round)
+{
+	unsigned index = round * 7 % 60 + 1;
+	EXPECT(if_detach(index) == 0 && if_detach(index) == ENXIO && if_attach() == index);
 }
 
 /* ---- devsw.c ---- */
@@ -104,210 +73,175 @@ static atomic_int in_driver[2];
 
 static int open_it(unsigned minor)
 {
-	atomic_fetch_add(&in_driver[minor % 2], 1);
+	atomic_fetch_add(&in_driver[minor], 1);
 	sleep_for(50);
-	atomic_fetch_sub(&in_driver[minor % 2], 1);
-	atomic_fetch_add(&seen, 1);
+	atomic_fetch_sub(&in_driver[minor], 1);
 	return 0;
 }
 
-static int close_it(unsigned minor)
-{
-	return minor < 2 ? 0 : EIO;
-}
+static int close_it(unsigned minor) { return minor < 2 ? 0 : EIO; }
 
 static const struct devsw device = {open_it, close_it};
 
-static void *open_all(void *of)
-{
-	for (unsigned turn = *(unsigned *)of; !atomic_load(&over); turn++) {
-		int error = cdev_open(turn % 2, turn % 2);
-		EXPECT(error == 0 || error == ENXIO);
-		error = cdev_close(turn % 2, turn % 2);
-		EXPECT(error == 0 || error == ENXIO);
-		sleep_for(error == 0 ? 1 : 20);
-	}
-	return of;
-}
-
-static void change_devices(void)
-{
-	EXPECT(devsw_attach(0, &device) == 0 && devsw_attach(1, &device) == 0 && devsw_attach(1, &device) == EEXIST);
-	for (unsigned round = 0; round < 60; round++) {
-		await_seen(3);
-		EXPECT(devsw_detach(round % 2) == 0 && atomic_load(&in_driver[round % 2]) == 0);
-		EXPECT(devsw_attach(round % 2, &device) == 0);
-	}
-}
-
-static void test_devsw(void)
+static void begin_devices(void)
 {
 	devsw_init();
-	run_beside(open_all, change_devices);
-	devsw_fini();
-	EXPECT(cdev_open(0, 0) == ENXIO);
+	EXPECT(devsw_attach(0, &device) == 0 && devsw_attach(1, &device) == 0 && devsw_attach(1, &device) == EEXIST);
 }
+
+static void open_device(unsigned turn)
+{
+	int opened = cdev_open(turn % 2, turn % 2), closed = cdev_close(turn % 2, turn % 2);
+	EXPECT((opened == 0 || opened == ENXIO) && (closed == 0 || closed == ENXIO));
+	note_seen(opened == 0);
+}
+
+static void change_devices(unsigned round)
+{
+	EXPECT(devsw_detach(round % 2) == 0 && atomic_load(&in_driver[round % 2]) == 0 && devsw_attach(round % 2, &device) == 0);
+}
+
+static void end_devices(void) { devsw_fini(); EXPECT(cdev_open(0, 0) == ENXIO); }
 
 /* ---- ioctl.c ---- */
 
-static void *ask_all(void *of)
+static void get_entry(unsigned turn)
 {
-	for (unsigned turn = *(unsigned *)of; !atomic_load(&over); turn++) {
-		struct entry_request request = {.er_key = turn % 6};
-		int error = entry_ioctl(ENTRYGET, &request);
-		EXPECT(error == 0 || error == ENOENT);
-		if (error == 0) {
-			EXPECT(request.er_value % 6 == turn % 6 && strcmp(request.er_name, "entry") == 0);
-			atomic_fetch_add(&seen, 1);
-		}
-		sleep_for(error == 0 ? 1 : 20);
-	}
-	return of;
+	struct entry_request request = {.er_key = turn % 6};
+	int error = entry_ioctl(ENTRYGET, &request);
+	EXPECT(error == ENOENT || (error == 0 && request.er_value % 6 == turn % 6 && strcmp(request.er_name, "entry") == 0));
+	note_seen(error == 0);
 }
 
-static void change_entries(void)
+static void change_entries(unsigned round)
 {
-	for (unsigned round = 0; round < 120; round++) {
-		struct entry_request request = {.er_key = round % 6, .er_value = round, .er_name = "entry"};
-		EXPECT(entry_ioctl(ENTRYSET, &request) == 0);
-		await_seen(round % 8 == 0 ? 2 : 0);
-		if (round % 3 == 0)
-			EXPECT(entry_ioctl(ENTRYDEL, &request) == 0 && entry_ioctl(ENTRYDEL, &request) == ENOENT);
-	}
-	EXPECT(entry_ioctl(ENTRYSET, NULL) == EFAULT);
+	struct entry_request request = {.er_key = round % 6, .er_value = round, .er_name = "entry"};
+	EXPECT(entry_ioctl(ENTRYSET, &request) == 0);
+	if (round % 3 == 0)
+		EXPECT(entry_ioctl(ENTRYDEL, &request) == 0 && entry_ioctl(ENTRYDEL, &request) == ENOENT && entry_ioctl(ENTRYSET, NULL) == EFAULT);
 }
 
 /* ---- rxintr.c ---- */
 
-enum { PACKETS = 150 };
+static atomic_uint sent, received;
+static void *listener;
 
-static atomic_uint received, passing;
+static void input(void *arg, unsigned packet) { EXPECT(packet < 7); atomic_fetch_add((atomic_uint *)arg, 1); }
+static void begin_packets(void) { EXPECT(rx_init() == 0); listener = rx_listen(input, &received); }
+static void interrupt(unsigned turn) { rx_interrupt(turn % 7); atomic_fetch_add(&sent, 1); note_seen(turn % 16 != 0); }
 
-static void input_all(void *arg, unsigned packet)
+/* Another one listens for a while, whose memory goes. */
+static void change_listeners(unsigned round)
 {
-	EXPECT(arg == &received && packet < PACKETS);
-	atomic_fetch_add(&received, 1);
+	atomic_uint *passing = calloc(1, sizeof(*passing));
+	EXPECT(passing != NULL);
+	void *other = rx_listen(input, passing);
+	sleep_for(round % 50);
+	rx_unlisten(other);
+	spoil(passing, sizeof(*passing));
+	free(passing);
 }
 
-static void input_some(void *arg, unsigned packet)
+static void end_packets(void)
 {
-	EXPECT(*(unsigned *)arg == 5 && packet < PACKETS);
-	atomic_fetch_add(&passing, 1);
-}
-
-static void *interrupt_all(void *of)
-{
-	for (unsigned packet = 0; packet < PACKETS; packet++) {
-		rx_interrupt(packet);
-		if (packet % 16 == 0)
-			sleep_for(30);
-		atomic_fetch_add(&seen, 1);
-	}
-	return of;
-}
-
-static void change_listeners(void)
-{
-	while (atomic_load(&seen) < THREADS * PACKETS) {
-		unsigned *word = malloc(sizeof(*word));
-		EXPECT(word != NULL);
-		*word = 5;
-		void *listener = rx_listen(input_some, word);
-		sleep_for(50);
-		rx_unlisten(listener);
-		*word = 0;
-		free(word);
-	}
-}
-
-static void test_rxintr(void)
-{
-	atomic_store(&received, 0);
-	EXPECT(rx_init() == 0);
-	void *listener = rx_listen(input_all, &received);
-	run_beside(interrupt_all, change_listeners);
-	await_least(&received, THREADS * PACKETS);
+	await_least(&received, atomic_load(&sent));
 	rx_unlisten(listener);
 	rx_fini();
-	EXPECT(atomic_load(&received) == THREADS * PACKETS);
+	EXPECT(atomic_load(&received) == atomic_load(&sent));
 }
 
 /* ---- counters.c ---- */
 
-enum { ADDS = 1000 };
+static atomic_uint adds;
 
-static void *add_all(void *of)
+static void add(unsigned turn)
 {
-	for (unsigned turn = 0; turn < ADDS; turn++) {
-		counters_add(COUNT_IN, 1);
-		counters_add(COUNT_OUT, 3);
-	}
-	atomic_fetch_add(&seen, 1);
-	return of;
+	counters_add(COUNT_IN, 1);
+	counters_add(COUNT_OUT, 3);
+	atomic_fetch_add(&adds, 1);
+	note_seen(turn % 64 != 0);
 }
 
-static void look_at_sums(void)
+static void look_at_sums(unsigned round)
 {
-	uint64_t before[COUNTERS] = {0}, sums[COUNTERS];
-	while (atomic_load(&seen) < THREADS) {
-		counters_sum(sums);
-		EXPECT(sums[COUNT_IN] >= before[COUNT_IN] && sums[COUNT_OUT] <= 3 * THREADS * ADDS);
-		memcpy(before, sums, sizeof(sums));
-	}
+	static uint64_t before;
+	uint64_t sums[COUNTERS];
 	counters_sum(sums);
-	EXPECT(sums[COUNT_IN] == THREADS * ADDS && sums[COUNT_OUT] == 3 * THREADS * ADDS && sums[COUNT_DROPPED] == 0);
+	EXPECT(round == 0 || sums[COUNT_IN] >= before);
+	before = sums[COUNT_IN];
+}
+
+static void end_counters(void)
+{
+	uint64_t sums[COUNTERS];
+	counters_sum(sums);
+	EXPECT(sums[COUNT_IN] == atomic_load(&adds) && sums[COUNT_OUT] == 3 * sums[COUNT_IN] && sums[COUNT_DROPPED] == 0);
+	counters_fini();
 }
 
 /* ---- unload.c ---- */
 
 int kupaldiz_ticker_modcmd(modcmd_t command, void *opaque);
 
-static void *call_all(void *of)
+static void load(void) { EXPECT(kupaldiz_ticker_modcmd(MODULE_CMD_INIT, NULL) == 0); }
+static void unload(void) { EXPECT(kupaldiz_ticker_modcmd(MODULE_CMD_FINI, NULL) == 0 && kupaldiz_ticker_modcmd(MODULE_CMD_STAT, NULL) == ENOTTY); }
+
+static void call_hook(unsigned turn)
 {
-	for (unsigned turn = *(unsigned *)of; !atomic_load(&over); turn++) {
-		unsigned answer = 0;
-		int error = ticker_call(turn, &answer);
-		EXPECT(error == ENXIO || (error == 0 && answer == turn + 1));
-		atomic_fetch_add(&seen, error == 0);
-		if (error != 0 || turn % 8 == 0)
-			sleep_for(20);
-	}
-	return of;
+	unsigned answer = 0;
+	int error = ticker_call(turn, &answer);
+	EXPECT(error == ENXIO || (error == 0 && answer == turn + 1));
+	note_seen(error == 0 && turn % 8 != 0);
 }
 
-static void load_and_unload(void)
-{
-	for (unsigned round = 0; round < 12; round++) {
-		EXPECT(kupaldiz_ticker_modcmd(MODULE_CMD_INIT, NULL) == 0);
-		await_seen(10);
-		sleep_for(round % 4 == 0 ? 25000 : 0);
-		EXPECT(kupaldiz_ticker_modcmd(MODULE_CMD_FINI, NULL) == 0);
-	}
-	EXPECT(kupaldiz_ticker_modcmd(MODULE_CMD_STAT, NULL) == ENOTTY);
-}
+static void reload(unsigned round) { sleep_for(round % 20 == 0 ? 25000 : 0); unload(); load(); }
 
-/* Those that need nothing more. */
-static const struct simple {
+/* ---- All of them: what each thread does again and again, while the first one makes changes. ---- */
+
+static const struct driver {
 	void (*init)(void);
-	void *(*body)(void *);
-	void (*rest)(void), (*fini)(void);
-} simple[] = {
-    {bridge_init, broadcast_all, change_members, bridge_fini},
-    {ifindex_init, transmit_all, change_interfaces, ifindex_fini},
-    {entry_init, ask_all, change_entries, entry_fini},
-    {counters_init, add_all, look_at_sums, counters_fini},
+	void (*use)(unsigned turn);
+	void (*change)(unsigned round);
+	void (*fini)(void);
+} drivers[] = {
+    {bridge_init, broadcast, change_members, bridge_fini}, {begin_interfaces, transmit, change_interfaces, ifindex_fini},
+    {begin_devices, open_device, change_devices, end_devices}, {entry_init, get_entry, change_entries, entry_fini},
+    {begin_packets, interrupt, change_listeners, end_packets}, {counters_init, add, look_at_sums, end_counters}, {load, call_hook, reload, unload},
 };
+
+static const struct driver *driver;
+
+static void *use_driver(void *number)
+{
+	for (unsigned turn = *(unsigned *)number; !atomic_load(&over); turn++)
+		driver->use(turn);
+	return number;
+}
+
+static void test_driver(void)
+{
+	pthread_t threads[THREADS];
+	unsigned numbers[THREADS];
+	driver->init();
+	atomic_store(&over, false);
+	for (unsigned i = 0; i < THREADS; i++) {
+		numbers[i] = i;
+		start_thread(&threads[i], use_driver, &numbers[i]);
+	}
+	for (unsigned round = 0; round < ROUNDS; round++) {
+		driver->change(round);
+		await_seen(round % 8 == 7 ? 4 : 0);
+	}
+	atomic_store(&over, true);
+	for (unsigned i = 0; i < THREADS; i++)
+		end_thread(threads[i]);
+	driver->fini();
+}
 
 int main(void)
 {
-	for (unsigned at = 0; at < sizeof(simple) / sizeof(simple[0]); at++) {
-		simple[at].init();
-		run_beside(simple[at].body, simple[at].rest);
-		simple[at].fini();
-	}
-	test_devsw();
-	test_rxintr();
-	run_beside(call_all, load_and_unload);
+	for (driver = drivers; driver < &drivers[sizeof(drivers) / sizeof(drivers[0])]; driver++)
+		test_driver();
 	puts("seven drivers ran");
 	return 0;
 }

@@ -4,45 +4,27 @@
  * It is compiled as a driver's file is. The bench runs it too: explorer/tests/named.c.
  */
 #include <sys/param.h>
-#include <sys/systm.h>
 #include <sys/atomic.h>
-#include <sys/callout.h>
-#include <sys/condvar.h>
 #include <sys/container_of.h>
-#include <sys/cpu.h>
-#include <sys/intr.h>
-#include <sys/kernel.h>
-#include <sys/kmem.h>
-#include <sys/kthread.h>
-#include <sys/localcount.h>
-#include <sys/module_hook.h>
-#include <sys/mutex.h>
-#include <sys/percpu.h>
-#include <sys/pool.h>
-#include <sys/proc.h>
-#include <sys/pserialize.h>
-#include <sys/workqueue.h>
-#include <sys/xcall.h>
 
 #include <net/net_stats.h>
 
 #include "test.h"
+#include "things.h"
 
 /* ---- spl(9), and the levels' names. ---- */
 
-static int level_now(void)
-{
-	return splraiseipl(makeiplcookie(IPL_NONE));
-}
+static int level_now(void) { return splraiseipl(makeiplcookie(IPL_NONE)); }
 
 /* Each name raises the level to its own, and splx lowers it again. */
-#define TEST_LEVEL(raise, level) \
-	do { \
-		int before = raise(); \
-		EXPECT(before == IPL_NONE && level_now() == (level) && kpreempt_disabled()); \
-		splx(before); \
-		EXPECT(level_now() == IPL_NONE && !kpreempt_disabled()); \
-	} while (0)
+#define TEST_LEVEL(raise, level)	test_level(raise(), level)
+
+static void test_level(int before, int level)
+{
+	EXPECT(before == IPL_NONE && level_now() == level && kpreempt_disabled());
+	splx(before);
+	EXPECT(level_now() == IPL_NONE && !kpreempt_disabled());
+}
 
 static void test_levels(void)
 {
@@ -71,7 +53,6 @@ static void test_levels(void)
 
 static void test_mutex(kmutex_type_t type, int level, int raised)
 {
-	kmutex_t lock;
 	mutex_init(&lock, type, level);
 	EXPECT(mutex_tryenter(&lock) == 1 && mutex_owned(&lock) && kpreempt_disabled() == (raised != IPL_NONE) && level_now() == raised);
 	mutex_exit(&lock);
@@ -81,16 +62,15 @@ static void test_mutex(kmutex_type_t type, int level, int raised)
 
 static void test_mutexes(void)
 {
-	test_mutex(MUTEX_DEFAULT, IPL_NONE, IPL_NONE);
-	test_mutex(MUTEX_DEFAULT, IPL_SOFTSERIAL, IPL_NONE);
-	test_mutex(MUTEX_DEFAULT, IPL_VM, IPL_VM);
-	test_mutex(MUTEX_DEFAULT, IPL_HIGH, IPL_HIGH);
-	test_mutex(MUTEX_DRIVER, IPL_SOFTBIO, IPL_NONE);
-	test_mutex(MUTEX_DRIVER, IPL_BIO, IPL_BIO);
-	test_mutex(MUTEX_ADAPTIVE, IPL_NONE, IPL_NONE);
-	test_mutex(MUTEX_NODEBUG, IPL_SCHED, IPL_SCHED);
-	test_mutex(MUTEX_SPIN, IPL_NONE, IPL_VM);
-	test_mutex(MUTEX_SPIN, IPL_SOFTNET, IPL_SOFTNET);
+	static const struct {
+		kmutex_type_t type;
+		int level, raised;
+	} each[] = {{MUTEX_DEFAULT, IPL_NONE, IPL_NONE}, {MUTEX_DEFAULT, IPL_SOFTSERIAL, IPL_NONE}, {MUTEX_DEFAULT, IPL_VM, IPL_VM},
+	    {MUTEX_DEFAULT, IPL_HIGH, IPL_HIGH}, {MUTEX_DRIVER, IPL_SOFTBIO, IPL_NONE}, {MUTEX_DRIVER, IPL_BIO, IPL_BIO},
+	    {MUTEX_ADAPTIVE, IPL_NONE, IPL_NONE}, {MUTEX_NODEBUG, IPL_SCHED, IPL_SCHED}, {MUTEX_SPIN, IPL_NONE, IPL_VM},
+	    {MUTEX_SPIN, IPL_SOFTNET, IPL_SOFTNET}};
+	for (unsigned at = 0; at < __arraycount(each); at++)
+		test_mutex(each[at].type, each[at].level, each[at].raised);
 }
 
 /* ---- kmem(9), pool(9), pool_cache(9). ---- */
@@ -98,22 +78,15 @@ static void test_mutexes(void)
 static void test_memory(void)
 {
 	const km_flag_t flags = KM_NOSLEEP;
-	unsigned char *zeros = kmem_intr_zalloc(40, flags);
 	struct pool pool;
 	size_t size = 0;
-	char *text, *object;
-	EXPECT(zeros != NULL && zeros[0] == 0 && zeros[39] == 0);
-	kmem_intr_free(zeros, 40);
-	text = kmem_strdup("bridge0", KM_SLEEP);
-	EXPECT(strcmp(text, "bridge0") == 0);
+	kmem_intr_free(kmem_intr_zalloc(40, flags), 40);
+	char *text = kmem_strdup("bridge0", KM_SLEEP), *sized = kmem_strdupsize("bridge", &size, KM_SLEEP);
+	EXPECT(strcmp(text, "bridge0") == 0 && size == 7 && strcmp(sized, "bridge") == 0);
 	kmem_strfree(text);
-	text = kmem_strdupsize("bridge", &size, KM_SLEEP);
-	EXPECT(size == 7 && strcmp(text, "bridge") == 0);
-	kmem_strfree(text);
+	kmem_strfree(sized);
 	pool_init(&pool, 24, 8, 0, 0, "thingpl", NULL, IPL_NONE);
-	object = pool_get(&pool, PR_NOWAIT | PR_ZERO);
-	EXPECT(object != NULL && object[0] == 0 && object[23] == 0);
-	pool_put(&pool, object);
+	pool_put(&pool, pool_get(&pool, PR_NOWAIT | PR_ZERO));
 	pool_destroy(&pool);
 }
 
@@ -127,11 +100,7 @@ static int make(void *arg, void *object, int flags)
 	return made == 3 ? ENOMEM : 0;
 }
 
-static void end(void *arg, void *object)
-{
-	EXPECT(arg == &made && *(int *)object == 5);
-	ended++;
-}
+static void end(void *arg, void *object) { EXPECT(arg == &made && *(int *)object == 5); ended++; }
 
 /* An object is constructed once, and the third one can't be. What was given back last is got first. */
 static void test_cache(void)
@@ -201,9 +170,9 @@ static void sum_up(void *own, void *arg, struct cpu_info *cpu)
 	sums[STAT_OUT] += counters[STAT_OUT];
 }
 
-static void count_visit(void *count, void *bound)
+static void count_visit(void *visits, void *bound)
 {
-	*(unsigned *)count += bound == NULL && (curlwp->l_pflag & LP_BOUND) != 0;
+	*(unsigned *)visits += bound == NULL && (curlwp->l_pflag & LP_BOUND) != 0;
 }
 
 static void test_counters(void)
@@ -261,35 +230,25 @@ static void test_cpus(void)
 {
 	struct cpu_info *cpu;
 	CPU_INFO_ITERATOR place;
-	int count = 0;
+	int all = 0;
 	for (CPU_INFO_FOREACH(place, cpu))
-		EXPECT((int)cpu_index(cpu) == count++);
-	EXPECT(count == KUPALDIZ_CPUS && count == ncpu && pserialize_not_in_read_section());
+		EXPECT((int)cpu_index(cpu) == all++);
+	EXPECT(all == KUPALDIZ_CPUS && all == ncpu && pserialize_not_in_read_section());
 }
 
 /* Sections nest as deep as anybody likes, and counts and references are acquired in the deepest. */
 static void test_depth(void)
 {
 	enum { DEEP = 300 };
-	struct localcount count;
-	kmutex_t lock;
-	kcondvar_t cv;
 	static int levels[DEEP];
-	mutex_init(&lock, MUTEX_DEFAULT, IPL_NONE);
-	cv_init(&cv, "depth");
-	localcount_init(&count);
+	make_things(IPL_NONE);
 	for (int i = 0; i < DEEP; i++)
 		EXPECT((levels[i] = pserialize_read_enter()) == i);
 	localcount_acquire(&count);
 	for (int i = DEEP - 1; i >= 0; i--)
 		pserialize_read_exit(levels[i]);
 	localcount_release(&count, &cv, &lock);
-	mutex_enter(&lock);
-	localcount_drain(&count, &cv, &lock);
-	mutex_exit(&lock);
-	localcount_fini(&count);
-	cv_destroy(&cv);
-	mutex_destroy(&lock);
+	end_things();
 }
 
 /* ---- kthread(9), callout(9), workqueue(9), time, and copies. ---- */
@@ -428,10 +387,7 @@ struct sum_hook_t sum_hook;
 MODULE_HOOK(tell_hook, void, (void *));
 struct tell_hook_t tell_hook;
 
-static int sum(int one, int two)
-{
-	return one + two;
-}
+static int sum(int one, int two) { return one + two; }
 
 static int call_sum(int one, int two)
 {
@@ -442,19 +398,14 @@ static int call_sum(int one, int two)
 
 HANDLER(tell, atomic_inc_uint(arg))
 
-static unsigned call_tell(unsigned *calls)
-{
-	unsigned missed = 0;
-	MODULE_HOOK_CALL_VOID(tell_hook, (calls), missed++);
-	return missed;
-}
-
 static void test_void_hook(void)
 {
-	unsigned calls = 0;
-	EXPECT(call_tell(&calls) == 1 && calls == 0);
+	unsigned calls = 0, missed = 0;
+	MODULE_HOOK_CALL_VOID(tell_hook, (&calls), missed++);
+	EXPECT(missed == 1 && calls == 0);
 	MODULE_HOOK_SET(tell_hook, tell);
-	EXPECT(call_tell(&calls) == 0 && calls == 1);
+	MODULE_HOOK_CALL_VOID(tell_hook, (&calls), missed++);
+	EXPECT(missed == 1 && calls == 1);
 	MODULE_HOOK_UNSET(tell_hook);
 }
 

@@ -5,25 +5,13 @@
  * The linker leads what the layer asks the C library for here (--wrap). Memory that isn't asked to be zeros isn't. Each case runs in a child. The last line
  * counts the cases.
  */
-#include <errno.h>
-#include <sys/callout.h>
-#include <sys/condvar.h>
-#include <sys/intr.h>
-#include <sys/kmem.h>
-#include <sys/kthread.h>
-#include <sys/localcount.h>
-#include <sys/mutex.h>
-#include <sys/percpu.h>
-#include <sys/pool.h>
-#include <sys/pserialize.h>
-#include <sys/psref.h>
-#include <sys/systm.h>
-
 #include "stops.h"
 #include "wraps.h"
 
+#include "things.h"
+
 /* What is refused from now on. */
-static enum { NOTHING_LACKS, CALLOC, MALLOC, REALLOC, ALIGNED, THREADS, KEY, VALUE, AT_FORK } lacks;
+static enum lack { NOTHING_LACKS, CALLOC, MALLOC, REALLOC, ALIGNED, THREADS, KEY, VALUE, AT_FORK } lacks;
 
 /* A call that fails where it lacks. */
 #define LACKS(what, type, failed, name, parameters, arguments) \
@@ -48,13 +36,13 @@ void *__wrap_malloc(size_t size)
 	return block == NULL ? NULL : memset(block, OLD_BYTE, size);
 }
 
-void *__wrap_calloc(size_t count, size_t size)
+void *__wrap_calloc(size_t all, size_t size)
 {
-	EXPECT(count > 0 && size > 0);
+	EXPECT(all > 0 && size > 0);
 	if (lacks == CALLOC)
 		return NULL;
 	blocks++;
-	return __real_calloc(count, size);
+	return __real_calloc(all, size);
 }
 
 int __wrap_posix_memalign(void **block, size_t align, size_t size)
@@ -74,25 +62,18 @@ void __wrap_free(void *block)
 		__real_free(block);
 }
 
-static struct psref_class *things;
-static struct psref_target target;
-static struct localcount count;
 static callout_t callout;
 static struct pool pool;
 static char long_text[500], long_place[400], cut_line[511];
 
 /* The layer isn't called before the case. */
-static void begin(void)
-{
-}
+static void begin(void) { }
 
 /* The layer is open, with a live target and a live count. From now on something lacks. */
-static void open_without(int what)
+static void open_without(enum lack what)
 {
 	kupaldiz_bind(0);
-	things = psref_class_create("thing", IPL_SOFTNET);
-	psref_target_init(&target, things);
-	localcount_init(&count);
+	make_things(IPL_NONE);
 	lacks = what;
 }
 
@@ -293,11 +274,7 @@ STOPS("percpu_create: out of memory", percpu_create(SIZE_MAX / KUPALDIZ_CPUS + 1
 STOPS("percpu_foreach_xcall: inside a read section, entered at PLACE",
     percpu_t *percpu = percpu_alloc(8); pserialize_read_enter(); percpu_foreach_xcall(percpu, 0, note_call, calls))
 /* The place is that of the call whose argument visits each CPU. */
-static void *visit_all(void)
-{
-	percpu_foreach_xcall(percpu_alloc(8), 0, note_call, calls);
-	return NULL;
-}
+static void *visit_all(void) { percpu_foreach_xcall(percpu_alloc(8), 0, note_call, calls); return NULL; }
 STOPS("kmem_free: no block, at PLACE", kmem_free(visit_all(), 8))
 
 int main(void)

@@ -8,19 +8,20 @@ import sys
 from pathlib import Path
 
 HERE = Path(__file__).resolve().parent
-TESTS = ("misuses", "misuses_of_threads", "lacks", "full", "tells")
+TESTS = ("misuses", "misuses_of_threads", "lacks", "tells")
 # Some files have the same line: each needs a test of its own call.
 CALLS = {"rwlock.c": r"rw_[a-z]+", "mutex.c": r"(?:mutex|cv)_[a-z_]+", "callout.c": r"callout_[a-z]+"}
 # What a row USES of misuses.c tests of its call, where the thing has this name there.
-UNMADE = re.compile("(the .* )was (?:never initialised|destroyed)")
+MADE = re.compile(r'\brequire_made\([^;]*"(the [^"]*)"')
 TEXT = re.compile(r'"((?:[^"\\]|\\.)*)"')
 
 
 def lines():
     """(file, what it says) of each."""
     for file in sorted((HERE.parent / "src").glob("*.c")):
-        for call in re.finditer(r"\b(?:stop|report|stop_at)\(([^;]*);", file.read_text()):
+        for call in re.finditer(r"\b(?:stop|report|stop_at|enable_preemption)\(([^;]*);", file.read_text()):
             yield from ((file.name, text) for text in TEXT.findall(call.group(1)) if " " in text or "%" in text)
+        yield from ((file.name, f"{thing} was destroyed") for thing in MADE.findall(file.read_text()))
 
 
 def pattern_of(text):
@@ -31,9 +32,9 @@ def pattern_of(text):
 
 def wanted(file, text):
     """What a test has that wants it."""
-    unmade = UNMADE.fullmatch(text)
-    if unmade:
-        return rf"USES\(.*, {CALLS.get(file, 'cv_[a-z_]+')}, [\s\S]*\"{unmade.group(1)}\""
+    made = re.fullmatch("(the .*) was destroyed", text)
+    if made:
+        return rf"USES\(.*, {CALLS.get(file, 'cv_[a-z_]+')}, [\s\S]*\"{made.group(1)}\""
     return (rf'"{CALLS[file]}: ' if file in CALLS else "") + pattern_of(text)
 
 

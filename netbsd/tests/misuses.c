@@ -3,36 +3,16 @@
  *
  * The explorer runs them, too, except those of misuses_of_threads.c. The last line counts the cases.
  */
-#include <sys/callout.h>
-#include <sys/condvar.h>
-#include <sys/cpu.h>
-#include <sys/intr.h>
-#include <sys/kmem.h>
-#include <sys/kthread.h>
-#include <sys/localcount.h>
-#include <sys/module_hook.h>
-#include <sys/mutex.h>
-#include <sys/percpu.h>
-#include <sys/pool.h>
-#include <sys/proc.h>
-#include <sys/pserialize.h>
-#include <sys/psref.h>
-#include <sys/rwlock.h>
-#include <sys/systm.h>
-#include <sys/workqueue.h>
-#include <sys/xcall.h>
-
 #include "stops.h"
+#include "things.h"
 
 enum { ROWS = 32 };	/* of a registry, as layer.h has it */
 
-static struct psref_class *things;
-static struct psref_target target, other;
+static struct psref_target other;
 static struct psref psref, second, third;
-static struct localcount count, other_count;
-static pserialize_t psz;
-static kmutex_t lock, softlock, spin, other_spin, softspin, wrong_lock;
-static kcondvar_t cv, wrong_cv;
+static struct localcount other_count;
+static kmutex_t softlock, spin, other_spin, softspin, wrong_lock;
+static kcondvar_t wrong_cv;
 static krwlock_t rw;
 static struct pool pool, other_pool;
 static pool_cache_t cache;
@@ -55,19 +35,14 @@ HANDLER(nothing, (void)0)
 static void begin(void)
 {
 	kupaldiz_bind(0);
-	things = psref_class_create("thing", IPL_SOFTNET);
-	psz = pserialize_create();
-	mutex_init(&lock, MUTEX_DEFAULT, IPL_NONE);
+	make_things(IPL_NONE);
 	mutex_init(&wrong_lock, MUTEX_DEFAULT, IPL_NONE);
 	mutex_init(&softlock, MUTEX_DEFAULT, IPL_SOFTNET);
 	mutex_init(&spin, MUTEX_DEFAULT, IPL_VM);
 	mutex_init(&other_spin, MUTEX_DEFAULT, IPL_VM);
 	mutex_init(&softspin, MUTEX_SPIN, IPL_SOFTNET);
-	cv_init(&cv, "count");
 	cv_init(&wrong_cv, "wrong");
 	rw_init(&rw);
-	psref_target_init(&target, things);
-	localcount_init(&count);
 	pool_init(&pool, 24, 0, 0, 0, "thingpl", NULL, IPL_NONE);
 	pool_init(&other_pool, 24, 0, 0, 0, "otherpl", NULL, IPL_NONE);
 	cache = pool_cache_init(24, 0, 0, 0, "thingpl", NULL, IPL_NONE, NULL, NULL, NULL);
@@ -95,15 +70,8 @@ static void count_in(void)
 }
 
 static void count_out(void) { localcount_release(&count, &cv, &lock); }
-
-static void *drain(void *arg)
-{
-	mutex_enter(&lock);
-	atomic_store(&ready, true);
-	localcount_drain(&count, &cv, &lock);
-	mutex_exit(&lock);
-	return arg;
-}
+static void drain_count(void) { drain(&count); }
+THREAD(drain_beside, mutex_enter(&lock); atomic_store(&ready, true); localcount_drain(&count, &cv, &lock); mutex_exit(&lock))
 
 static void await_ready(void)
 {
@@ -112,24 +80,11 @@ static void await_ready(void)
 }
 
 /* Starts a thread that doesn't end. */
-static void start_alone(void *(*body)(void *))
-{
-	pthread_t thread;
-	start_thread(&thread, body, NULL);
-}
+static void start_alone(void *(*body)(void *)) { pthread_t thread; start_thread(&thread, body, NULL); }
 
 /* The same, until it is ready. */
-static void start(void *(*body)(void *))
-{
-	start_alone(body);
-	await_ready();
-}
-
-static void on_two_threads(void *(*body)(void *))
-{
-	start_alone(body);
-	on_thread(body);
-}
+static void start(void *(*body)(void *)) { start_alone(body); await_ready(); }
+static void on_two_threads(void *(*body)(void *)) { start_alone(body); on_thread(body); }
 
 static void (*soft_body)(void *);
 
@@ -145,10 +100,7 @@ static void as_softint(void (*handler)(void *))
 	softint_disestablish(cookie);
 }
 
-static void run_handler(void *handler, void *arg)
-{
-	(*(void (**)(void *))handler)(arg);
-}
+static void run_handler(void *handler, void *arg) { (*(void (**)(void *))handler)(arg); }
 
 /* Runs it on each CPU as a function of xcall(9). */
 static void broadcast(unsigned flags, void (*handler)(void *))
@@ -177,18 +129,8 @@ static void acquire_at(const char *place, struct psref *into, const struct psref
 	(psref_acquire)(into, of, things);
 }
 
-static void enter_at(const char *place)
-{
-	kupaldiz_at(place);
-	(mutex_enter)(&lock);
-}
-
-static void read_at(const char *place)
-{
-	kupaldiz_at(place);
-	(void)(pserialize_read_enter)();
-}
-
+static void enter_at(const char *place) { kupaldiz_at(place); (mutex_enter)(&lock); }
+static void read_at(const char *place) { kupaldiz_at(place); (void)(pserialize_read_enter)(); }
 HANDLER(stay_inside, pserialize_read_enter())
 HANDLER(stay_locked, mutex_enter(&softlock))
 HANDLER(stay_spinning, mutex_enter(&spin))
@@ -197,18 +139,8 @@ HANDLER(stay_raised, splnet())
 HANDLER(stay_holding, psref_acquire(&psref, &target, things))
 HANDLER(stay_long, sleep_for(20000000))
 HANDLER(exit_at_once, kthread_exit(0))
-
-static void function_stays_holding(void *arg, void *nobody)
-{
-	(void)nobody;
-	stay_holding(arg);
-}
-
-static void run_nothing(void *arg, void *nobody)
-{
-	(void)nobody;
-	nothing(arg);
-}
+static void function_stays_holding(void *arg, void *nobody) { (void)nobody; stay_holding(arg); }
+static void run_nothing(void *arg, void *nobody) { (void)nobody; nothing(arg); }
 
 /* ---- Threads that aren't bound, and bounds that don't go. ---- */
 
@@ -341,7 +273,7 @@ STOPS("psref_target_destroy: this thread has a reference to the target, acquired
 STOPS("psref_target_init: it is live already, at PLACE", psref_target_init(&target, things))
 /* It is live, and the only one. Its bytes are gone. */
 STOPS("psref_target_init: it is live already, at PLACE",
-    drain(NULL); localcount_fini(&count); memset(&target, 0, sizeof(target)); psref_target_init(&target, things))
+    drain_count(); localcount_fini(&count); memset(&target, 0, sizeof(target)); psref_target_init(&target, things))
 /* More are live than a registry takes. The last one's bytes are gone. */
 STOPS("psref_target_init: it is live already, at PLACE",
     static struct psref_target many[ROWS + 8]; const unsigned last = sizeof(many) / sizeof(many[0]) - 1;
@@ -376,8 +308,8 @@ STOPS("psref_release: the reference was moved by its bytes: it was acquired else
 
 THREAD(keep_lock, mutex_enter(&lock); atomic_store(&ready, true); sleep_for(20000000))
 STOPS("localcount_drain: the count is not live, at PLACE", mutex_enter(&lock); localcount_drain(&other_count, &cv, &lock))
-STOPS("localcount_drain: the count is not live, at PLACE", drain(NULL); drain(NULL))
-STOPS("localcount_drain: another thread waits for it already, at PLACE", count_in(); on_two_threads(drain))
+STOPS("localcount_drain: the count is not live, at PLACE", drain_count(); mutex_enter(&lock); localcount_drain(&count, &cv, &lock))
+STOPS("localcount_drain: another thread waits for it already, at PLACE", count_in(); on_two_threads(drain_beside))
 STOPS("localcount_drain: the thread does not have the interlock, at PLACE", localcount_drain(&count, &cv, &lock))
 STOPS("localcount_drain: the thread does not have the interlock, at PLACE", count_in(); start(keep_lock); localcount_drain(&count, &cv, &lock))
 STOPS("localcount_drain: the interlock differs from the one before, at PLACE",
@@ -386,24 +318,24 @@ STOPS("localcount_drain: the condition variable differs from the one before, at 
     count_in(); count_out(); mutex_enter(&lock); localcount_drain(&count, &wrong_cv, &lock))
 STOPS("localcount_fini: the count is not drained, at PLACE", localcount_fini(&count))
 STOPS("localcount_fini: the count is not drained, at PLACE", localcount_fini(&other_count))
-STOPS("localcount_fini: the count is not drained, at PLACE", count_in(); start(drain); localcount_fini(&count))
-STOPS("localcount_fini: the count is not drained, at PLACE", drain(NULL); localcount_fini(&count); localcount_fini(&count))
+STOPS("localcount_fini: the count is not drained, at PLACE", count_in(); start(drain_beside); localcount_fini(&count))
+STOPS("localcount_fini: the count is not drained, at PLACE", drain_count(); localcount_fini(&count); localcount_fini(&count))
 /* The bytes say that it was drained, while it is live: that is what a drain leaves there. Then its serial is written over. */
 STOPS("localcount_fini: the count is not drained, at PLACE", count.lc_row = 1; localcount_fini(&count))
-STOPS("localcount_fini: the count is not drained, at PLACE", drain(NULL); count.lc_serial = 7; localcount_fini(&count))
-STOPS("localcount_acquire: the count is not live, at PLACE", drain(NULL); count_in())
+STOPS("localcount_fini: the count is not drained, at PLACE", drain_count(); count.lc_serial = 7; localcount_fini(&count))
+STOPS("localcount_acquire: the count is not live, at PLACE", drain_count(); count_in())
 STOPS("localcount_acquire: the count is not live, at PLACE", memset(&count, 0xa5, sizeof(count)); localcount_acquire(&count))
 STOPS("localcount_acquire: the count is not live, at PLACE", count.lc_row = ROWS; localcount_acquire(&count))
 /* A drain waits for a reference of this thread's, which goes on acquiring. */
 STOPS("localcount_acquire: the count is being drained, at PLACE",
-    count_in(); start_alone(drain);
+    count_in(); start_alone(drain_beside);
     for (;;) {
 	    count_in();
 	    count_out();
     })
 STOPS("localcount_release: no reference to the count is held, at PLACE", count_in(); count_out(); count_out())
-STOPS("localcount_release: the count is not live, at PLACE", drain(NULL); count_out())
-STOPS("localcount_release: the thread has the interlock, at PLACE", count_in(); start(drain); mutex_enter(&lock); count_out())
+STOPS("localcount_release: the count is not live, at PLACE", drain_count(); count_out())
+STOPS("localcount_release: the thread has the interlock, at PLACE", count_in(); start(drain_beside); mutex_enter(&lock); count_out())
 STOPS("localcount_release: the interlock differs from the one before, at PLACE",
     count_in(); count_in(); count_out(); localcount_release(&count, &cv, &wrong_lock))
 STOPS("localcount_release: the condition variable differs from the one before, at PLACE",
@@ -520,12 +452,7 @@ STOPS("pool_put: no object of otherpl, or one that was given back, at PLACE", po
 STOPS("pool_put: no object of thingpl, or one that was given back, at PLACE", pool_put(&pool, kmem_alloc(24, KM_SLEEP)))
 STOPS("kmem_free: no block of kmem's, or one that was given back, at PLACE", kmem_free(pool_get(&pool, PR_WAITOK), 24))
 /* What isn't of the cache isn't ended either. */
-static void end_object(void *arg, void *object)
-{
-	(void)arg;
-	(void)object;
-	panic("of another cache");
-}
+static void end_object(void *arg, void *object) { (void)arg; (void)object; panic("of another cache"); }
 STOPS("pool_cache_put: no object of otherpl, or one that was given back, at PLACE",
     pool_cache_t ends = pool_cache_init(24, 0, 0, 0, "otherpl", NULL, IPL_NONE, NULL, end_object, NULL);
     pool_cache_put(ends, pool_cache_get(cache, PR_WAITOK)))
@@ -755,10 +682,10 @@ static const struct kind {
 	const char *name;
 	void (*destroy)(void);
 } kinds[] = {
-    [A_LOCK] = {"the lock ", destroy_lock},
-    [A_VARIABLE] = {"the condition variable ", destroy_cv},
-    [AN_RWLOCK] = {"the lock ", destroy_rw},
-    [A_CALLOUT] = {"the callout ", destroy_callout},
+    [A_LOCK] = {"the lock", destroy_lock},
+    [A_VARIABLE] = {"the condition variable", destroy_cv},
+    [AN_RWLOCK] = {"the lock", destroy_rw},
+    [A_CALLOUT] = {"the callout", destroy_callout},
 };
 
 static void use_never_made(void) { make_locked(); made->body(); }
@@ -766,8 +693,8 @@ static void use_destroyed(void) { kinds[made->what].destroy(); use_never_made();
 
 static void judge_user(void)
 {
-	judge_call(use_never_made, kinds[made->what].name, "was never initialised");
-	judge_call(use_destroyed, kinds[made->what].name, "was destroyed");
+	judge_call(use_never_made, kinds[made->what].name, " was never initialised");
+	judge_call(use_destroyed, kinds[made->what].name, " was destroyed");
 }
 
 int main(void)

@@ -2,37 +2,18 @@
  * misuses_of_threads - misuses that depend on a fork, on a cancellation, or on when a thread ends or joins; and the line itself: the places that it has
  * where many were noted, the names of threads, and one that is too long or can't be written. Each case ends its process with its line
  *
- * The linker leads here (--wrap) pthread_mutex_unlock, as a thread may do something once it has given a lock back, while its call goes on; pthread_create;
- * write, open and close. The last line counts the cases.
+ * The linker leads here (--wrap) pthread_mutex_unlock, pthread_create, write, open and close. The last line counts the cases.
  */
-#include <errno.h>
 #include <fcntl.h>
 #include <limits.h>
 #include <stdarg.h>
-#include <sys/cpu.h>
-#include <sys/intr.h>
-#include <sys/kthread.h>
-#include <sys/mutex.h>
 #include <sys/prctl.h>
-#include <sys/pserialize.h>
-#include <sys/psref.h>
-#include <sys/systm.h>
 
 #include "stops.h"
 #include "wraps.h"
 
-/* What this thread does once it has given back the next lock of the layer's. */
-static _Thread_local void (*after)(void);
-
-int __wrap_pthread_mutex_unlock(pthread_mutex_t *mutex)
-{
-	void (*does)(void) = after;
-	after = NULL;
-	int answer = __real_pthread_mutex_unlock(mutex);
-	if (does != NULL)
-		does();
-	return answer;
-}
+#include "after.h"
+#include "things.h"
 
 /* What runs on a thread of its own before the body of the next one that is started. */
 static _Atomic(void *(*)(void *)) comes_before;
@@ -85,10 +66,8 @@ int __wrap_close(int old)
 	return __real_close(old);
 }
 
-static kmutex_t lock, held;
+static kmutex_t held;
 static pthread_key_t early;	/* made before the layer's: its destructor runs before that in each round */
-static struct psref_class *things;
-static struct psref_target target;
 static struct psref psref;
 static lwp_t *worker;
 
@@ -105,11 +84,9 @@ static void begin(void)
 {
 	EXPECT(pthread_key_create(&early, release_last) == 0);
 	kupaldiz_bind(0);
-	mutex_init(&lock, MUTEX_DEFAULT, IPL_NONE);
+	make_things(IPL_NONE);
 	mutex_init(&held, MUTEX_DEFAULT, IPL_NONE);
 	mutex_enter(&held);
-	things = psref_class_create("thing", IPL_NONE);
-	psref_target_init(&target, things);
 }
 
 /* The layer isn't for the child of a fork whose parent has called it. */
@@ -127,11 +104,7 @@ THREAD(end_holding,
 STOPS("pthread_exit: the thread has passive references", on_thread(end_holding))
 
 /* Two join one thread: the first has found it, and doesn't wait for it yet. */
-static void join_at(const char *place)
-{
-	kupaldiz_at(place);
-	EXPECT((kthread_join)(worker) == 0);
-}
+static void join_at(const char *place) { kupaldiz_at(place); EXPECT((kthread_join)(worker) == 0); }
 HANDLER(exit_at_once, kthread_exit(0))
 THREAD(join_second, join_at("the second call"))
 static void join_beside(void) { on_thread(join_second); }

@@ -7,15 +7,8 @@
  * or a drain no reference is held. What was copied is held, and what is reached is not freed. An object's words are plain memory, so that the thread sanitizer, too, judges the order
  * between the last use and the free.
  */
-#include <sys/condvar.h>
-#include <sys/cpu.h>
-#include <sys/intr.h>
-#include <sys/localcount.h>
-#include <sys/mutex.h>
-#include <sys/pserialize.h>
-#include <sys/psref.h>
-
 #include "test.h"
+#include "things.h"
 
 enum { THREADS = 10, OBJECTS = 6, MOST_HELD = 5, HANDED = 24, LIVE = 0x600d, FREED = 0xdead };
 
@@ -36,10 +29,7 @@ struct actor {
 	bool by_copy[MOST_HELD];
 };
 
-static struct psref_class *objects_class;
-static pserialize_t psz;
-static kmutex_t writer_lock, count_lock;
-static kcondvar_t drained;
+static kmutex_t writer_lock;
 static _Atomic(struct object *) objects[OBJECTS];
 static atomic_bool entered[KUPALDIZ_CPUS];	/* a thread's section: no other one of this CPU is */
 static struct actor actors[THREADS];
@@ -57,10 +47,7 @@ static unsigned below(struct actor *actor, unsigned bound)
 	return (unsigned)((actor->random >> 11) % bound);
 }
 
-static void judge(const struct object *object)
-{
-	EXPECT(object->state == LIVE && object->place < OBJECTS);
-}
+static void judge(const struct object *object) { EXPECT(object->state == LIVE && object->place < OBJECTS); }
 
 /* ---- Sections. ---- */
 
@@ -113,7 +100,7 @@ static void acquire(struct actor *actor)
 	int s = enter(actor), t = below(actor, 3) == 0 ? enter(actor) : -1;
 	struct object *object = meet(actor);
 	if (object != NULL) {
-		psref_acquire(&actor->held[place], &object->target, objects_class);
+		psref_acquire(&actor->held[place], &object->target, things);
 		atomic_fetch_add(&object->passive, 1);
 		actor->of[place] = object;
 	}
@@ -131,9 +118,9 @@ static void release(struct actor *actor)
 	bool inside = below(actor, 2) == 0;
 	int s = inside ? enter(actor) : -1;
 	judge(object);
-	EXPECT(psref_held(&object->target, objects_class));
+	EXPECT(psref_held(&object->target, things));
 	atomic_fetch_sub(&object->passive, 1);
-	psref_release(&actor->held[place], &object->target, objects_class);
+	psref_release(&actor->held[place], &object->target, things);
 	EXPECT(actor->held[place].psref_target == NULL);
 	actor->of[place] = NULL;
 	if (!inside)
@@ -148,7 +135,7 @@ static void copy(struct actor *actor)
 	unsigned from = find_place(actor, true), to = find_place(actor, false);
 	if (from == MOST_HELD || to == MOST_HELD)
 		return;
-	psref_copy(&actor->held[to], &actor->held[from], objects_class);
+	psref_copy(&actor->held[to], &actor->held[from], things);
 	actor->of[to] = actor->of[from];
 	atomic_fetch_add(&actor->of[to]->passive, 1);
 	atomic_fetch_add(&copies, 1);
@@ -171,7 +158,7 @@ static void count_in(struct actor *actor)
 	judge(object);
 	EXPECT(localcount_debug_refcnt(&object->count) > 0);
 	atomic_fetch_sub(&object->local, 1);
-	localcount_release(&object->count, &drained, &count_lock);
+	localcount_release(&object->count, &cv, &lock);
 }
 
 /* Releases the object that is on its way, if one is. */
@@ -182,7 +169,7 @@ static void count_out(struct actor *actor)
 		return;
 	judge(object);
 	atomic_fetch_sub(&object->local, 1);
-	localcount_release(&object->count, &drained, &count_lock);
+	localcount_release(&object->count, &cv, &lock);
 }
 
 /* Reads in a section for a while. */
@@ -208,12 +195,12 @@ BODY(interrupt)
 	struct object *object = atomic_load_explicit(&objects[cpu_number() % OBJECTS], memory_order_acquire);
 	if (object != NULL) {
 		judge(object);
-		psref_acquire(&psref, &object->target, objects_class);
+		psref_acquire(&psref, &object->target, things);
 	}
 	pserialize_read_exit(s);
 	if (object != NULL) {
 		judge(object);
-		psref_release(&psref, &object->target, objects_class);
+		psref_release(&psref, &object->target, things);
 	}
 	atomic_fetch_add(&interrupts, 1);
 }
@@ -226,7 +213,7 @@ static struct object *new_object(unsigned place)
 	EXPECT(object != NULL);
 	object->state = LIVE;
 	object->place = place;
-	psref_target_init(&object->target, objects_class);
+	psref_target_init(&object->target, things);
 	localcount_init(&object->count);
 	return object;
 }
@@ -249,14 +236,12 @@ static void end_object(struct actor *actor, struct object *object)
 	bool drains_first = below(actor, 2) == 0;
 	for (unsigned part = 0; part < 2; part++) {
 		if ((part == 0) == drains_first) {
-			mutex_enter(&count_lock);
-			localcount_drain(&object->count, &drained, &count_lock);
-			mutex_exit(&count_lock);
+			drain(&object->count);
 			localcount_fini(&object->count);
 			EXPECT(atomic_load(&object->local) == 0);
 			atomic_fetch_add(&drains, 1);
 		} else {
-			psref_target_destroy(&object->target, objects_class);
+			psref_target_destroy(&object->target, things);
 			EXPECT(atomic_load(&object->passive) == 0 && object->target.prt_class == NULL);
 			atomic_fetch_add(&destroys, 1);
 		}
@@ -280,7 +265,7 @@ static void sweep(struct object *object)
 		if (!atomic_compare_exchange_strong(&handed[i], &expected, NULL))
 			continue;
 		atomic_fetch_sub(&object->local, 1);
-		localcount_release(&object->count, &drained, &count_lock);
+		localcount_release(&object->count, &cv, &lock);
 	}
 }
 
@@ -347,11 +332,8 @@ static void end_all(struct actor *actor)
 
 static void begin(uint64_t seed)
 {
-	objects_class = psref_class_create("object", IPL_SOFTNET);
-	psz = pserialize_create();
+	make_things(IPL_NONE);
 	mutex_init(&writer_lock, MUTEX_DEFAULT, IPL_NONE);
-	mutex_init(&count_lock, MUTEX_DEFAULT, IPL_NONE);
-	cv_init(&drained, "drained");
 	cookie = softint_establish(SOFTINT_NET, interrupt, NULL);
 	for (unsigned i = 0; i < OBJECTS; i++)
 		atomic_store(&objects[i], new_object(i));
@@ -373,11 +355,8 @@ int main(int argc, char **argv)
 		end_thread(threads[i]);
 	softint_disestablish(cookie);
 	end_all(&actors[0]);
-	psref_class_destroy(objects_class);
-	pserialize_destroy(psz);
-	cv_destroy(&drained);
-	mutex_destroy(&count_lock);
 	mutex_destroy(&writer_lock);
+	end_things();
 	EXPECT(atomic_load(&copies) > 0 && atomic_load(&destroys) == atomic_load(&drains));
 	printf("%u performs, %u destroys, %u copies, %u soft interrupts: as the model says\n", atomic_load(&performs), atomic_load(&destroys),
 	    atomic_load(&copies), atomic_load(&interrupts));

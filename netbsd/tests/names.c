@@ -89,29 +89,28 @@ struct element {
 static struct element elements[5] = {{.value = 1}, {.value = 2}, {.value = 3}, {.value = 4}, {.value = 5}};
 
 /* The values of a list as the digits of a number. */
-#define ORDER(number, at, foreach) \
-	do { \
-		(number) = 0; \
+#define ORDER(at, foreach) \
+	(__extension__({ \
+		unsigned order = 0; \
 		foreach \
-			(number) = (number) * 10 + (at)->value; \
-	} while (0)
+			order = order * 10 + (at)->value; \
+		order; \
+	}))
 
 static void test_slist(void)
 {
 	SLIST_HEAD(, element) head = SLIST_HEAD_INITIALIZER(head);
 	struct element *at, *after;
-	unsigned order;
 	SLIST_INIT(&head);
 	SLIST_INSERT_HEAD(&head, &elements[1], single);
 	SLIST_INSERT_HEAD(&head, &elements[0], single);
 	SLIST_INSERT_AFTER(&elements[1], &elements[3], single);
 	SLIST_INSERT_AFTER(&elements[1], &elements[2], single);
-	ORDER(order, at, SLIST_FOREACH(at, &head, single));
-	EXPECT(order == 1234 && SLIST_FIRST(&head) == &elements[0] && SLIST_NEXT(&elements[0], single) == &elements[1]);
+	EXPECT(ORDER(at, SLIST_FOREACH(at, &head, single)) == 1234);
+	EXPECT(SLIST_FIRST(&head) == &elements[0] && SLIST_NEXT(&elements[0], single) == &elements[1]);
 	SLIST_REMOVE_AFTER(&elements[1], single);
 	SLIST_REMOVE(&head, &elements[3], element, single);
-	ORDER(order, at, SLIST_FOREACH(at, &head, single));
-	EXPECT(order == 12);
+	EXPECT(ORDER(at, SLIST_FOREACH(at, &head, single)) == 12);
 	SLIST_FOREACH_SAFE(at, &head, single, after)
 		SLIST_REMOVE_HEAD(&head, single);
 	EXPECT(SLIST_EMPTY(&head));
@@ -121,19 +120,17 @@ static void test_list(void)
 {
 	LIST_HEAD(elements, element) head = LIST_HEAD_INITIALIZER(head), other;
 	struct element *at, *after;
-	unsigned order;
 	LIST_INIT(&head);
 	LIST_INSERT_HEAD(&head, &elements[1], both);
 	LIST_INSERT_BEFORE(&elements[1], &elements[0], both);
 	LIST_INSERT_AFTER(&elements[1], &elements[2], both);
 	LIST_REPLACE(&elements[1], &elements[3], both);
-	ORDER(order, at, LIST_FOREACH(at, &head, both));
-	EXPECT(order == 143 && LIST_FIRST(&head) == &elements[0] && LIST_NEXT(&elements[3], both) == &elements[2]);
+	EXPECT(ORDER(at, LIST_FOREACH(at, &head, both)) == 143);
+	EXPECT(LIST_FIRST(&head) == &elements[0] && LIST_NEXT(&elements[3], both) == &elements[2]);
 	LIST_REPLACE(&elements[0], &elements[1], both);
 	LIST_REPLACE(&elements[2], &elements[4], both);
 	LIST_MOVE(&head, &other, both);
-	ORDER(order, at, LIST_FOREACH(at, &other, both));
-	EXPECT(order == 245 && LIST_EMPTY(&head));
+	EXPECT(ORDER(at, LIST_FOREACH(at, &other, both)) == 245 && LIST_EMPTY(&head));
 	LIST_MOVE(&head, &other, both);
 	EXPECT(LIST_EMPTY(&other));
 	LIST_INSERT_HEAD(&other, &elements[0], both);
@@ -146,7 +143,6 @@ static void test_simpleq(void)
 {
 	SIMPLEQ_HEAD(simples, element) head = SIMPLEQ_HEAD_INITIALIZER(head), more;
 	struct element *at, *after;
-	unsigned order;
 	SIMPLEQ_INIT(&head);
 	SIMPLEQ_INIT(&more);
 	EXPECT(SIMPLEQ_LAST(&head, element, simple) == NULL);
@@ -156,14 +152,13 @@ static void test_simpleq(void)
 	SIMPLEQ_INSERT_TAIL(&more, &elements[3], simple);
 	SIMPLEQ_CONCAT(&head, &more);
 	SIMPLEQ_CONCAT(&head, &more);
-	ORDER(order, at, SIMPLEQ_FOREACH(at, &head, simple));
-	EXPECT(order == 1234 && SIMPLEQ_EMPTY(&more) && SIMPLEQ_LAST(&head, element, simple) == &elements[3]);
+	EXPECT(ORDER(at, SIMPLEQ_FOREACH(at, &head, simple)) == 1234);
+	EXPECT(SIMPLEQ_EMPTY(&more) && SIMPLEQ_LAST(&head, element, simple) == &elements[3]);
 	SIMPLEQ_REMOVE_AFTER(&head, &elements[2], simple);
 	EXPECT(SIMPLEQ_LAST(&head, element, simple) == &elements[2] && SIMPLEQ_NEXT(&elements[2], simple) == NULL);
 	SIMPLEQ_REMOVE(&head, &elements[1], element, simple);
 	SIMPLEQ_INSERT_TAIL(&head, &elements[4], simple);
-	ORDER(order, at, SIMPLEQ_FOREACH(at, &head, simple));
-	EXPECT(order == 135 && SIMPLEQ_FIRST(&head) == &elements[0]);
+	EXPECT(ORDER(at, SIMPLEQ_FOREACH(at, &head, simple)) == 135 && SIMPLEQ_FIRST(&head) == &elements[0]);
 	SIMPLEQ_FOREACH_SAFE(at, &head, simple, after)
 		SIMPLEQ_REMOVE_HEAD(&head, simple);
 	EXPECT(SIMPLEQ_EMPTY(&head));
@@ -173,15 +168,14 @@ static void test_stailq(void)
 {
 	STAILQ_HEAD(taileds, element) head = STAILQ_HEAD_INITIALIZER(head), more = STAILQ_HEAD_INITIALIZER(more);
 	struct element *at, *after;
-	unsigned order;
 	STAILQ_INIT(&head);
 	EXPECT(STAILQ_LAST(&head, element, tailed) == NULL);
 	STAILQ_INSERT_HEAD(&head, &elements[4], tailed);
 	STAILQ_INSERT_AFTER(&head, &elements[4], &elements[2], tailed);
 	STAILQ_INSERT_TAIL(&more, &elements[1], tailed);
 	STAILQ_CONCAT(&head, &more);
-	ORDER(order, at, STAILQ_FOREACH(at, &head, tailed));
-	EXPECT(order == 532 && STAILQ_LAST(&head, element, tailed) == &elements[1] && STAILQ_NEXT(&elements[4], tailed) == &elements[2]);
+	EXPECT(ORDER(at, STAILQ_FOREACH(at, &head, tailed)) == 532);
+	EXPECT(STAILQ_LAST(&head, element, tailed) == &elements[1] && STAILQ_NEXT(&elements[4], tailed) == &elements[2]);
 	STAILQ_REMOVE(&head, &elements[2], element, tailed);
 	EXPECT(STAILQ_FIRST(&head) == &elements[4] && STAILQ_NEXT(&elements[4], tailed) == &elements[1]);
 	STAILQ_FOREACH_SAFE(at, &head, tailed, after)
@@ -193,20 +187,19 @@ static void test_tailq(void)
 {
 	TAILQ_HEAD(tails, element) head = TAILQ_HEAD_INITIALIZER(head), more = TAILQ_HEAD_INITIALIZER(more);
 	struct element *at, *before;
-	unsigned order;
 	TAILQ_INIT(&head);
 	TAILQ_INSERT_HEAD(&head, &elements[1], tail);
 	TAILQ_INSERT_BEFORE(&elements[1], &elements[0], tail);
 	TAILQ_INSERT_AFTER(&head, &elements[1], &elements[2], tail);
 	TAILQ_INSERT_TAIL(&more, &elements[3], tail);
 	TAILQ_CONCAT(&head, &more, tail);
-	ORDER(order, at, TAILQ_FOREACH(at, &head, tail));
-	EXPECT(order == 1234 && TAILQ_FIRST(&head) == &elements[0] && TAILQ_LAST(&head, tails) == &elements[3]);
+	EXPECT(ORDER(at, TAILQ_FOREACH(at, &head, tail)) == 1234);
+	EXPECT(TAILQ_FIRST(&head) == &elements[0] && TAILQ_LAST(&head, tails) == &elements[3]);
 	TAILQ_REPLACE(&head, &elements[3], &elements[4], tail);
 	EXPECT(TAILQ_LAST(&head, tails) == &elements[4]);
 	TAILQ_REPLACE(&head, &elements[1], &elements[3], tail);
-	ORDER(order, at, TAILQ_FOREACH_REVERSE(at, &head, tails, tail));
-	EXPECT(order == 5341 && TAILQ_NEXT(&elements[0], tail) == &elements[3] && TAILQ_PREV(&elements[3], tails, tail) == &elements[0]);
+	EXPECT(ORDER(at, TAILQ_FOREACH_REVERSE(at, &head, tails, tail)) == 5341);
+	EXPECT(TAILQ_NEXT(&elements[0], tail) == &elements[3] && TAILQ_PREV(&elements[3], tails, tail) == &elements[0]);
 	TAILQ_FOREACH_REVERSE_SAFE(at, &head, tails, tail, before)
 		if (at != &elements[0])
 			TAILQ_REMOVE(&head, at, tail);
@@ -308,10 +301,7 @@ static __noinline int noinline_sum(int32_t one, int two __diagused)
 	return one + two;
 }
 
-static __dead void dies(void)
-{
-	panic("not called");
-}
+static __dead void dies(void) { panic("not called"); }
 
 static void test_words(void)
 {

@@ -1,5 +1,6 @@
 /*
- * tells - a wait that lasts names who it waits for, once, by one line: over a layer whose patience is short
+ * tells - a wait that lasts names who it waits for, once, by one line; a count that is full stops: over a layer whose patience is short, and whose limits
+ * are low
  *
  * Each case runs in a child, which ends well. What is waited for ends once the line was written: the linker leads write here (--wrap), and what
  * acquires and releases a local reference in the archive, which may last. It leads here, too, open and nanosleep, in which a destroyer lets others have a CPU
@@ -7,32 +8,16 @@
  */
 #include <fcntl.h>
 #include <stdarg.h>
-#include <sys/callout.h>
-#include <sys/condvar.h>
-#include <sys/cpu.h>
-#include <sys/intr.h>
-#include <sys/kthread.h>
-#include <sys/localcount.h>
-#include <sys/mutex.h>
-#include <sys/percpu.h>
 #include <sys/prctl.h>
-#include <sys/pserialize.h>
-#include <sys/psref.h>
-#include <sys/rwlock.h>
-#include <sys/systm.h>
-#include <sys/xcall.h>
 
 #include "stops.h"
 
 #include "registry.h"
 #include "wraps.h"
 
-static struct psref_class *things;
-static struct psref_target target;
-static struct localcount count;
-static pserialize_t psz;
-static kmutex_t lock, countlock, spin;
-static kcondvar_t cv;
+#include "things.h"
+
+static kmutex_t spin;
 static krwlock_t rw;
 static atomic_bool ready, told;
 
@@ -50,10 +35,11 @@ static int64_t milliseconds(void)
 	return (int64_t)now.tv_sec * 1000 + now.tv_nsec / 1000000;
 }
 
-static void await_told(void)
+static void await(atomic_bool *what)
 {
-	for (unsigned turn = 0; turn < 10000 && !atomic_load(&told); turn++)
+	for (unsigned turn = 0; turn < 10000 && !atomic_load(what); turn++)
 		sleep_for(1000);
+	EXPECT(atomic_load(what));
 }
 
 /* It has it now, and keeps it until the line was written, which isn't soon, and somewhat longer: no second line follows. */
@@ -61,38 +47,28 @@ static void keep(void)
 {
 	int64_t began = milliseconds();
 	atomic_store(&ready, true);
-	await_told();
+	await(&told);
 	EXPECT(milliseconds() - began > KUPALDIZ_PATIENCE / 2);
 	sleep_for(20000);
 }
 
 static atomic_bool lasts, lasts_inside;
 
-uint32_t __wrap_registry_local_acquire(struct registry_cpu *cpu, struct registry_local *reference)
-{
-	if (atomic_load(&lasts_inside))
-		keep();
-	return __real_registry_local_acquire(cpu, reference);
-}
-
-uint32_t __wrap_registry_local_release(struct registry_cpu *cpu, struct registry_local *reference)
-{
-	if (atomic_load(&lasts))
-		keep();
-	return __real_registry_local_release(cpu, reference);
-}
+#define LASTS(call, flag) \
+	uint32_t __wrap_##call(struct registry_cpu *cpu, struct registry_local *reference) \
+	{ \
+		if (atomic_load(flag)) \
+			keep(); \
+		return __real_##call(cpu, reference); \
+	}
+LASTS(registry_local_acquire, &lasts_inside)
+LASTS(registry_local_release, &lasts)
 
 static void begin(void)
 {
-	things = psref_class_create("thing", IPL_SOFTNET);
-	psz = pserialize_create();
-	mutex_init(&lock, MUTEX_DEFAULT, IPL_SOFTNET);
-	mutex_init(&countlock, MUTEX_DEFAULT, IPL_NONE);
+	make_things(IPL_NONE);
 	mutex_init(&spin, MUTEX_DEFAULT, IPL_VM);
-	cv_init(&cv, "count");
 	rw_init(&rw);
-	psref_target_init(&target, things);
-	localcount_init(&count);
 }
 
 /* Runs a body on a thread with a name, on CPU 3, until it has what another thread will wait for. */
@@ -112,39 +88,23 @@ static pthread_t hold(const char *name, void *(*body)(void *))
 /* Makes a call while such a thread has what the call waits for. */
 #define BESIDE(name, body, ...)	pthread_t holder = hold(name, body); __VA_ARGS__; end_thread(holder)
 
-static void drain(void)
-{
-	mutex_enter(&countlock);
-	localcount_drain(&count, &cv, &countlock);
-	mutex_exit(&countlock);
-}
-
-static void release_count(void) { localcount_release(&count, &cv, &countlock); }
+static void release_count(void) { localcount_release(&count, &cv, &lock); }
 
 /* ---- Sections. ---- */
 
 #define FOR_READER	"waits for CPU 3, whose thread \"reader\" is inside a read section, entered at PLACE"
 
 HOLDER(read_long, int s = pserialize_read_enter(); keep(); pserialize_read_exit(s))
-HANDLER(nothing, (void)0)
-static void add_nothing(void *arg, void *other)
-{
-	nothing(arg);
-	nothing(other);
-}
 WAITS("pserialize_perform: " FOR_READER, BESIDE("reader", read_long, pserialize_perform(psz)))
 WAITS("psref_target_destroy: " FOR_READER, BESIDE("reader", read_long, psref_target_destroy(&target, things)))
-WAITS("localcount_drain: " FOR_READER, BESIDE("reader", read_long, drain()))
+WAITS("localcount_drain: " FOR_READER, BESIDE("reader", read_long, drain(&count)))
 WAITS("xc_barrier: " FOR_READER, BESIDE("reader", read_long, xc_barrier(0)))
-WAITS("xc_broadcast: " FOR_READER, BESIDE("reader", read_long, xc_wait(xc_broadcast(XC_HIGHPRI, add_nothing, NULL, NULL))))
 WAITS("pserialize_read_enter: " FOR_READER,
     BESIDE("reader", read_long, kupaldiz_bind(3); int s = pserialize_read_enter(); pserialize_read_exit(s)))
 /* What the function calls isn't what waits. */
-static void look_where(void *arg, void *other)
-{
-	EXPECT(arg == NULL && other == NULL && cpu_number() < KUPALDIZ_CPUS);
-}
+static void look_where(void *arg, void *other) { EXPECT(arg == NULL && other == NULL && cpu_number() < KUPALDIZ_CPUS); }
 WAITS("xc_broadcast: " FOR_READER, BESIDE("reader", read_long, xc_wait(xc_broadcast(0, look_where, NULL, NULL))))
+WAITS("xc_broadcast: " FOR_READER, BESIDE("reader", read_long, xc_wait(xc_broadcast(XC_HIGHPRI, look_where, NULL, NULL))))
 /* The section is a call's own, and nobody has entered it by name. It was inside a section before, and isn't any more. */
 HOLDER(acquire_long,
     pserialize_read_exit(pserialize_read_enter()); atomic_store(&lasts_inside, true); localcount_acquire(&count); release_count())
@@ -152,9 +112,9 @@ WAITS("pserialize_perform: waits for CPU 3", BESIDE("acquirer", acquire_long, ps
 
 /* ---- References. ---- */
 
-static struct psref first, second, first_beside, second_beside, counted[KUPALDIZ_REFERENCES];
+static struct psref first, second, first_beside, second_beside;
 static struct psref_target next;
-static atomic_bool joined, taken;
+static atomic_bool joined;
 
 HOLDER(refer_long, psref_acquire(&first, &target, things); keep(); psref_release(&first, &target, things))
 WAITS("psref_target_destroy: waits for CPU 3, whose thread \"bridge_input\" holds one reference, acquired at PLACE",
@@ -168,7 +128,7 @@ WAITS("psref_target_destroy: waits for CPU 3, whose thread \"bridge_output\" hol
 /* Has a reference to each of two targets, with the first one's CPU. Only what the thread has to this target counts. */
 THREAD(refer_beside,
     kupaldiz_bind(3); psref_acquire(&first_beside, &target, things); psref_acquire(&second_beside, &next, things); atomic_store(&joined, true);
-    await_told(); psref_release(&first_beside, &target, things); psref_release(&second_beside, &next, things))
+    await(&told); psref_release(&first_beside, &target, things); psref_release(&second_beside, &next, things))
 HOLDER(refer_to_two,
     pthread_t beside; psref_target_init(&next, things); psref_acquire(&first, &target, things); psref_acquire(&second, &next, things);
     start_thread(&beside, refer_beside, NULL);
@@ -177,30 +137,13 @@ HOLDER(refer_to_two,
 WAITS("psref_target_destroy: waits for CPU 3, whose thread \"bridge_ioctl\" holds one reference, acquired at PLACE",
     BESIDE("bridge_ioctl", refer_to_two, psref_target_destroy(&target, things)))
 
-/* One reference more than its CPU counts, and then that one alone, which the writers' CPU counts. */
-HOLDER(refer_elsewhere,
-    for (unsigned i = 0; i < KUPALDIZ_REFERENCES; i++)
-	    psref_acquire(&counted[i], &target, things);
-    psref_acquire(&first, &target, things);
-    for (unsigned i = 0; i < KUPALDIZ_REFERENCES; i++)
-	    psref_release(&counted[i], &target, things);
-    EXPECT(psref_held(&target, things)); keep(); psref_release(&first, &target, things))
-WAITS("psref_target_destroy: waits for CPU 3, whose thread \"ifconfig\" holds one reference, acquired at PLACE",
-    BESIDE("ifconfig", refer_elsewhere, psref_target_destroy(&target, things)))
-/* The same, where the table of another CPU can't be looked into: a thread has CPU 0, outside any section. */
-THREAD(keep_first, kupaldiz_bind(0); kpreempt_disable(); atomic_store(&taken, true); await_told(); kpreempt_enable())
-WAITS("psref_target_destroy: waits for CPU 3, whose thread \"ifconfig\" holds one reference, acquired at PLACE",
-    pthread_t keeper; start_thread(&keeper, keep_first, NULL);
-    await_flag(&taken);
-    BESIDE("ifconfig", refer_elsewhere, psref_target_destroy(&target, things)); end_thread(keeper))
-
 HOLDER(count_long, localcount_acquire(&count); keep(); release_count())
-WAITS("localcount_drain: waits for 1 reference, acquired at PLACE", BESIDE("open", count_long, drain()))
+WAITS("localcount_drain: waits for 1 reference, acquired at PLACE", BESIDE("open", count_long, drain(&count)))
 HOLDER(count_twice, localcount_acquire(&count); localcount_acquire(&count); keep(); release_count(); release_count())
-WAITS("localcount_drain: waits for 2 references, one of them acquired at PLACE", BESIDE("open", count_twice, drain()))
+WAITS("localcount_drain: waits for 2 references, one of them acquired at PLACE", BESIDE("open", count_twice, drain(&count)))
 /* The reference isn't noted any more, and not released yet. */
 HOLDER(release_long, localcount_acquire(&count); atomic_store(&lasts, true); release_count())
-WAITS("localcount_drain: waits for a release that is under way", BESIDE("close", release_long, drain()))
+WAITS("localcount_drain: waits for a release that is under way", BESIDE("close", release_long, drain(&count)))
 
 /* ---- Locks. ---- */
 
@@ -313,13 +256,6 @@ struct holder {
 	pthread_t thread;
 };
 
-static void await(atomic_bool *what)
-{
-	for (unsigned turn = 0; turn < 10000 && !atomic_load(what); turn++)
-		sleep_for(1000);
-	EXPECT(atomic_load(what));
-}
-
 static void *hold_one(void *of)
 {
 	const struct holder *holder = of;
@@ -379,8 +315,59 @@ WAITS("psref_target_destroy: waits for a reference", HOLDERS({"kept", 3, true, t
 /* The CPU is free at the second look. */
 WAITS(HOLDS_ONE("3", "lets_go"), looked_at = 3; HOLDERS({"lets_go", 3, true, false, LETS_GO, 0}))
 
+/* ---- What the layer can't count any more stops with its line: a hundred registries of four rows, two thousand references of a CPU to one entry. ---- */
+
+/* The writers' CPU counts as many as any other one. */
+enum { REFERENCES = 2 * KUPALDIZ_REFERENCES, LIVE = KUPALDIZ_BANKS * KUPALDIZ_ROWS };
+
+static struct psref psrefs[REFERENCES + 1];
+
+static void refer(unsigned references)
+{
+	kupaldiz_bind(1);
+	for (unsigned i = 0; i < references; i++)
+		psref_acquire(&psrefs[i], &target, things);
+}
+
+static void release(unsigned references)
+{
+	for (unsigned i = 0; i < references; i++)
+		psref_release(&psrefs[i], &target, things);
+}
+
+/* A copy is counted where the first one is, else by the other CPU, unless the target is being destroyed. */
+#define PASSIVE_FULL	": this CPU has as many passive references to the entry as it may, at PLACE"
+STOPS("psref_acquire" PASSIVE_FULL, refer(REFERENCES); EXPECT(psref_held(&target, things)); psref_acquire(&psrefs[REFERENCES], &target, things))
+STOPS("psref_copy" PASSIVE_FULL, refer(REFERENCES); psref_copy(&psrefs[REFERENCES], &psrefs[REFERENCES - 1], things))
+STOPS("psref_copy" PASSIVE_FULL, refer(REFERENCES); psref_copy(&psrefs[REFERENCES], &psrefs[0], things))
+STOPS("panic: both were copied, at PLACE",
+    refer(KUPALDIZ_REFERENCES); psref_copy(&psrefs[REFERENCES], &psrefs[0], things); psref_copy(&psrefs[REFERENCES - 1], &psrefs[REFERENCES], things);
+    release(KUPALDIZ_REFERENCES); EXPECT(psref_held(&target, things)); psref_release(&psrefs[REFERENCES], &target, things);
+    EXPECT(psref_held(&target, things)); psref_release(&psrefs[REFERENCES - 1], &target, things); EXPECT(!psref_held(&target, things));
+    panic("both were copied"))
+STOPS("panic: this CPU counts the copy, at PLACE",
+    refer(REFERENCES); psref_release(&psrefs[0], &target, things); psref_copy(&psrefs[0], &psrefs[REFERENCES - 1], things); release(REFERENCES);
+    EXPECT(!psref_held(&target, things)); panic("this CPU counts the copy"))
+THREAD(destroy_target, psref_target_destroy(&target, things))
+STOPS("psref_copy" PASSIVE_FULL,
+    pthread_t destroyer; refer(KUPALDIZ_REFERENCES); start_thread(&destroyer, destroy_target, NULL); sleep_for(20000);
+    psref_copy(&psrefs[REFERENCES], &psrefs[0], things))
+STOPS("localcount_acquire: this CPU's net count of local references to the entry is at its limit, at PLACE",
+    for (unsigned i = 0; i < REFERENCES; i++)
+	    localcount_acquire(&count);
+    EXPECT(localcount_debug_refcnt(&count) == REFERENCES); localcount_acquire(&count))
+
+/* The target and the count are live, too. */
+static char live_line[96];
+STOPS(live_line,
+    static struct psref_target many[LIVE - 1];
+    for (unsigned i = 0; i < LIVE - 2; i++)
+	    psref_target_init(&many[i], things);
+    kupaldiz_at("the last call"); (psref_target_init)(&many[LIVE - 2], things))
+
 int main(void)
 {
+	snprintf(live_line, sizeof(live_line), "psref_target_init: %d targets and counts are live, at the last call", LIVE);
 	snprintf(of_last, sizeof(of_last), HOLDS_ONE("%d", "last"), LAST);
 	return run_cases(begin);
 }

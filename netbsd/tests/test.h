@@ -6,6 +6,7 @@
 
 #include <pthread.h>
 #include <stdatomic.h>
+#include <stdbool.h>
 #include <stdio.h>
 #include <stdlib.h>
 #include <string.h>
@@ -54,9 +55,6 @@ static inline void start_thread(pthread_t *thread, void *(*body)(void *), void *
 	EXPECT(pthread_create(thread, NULL, body, arg) == 0);
 }
 
-static inline void end_thread(pthread_t thread)
-{
-	EXPECT(pthread_join(thread, NULL) == 0);
-}
+static inline void end_thread(pthread_t thread) { EXPECT(pthread_join(thread, NULL) == 0); }
 
 #endif

@@ -162,25 +162,4 @@ static void end(const void *handle)
 		return answer; \
 	}
 
-ONE(enter, cpu, (struct registry_cpu *cpu), (cpu))
-ONE(exit, cpu, (struct registry_cpu *cpu), (cpu))
-ONE(get, cpu, (struct registry_cpu *cpu, uint64_t kind, const struct registry_name *name, struct registry_entry *found), (cpu, kind, name, found))
-ONE(enter_find, cpu, (struct registry_cpu *cpu, uint64_t kind, const struct registry_name *name, struct registry_entry *found), (cpu, kind, name, found))
-ONE(copy, cpu, (struct registry_cpu *cpu, uint64_t number), (cpu, number))
-ONE(held, cpu, (const struct registry_cpu *cpu, uint64_t number, bool *held), (cpu, number, held))
-ONE(release, cpu, (struct registry_cpu *cpu, uint64_t number), (cpu, number))
-ONE(local_acquire, cpu, (struct registry_cpu *cpu, struct registry_local *local), (cpu, local))
-ONE(local_release, cpu, (struct registry_cpu *cpu, struct registry_local *local), (cpu, local))
-ONE(close_cpu, cpu, (struct registry_cpu *cpu), (cpu))
-ONE(close_keeper, keeper, (struct registry_keeper *keeper), (keeper))
-TWO(local_give_up, local, false, (struct registry_keeper *keeper, struct registry_local *local), (keeper, local))
-TWO(attach, cpu, true,
-    (struct registry_keeper *keeper, struct registry_cpu *cpu, const struct registry_name *name, uint64_t value, struct registry_entry *made),
-    (keeper, cpu, name, value, made))
-TWO(detach, cpu, true,
-    (struct registry_keeper *keeper, struct registry_cpu *cpu, uint64_t kind, const struct registry_name *name, struct registry_entry *gone),
-    (keeper, cpu, kind, name, gone))
-TWO(destroy, cpu, true, (struct registry_keeper *keeper, struct registry_cpu *cpu, uint64_t number, struct registry_stage *met), (keeper, cpu, number, met))
-TWO(perform_begin, cpu, true, (struct registry_keeper *keeper, struct registry_cpu *cpu, struct registry_wait *wait), (keeper, cpu, wait))
-TWO(perform_turn, cpu, true, (struct registry_keeper *keeper, struct registry_cpu *cpu, struct registry_wait *wait, uint64_t *waited),
-    (keeper, cpu, wait, waited))
+REGISTRY_CALLS(ONE, TWO)

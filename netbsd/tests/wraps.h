@@ -38,29 +38,42 @@ WRAP(void *, calloc, size_t count, size_t size);
 WRAP(void *, realloc, void *block, size_t size);
 WRAP(int, posix_memalign, void **block, size_t align, size_t size);
 WRAP(void, free, void *block);
-WRAP(void *, memcpy, void *to, const void *from, size_t length);
 
 #undef registry_open
 WRAP(uint32_t, registry_open, const struct registry_settings *settings, struct registry_keeper *keeper, struct registry_cpu *cpus, size_t count);
-WRAP(uint32_t, registry_enter, struct registry_cpu *cpu);
-WRAP(uint32_t, registry_exit, struct registry_cpu *cpu);
-WRAP(uint32_t, registry_get, struct registry_cpu *cpu, uint64_t kind, const struct registry_name *name, struct registry_entry *found);
-WRAP(uint32_t, registry_enter_find, struct registry_cpu *cpu, uint64_t kind, const struct registry_name *name, struct registry_entry *found);
-WRAP(uint32_t, registry_copy, struct registry_cpu *cpu, uint64_t number);
-WRAP(uint32_t, registry_held, const struct registry_cpu *cpu, uint64_t number, bool *held);
-WRAP(uint32_t, registry_release, struct registry_cpu *cpu, uint64_t number);
-WRAP(uint32_t, registry_local_acquire, struct registry_cpu *cpu, struct registry_local *local);
-WRAP(uint32_t, registry_local_release, struct registry_cpu *cpu, struct registry_local *local);
 WRAP(uint32_t, registry_local_forget, struct registry_local *local);
-WRAP(uint32_t, registry_local_give_up, struct registry_keeper *keeper, struct registry_local *local);
-WRAP(uint32_t, registry_close_cpu, struct registry_cpu *cpu);
-WRAP(uint32_t, registry_close_keeper, struct registry_keeper *keeper);
-WRAP(uint32_t, registry_attach, struct registry_keeper *keeper, struct registry_cpu *cpu, const struct registry_name *name, uint64_t value,
-    struct registry_entry *made);
-WRAP(uint32_t, registry_detach, struct registry_keeper *keeper, struct registry_cpu *cpu, uint64_t kind, const struct registry_name *name,
-    struct registry_entry *gone);
-WRAP(uint32_t, registry_destroy, struct registry_keeper *keeper, struct registry_cpu *cpu, uint64_t number, struct registry_stage *met);
-WRAP(uint32_t, registry_perform_begin, struct registry_keeper *keeper, struct registry_cpu *cpu, struct registry_wait *wait);
-WRAP(uint32_t, registry_perform_turn, struct registry_keeper *keeper, struct registry_cpu *cpu, struct registry_wait *wait, uint64_t *waited);
+
+/* The other calls of the archive: ONE(name, its handle, parameters, arguments), or TWO with a keeper's and another handle, and whether that is a CPU's. */
+#define REGISTRY_CALLS(ONE, TWO) \
+	ONE(enter, cpu, (struct registry_cpu *cpu), (cpu)) \
+	ONE(exit, cpu, (struct registry_cpu *cpu), (cpu)) \
+	ONE(get, cpu, \
+	    (struct registry_cpu *cpu, uint64_t kind, const struct registry_name *name, struct registry_entry *found), (cpu, kind, name, found)) \
+	ONE(enter_find, cpu, \
+	    (struct registry_cpu *cpu, uint64_t kind, const struct registry_name *name, struct registry_entry *found), (cpu, kind, name, found)) \
+	ONE(copy, cpu, (struct registry_cpu *cpu, uint64_t number), (cpu, number)) \
+	ONE(held, cpu, (const struct registry_cpu *cpu, uint64_t number, bool *held), (cpu, number, held)) \
+	ONE(release, cpu, (struct registry_cpu *cpu, uint64_t number), (cpu, number)) \
+	ONE(local_acquire, cpu, (struct registry_cpu *cpu, struct registry_local *local), (cpu, local)) \
+	ONE(local_release, cpu, (struct registry_cpu *cpu, struct registry_local *local), (cpu, local)) \
+	ONE(close_cpu, cpu, (struct registry_cpu *cpu), (cpu)) \
+	ONE(close_keeper, keeper, (struct registry_keeper *keeper), (keeper)) \
+	TWO(local_give_up, local, false, (struct registry_keeper *keeper, struct registry_local *local), (keeper, local)) \
+	TWO(attach, cpu, true, \
+	    (struct registry_keeper *keeper, struct registry_cpu *cpu, const struct registry_name *name, uint64_t value, struct registry_entry *made), \
+	    (keeper, cpu, name, value, made)) \
+	TWO(detach, cpu, true, \
+	    (struct registry_keeper *keeper, struct registry_cpu *cpu, uint64_t kind, const struct registry_name *name, struct registry_entry *gone), \
+	    (keeper, cpu, kind, name, gone)) \
+	TWO(destroy, cpu, true, \
+	    (struct registry_keeper *keeper, struct registry_cpu *cpu, uint64_t number, struct registry_stage *met), (keeper, cpu, number, met)) \
+	TWO(perform_begin, cpu, true, (struct registry_keeper *keeper, struct registry_cpu *cpu, struct registry_wait *wait), (keeper, cpu, wait)) \
+	TWO(perform_turn, cpu, true, \
+	    (struct registry_keeper *keeper, struct registry_cpu *cpu, struct registry_wait *wait, uint64_t *waited), (keeper, cpu, wait, waited))
+
+#define UNBRACED(...)	__VA_ARGS__
+#define WRAP_ONE(name, handle, parameters, arguments)	WRAP(uint32_t, registry_##name, UNBRACED parameters);
+#define WRAP_TWO(name, handle, is_cpu, parameters, arguments)	WRAP(uint32_t, registry_##name, UNBRACED parameters);
+REGISTRY_CALLS(WRAP_ONE, WRAP_TWO)
 
 #endif

@@ -61,7 +61,7 @@ def lines():
     no, waits, halts = "no test wants", "waits for a release that is under way", "callout_halt: the thread does not have the lock"
     faults = [
         *of("netbsd/src/psref.c", ("a line that no test wants", f'psref.c: {no} "the target is gone"', '"the target is not live"', '"the target is gone"')),
-        *of("netbsd/src/callout.c", ("a line about what no row of calls is given", f'callout.c: {no} "the timer', "the callout was destroyed", "the timer was gone")),
+        *of("netbsd/src/callout.c", ("a line about what no row of calls is given", f'callout.c: {no} "the timer was destroyed"', '"the callout")', '"the timer")')),
         *of(misuses, ("a line that no test wants any more", f'{no} "the reference was written over"', "the reference was written over", "the reference is wrong"),
             ("a line that another file's test wants", f'callout.c: {no} "the thread does not have the lock"', halts, "callout_halt: it is free")),
         *of(tells, ("a wait that no test lets last", f'localcount.c: {no} "{waits}"', waits, "waits for a release")),

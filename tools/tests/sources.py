@@ -12,7 +12,7 @@ LIMITS = "crates/registry_values/src/limits.rt"
 VERSION = "crates/registry_c/include/registry.h"
 # The header of all limits, and what it says of each.
 HEADER = "crates/registry_c/include/registry_limits.h"
-COPIES = ("rust/registry_limits.h", "netbsd/include/kupaldiz/registry_limits.h")
+COPIES = ("rust/registry_limits.h",)
 SAID = ("MOST_CPUS\t64", "MOST_SLOTS\t255", "MOST_CHANGES\t(UINT64_C(1) << 40)", "MOST_SECTIONS\t(UINT64_C(1) << 62)", "MOST_COUNT\t(UINT64_C(1) << 40)",
         "MOST_DEPTH\t255", "BUILT_FOR\tregistry_for_64_cpus_255_slots_v0_1", 'BUILD\t""')
 
@@ -23,7 +23,7 @@ def check_limits():
     faults += [Fault(f"no number: {path}, {name}", f"{path}: {name} is None", ((path, old, "gone"),)) for path, old, name in PLACES]
     faults += [Fault(f"another header: {old}", f"{HEADER} isn't what", ((HEADER, f"REGISTRY_{old}", "REGISTRY_OTHER 7"),)) for old in SAID]
     faults += [Fault(f"another copy: {path}", f"{path} isn't what", ((path, "MOST_CPUS\t64", "MOST_CPUS\t63"),)) for path in COPIES]
-    faults.append(Fault("a comparison that isn't counted", "16 passed, 1 failed", ((COPIES[0], "MOST_CPUS\t64", "MOST_CPUS\t63"),)))
+    faults.append(Fault("a comparison that isn't counted", "15 passed, 1 failed", ((COPIES[0], "MOST_CPUS\t64", "MOST_CPUS\t63"),)))
     names = [f"{kind}_{it}" for kind in ("MOST", "USUAL") for it in ("CPUS", "SLOTS", "CHANGES", "SECTIONS", "COUNT")] + ["MOST_DEPTH"]
     faults += of(LIMITS, ("a limit that Rattle doesn't say", "MOST_DEPTH is None", "const MOST_DEPTH", "const DEPTH"),
                  *((f"another {it} in Rattle", f"{it} is", f"\npub const {it}:", f"\npub const {it}: u64 = 7;\nconst OTHER_{it}:") for it in names))

@@ -88,16 +88,10 @@ void curlwp_bindx(int bound);
 struct cpu_info *curcpu(void);
 
 /* cpu_index - the number of a CPU, from 0. */
-static inline unsigned cpu_index(const struct cpu_info *cpu)
-{
-	return cpu->ci_index;
-}
+static inline unsigned cpu_index(const struct cpu_info *cpu) { return cpu->ci_index; }
 
 /* cpu_number - the number of this thread's CPU. */
-static inline unsigned cpu_number(void)
-{
-	return cpu_index(curcpu());
-}
+static inline unsigned cpu_number(void) { return cpu_index(curcpu()); }
 
 /* kpreempt_disable - keep the CPU until kpreempt_enable: no other thread of that CPU enters a section meanwhile. It nests. */
 void kpreempt_disable(void);
@@ -109,20 +103,13 @@ void kpreempt_enable(void);
 bool kpreempt_disabled(void);
 
 /* cpu_intr_p - whether this is a hard interrupt: never, since there are none. */
-static inline bool cpu_intr_p(void)
-{
-	return false;
-}
+static inline bool cpu_intr_p(void) { return false; }
 
 /* cpu_softintr_p - whether this is a soft interrupt. */
 bool cpu_softintr_p(void);
 
-#ifndef KUPALDIZ_WITHOUT_PLACES
-#define kupaldiz_bind(cpu)	(kupaldiz_at(KUPALDIZ_HERE), kupaldiz_bind(cpu))
-#define kupaldiz_unbind()	(kupaldiz_at(KUPALDIZ_HERE), kupaldiz_unbind())
-#define curlwp_bindx(bound)	(kupaldiz_at(KUPALDIZ_HERE), curlwp_bindx(bound))
-#define kpreempt_enable()	(kupaldiz_at(KUPALDIZ_HERE), kpreempt_enable())
-#endif
+#define KUPALDIZ_PLACES_OF_CPU
+#include "places.h"
 
 __END_DECLS
 #endif

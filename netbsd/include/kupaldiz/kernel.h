@@ -19,10 +19,6 @@ __BEGIN_DECLS
 /* panic - end the process by abort(3), after one line on standard error. */
 void panic(const char *format, ...) __attribute__((noreturn, format(printf, 1, 2)));
 
-#ifndef KUPALDIZ_WITHOUT_PLACES
-#define panic(...)	(kupaldiz_at(KUPALDIZ_HERE), panic(__VA_ARGS__))
-#endif
-
 /* kupaldiz_failed - what an assertion ends with. */
 void kupaldiz_failed(const char *what, const char *text, const char *place) __attribute__((noreturn));
 void kupaldiz_failed_with(const char *place, const char *text, const char *format, ...) __attribute__((noreturn, format(printf, 3, 4)));
@@ -108,13 +104,8 @@ int copyout(const void *kernel, void *user, size_t length);
 int copyinstr(const void *user, void *kernel, size_t length, size_t *copied);
 int copyoutstr(const void *kernel, void *user, size_t length, size_t *copied);
 
-#ifndef KUPALDIZ_WITHOUT_PLACES
-#define kpause(name, interruptible, ticks, mutex)	(kupaldiz_at(KUPALDIZ_HERE), kpause(name, interruptible, ticks, mutex))
-#define kthread_exit(code)	(kupaldiz_at(KUPALDIZ_HERE), kthread_exit(code))
-#define kthread_join(thread)	(kupaldiz_at(KUPALDIZ_HERE), kthread_join(thread))
-#define copyin(user, kernel, length)	(kupaldiz_at(KUPALDIZ_HERE), copyin(user, kernel, length))
-#define copyout(kernel, user, length)	(kupaldiz_at(KUPALDIZ_HERE), copyout(kernel, user, length))
-#endif
+#define KUPALDIZ_PLACES_OF_KERNEL
+#include "places.h"
 
 /* ---- evcnt(9): counters with names. They are attached by being used. ---- */
 
@@ -148,16 +139,10 @@ static inline void evcnt_attach_dynamic(struct evcnt *counter, int type, const s
 }
 
 /* evcnt_attach_static - nothing: a counter that was initialised has its names. */
-static inline void evcnt_attach_static(struct evcnt *counter)
-{
-	(void)counter;
-}
+static inline void evcnt_attach_static(struct evcnt *counter) { (void)counter; }
 
 /* evcnt_detach - it has no name any more. */
-static inline void evcnt_detach(struct evcnt *counter)
-{
-	counter->ev_name = NULL;
-}
+static inline void evcnt_detach(struct evcnt *counter) { counter->ev_name = NULL; }
 
 /* ---- module(9) ---- */
 

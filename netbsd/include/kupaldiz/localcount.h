@@ -78,13 +78,8 @@ void localcount_release(struct localcount *lc, kcondvar_t *cv, kmutex_t *interlo
 /* localcount_debug_refcnt - how many references are held, for assertions. Stops where the count isn't live. */
 uint32_t localcount_debug_refcnt(const struct localcount *lc);
 
-#ifndef KUPALDIZ_WITHOUT_PLACES
-#define localcount_init(lc)			(kupaldiz_at(KUPALDIZ_HERE), localcount_init(lc))
-#define localcount_fini(lc)			(kupaldiz_at(KUPALDIZ_HERE), localcount_fini(lc))
-#define localcount_drain(lc, cv, interlock)	(kupaldiz_at(KUPALDIZ_HERE), localcount_drain(lc, cv, interlock))
-#define localcount_acquire(lc)			(kupaldiz_at(KUPALDIZ_HERE), localcount_acquire(lc))
-#define localcount_release(lc, cv, interlock)	(kupaldiz_at(KUPALDIZ_HERE), localcount_release(lc, cv, interlock))
-#endif
+#define KUPALDIZ_PLACES_OF_LOCALCOUNT
+#include "places.h"
 
 __END_DECLS
 #endif

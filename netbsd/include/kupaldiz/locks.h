@@ -155,26 +155,8 @@ int rw_read_held(krwlock_t *rw);
 int rw_write_held(krwlock_t *rw);
 int rw_lock_held(krwlock_t *rw);
 
-#ifndef KUPALDIZ_WITHOUT_PLACES
-#define mutex_destroy(mutex)	(kupaldiz_at(KUPALDIZ_HERE), mutex_destroy(mutex))
-#define mutex_enter(mutex)	(kupaldiz_at(KUPALDIZ_HERE), mutex_enter(mutex))
-#define mutex_exit(mutex)	(kupaldiz_at(KUPALDIZ_HERE), mutex_exit(mutex))
-#define mutex_tryenter(mutex)	(kupaldiz_at(KUPALDIZ_HERE), mutex_tryenter(mutex))
-#define mutex_spin_enter(mutex)	(kupaldiz_at(KUPALDIZ_HERE), mutex_spin_enter(mutex))
-#define mutex_spin_exit(mutex)	(kupaldiz_at(KUPALDIZ_HERE), mutex_spin_exit(mutex))
-#define mutex_obj_free(mutex)	(kupaldiz_at(KUPALDIZ_HERE), mutex_obj_free(mutex))
-#define cv_destroy(cv)		(kupaldiz_at(KUPALDIZ_HERE), cv_destroy(cv))
-#define cv_wait(cv, mutex)	(kupaldiz_at(KUPALDIZ_HERE), cv_wait(cv, mutex))
-#define cv_wait_sig(cv, mutex)	(kupaldiz_at(KUPALDIZ_HERE), cv_wait_sig(cv, mutex))
-#define cv_timedwait(cv, mutex, ticks)		(kupaldiz_at(KUPALDIZ_HERE), cv_timedwait(cv, mutex, ticks))
-#define cv_timedwait_sig(cv, mutex, ticks)	(kupaldiz_at(KUPALDIZ_HERE), cv_timedwait_sig(cv, mutex, ticks))
-#define cv_signal(cv)		(kupaldiz_at(KUPALDIZ_HERE), cv_signal(cv))
-#define cv_broadcast(cv)	(kupaldiz_at(KUPALDIZ_HERE), cv_broadcast(cv))
-#define rw_destroy(rw)		(kupaldiz_at(KUPALDIZ_HERE), rw_destroy(rw))
-#define rw_enter(rw, how)	(kupaldiz_at(KUPALDIZ_HERE), rw_enter(rw, how))
-#define rw_tryenter(rw, how)	(kupaldiz_at(KUPALDIZ_HERE), rw_tryenter(rw, how))
-#define rw_exit(rw)		(kupaldiz_at(KUPALDIZ_HERE), rw_exit(rw))
-#endif
+#define KUPALDIZ_PLACES_OF_LOCKS
+#include "places.h"
 
 __END_DECLS
 #endif

@@ -121,22 +121,8 @@ void percpu_foreach(percpu_t *percpu, percpu_callback_t look, void *arg);
 /* percpu_foreach_xcall - the same, each on its CPU, as xc_broadcast does. */
 void percpu_foreach_xcall(percpu_t *percpu, unsigned flags, percpu_callback_t look, void *arg);
 
-#ifndef KUPALDIZ_WITHOUT_PLACES
-#define kmem_alloc(size, flags)		(kupaldiz_at(KUPALDIZ_HERE), kmem_alloc(size, flags))
-#define kmem_zalloc(size, flags)	(kupaldiz_at(KUPALDIZ_HERE), kmem_zalloc(size, flags))
-#define kmem_free(block, size)		(kupaldiz_at(KUPALDIZ_HERE), kmem_free(block, size))
-#define kmem_intr_alloc(size, flags)	(kupaldiz_at(KUPALDIZ_HERE), kmem_intr_alloc(size, flags))
-#define kmem_intr_zalloc(size, flags)	(kupaldiz_at(KUPALDIZ_HERE), kmem_intr_zalloc(size, flags))
-#define kmem_intr_free(block, size)	(kupaldiz_at(KUPALDIZ_HERE), kmem_intr_free(block, size))
-#define pool_destroy(pool)		(kupaldiz_at(KUPALDIZ_HERE), pool_destroy(pool))
-#define pool_get(pool, flags)		(kupaldiz_at(KUPALDIZ_HERE), pool_get(pool, flags))
-#define pool_put(pool, object)		(kupaldiz_at(KUPALDIZ_HERE), pool_put(pool, object))
-#define pool_cache_destroy(cache)	(kupaldiz_at(KUPALDIZ_HERE), pool_cache_destroy(cache))
-#define pool_cache_get(cache, flags)	(kupaldiz_at(KUPALDIZ_HERE), pool_cache_get(cache, flags))
-#define pool_cache_put(cache, object)	(kupaldiz_at(KUPALDIZ_HERE), pool_cache_put(cache, object))
-#define percpu_free(percpu, size)	(kupaldiz_at(KUPALDIZ_HERE), percpu_free(percpu, size))
-#define percpu_putref(percpu)		(kupaldiz_at(KUPALDIZ_HERE), percpu_putref(percpu))
-#endif
+#define KUPALDIZ_PLACES_OF_MEMORY
+#include "places.h"
 
 __END_DECLS
 #endif

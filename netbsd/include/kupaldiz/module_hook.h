@@ -25,12 +25,8 @@ void module_hook_unset(bool *hooked, struct localcount *lc);
 bool module_hook_tryenter(const bool *hooked, struct localcount *lc);
 void module_hook_exit(struct localcount *lc);
 
-#ifndef KUPALDIZ_WITHOUT_PLACES
-#define module_hook_set(hooked, lc)	(kupaldiz_at(KUPALDIZ_HERE), module_hook_set(hooked, lc))
-#define module_hook_unset(hooked, lc)	(kupaldiz_at(KUPALDIZ_HERE), module_hook_unset(hooked, lc))
-#define module_hook_tryenter(hooked, lc)	(kupaldiz_at(KUPALDIZ_HERE), module_hook_tryenter(hooked, lc))
-#define module_hook_exit(lc)		(kupaldiz_at(KUPALDIZ_HERE), module_hook_exit(lc))
-#endif
+#define KUPALDIZ_PLACES_OF_MODULE_HOOK
+#include "places.h"
 
 /* MODULE_HOOK_SET - from now on calls of the hook call the function. Stops where the hook is set, and where the thread mustn't sleep. */
 #define MODULE_HOOK_SET(hook, function) \
@@ -42,27 +38,23 @@ void module_hook_exit(struct localcount *lc);
 /* MODULE_HOOK_UNSET - no call reaches the function any more: waits for those under way. Stops where the hook isn't set, and where the thread mustn't sleep. */
 #define MODULE_HOOK_UNSET(hook)	module_hook_unset(&(hook).hooked, &(hook).lc)
 
-/* MODULE_HOOK_CALL - call the function with the arguments `words`, in parentheses, and set `result`: to `otherwise` where the hook isn't set. */
-#define MODULE_HOOK_CALL(hook, words, otherwise, result) \
+/* A call of the hook, or what is done otherwise. */
+#define KUPALDIZ_HOOK_CALL(hook, call, otherwise) \
 	do { \
 		if (module_hook_tryenter(&(hook).hooked, &(hook).lc)) { \
-			(result) = (*(hook).f)words; \
-			module_hook_exit(&(hook).lc); \
-		} else { \
-			(result) = (otherwise); \
-		} \
-	} while (0)
-
-/* MODULE_HOOK_CALL_VOID - the same of a function without a result; `otherwise` is evaluated where the hook isn't set. */
-#define MODULE_HOOK_CALL_VOID(hook, words, otherwise) \
-	do { \
-		if (module_hook_tryenter(&(hook).hooked, &(hook).lc)) { \
-			(*(hook).f)words; \
+			call; \
 			module_hook_exit(&(hook).lc); \
 		} else { \
 			otherwise; \
 		} \
 	} while (0)
+
+/* MODULE_HOOK_CALL - call the function with the arguments `words`, in parentheses, and set `result`: to `otherwise` where the hook isn't set. */
+#define MODULE_HOOK_CALL(hook, words, otherwise, result) \
+	KUPALDIZ_HOOK_CALL(hook, (result) = (*(hook).f)words, (result) = (otherwise))
+
+/* MODULE_HOOK_CALL_VOID - the same of a function without a result; `otherwise` is evaluated where the hook isn't set. */
+#define MODULE_HOOK_CALL_VOID(hook, words, otherwise)	KUPALDIZ_HOOK_CALL(hook, (*(hook).f)words, otherwise)
 
 __END_DECLS
 #endif

@@ -61,12 +61,8 @@ bool pserialize_in_read_section(void);
 /* pserialize_not_in_read_section - whether it is outside. */
 bool pserialize_not_in_read_section(void);
 
-#ifndef KUPALDIZ_WITHOUT_PLACES
-#define pserialize_destroy(psz)	(kupaldiz_at(KUPALDIZ_HERE), pserialize_destroy(psz))
-#define pserialize_read_enter()	(kupaldiz_at(KUPALDIZ_HERE), pserialize_read_enter())
-#define pserialize_read_exit(s)	(kupaldiz_at(KUPALDIZ_HERE), pserialize_read_exit(s))
-#define pserialize_perform(psz)	(kupaldiz_at(KUPALDIZ_HERE), pserialize_perform(psz))
-#endif
+#define KUPALDIZ_PLACES_OF_PSERIALIZE
+#include "places.h"
 
 __END_DECLS
 #endif

@@ -94,15 +94,8 @@ void psref_copy(struct psref *to, const struct psref *from, struct psref_class *
  */
 bool psref_held(const struct psref_target *target, struct psref_class *psref_class);
 
-#ifndef KUPALDIZ_WITHOUT_PLACES
-#define psref_class_destroy(psref_class)		(kupaldiz_at(KUPALDIZ_HERE), psref_class_destroy(psref_class))
-#define psref_target_init(target, psref_class)		(kupaldiz_at(KUPALDIZ_HERE), psref_target_init(target, psref_class))
-#define psref_target_destroy(target, psref_class)	(kupaldiz_at(KUPALDIZ_HERE), psref_target_destroy(target, psref_class))
-#define psref_acquire(psref, target, psref_class)	(kupaldiz_at(KUPALDIZ_HERE), psref_acquire(psref, target, psref_class))
-#define psref_release(psref, target, psref_class)	(kupaldiz_at(KUPALDIZ_HERE), psref_release(psref, target, psref_class))
-#define psref_copy(to, from, psref_class)		(kupaldiz_at(KUPALDIZ_HERE), psref_copy(to, from, psref_class))
-#define psref_held(target, psref_class)			(kupaldiz_at(KUPALDIZ_HERE), psref_held(target, psref_class))
-#endif
+#define KUPALDIZ_PLACES_OF_PSREF
+#include "places.h"
 
 __END_DECLS
 #endif

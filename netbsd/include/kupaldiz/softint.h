@@ -147,16 +147,8 @@ bool callout_invoking(callout_t *callout);
 /* callout_ack - called by its body: callout_invoking is false from then on. */
 void callout_ack(callout_t *callout);
 
-#ifndef KUPALDIZ_WITHOUT_PLACES
-#define softint_disestablish(cookie)	(kupaldiz_at(KUPALDIZ_HERE), softint_disestablish(cookie))
-#define softint_schedule(cookie)	(kupaldiz_at(KUPALDIZ_HERE), softint_schedule(cookie))
-#define kupaldiz_splraise(level)	(kupaldiz_at(KUPALDIZ_HERE), kupaldiz_splraise(level))
-#define splx(level)			(kupaldiz_at(KUPALDIZ_HERE), splx(level))
-#define xc_broadcast(flags, body, arg_a, arg_b)	(kupaldiz_at(KUPALDIZ_HERE), xc_broadcast(flags, body, arg_a, arg_b))
-#define xc_barrier(flags)		(kupaldiz_at(KUPALDIZ_HERE), xc_barrier(flags))
-#define callout_destroy(callout)	(kupaldiz_at(KUPALDIZ_HERE), callout_destroy(callout))
-#define callout_halt(callout, interlock)	(kupaldiz_at(KUPALDIZ_HERE), callout_halt(callout, interlock))
-#endif
+#define KUPALDIZ_PLACES_OF_SOFTINT
+#include "places.h"
 
 __END_DECLS
 #endif

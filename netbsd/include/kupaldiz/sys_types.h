@@ -60,10 +60,7 @@ void *__tsan_memset(void *to, int byte, size_t size);
 #define memset	__tsan_memset
 #else
 void kupaldiz_unseen(const char *file);
-static void __attribute__((constructor)) kupaldiz_unseen_here(void)
-{
-	kupaldiz_unseen(__BASE_FILE__);
-}
+static void __attribute__((constructor)) kupaldiz_unseen_here(void) { kupaldiz_unseen(__BASE_FILE__); }
 #endif
 #else
 #define KUPALDIZ_POINT(address, how)	((void)0)
@@ -98,10 +95,7 @@ typedef int pri_t;
 #endif
 
 /* makeiplcookie - the level itself. */
-static inline ipl_cookie_t makeiplcookie(int level)
-{
-	return level;
-}
+static inline ipl_cookie_t makeiplcookie(int level) { return level; }
 
 __END_DECLS
 #endif

@@ -49,11 +49,8 @@ void workqueue_wait(struct workqueue *queue, struct work *work);
 /* workqueue_destroy - end a queue and its threads. Stops where a work is enqueued, in a function of the queue, and where the thread mustn't sleep. */
 void workqueue_destroy(struct workqueue *queue);
 
-#ifndef KUPALDIZ_WITHOUT_PLACES
-#define workqueue_enqueue(queue, work, cpu)	(kupaldiz_at(KUPALDIZ_HERE), workqueue_enqueue(queue, work, cpu))
-#define workqueue_wait(queue, work)		(kupaldiz_at(KUPALDIZ_HERE), workqueue_wait(queue, work))
-#define workqueue_destroy(queue)		(kupaldiz_at(KUPALDIZ_HERE), workqueue_destroy(queue))
-#endif
+#define KUPALDIZ_PLACES_OF_WORKQUEUE
+#include "places.h"
 
 __END_DECLS
 #endif

@@ -94,30 +94,11 @@ static inline void *atomic_add_ptr_nv(volatile void *at, ptrdiff_t bytes)
 	return (void *)__atomic_add_fetch((volatile uintptr_t *)at, (uintptr_t)bytes, __ATOMIC_SEQ_CST);
 }
 
-static inline void atomic_add_ptr(volatile void *at, ptrdiff_t bytes)
-{
-	(void)atomic_add_ptr_nv(at, bytes);
-}
-
-static inline void *atomic_inc_ptr_nv(volatile void *at)
-{
-	return atomic_add_ptr_nv(at, 1);
-}
-
-static inline void atomic_inc_ptr(volatile void *at)
-{
-	(void)atomic_add_ptr_nv(at, 1);
-}
-
-static inline void *atomic_dec_ptr_nv(volatile void *at)
-{
-	return atomic_add_ptr_nv(at, -1);
-}
-
-static inline void atomic_dec_ptr(volatile void *at)
-{
-	(void)atomic_add_ptr_nv(at, -1);
-}
+static inline void atomic_add_ptr(volatile void *at, ptrdiff_t bytes) { (void)atomic_add_ptr_nv(at, bytes); }
+static inline void *atomic_inc_ptr_nv(volatile void *at) { return atomic_add_ptr_nv(at, 1); }
+static inline void atomic_inc_ptr(volatile void *at) { (void)atomic_add_ptr_nv(at, 1); }
+static inline void *atomic_dec_ptr_nv(volatile void *at) { return atomic_add_ptr_nv(at, -1); }
+static inline void atomic_dec_ptr(volatile void *at) { (void)atomic_add_ptr_nv(at, -1); }
 
 static inline void *atomic_swap_ptr(volatile void *at, void *value)
 {

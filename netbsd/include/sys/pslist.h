@@ -27,15 +27,8 @@ struct pslist_head {
 /* Where a link leads that belongs to an entry of no list any more. */
 #define KUPALDIZ_PSLIST_GONE	((struct pslist_entry *)(uintptr_t)1)
 
-static inline void kupaldiz_pslist_init(struct pslist_head *head)
-{
-	head->plh_first = NULL;
-}
-
-static inline void kupaldiz_pslist_destroy(struct pslist_head *head)
-{
-	KASSERT(head->plh_first == NULL);
-}
+static inline void kupaldiz_pslist_init(struct pslist_head *head) { head->plh_first = NULL; }
+static inline void kupaldiz_pslist_destroy(struct pslist_head *head) { KASSERT(head->plh_first == NULL); }
 
 static inline void kupaldiz_pslist_entry_init(struct pslist_entry *entry)
 {

@@ -7,29 +7,26 @@
 
 #include <stddef.h>
 
+/* Each element, from the first on: the one behind it is known before, since the loop may remove it. */
+#define KUPALDIZ_EACH(at, first, next, after)	for ((at) = (first); (at) != NULL && ((after) = (next), 1); (at) = (after))
+
 #ifndef LIST_FOREACH_SAFE
-#define LIST_FOREACH_SAFE(at, head, field, after) \
-	for ((at) = LIST_FIRST(head); (at) != NULL && ((after) = LIST_NEXT(at, field), 1); (at) = (after))
+#define LIST_FOREACH_SAFE(at, head, field, after)	KUPALDIZ_EACH(at, LIST_FIRST(head), LIST_NEXT(at, field), after)
 #endif
 #ifndef SLIST_FOREACH_SAFE
-#define SLIST_FOREACH_SAFE(at, head, field, after) \
-	for ((at) = SLIST_FIRST(head); (at) != NULL && ((after) = SLIST_NEXT(at, field), 1); (at) = (after))
+#define SLIST_FOREACH_SAFE(at, head, field, after)	KUPALDIZ_EACH(at, SLIST_FIRST(head), SLIST_NEXT(at, field), after)
 #endif
 #ifndef STAILQ_FOREACH_SAFE
-#define STAILQ_FOREACH_SAFE(at, head, field, after) \
-	for ((at) = STAILQ_FIRST(head); (at) != NULL && ((after) = STAILQ_NEXT(at, field), 1); (at) = (after))
+#define STAILQ_FOREACH_SAFE(at, head, field, after)	KUPALDIZ_EACH(at, STAILQ_FIRST(head), STAILQ_NEXT(at, field), after)
 #endif
 #ifndef SIMPLEQ_FOREACH_SAFE
-#define SIMPLEQ_FOREACH_SAFE(at, head, field, after) \
-	for ((at) = SIMPLEQ_FIRST(head); (at) != NULL && ((after) = SIMPLEQ_NEXT(at, field), 1); (at) = (after))
+#define SIMPLEQ_FOREACH_SAFE(at, head, field, after)	KUPALDIZ_EACH(at, SIMPLEQ_FIRST(head), SIMPLEQ_NEXT(at, field), after)
 #endif
 #ifndef TAILQ_FOREACH_SAFE
-#define TAILQ_FOREACH_SAFE(at, head, field, after) \
-	for ((at) = TAILQ_FIRST(head); (at) != NULL && ((after) = TAILQ_NEXT(at, field), 1); (at) = (after))
+#define TAILQ_FOREACH_SAFE(at, head, field, after)	KUPALDIZ_EACH(at, TAILQ_FIRST(head), TAILQ_NEXT(at, field), after)
 #endif
 #ifndef TAILQ_FOREACH_REVERSE_SAFE
-#define TAILQ_FOREACH_REVERSE_SAFE(at, head, name, field, before) \
-	for ((at) = TAILQ_LAST(head, name); (at) != NULL && ((before) = TAILQ_PREV(at, name, field), 1); (at) = (before))
+#define TAILQ_FOREACH_REVERSE_SAFE(at, head, name, field, before)	KUPALDIZ_EACH(at, TAILQ_LAST(head, name), TAILQ_PREV(at, name, field), before)
 #endif
 
 #ifndef SLIST_REMOVE_AFTER

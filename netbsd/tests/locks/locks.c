@@ -1,21 +1,12 @@
 /*
  * locks - the locks beside the three pages: what each guards, levels, conditions, and many that wait
  */
-#include <sys/param.h>
-#include <sys/systm.h>
-#include <sys/condvar.h>
-#include <sys/intr.h>
-#include <sys/kthread.h>
-#include <sys/mutex.h>
-#include <sys/proc.h>
-#include <sys/rwlock.h>
-
 #include "test.h"
+#include "things.h"
 
 enum { THREADS = 6, TURNS = 2000 };
 
-static kmutex_t lock, spin;
-static kcondvar_t cv;
+static kmutex_t spin;
 static krwlock_t rw;
 static unsigned plain, pair[2];	/* under a lock each */
 static atomic_uint waiting;
@@ -298,9 +289,8 @@ static void test_crowd(void)
 
 int main(void)
 {
-	mutex_init(&lock, MUTEX_DEFAULT, IPL_SOFTCLOCK);
+	make_things(IPL_SOFTCLOCK);
 	mutex_init(&spin, MUTEX_DEFAULT, IPL_VM);
-	cv_init(&cv, "locks");
 	cv_init(&other_cv, "others");
 	rw_init(&rw);
 	test_mutexes();
@@ -310,12 +300,11 @@ int main(void)
 	test_order(2, 132);
 	test_order(3, 123);
 	test_crowd();
-	cv_destroy(&cv);
-	EXPECT(!cv_is_valid(&cv));
 	cv_destroy(&other_cv);
+	EXPECT(cv_is_valid(&cv) && !cv_is_valid(&other_cv));
 	rw_destroy(&rw);
 	mutex_destroy(&spin);
-	mutex_destroy(&lock);
+	end_things();
 	puts("the locks beside the three pages did as they say");
 	return 0;
 }

@@ -4,18 +4,13 @@
  *
  * The linker leads the clock, the timed waits, the pauses and the lines of the layer here (--wrap).
  */
-#include <errno.h>
 #include <sched.h>
-#include <sys/condvar.h>
-#include <sys/intr.h>
-#include <sys/kernel.h>
-#include <sys/mutex.h>
-#include <sys/proc.h>
-#include <sys/systm.h>
 #include <unistd.h>
 
 #include "test.h"
 #include "wraps.h"
+
+#include "things.h"
 
 #define SECOND	INT64_C(1000000000)
 #define TICK	(SECOND / 100)
@@ -80,15 +75,7 @@ ssize_t __wrap_write(int file, const void *bytes, size_t length)
 	return (ssize_t)length;
 }
 
-static void see_from(int64_t time)
-{
-	now = time;
-	lines = yields = readings = 0;
-	is_seen = true;
-}
-
-static kmutex_t lock;
-static kcondvar_t cv;
+static void see_from(int64_t time) { now = time; lines = yields = readings = 0; is_seen = true; }
 
 /* ---- Ticks and delays. ---- */
 
@@ -233,12 +220,12 @@ static int go_on_longer(const struct timespec *time, struct timespec *rest)
 }
 
 /* A wait says its line at the first pause that ends when its patience is over, and once. */
-static void test_pauses(int64_t from, const struct moment *of, unsigned count)
+static void test_pauses(int64_t from, const struct moment *of, unsigned all)
 {
 	unsigned before = atomic_load(&runs);
 	void *cookie = softint_establish(SOFTINT_NET, stay, NULL);
 	moments = of;
-	count_of_moments = count;
+	count_of_moments = all;
 	began = from;
 	steps = 0;
 	last_pause = 0;
@@ -260,8 +247,7 @@ int main(void)
 	    {PATIENCE + 7 * SECOND, 1}};
 	static const struct moment late[] = {{PATIENCE - 1, 0}, {PATIENCE + SECOND / 2, 1}};
 	static const struct moment later[] = {{PATIENCE - 1, 0}, {PATIENCE + 7 * SECOND / 4, 1}};
-	mutex_init(&lock, MUTEX_DEFAULT, IPL_NONE);
-	cv_init(&cv, "times");
+	make_things(IPL_NONE);
 	test_ticks();
 	test_delays();
 	test_kpauses();
@@ -271,8 +257,7 @@ int main(void)
 		test_pauses(1000 * SECOND + after_turn, late, 2);
 		test_pauses(1000 * SECOND + after_turn, later, 2);
 	}
-	cv_destroy(&cv);
-	mutex_destroy(&lock);
+	end_things();
 	puts("ticks, delays, pauses and waits lasted as long as they say");
 	return 0;
 }

@@ -4,15 +4,14 @@
  *
  * The threads wait for each other by steps that order nothing. The linker leads registry_get here (--wrap): a CPU may count no references.
  */
-#include <sys/psref.h>
-
 #include "test.h"
 
 #include "registry.h"
 #include "wraps.h"
 
-static struct psref_class *things;
-static struct psref_target target, other;
+#include "things.h"
+
+static struct psref_target other;
 static bool counts_none;
 static _Thread_local bool is_refused;
 static atomic_uint step;
@@ -93,8 +92,7 @@ static void test_destroyed(void)
 
 int main(void)
 {
-	things = psref_class_create("thing", IPL_NONE);
-	psref_target_init(&target, things);
+	make_things(IPL_NONE);
 	psref_target_init(&other, things);
 	test_asked();
 	test_destroyed();

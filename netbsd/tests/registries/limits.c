@@ -2,23 +2,13 @@
  * limits - more than one registry takes: over a layer whose registries have four rows, forty changes, twenty thousand sections of a CPU and two
  * thousand references. With `full` over the true limits, as far as a test comes to them: more than two million changes, and hundreds of live targets.
  */
-#include <sys/condvar.h>
-#include <sys/intr.h>
-#include <sys/localcount.h>
-#include <sys/mutex.h>
-#include <sys/pserialize.h>
-#include <sys/psref.h>
-
 #include <sched.h>
 
 #include "test.h"
+#include "things.h"
 
 enum { MOST_LIVE = 300, READERS = 4, MANY = 300000, MANY_CHANGES = 2200000, REFERENCES = 3501 };	/* no multiple of 7 */
 
-static struct psref_class *things;
-static pserialize_t psz;
-static kmutex_t lock;
-static kcondvar_t drained;
 static struct psref_target targets[MOST_LIVE];
 static struct localcount counts[MOST_LIVE];
 static atomic_bool over;
@@ -39,13 +29,11 @@ static void test_live(unsigned live)
 		psref_release(&psref, &targets[i], things);
 		localcount_acquire(&counts[i]);
 		EXPECT(localcount_debug_refcnt(&counts[i]) == 1);
-		localcount_release(&counts[i], &drained, &lock);
+		localcount_release(&counts[i], &cv, &lock);
 	}
 	for (unsigned i = 0; i < live; i++) {
 		psref_target_destroy(&targets[i], things);
-		mutex_enter(&lock);
-		localcount_drain(&counts[i], &drained, &lock);
-		mutex_exit(&lock);
+		drain(&counts[i]);
 		localcount_fini(&counts[i]);
 	}
 }
@@ -117,13 +105,10 @@ static void test_spent(void)
 }
 #endif
 
-static void *release_all(void *of)
-{
-	kupaldiz_bind(5);
-	for (unsigned i = 0; i < *(unsigned *)of; i++)
-		localcount_release(&counts[0], &drained, &lock);
-	return NULL;
-}
+THREAD(release_all,
+    kupaldiz_bind(5);
+    for (unsigned i = 0; i < *(unsigned *)arg; i++)
+	    localcount_release(&counts[0], &cv, &lock))
 
 /* References that go one way: acquired on one CPU, and released on another. */
 static void test_one_way(unsigned references)
@@ -136,9 +121,7 @@ static void test_one_way(unsigned references)
 	start_thread(&other, release_all, &references);
 	end_thread(other);
 	EXPECT(localcount_debug_refcnt(&counts[0]) == 0);
-	mutex_enter(&lock);
-	localcount_drain(&counts[0], &drained, &lock);
-	mutex_exit(&lock);
+	drain(&counts[0]);
 	localcount_fini(&counts[0]);
 }
 
@@ -158,21 +141,24 @@ static void *read_all(void *arg)
 	return arg;
 }
 
+/* Shows another one. The one before. */
+static int *show(void)
+{
+	int *next = malloc(sizeof(*next));
+	EXPECT(next != NULL);
+	*next = 77;
+	return atomic_exchange(&shown, next);
+}
+
 /* A perform waits for sections in any registry. */
 static void test_sections(unsigned rounds)
 {
 	pthread_t readers[READERS];
-	int *now = malloc(sizeof(*now));
-	EXPECT(now != NULL);
-	*now = 77;
-	atomic_store(&shown, now);
+	show();
 	for (unsigned i = 0; i < READERS; i++)
 		start_thread(&readers[i], read_all, NULL);
 	for (unsigned i = 0; i < rounds || atomic_load(&sections) < MANY; i++) {
-		int *next = malloc(sizeof(*next)), *before = atomic_load(&shown);
-		EXPECT(next != NULL);
-		*next = 77;
-		atomic_store(&shown, next);
+		int *before = show();
 		pserialize_perform(psz);
 		*before = 0;
 		free(before);
@@ -192,8 +178,7 @@ static void *read_moved(void *arg)
 		pserialize_read_exit(pserialize_read_enter());
 	int s = pserialize_read_enter();
 	atomic_store(&step, 1);
-	while (atomic_load(&step) == 1)
-		sleep_for(100);
+	await_least(&step, 2);
 	pserialize_read_exit(s);
 	return arg;
 }
@@ -218,10 +203,7 @@ static void test_moved(void)
 int main(int argc, char **argv)
 {
 	bool full = argc == 2 && strcmp(argv[1], "full") == 0;
-	things = psref_class_create("thing", IPL_NONE);
-	psz = pserialize_create();
-	mutex_init(&lock, MUTEX_DEFAULT, IPL_NONE);
-	cv_init(&drained, "drained");
+	make_things(IPL_NONE);
 	kupaldiz_bind(1);
 	test_live(full ? MOST_LIVE : 40);
 	test_changes(full ? MANY_CHANGES : 2000);
@@ -230,16 +212,13 @@ int main(int argc, char **argv)
 #ifdef KUPALDIZ_SECTIONS
 	test_spent();
 #endif
-	if (!full)
+	if (!full) {
 		test_moved();
-	if (!full)
 		test_one_way(3000);
+	}
 	test_sections(full ? 2000 : 150);
 	test_live(full ? MOST_LIVE : 40);
-	psref_class_destroy(things);
-	pserialize_destroy(psz);
-	cv_destroy(&drained);
-	mutex_destroy(&lock);
+	end_things();
 	puts(full ? "more than two million changes" : "more than each registry takes");
 	return 0;
 }

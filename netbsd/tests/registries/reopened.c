@@ -10,9 +10,10 @@
 #include "test.h"
 #include "wraps.h"
 
+#include "things.h"
+
 enum { ROUNDS = 10, FIRST_ROWS = 4, PAIRS = 30 };
 
-static struct psref_class *things;
 static struct psref_target first[FIRST_ROWS], last, passing;
 static atomic_bool held, destroying, returning;
 static atomic_uint closed;
@@ -41,13 +42,13 @@ static const struct registry_keeper *first_keeper;	/* of the first registry */
 static bool first_closed;
 static unsigned registries, opened;	/* those that are open, and all */
 
-uint32_t __wrap_registry_open(const struct registry_settings *settings, struct registry_keeper *keeper, struct registry_cpu *handles, size_t count)
+uint32_t __wrap_registry_open(const struct registry_settings *settings, struct registry_keeper *keeper, struct registry_cpu *handles, size_t all)
 {
 	if (first_keeper == NULL)
 		first_keeper = keeper;
 	registries++;
 	opened++;
-	return __real_registry_open(settings, keeper, handles, count);
+	return __real_registry_open(settings, keeper, handles, all);
 }
 
 uint32_t __wrap_registry_close_keeper(struct registry_keeper *keeper)
@@ -93,20 +94,15 @@ static void end_last(void)
 /* Counts alone come and go, more than two registries take: their drains open what is used up anew. */
 static void end_counts(void)
 {
-	struct localcount count;
-	kmutex_t lock;
-	kcondvar_t drained;
 	unsigned before = atomic_load(&closed);
 	mutex_init(&lock, MUTEX_DEFAULT, IPL_NONE);
-	cv_init(&drained, "drained");
+	cv_init(&cv, "drained");
 	for (unsigned pair = 0; pair < 3 * PAIRS; pair++) {
 		localcount_init(&count);
-		mutex_enter(&lock);
-		localcount_drain(&count, &drained, &lock);
-		mutex_exit(&lock);
+		drain(&count);
 		localcount_fini(&count);
 	}
-	cv_destroy(&drained);
+	cv_destroy(&cv);
 	mutex_destroy(&lock);
 	EXPECT(atomic_load(&closed) > before);
 }

@@ -1,18 +1,11 @@
 /*
  * softints - soft interrupts run on the CPU that scheduled them: between two calls of the thread that has it, inside its section too, and at once
- * where nobody has it; levels keep them off; one that waits for a lock lets the thread go on
+ * where nobody has it; levels keep them off; one that waits for a lock lets the thread go on; a thread offers its CPU at the end of each call
  */
-#include <sys/intr.h>
-#include <sys/mutex.h>
-#include <sys/pserialize.h>
-#include <sys/psref.h>
-#include <sys/rwlock.h>
-
 #include "test.h"
+#include "things.h"
 
-static struct psref_class *things;
-static struct psref_target target;
-static kmutex_t lock;
+static kmutex_t spin;
 static atomic_uint runs, waits;
 static atomic_int ran_on;
 static unsigned order[4], ordered;
@@ -32,33 +25,23 @@ static void handle(void *arg)
 	atomic_fetch_add((atomic_uint *)arg, 1);
 }
 
-/* The thread has its CPU: the handler has run when the call that scheduled it returns. */
-static void test_inside(void)
-{
-	void *cookie = softint_establish(SOFTINT_NET | SOFTINT_MPSAFE, handle, &runs);
-	EXPECT(cookie != NULL);
-	for (unsigned round = 0; round < 50; round++) {
-		atomic_store(&ran_on, -1);
-		int s = pserialize_read_enter();
-		EXPECT(!cpu_softintr_p());
-		softint_schedule(cookie);
-		EXPECT(atomic_load(&runs) == round + 1 && atomic_load(&ran_on) == (int)cpu_number());
-		EXPECT(pserialize_in_read_section());
-		pserialize_read_exit(s);
-	}
-	softint_disestablish(cookie);
-}
-
-/* Nobody has the CPU: it runs soon. */
-static void test_alone(void)
+/* If the thread has its CPU, the handler has run when the call that scheduled it returns. If nobody has it, it runs soon. */
+static void test_runs(bool is_inside)
 {
 	void *cookie = softint_establish(SOFTINT_NET | SOFTINT_MPSAFE, handle, &runs);
 	unsigned before = atomic_load(&runs);
+	EXPECT(cookie != NULL);
 	for (unsigned round = 0; round < 50; round++) {
+		atomic_store(&ran_on, -1);
+		int s = is_inside ? pserialize_read_enter() : 0;
+		EXPECT(!cpu_softintr_p());
 		softint_schedule(cookie);
-		while (atomic_load(&runs) == before + round)
+		while (!is_inside && atomic_load(&runs) == before + round)
 			sleep_for(10);
-		EXPECT(atomic_load(&ran_on) == (int)cpu_number());
+		EXPECT(atomic_load(&runs) == before + round + 1 && atomic_load(&ran_on) == (int)cpu_number());
+		EXPECT(pserialize_in_read_section() == is_inside);
+		if (is_inside)
+			pserialize_read_exit(s);
 	}
 	softint_disestablish(cookie);
 }
@@ -117,17 +100,20 @@ static void test_levels(void)
 	softint_disestablish(high);
 }
 
-/* It is scheduled three times before it can run, and runs once. */
-static void test_once(void)
+/* It is scheduled three times before it can run, and runs once: kept off by a level, or by a spin lock, up to whose level no other one runs. */
+static void test_once(unsigned flags, bool spins)
 {
-	void *cookie = softint_establish(SOFTINT_NET, handle, &runs);
+	void *cookie = softint_establish(flags, handle, &runs);
 	unsigned before = atomic_load(&runs);
-	int s = splnet();
+	int s = spins ? mutex_enter(&spin), IPL_NONE : splnet();
 	for (unsigned i = 0; i < 3; i++)
 		softint_schedule(cookie);
-	EXPECT(atomic_load(&runs) == before);
+	EXPECT(atomic_load(&runs) == before && mutex_owned(&spin) == spins);
 	kpreempt_disable();
-	splx(s);
+	if (spins)
+		mutex_exit(&spin);
+	else
+		splx(s);
 	EXPECT(atomic_load(&runs) == before + 1);
 	kpreempt_enable();
 	softint_disestablish(cookie);
@@ -170,8 +156,7 @@ static void test_blocked(void)
 		sleep_for(20);
 		EXPECT(atomic_load(&done) == round);
 		mutex_exit(&lock);
-		while (atomic_load(&done) == round)
-			sleep_for(10);
+		await_least(&done, round + 1);
 	}
 	atomic_store(&blocked_over, true);
 	end_thread(other);
@@ -189,19 +174,16 @@ static void test_levels_apart(void)
 	unsigned before = atomic_load(&waits);
 	mutex_enter(&lock);
 	softint_schedule(cookie);
-	while (atomic_load(&waits) == before)
-		sleep_for(10);
+	await_least(&waits, before + 1);
 	for (unsigned at = 0; at < 4; at++) {
 		others[at] = softint_establish(flags[at], count_run, &ran[at]);
 		softint_schedule(others[at]);
 	}
 	for (unsigned at = 1; at < 4; at++)
-		while (atomic_load(&ran[at]) == 0)
-			sleep_for(10);
+		await_least(&ran[at], 1);
 	EXPECT(atomic_load(&done) == 0 && atomic_load(&ran[0]) == 0);
 	mutex_exit(&lock);
-	while (atomic_load(&ran[0]) == 0)
-		sleep_for(10);
+	await_least(&ran[0], 1);
 	EXPECT(atomic_load(&done) == 1);
 	for (unsigned at = 0; at < 4; at++)
 		softint_disestablish(others[at]);
@@ -231,50 +213,6 @@ static void test_blocked_inside(void)
 	EXPECT(atomic_load(&done) == 1 && pserialize_in_read_section());
 	pserialize_read_exit(s);
 	softint_disestablish(cookie);
-}
-
-static atomic_uint counted;
-static atomic_bool entered, let_go;
-
-HANDLER(count_and_stay, atomic_fetch_add(&counted, 1); await_flag(&let_go))
-THREAD(schedule_elsewhere, kupaldiz_bind(3); softint_schedule(arg))
-THREAD(disestablish, atomic_store(&entered, true); softint_disestablish(arg))
-
-/* It runs on CPU 3 and waits on another one when its end begins: there it doesn't run any more. */
-static void *end_while_waiting(void *of)
-{
-	pthread_t scheduler, ender;
-	kupaldiz_bind(*(unsigned *)of);
-	void *cookie = softint_establish(SOFTINT_NET, count_and_stay, NULL);
-	atomic_store(&counted, 0);
-	atomic_store(&entered, false);
-	atomic_store(&let_go, false);
-	int s = splsoftnet();
-	softint_schedule(cookie);
-	start_thread(&scheduler, schedule_elsewhere, cookie);
-	await_least(&counted, 1);
-	start_thread(&ender, disestablish, cookie);
-	await_flag(&entered);
-	sleep_for(20000);
-	splx(s);
-	sleep_for(3000);
-	EXPECT(atomic_load(&counted) == 1);
-	atomic_store(&let_go, true);
-	end_thread(ender);
-	end_thread(scheduler);
-	EXPECT(atomic_load(&counted) == 1);
-	return of;
-}
-
-static void test_ended_waiting(void)
-{
-	pthread_t thread;
-	for (unsigned cpu = 0; cpu < KUPALDIZ_CPUS; cpu++) {
-		if (cpu == 3)
-			continue;
-		start_thread(&thread, end_while_waiting, &cpu);
-		end_thread(thread);
-	}
 }
 
 static krwlock_t rw;
@@ -315,24 +253,6 @@ static void test_raised(void)
 	rw_destroy(&rw);
 }
 
-/* A spin lock keeps off those up to its level. */
-static void test_spin(void)
-{
-	kmutex_t spin;
-	void *cookie = softint_establish(SOFTINT_SERIAL, handle, &runs);
-	unsigned before = atomic_load(&runs);
-	mutex_init(&spin, MUTEX_DEFAULT, IPL_NET);
-	mutex_enter(&spin);
-	softint_schedule(cookie);
-	EXPECT(atomic_load(&runs) == before && mutex_owned(&spin));
-	kpreempt_disable();
-	mutex_exit(&spin);
-	EXPECT(atomic_load(&runs) == before + 1);
-	kpreempt_enable();
-	mutex_destroy(&spin);
-	softint_disestablish(cookie);
-}
-
 enum { STORMERS = 12, STORM = 200 };
 
 static void *cookies[4];
@@ -370,27 +290,105 @@ static void test_storm(void)
 		softint_disestablish(cookies[i]);
 }
 
+/* ---- Each call at whose end a thread that goes on with its CPU offers it to the soft interrupts that wait. ---- */
+
+enum { MOST = 200 };
+
+static percpu_t *percpu;
+static callout_t callout;
+static void *other;
+static atomic_uint fired;
+static struct psref held, psrefs[MOST];
+static int sections[MOST];
+static unsigned made;	/* calls so far: so many references or sections are there */
+
+HANDLER(fire, atomic_store((atomic_uint *)arg, 1))
+HANDLER(nothing, (void)0)
+
+/* The calls, and what undoes them. */
+static void enter_section(void) { sections[made++] = pserialize_read_enter(); }
+static void exit_section(void) { pserialize_read_exit(sections[--made]); }
+static void acquire(void) { psref_acquire(&psrefs[made++], &target, things); }
+static void release(void) { psref_release(&psrefs[--made], &target, things); }
+static void copy(void) { psref_copy(&psrefs[made++], &held, things); }
+static void ask(void) { EXPECT(psref_held(&target, things)); }
+static void count_in(void) { localcount_acquire(&count), made++; }
+static void count_out(void) { localcount_release(&count, &cv, &lock), made--; }
+static void signal_cv(void) { cv_signal(&cv); }
+static void broadcast_cv(void) { cv_broadcast(&cv); }
+static void schedule(void) { softint_schedule(other); }
+static void exit_mutex(void) { mutex_enter(&spin), mutex_exit(&spin); }
+static void exit_spin_mutex(void) { mutex_spin_enter(&spin), mutex_spin_exit(&spin); }
+static void lower(void) { splx(splsoftserial()); }
+static void enable_preemption(void) { kpreempt_disable(), kpreempt_enable(); }
+static void put_percpu(void) { (void)percpu_getref(percpu), percpu_putref(percpu); }
+
+/* A call, and what goes before it MOST times, or undoes it afterwards. */
+static const struct offer {
+	const char *name;
+	void (*call)(void), (*before)(void), (*undo)(void);
+} offers[] = {
+    {"pserialize_read_enter", enter_section, NULL, exit_section}, {"pserialize_read_exit", exit_section, enter_section, exit_section},
+    {"psref_acquire", acquire, NULL, release}, {"psref_release", release, acquire, release}, {"psref_copy", copy, NULL, release},
+    {"psref_held", ask, NULL, NULL}, {"localcount_acquire", count_in, NULL, count_out}, {"localcount_release", count_out, count_in, count_out},
+    {"cv_signal", signal_cv, NULL, NULL}, {"cv_broadcast", broadcast_cv, NULL, NULL}, {"softint_schedule", schedule, NULL, NULL},
+    {"mutex_exit", exit_mutex, NULL, NULL}, {"mutex_spin_exit", exit_spin_mutex, NULL, NULL}, {"splx", lower, NULL, NULL},
+    {"kpreempt_enable", enable_preemption, NULL, NULL}, {"percpu_putref", put_percpu, NULL, NULL},
+};
+
+/* Makes the call until the callout has run. Between two calls the clock has time to find it due. */
+static void test_offer(const struct offer *offer)
+{
+	atomic_store(&fired, 0);
+	int s = pserialize_read_enter();
+	while (offer->before != NULL && made < MOST)
+		offer->before();
+	callout_reset(&callout, 1, fire, &fired);
+	for (unsigned turn = 0; turn < MOST && atomic_load(&fired) == 0; turn++) {
+		sleep_for(5000);
+		offer->call();
+	}
+	if (atomic_load(&fired) == 0)
+		fprintf(stderr, "%s offers the CPU to nobody\n", offer->name);
+	EXPECT(atomic_load(&fired) == 1);
+	while (made > 0)
+		offer->undo();
+	pserialize_read_exit(s);
+}
+
+static void test_offers(void)
+{
+	percpu = percpu_alloc(sizeof(int));
+	callout_init(&callout, CALLOUT_MPSAFE);
+	other = softint_establish(SOFTINT_CLOCK, nothing, NULL);
+	psref_acquire(&held, &target, things);
+	for (unsigned place = 0; place < sizeof(offers) / sizeof(offers[0]); place++)
+		test_offer(&offers[place]);
+	psref_release(&held, &target, things);
+	callout_destroy(&callout);
+	softint_disestablish(other);
+	percpu_free(percpu, sizeof(int));
+}
+
 int main(void)
 {
-	things = psref_class_create("thing", IPL_SOFTNET);
-	psref_target_init(&target, things);
-	mutex_init(&lock, MUTEX_DEFAULT, IPL_SOFTNET);
+	make_things(IPL_SOFTNET);
+	mutex_init(&spin, MUTEX_DEFAULT, IPL_NET);
 	kupaldiz_bind(2);
-	test_inside();
-	test_alone();
+	test_runs(true);
+	test_runs(false);
 	test_own_level();
 	test_levels();
-	test_once();
+	test_once(SOFTINT_NET, false);
+	test_once(SOFTINT_SERIAL, true);
 	test_blocked();
 	test_levels_apart();
 	test_blocked_inside();
-	test_ended_waiting();
 	test_raised();
-	test_spin();
 	test_storm();
-	psref_target_destroy(&target, things);
-	psref_class_destroy(things);
-	mutex_destroy(&lock);
+	test_offers();
+	mutex_destroy(&spin);
+	end_things();
 	puts("soft interrupts ran where and when they may");
 	return 0;
 }

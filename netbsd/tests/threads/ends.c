@@ -3,24 +3,12 @@
  *
  * The linker leads pthread_cond_wait, pthread_cond_timedwait and nanosleep here (--wrap), so that each wait is seen.
  */
-#include <errno.h>
-#include <sys/callout.h>
-#include <sys/condvar.h>
-#include <sys/intr.h>
-#include <sys/kthread.h>
-#include <sys/localcount.h>
-#include <sys/mutex.h>
-#include <sys/percpu.h>
-#include <sys/pserialize.h>
-#include <sys/psref.h>
-#include <sys/rwlock.h>
-#include <sys/systm.h>
-#include <sys/xcall.h>
-
 #include "test.h"
 
 #include "cases.h"
 #include "wraps.h"
+
+#include "things.h"
 
 /* Whether this thread is in a call that waits, and whether one such has waited. */
 static _Thread_local bool in_call;
@@ -53,13 +41,9 @@ int __wrap_pthread_cond_timedwait(pthread_cond_t *cond, pthread_mutex_t *mutex, 
 	return __real_pthread_cond_timedwait(cond, mutex, end);
 }
 
-static struct psref_class *things;
-static struct psref_target target;
-static struct localcount count;
-static pserialize_t psz;
-static kmutex_t lock, own_lock;
+static kmutex_t own_lock;
 static krwlock_t rw;
-static kcondvar_t cv, drained;
+static kcondvar_t own_cv;
 static pthread_key_t early, late;
 static atomic_uint given_back;
 static atomic_bool ready, over;
@@ -127,10 +111,10 @@ static void *hold_all(void *arg)
 	atomic_store(&ready, true);
 	await_flag(&over);
 	pserialize_read_exit(s);
-	cv_broadcast(&cv);
+	cv_broadcast(&own_cv);
 	mutex_exit(&lock);
 	rw_exit(&rw);
-	localcount_release(&count, &drained, &lock);
+	localcount_release(&count, &cv, &lock);
 	psref_release(&psref, &target, things);
 	return arg;
 }
@@ -149,24 +133,18 @@ static atomic_bool runs;
 /* Without a sleep, which would be taken for one of the call's. */
 static void await_runs(void) { while (!atomic_load(&runs)) { } }
 static void await_over(void) { atomic_store(&runs, true); await_flag(&over); }
-
-static void add_one(void *count_of, void *other)
-{
-	(void)other;
-	++*(unsigned *)count_of;
-}
-
+static void add_one(void *count_of, void *other) { (void)other; ++*(unsigned *)count_of; }
 HANDLER(run_until_over, await_over())
 HANDLER(exit_when_over, await_over(); kthread_exit(0))
 
 IN(pserialize_perform(psz))
 IN(psref_target_destroy(&target, things); psref_target_init(&target, things))
-IN(mutex_enter(&lock); localcount_drain(&count, &drained, &lock); mutex_exit(&lock); localcount_fini(&count); localcount_init(&count))
+IN(drain(&count); localcount_fini(&count); localcount_init(&count))
 IN(mutex_enter(&lock); mutex_exit(&lock))
 IN(rw_enter(&rw, RW_READER); rw_exit(&rw))
 /* The lock of its own, which nobody else has; the holder's broadcast wakes it. */
-IN(mutex_enter(&own_lock); cv_wait(&cv, &own_lock); mutex_exit(&own_lock))
-IN(mutex_enter(&own_lock); EXPECT(cv_timedwait(&cv, &own_lock, 1000) == 0); mutex_exit(&own_lock))
+IN(mutex_enter(&own_lock); cv_wait(&own_cv, &own_lock); mutex_exit(&own_lock))
+IN(mutex_enter(&own_lock); EXPECT(cv_timedwait(&own_cv, &own_lock, 1000) == 0); mutex_exit(&own_lock))
 IN(kupaldiz_bind(5); pserialize_read_exit(pserialize_read_enter()))
 IN(percpu_t *percpu = percpu_alloc(8); kupaldiz_bind(5); (void)percpu_getref(percpu); percpu_putref(percpu); percpu_free(percpu, 8))
 IN(xc_barrier(0))
@@ -222,31 +200,28 @@ static void test_cancelled(void (**wait)(void))
 	pserialize_read_exit(pserialize_read_enter());
 }
 
-HANDLER(note_run, atomic_fetch_add((atomic_uint *)arg, 1))
+static void *cookie;
+static atomic_uint ran;
+
+HANDLER(note_run, atomic_fetch_add(&ran, 1))
 
 /* A thread that was cancelled before binds itself, and schedules the first soft interrupt of a CPU, whose thread begins then. */
-static void *schedule_cancelled(void *of)
+static void schedule_cancelled(void)
 {
 	EXPECT(pthread_cancel(pthread_self()) == 0);
-	in_call = true;
-	int bound = curlwp_bind();
-	curlwp_bindx(bound);
+	curlwp_bindx(curlwp_bind());
 	kupaldiz_bind(6);
-	softint_schedule(of);
-	in_call = false;
-	atomic_fetch_add(&given_back, 1);
-	pthread_testcancel();
-	return NULL;
+	softint_schedule(cookie);
 }
 
 static void test_cancelled_early(void)
 {
+	static void (*wait)(void) = schedule_cancelled;
 	pthread_t thread;
 	void *answer;
-	atomic_uint ran = 0;
 	unsigned before = atomic_load(&given_back);
-	void *cookie = softint_establish(SOFTINT_NET, note_run, &ran);
-	start_thread(&thread, schedule_cancelled, cookie);
+	cookie = softint_establish(SOFTINT_NET, note_run, NULL);
+	start_thread(&thread, wait_in, &wait);
 	EXPECT(pthread_join(thread, &answer) == 0 && answer == PTHREAD_CANCELED && atomic_load(&given_back) == before + 1);
 	softint_schedule(cookie);
 	await_least(&ran, 2);
@@ -256,22 +231,17 @@ static void test_cancelled_early(void)
 int main(void)
 {
 	EXPECT(pthread_key_create(&early, give_back) == 0);
-	things = psref_class_create("thing", IPL_NONE);
+	make_things(IPL_NONE);
 	EXPECT(pthread_key_create(&late, give_back) == 0);
-	psz = pserialize_create();
-	mutex_init(&lock, MUTEX_DEFAULT, IPL_NONE);
 	mutex_init(&own_lock, MUTEX_DEFAULT, IPL_NONE);
 	rw_init(&rw);
-	cv_init(&cv, "cv");
-	cv_init(&drained, "count");
-	psref_target_init(&target, things);
-	localcount_init(&count);
+	cv_init(&own_cv, "cv");
 	test_destructors();
 	test_cancelled_early();
 	EXPECT(wait_count == 15);
 	for (unsigned at = 0; at < wait_count; at++)
 		test_cancelled(&waits[at]);
-	psref_target_destroy(&target, things);
+	end_things();
 	puts("threads ended, cancelled or not, and gave everything back");
 	return 0;
 }

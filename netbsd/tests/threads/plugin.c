@@ -5,8 +5,4 @@
 void use_layer(void);
 
 /* Binds this thread, and reads: the layer runs code at the thread's end. */
-void use_layer(void)
-{
-	kupaldiz_bind(2);
-	pserialize_read_exit(pserialize_read_enter());
-}
+void use_layer(void) { kupaldiz_bind(2); pserialize_read_exit(pserialize_read_enter()); }

@@ -2,36 +2,17 @@
  * threads - what the layer keeps of threads, and the CPU that a thread gets: memory that is used again, and never by two at once; a thread of
  * kthread_create's until its join; the CPU that is free, or has the fewest bound threads
  *
- * The linker leads locks, condition variables, memory, pthread_create and pthread_detach here (--wrap). A thread may do something once it has
- * given a lock back, while its call goes on.
+ * The linker leads locks, condition variables, memory, pthread_create and pthread_detach here (--wrap).
  */
 #include <limits.h>
-#include <sys/callout.h>
-#include <sys/cpu.h>
-#include <sys/intr.h>
-#include <sys/kthread.h>
-#include <sys/mutex.h>
-#include <sys/proc.h>
-#include <sys/pserialize.h>
-#include <sys/xcall.h>
 
 #include "test.h"
 #include "wraps.h"
 
+#include "after.h"
+#include "things.h"
+
 /* ---- What is watched. ---- */
-
-/* What this thread does once it has given back its next lock. */
-static _Thread_local void (*after)(void);
-
-int __wrap_pthread_mutex_unlock(pthread_mutex_t *mutex)
-{
-	void (*does)(void) = after;
-	after = NULL;
-	int answer = __real_pthread_mutex_unlock(mutex);
-	if (does != NULL)
-		does();
-	return answer;
-}
 
 static atomic_bool waited;		/* a thread waits, or has waited; it has given the wait's lock back */
 static _Thread_local bool goes_on;	/* this thread has nothing to wait for */
@@ -90,28 +71,20 @@ int __wrap_pthread_cond_init(pthread_cond_t *cond, const pthread_condattr_t *how
 static atomic_uint blocks_taken;
 static _Thread_local unsigned blocks;
 
-void *__wrap_calloc(size_t count, size_t size)
+void *__wrap_calloc(size_t all, size_t size)
 {
 	atomic_fetch_add(&blocks_taken, 1);
 	blocks++;
-	return __real_calloc(count, size);
+	return __real_calloc(all, size);
 }
 
-void __wrap_free(void *block)
-{
-	blocks -= block != NULL;
-	__real_free(block);
-}
+void __wrap_free(void *block) { blocks -= block != NULL; __real_free(block); }
 
 /* How a thread begins that this one starts: at once, or only when somebody waits. */
 static _Thread_local enum { AT_ONCE, AWAITED } begins;
 static void *(*awaited)(void *);
 
-static void *begin_awaited(void *arg)
-{
-	await_flag(&waited);
-	return awaited(arg);
-}
+static void *begin_awaited(void *arg) { await_flag(&waited); return awaited(arg); }
 
 int __wrap_pthread_create(pthread_t *thread, const pthread_attr_t *how, void *(*body)(void *), void *arg)
 {
@@ -177,11 +150,7 @@ static void call_in(struct guest *guest)
 		sleep_for(50);
 }
 
-static void send_off(struct guest *guest)
-{
-	atomic_store(&guest->leaves, true);
-	end_thread(guest->thread);
-}
+static void send_off(struct guest *guest) { atomic_store(&guest->leaves, true); end_thread(guest->thread); }
 
 static bool is_other(struct guest *guest, const lwp_t *lwp)
 {
@@ -203,6 +172,14 @@ static void crowd(void)
 		send_off(&guests[i]);
 }
 
+static void crowd_again(void)
+{
+	unsigned before = atomic_load(&blocks_taken);
+	for (unsigned turn = 0; turn < 3; turn++)
+		crowd();
+	EXPECT(atomic_load(&blocks_taken) == before);
+}
+
 HANDLER(have_nothing, EXPECT(arg == NULL); kthread_exit(0))
 
 /* Threads take new memory only where more of them are there at once than ever before. */
@@ -210,28 +187,19 @@ static void test_memory(void)
 {
 	lwp_t *worker;
 	crowd();
-	unsigned before = atomic_load(&blocks_taken);
-	for (unsigned turn = 0; turn < 3; turn++)
-		crowd();
-	EXPECT(atomic_load(&blocks_taken) == before);
+	crowd_again();
 	EXPECT(kthread_create(PRI_NONE, KTHREAD_MUSTJOIN, NULL, have_nothing, NULL, &worker, "worker") == 0);
 	EXPECT(kthread_join(worker) == 0);
-	before = atomic_load(&blocks_taken);
-	for (unsigned turn = 0; turn < 3; turn++)
-		crowd();
-	EXPECT(atomic_load(&blocks_taken) == before);
+	crowd_again();
 }
 
 /* Ends bound. */
 THREAD(end_bound, kupaldiz_bind(3); EXPECT((curlwp->l_pflag & LP_BOUND) != 0 && cpu_number() == 3))
 
 /* A thread that has just begun ran nowhere, and isn't bound, though it has the memory of one that was. */
-static void *begin_anew(void *arg)
-{
-	EXPECT(curlwp->l_cpu == NULL && curlwp->l_pflag == 0 && curlwp->l_name[0] == '\0');
-	EXPECT(cpu_number() < KUPALDIZ_CPUS && curlwp->l_cpu == curcpu());
-	return arg;
-}
+THREAD(begin_anew,
+    EXPECT(curlwp->l_cpu == NULL && curlwp->l_pflag == 0 && curlwp->l_name[0] == '\0');
+    EXPECT(cpu_number() < KUPALDIZ_CPUS && curlwp->l_cpu == curcpu()))
 
 static void test_anew(void)
 {
@@ -262,9 +230,7 @@ static void test_call_after_end(void)
 	send_off(&beside);
 }
 #else
-static void test_call_after_end(void)
-{
-}
+static void test_call_after_end(void) { }
 #endif
 
 /* ---- Threads of kthread_create's. ---- */
@@ -286,29 +252,23 @@ static int create(int flags, lwp_t **worker)
 	return kthread_create(PRI_NONE, flags, NULL, work, &itself, worker, "worker");
 }
 
-/* Nobody joins it: what was noted of it is freed, and its stack will be. */
-static void test_unjoined(void)
+static lwp_t *await_itself(void)
 {
-	lwp_t *worker = NULL;
-	unsigned before = blocks, detached_before = atomic_load(&detached);
-	begins = AWAITED;
-	EXPECT(create(KTHREAD_MPSAFE, &worker) == 0 && worker != NULL);
-	begins = AT_ONCE;
-	EXPECT(blocks == before && atomic_load(&detached) == detached_before + 1);
 	while (atomic_load(&itself) == NULL)
 		sleep_for(50);
-	EXPECT(atomic_load(&itself) == worker);
+	return atomic_load(&itself);
 }
 
-static void test_joined(void)
+/* If nobody joins it, what was noted of it is freed, and its stack will be. */
+static void test_created(bool joined)
 {
 	lwp_t *worker = NULL;
 	unsigned before = blocks, detached_before = atomic_load(&detached);
 	begins = AWAITED;
-	EXPECT(create(KTHREAD_MUSTJOIN, &worker) == 0 && worker != NULL);
+	EXPECT(create(joined ? KTHREAD_MUSTJOIN : KTHREAD_MPSAFE, &worker) == 0 && worker != NULL);
 	begins = AT_ONCE;
-	EXPECT(blocks == before + 1 && atomic_load(&detached) == detached_before);
-	EXPECT(kthread_join(worker) == 0 && blocks == before && atomic_load(&itself) == worker);
+	EXPECT(blocks == before + joined && atomic_load(&detached) == detached_before + !joined && await_itself() == worker);
+	EXPECT(!joined || (kthread_join(worker) == 0 && blocks == before));
 }
 
 static atomic_bool created;
@@ -334,21 +294,8 @@ static void test_cancelled(void)
 	EXPECT(kthread_join(worker) == 0);
 }
 
-static void *join_it(void *arg)
-{
-	lwp_t *worker;
-	while ((worker = atomic_load(&itself)) == NULL)
-		sleep_for(50);
-	EXPECT(kthread_join(worker) == 0);
-	return arg;
-}
-
-static void join_beside(void)
-{
-	pthread_t thread;
-	start_thread(&thread, join_it, NULL);
-	end_thread(thread);
-}
+THREAD(join_it, EXPECT(kthread_join(await_itself()) == 0))
+static void join_beside(void) { pthread_t thread; start_thread(&thread, join_it, NULL); end_thread(thread); }
 
 /* The thread says who it is, and another one joins it before the call is over that made it. */
 static void test_joined_early(void)
@@ -366,11 +313,11 @@ static atomic_bool gone;
 /* Waits for the lock, and ends it: nobody else comes to it any more. */
 static void *take_and_end(void *of)
 {
-	kmutex_t *lock = of;
-	mutex_enter(lock);
-	mutex_exit(lock);
-	mutex_destroy(lock);
-	spoil(lock, sizeof(*lock));
+	kmutex_t *mutex = of;
+	mutex_enter(mutex);
+	mutex_exit(mutex);
+	mutex_destroy(mutex);
+	spoil(mutex, sizeof(*mutex));
 	atomic_store(&gone, true);
 	return of;
 }
@@ -381,15 +328,15 @@ static void await_gone(void) { await_flag(&gone); }
 static void test_gone(int level)
 {
 	pthread_t thread;
-	kmutex_t lock;
+	kmutex_t mutex;
 	atomic_store(&gone, false);
 	atomic_store(&waited, false);
-	mutex_init(&lock, MUTEX_DEFAULT, level);
-	mutex_enter(&lock);
-	start_thread(&thread, take_and_end, &lock);
+	mutex_init(&mutex, MUTEX_DEFAULT, level);
+	mutex_enter(&mutex);
+	start_thread(&thread, take_and_end, &mutex);
 	await_flag(&waited);
 	after = await_gone;
-	mutex_exit(&lock);
+	mutex_exit(&mutex);
 	EXPECT(after == NULL && atomic_load(&gone));
 	end_thread(thread);
 	int s = splhigh();
@@ -405,68 +352,58 @@ THREAD(take, is_taker = true; mutex_enter(arg); mutex_exit(arg))
 static void test_passed(void)
 {
 	enum { MOST = 20 };
-	kmutex_t lock;
+	kmutex_t mutex;
 	pthread_t taker;
 	unsigned turns = 0;
-	mutex_init(&lock, MUTEX_DEFAULT, IPL_NONE);
-	mutex_enter(&lock);
-	start_thread(&taker, take, &lock);
+	mutex_init(&mutex, MUTEX_DEFAULT, IPL_NONE);
+	mutex_enter(&mutex);
+	start_thread(&taker, take, &mutex);
 	for (bool is_free = true; is_free && turns < MOST; turns += is_free) {
 		await_least(&takers_waits, turns + 1);
 		atomic_store(&held_back, true);
-		mutex_exit(&lock);
-		EXPECT(!mutex_owned(&lock));
-		is_free = mutex_tryenter(&lock);
+		mutex_exit(&mutex);
+		EXPECT(!mutex_owned(&mutex));
+		is_free = mutex_tryenter(&mutex);
 		atomic_store(&held_back, false);
 	}
 	EXPECT(turns >= 2 && turns < MOST);
 	end_thread(taker);
-	EXPECT(mutex_tryenter(&lock) == 1);
-	mutex_exit(&lock);
-	mutex_destroy(&lock);
+	EXPECT(mutex_tryenter(&mutex) == 1);
+	mutex_exit(&mutex);
+	mutex_destroy(&mutex);
 }
 
 /* ---- CPUs. ---- */
 
-enum { FREE, KEPT, OVER };
-
-/* A thread that has one CPU, or is not bound at all. */
+/* A thread that has one CPU. */
 static struct keeper {
 	pthread_t thread;
-	atomic_int wanted, is;
+	atomic_bool has, ends;
 } keepers[KUPALDIZ_CPUS];
 
 static void *keep(void *of)
 {
 	struct keeper *keeper = of;
-	for (int wanted; (wanted = atomic_load(&keeper->wanted)) != OVER; sleep_for(200)) {
-		if (wanted == atomic_load(&keeper->is))
-			continue;
-		if (wanted == KEPT) {
-			kupaldiz_bind((unsigned)(keeper - keepers));
-			kpreempt_disable();
-		} else {
-			kpreempt_enable();
-			kupaldiz_unbind();
-		}
-		atomic_store(&keeper->is, wanted);
-	}
+	kupaldiz_bind((unsigned)(keeper - keepers));
+	kpreempt_disable();
+	atomic_store(&keeper->has, true);
+	await_flag(&keeper->ends);
+	kpreempt_enable();
 	return of;
 }
 
-static void want(unsigned cpu, int wanted)
+static void keep_cpu(unsigned cpu)
 {
-	atomic_store(&keepers[cpu].wanted, wanted);
-	while (atomic_load(&keepers[cpu].is) != wanted)
-		sleep_for(50);
+	atomic_store(&keepers[cpu].has, false);
+	atomic_store(&keepers[cpu].ends, false);
+	start_thread(&keepers[cpu].thread, keep, &keepers[cpu]);
+	await_flag(&keepers[cpu].has);
 }
 
+static void free_cpu(unsigned cpu) { atomic_store(&keepers[cpu].ends, true); end_thread(keepers[cpu].thread); }
+
 /* This thread isn't bound, and was on that CPU last. */
-static void come_from(unsigned cpu)
-{
-	kupaldiz_bind(cpu);
-	kupaldiz_unbind();
-}
+static void come_from(unsigned cpu) { kupaldiz_bind(cpu); kupaldiz_unbind(); }
 
 /* No other CPU is free or without a bound thread. */
 static void test_free(unsigned cpu)
@@ -485,49 +422,26 @@ static void test_free(unsigned cpu)
 	goes_on = false;
 }
 
-static atomic_bool entered;
-
-static void *enter_from(void *last)
-{
-	come_from(*(unsigned *)last);
-	kpreempt_disable();
-	atomic_store(&entered, true);
-	EXPECT(cpu_number() == *(unsigned *)last);
-	kpreempt_enable();
-	return last;
-}
-
-/* None is free: a thread waits for the CPU where it was last. */
-static void test_kept(unsigned last)
-{
-	pthread_t thread;
-	atomic_store(&waited, false);
-	atomic_store(&entered, false);
-	start_thread(&thread, enter_from, &last);
-	while (!atomic_load(&waited) && !atomic_load(&entered))
-		sleep_for(50);
-	EXPECT(!atomic_load(&entered));
-	want(last, FREE);
-	end_thread(thread);
-	want(last, KEPT);
-}
-
 static atomic_bool passed;
 
+/* None is free: a thread waits for the CPU where it was last. */
+THREAD(enter_from,
+    come_from(*(unsigned *)arg); kpreempt_disable(); atomic_store(&passed, true); EXPECT(cpu_number() == *(unsigned *)arg);
+    kpreempt_enable())
+/* A barrier waits for the one CPU that is kept, whichever it is. */
 THREAD(pass, xc_barrier(0); atomic_store(&passed, true))
 
-/* A barrier waits for the one CPU that is kept, whichever it is. */
-static void test_barrier(unsigned cpu)
+/* The thread waits as long as the CPU is kept. Then it is free. */
+static void test_kept(unsigned cpu, void *(*body)(void *))
 {
 	pthread_t thread;
-	want(cpu, KEPT);
 	atomic_store(&waited, false);
 	atomic_store(&passed, false);
-	start_thread(&thread, pass, NULL);
+	start_thread(&thread, body, &cpu);
 	while (!atomic_load(&waited) && !atomic_load(&passed))
 		sleep_for(50);
 	EXPECT(!atomic_load(&passed));
-	want(cpu, FREE);
+	free_cpu(cpu);
 	end_thread(thread);
 	EXPECT(atomic_load(&passed));
 }
@@ -550,40 +464,29 @@ static void test_cpus(void)
 {
 	test_nested();
 	for (unsigned cpu = 0; cpu < KUPALDIZ_CPUS; cpu++) {
-		start_thread(&keepers[cpu].thread, keep, &keepers[cpu]);
-		test_barrier(cpu);
+		keep_cpu(cpu);
+		test_kept(cpu, pass);
 	}
 	for (unsigned cpu = 0; cpu < KUPALDIZ_CPUS; cpu++)
-		want(cpu, KEPT);
+		keep_cpu(cpu);
 	for (unsigned cpu = 0; cpu < KUPALDIZ_CPUS; cpu++) {
-		test_kept(cpu);
-		want(cpu, FREE);
+		test_kept(cpu, enter_from);
 		test_free(cpu);
-		want(cpu, KEPT);
+		keep_cpu(cpu);
 	}
-	for (unsigned cpu = 0; cpu < KUPALDIZ_CPUS; cpu++) {
-		want(cpu, FREE);
-		atomic_store(&keepers[cpu].wanted, OVER);
-		end_thread(keepers[cpu].thread);
-	}
-}
-
-/* The first callout makes the condition variable of the callouts' clock, and its thread, which may take memory later. */
-static void test_clock(void)
-{
-	callout_t callout;
-	callout_init(&callout, CALLOUT_MPSAFE);
-	callout_destroy(&callout);
+	for (unsigned cpu = 0; cpu < KUPALDIZ_CPUS; cpu++)
+		free_cpu(cpu);
 }
 
 int main(void)
 {
+	callout_t callout;
 	EXPECT(curlwp != NULL);
 	EXPECT(pthread_key_create(&late, judge_end) == 0);
 	test_memory();
 	test_anew();
-	test_unjoined();
-	test_joined();
+	test_created(false);
+	test_created(true);
 	test_cancelled();
 	test_joined_early();
 	test_gone(IPL_NONE);
@@ -591,7 +494,9 @@ int main(void)
 	test_passed();
 	test_cpus();
 	test_call_after_end();
-	test_clock();
+	/* The first one makes the condition variable of the callouts' clock, and its thread, which may take memory later. */
+	callout_init(&callout, CALLOUT_MPSAFE);
+	callout_destroy(&callout);
 	puts("each thread had memory and a CPU of its own");
 	return 0;
 }

@@ -1,0 +1,64 @@
+/*
+ * things.h - the headers of all pages, and what most tests are about: one thing of each of the three pages, with a lock and a condition variable
+ */
+#ifndef NETBSD_THINGS_H
+#define NETBSD_THINGS_H
+
+#include <errno.h>
+#include <sys/callout.h>
+#include <sys/condvar.h>
+#include <sys/cpu.h>
+#include <sys/intr.h>
+#include <sys/kernel.h>
+#include <sys/kmem.h>
+#include <sys/kthread.h>
+#include <sys/localcount.h>
+#include <sys/module_hook.h>
+#include <sys/mutex.h>
+#include <sys/percpu.h>
+#include <sys/pool.h>
+#include <sys/proc.h>
+#include <sys/pserialize.h>
+#include <sys/psref.h>
+#include <sys/rwlock.h>
+#include <sys/systm.h>
+#include <sys/workqueue.h>
+#include <sys/xcall.h>
+
+static struct psref_class *things;
+static struct psref_target target;
+static struct localcount count;
+static pserialize_t psz;
+static kmutex_t lock;
+static kcondvar_t cv;
+
+static inline void make_things(int level)
+{
+	things = psref_class_create("thing", IPL_SOFTNET);
+	psz = pserialize_create();
+	mutex_init(&lock, MUTEX_DEFAULT, level);
+	cv_init(&cv, "count");
+	psref_target_init(&target, things);
+	localcount_init(&count);
+}
+
+/* Waits for those that have the count. */
+static inline void drain(struct localcount *of)
+{
+	mutex_enter(&lock);
+	localcount_drain(of, &cv, &lock);
+	mutex_exit(&lock);
+}
+
+static inline void end_things(void)
+{
+	psref_target_destroy(&target, things);
+	psref_class_destroy(things);
+	drain(&count);
+	localcount_fini(&count);
+	pserialize_destroy(psz);
+	cv_destroy(&cv);
+	mutex_destroy(&lock);
+}
+
+#endif
