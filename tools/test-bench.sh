@@ -114,7 +114,7 @@ check "outcomes with the reduction and without" "$out/plain/outcomes" 1 40
 check "the same of short programs, for a minute" "$out/plain/outcomes" for 60 1
 tail -n 1 "$log"
 check "the same with sanitizers" "$out/sanitized/outcomes" 61 4
-counted "faults in the reduction's rules are told by programs that are written there" make -s -C $folder rules EACH=1
+counted "faults in the reduction's rules and touches are told by programs that are written there" make -s -C $folder rules
 check "the outcomes of real threads are among the bench's" make -s -C $folder beside
 counted "each misuse of the layer's tests by the same line" make -s -C $folder misuses
 counted "faults in the seven drivers, as the table says" faults_as_told

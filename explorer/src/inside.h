@@ -322,9 +322,11 @@ uint32_t enabled_now(void);
 struct cpu *cpu_here(const struct routine *me);
 void at_call(const char *call);
 void at_thing(const char *call, enum kind kind, const void *thing, size_t size, unsigned how);
-void at_cpu(const char *call, unsigned how);
+void at_live(const char *call, const void *thing, size_t size);
+void at_cpu(const char *call);
 
-/* A call that touches one thing, whose size is known. */
+/* A call with a thing whose size is known, and one that touches it. */
+#define LIVE(thing)		at_live(__func__, thing, sizeof(*(thing)))
 #define AT(kind, thing, how)	at_thing(__func__, kind, thing, sizeof(*(thing)), how)
 
 /* ---- failures.c: calls that fail, and waits that end early. ---- */

@@ -136,7 +136,7 @@ static void set_deadline(struct routine *me, int64_t deadline)
 /* The wake-up alone has enabled it, unless its time is over or it might end early. */
 static void leave_queue(struct routine *me, const void *of)
 {
-	touch(ON_WAKE, me, 0, WRITES | (is_late(me) || ends_early(me) ? 0 : ACQUIRES));
+	touch(ON_WAKE, me, 0, is_late(me) || ends_early(me) ? 0 : ACQUIRES);
 	note_ending(me, !me->woken && !is_late(me));
 	if (me->woken)
 		acquire_clock(ON_WAKE, me, 0);
@@ -157,8 +157,6 @@ static bool wait_for_wake(const void *of, int64_t deadline)
 	if (me->relock != NULL)
 		check_live(me->call, me->relock, sizeof(*me->relock));
 	leave_queue(me, of);
-	if (deadline != NEVER)
-		touch(ON_TIME, NULL, 0, 0);
 	me->queue = NULL;
 	set_deadline(me, NEVER);
 	return me->woken;
@@ -247,10 +245,8 @@ bool has_ended_handler(const struct routine *me)
 /* A wait for the section that a CPU is in. */
 static void await_section(struct routine *me, unsigned cpu)
 {
-	uint64_t number = run.ends[cpu];
-	me->noted = number;
+	me->noted = run.ends[cpu];
 	wait_here(has_ended_section, (const void *)(uintptr_t)cpu);
-	touch(ON_END, (const void *)(uintptr_t)(number + 1), cpu, ORDERS | WRITES);
 }
 
 bool pause_longer(struct pauses *pauses, const struct registry_stage *met)
@@ -304,7 +300,6 @@ uint32_t bench_destroy(struct registry_keeper *keeper, struct registry_cpu *cpu,
 	const void *target = run.current->target;
 	touch(ON_SECTION, NULL, ANY, 0);
 	touch(ON_REFERENCES, target, ANY, 0);
-	touch(ON_TARGET, target, 0, WRITES);
 	uint32_t answer = registry_destroy(keeper, cpu, number, met);
 	acquire_sections();
 	if (answer == REGISTRY_DONE)
@@ -328,7 +323,7 @@ static void acquire_ended(const struct routine *me)
 		uint64_t section = me->sections[number];
 		if (section == 0 || run.ends[number] < section)
 			continue;
-		touch(ON_END, (const void *)(uintptr_t)section, number, ORDERS | WRITES);
+		touch(ON_END, (const void *)(uintptr_t)section, number, ORDERS);
 		acquire_clock(ON_END, (const void *)(uintptr_t)section, number);
 	}
 }
@@ -372,7 +367,7 @@ int bench_create(pthread_t *id, void *(*body)(void *), void *arg, const char *fi
 	bool callout = strstr(file, "callout") != NULL, works = strstr(file, "workqueue") != NULL;
 	/* It may be bound as it begins. */
 	if (!callout)
-		touch(ON_BOUND, NULL, ANY, WRITES);
+		touch(ON_BOUND, NULL, ANY, 0);
 	/* Its CPU goes by its number. */
 	if (works)
 		touch(ON_THREAD, NULL, 0, WRITES);
@@ -391,7 +386,7 @@ int bench_join(pthread_t id)
 {
 	struct routine *joined = &run.routines[id];
 	wait_here(has_ended, joined);
-	touch(ON_THREAD, joined, 0, ORDERS | WRITES | ACQUIRES);
+	touch(ON_THREAD, joined, 0, ORDERS | ACQUIRES);
 	return 0;
 }
 
@@ -433,7 +428,6 @@ void sleep_until(int64_t time)
 {
 	set_deadline(run.current, time);
 	wait_here(is_late, NULL);
-	touch(ON_TIME, NULL, 0, 0);
 	set_deadline(run.current, NEVER);
 }
 

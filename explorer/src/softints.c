@@ -63,7 +63,7 @@ static void acquire_cpu(struct thread *me)
 
 static void release_cpu(struct thread *me)
 {
-	touch(ON_LOCK, &me->cpu->hold, 0, WRITES | RELEASES);
+	release_clock(ON_LOCK, &me->cpu->hold, 0);
 	me->cpu->hold = (uintptr_t)me->lender;
 	me->lender = NULL;
 }
