@@ -54,29 +54,24 @@ void __tsan_vptr_update(void **at, void *value)
 		access_plainly(at, sizeof(*at), true, PC);
 }
 
-void __tsan_read_range(void *at, size_t size)
-{
-	access_plainly(at, size, false, PC);
-}
+#define RANGE(name, writes) \
+	void __tsan_##name(void *at, size_t size) \
+	{ \
+		access_plainly(at, size, writes, PC); \
+	}
 
-void __tsan_write_range(void *at, size_t size)
-{
-	access_plainly(at, size, true, PC);
-}
+#define COPY(name) \
+	void *__tsan_##name(void *to, const void *from, size_t size) \
+	{ \
+		access_plainly(from, size, false, PC); \
+		access_plainly(to, size, true, PC); \
+		return name(to, from, size); \
+	}
 
-void *__tsan_memcpy(void *to, const void *from, size_t size)
-{
-	access_plainly(from, size, false, PC);
-	access_plainly(to, size, true, PC);
-	return memcpy(to, from, size);
-}
-
-void *__tsan_memmove(void *to, const void *from, size_t size)
-{
-	access_plainly(from, size, false, PC);
-	access_plainly(to, size, true, PC);
-	return memmove(to, from, size);
-}
+RANGE(read_range, false)
+RANGE(write_range, true)
+COPY(memcpy)
+COPY(memmove)
 
 void *__tsan_memset(void *to, int byte, size_t size)
 {
