@@ -53,7 +53,7 @@ static void text_at(FILE *to, double x, double y, const char *kind, const char *
 {
 	fprintf(to, "<text x=\"%.1f\" y=\"%.1f\" class=\"%s\">", x, y, kind);
 	escape(to, text);
-	fputs("</text>\n", to);
+	fputs("</text>", to);
 }
 
 /* The address of what a step touches of a kind. */
@@ -158,11 +158,11 @@ static void draw_steps(FILE *to)
 		escape(to, search->steps[at].call);
 		fputc(' ', to);
 		escape(to, place_of_step(&search->steps[at]));
-		fputs("</title></circle>\n", to);
-		if (search->length > 45 && (at + 1) % 5 != 0)
-			continue;
+		fputs("</title></circle>", to);
 		snprintf(number, sizeof(number), "%u", at + 1);
-		text_at(to, x - 4, y - 12, "faint", number);
+		if (search->length <= 45 || (at + 1) % 5 == 0)
+			text_at(to, x - 4, y - 12, "faint", number);
+		fputc('\n', to);
 	}
 }
 
@@ -185,6 +185,7 @@ static double list_steps(FILE *to, double y)
 		text_at(to, 50, y, at == 0 || search->steps[at - 1].chosen != step->chosen ? "" : "faint", search->names[step->chosen]);
 		text_at(to, 180, y, "", step->call);
 		text_at(to, 380, y, "", place_of_step(step));
+		fputc('\n', to);
 	}
 	return y;
 }
@@ -208,6 +209,7 @@ static void write_lines(FILE *to, double y, const char *text)
 		size_t cut = length_of_line(text);
 		snprintf(line, sizeof(line), "%.*s", (int)cut, text);
 		text_at(to, 14, y, "said", line);
+		fputc('\n', to);
 		text += cut + (text[cut] == ' ');
 		y += LINE_HIGH;
 	}
@@ -218,8 +220,9 @@ static void draw_legend(FILE *to)
 	static const char *const kinds[] = {"section", "lock", "reference", "count", "wait"};
 	double x = 430;
 	for (unsigned at = 0; at < sizeof(kinds) / sizeof(kinds[0]); at++, x += 92) {
-		fprintf(to, "<rect class=\"%s\" x=\"%.1f\" y=\"14\" width=\"16\" height=\"9\" rx=\"1\"/>\n", kinds[at], x);
+		fprintf(to, "<rect class=\"%s\" x=\"%.1f\" y=\"14\" width=\"16\" height=\"9\" rx=\"1\"/>", kinds[at], x);
 		text_at(to, x + 21, 23, "", kinds[at]);
+		fputc('\n', to);
 	}
 }
 
