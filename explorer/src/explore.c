@@ -503,7 +503,7 @@ static void run_body(void *of)
 void bench_thread(const char *name, void (*body)(void *), void *arg)
 {
 	struct routine *me = here(__func__);
-	struct body *made = allocate(sizeof(*made), 16, false);
+	struct body *made = bench_allocate(sizeof(*made), 16, false);
 	(void)me;
 	if (body == NULL)
 		refuse("bench_thread without a body");

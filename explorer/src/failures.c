@@ -11,7 +11,6 @@
 #include <sys/mman.h>
 
 #include "inside.h"
-#include "stand_ins.h"
 
 enum { MOST_PLANS = 4096 };
 

@@ -5,6 +5,7 @@
 #include <stdio.h>
 
 #include "layer.h"
+#include "stand_ins.h"
 
 #include "../bench.h"
 
@@ -409,11 +410,8 @@ void *row_for(enum table table, uintptr_t key);
 void map_heap(void);
 bool is_live(const void *at);
 size_t size_of_block(const void *at);
-void *resize(void *block, size_t size);
 void check_live(const char *call, const volatile void *at, size_t size);
 void check_usable(const struct routine *me, const volatile void *at, size_t size, const struct use *use);
-void *allocate(size_t size, size_t align, bool judged);
-void release(void *block);
 void check_heap(void);
 
 /* ---- state.c ---- */

@@ -8,7 +8,6 @@
 #include <string.h>
 
 #include "inside.h"
-#include "stand_ins.h"
 
 /* ---- Time. ---- */
 
@@ -362,7 +361,7 @@ static void run_start(void *of)
 
 int bench_create(pthread_t *id, void *(*body)(void *), void *arg, const char *file)
 {
-	struct start *start = allocate(sizeof(*start), 16, false);
+	struct start *start = bench_allocate(sizeof(*start), 16, false);
 	*start = (struct start){body, arg};
 	bool callout = strstr(file, "callout") != NULL, works = strstr(file, "workqueue") != NULL;
 	/* It may be bound as it begins. */
@@ -448,34 +447,14 @@ int bench_sleep(const struct timespec *time)
 
 static char line[BENCH_LINE];
 
-void *bench_malloc(size_t size)
-{
-	return allocate(size, 16, true);
-}
-
-void *bench_aligned_alloc(size_t align, size_t size)
-{
-	return allocate(size, align, true);
-}
-
 void *bench_calloc(size_t count, size_t size)
 {
-	return memset(allocate(count * size, 16, kupaldiz_self != NULL && !run.own_memory), 0, count * size);
-}
-
-void *bench_realloc(void *block, size_t size)
-{
-	return resize(block, size);
-}
-
-void bench_free(void *block)
-{
-	release(block);
+	return memset(bench_allocate(count * size, 16, kupaldiz_self != NULL && !run.own_memory), 0, count * size);
 }
 
 int bench_aligned(void **block, size_t align, size_t size)
 {
-	*block = allocate(size, align, false);
+	*block = bench_allocate(size, align, false);
 	return 0;
 }
 

@@ -1,6 +1,5 @@
 /* more_calls.c - the layer's other calls: memory, CPUs, soft interrupts, callouts, threads, works, time */
 #include "inside.h"
-#include "stand_ins.h"
 
 /* ---- kmem(9), pool(9), percpu(9). ---- */
 

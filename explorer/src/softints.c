@@ -115,7 +115,7 @@ void ensure_softint_thread(struct thread *me, struct cpu *cpu, int level)
 	touch(ON_PENDING, NULL, cpu->info.ci_index, WRITES | RELEASES);
 	if (*softint != NULL)
 		return;
-	struct queue *queue = allocate(sizeof(*queue), 16, false);
+	struct queue *queue = bench_allocate(sizeof(*queue), 16, false);
 	*queue = (struct queue){cpu, level};
 	*softint = make_routine("softint", run_handlers, queue, true);
 	start_routines();

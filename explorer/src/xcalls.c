@@ -72,7 +72,7 @@ static void make_calls(void *arg)
 /* Asks for a call. What xc_wait takes. */
 static uint64_t enqueue_xcall(const struct xcall *asked_for)
 {
-	struct xcall *xcall = allocate(sizeof(*xcall), 16, false);
+	struct xcall *xcall = bench_allocate(sizeof(*xcall), 16, false);
 	if (caller == NULL)
 		caller = make_routine("xcall", make_calls, NULL, true);
 	start_routines();
