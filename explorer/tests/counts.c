@@ -75,11 +75,16 @@ static void change(void *arg)
 		atomic_inc_uint(&word);
 }
 
+static void make_two(void (*body)(void *), void *one, void *two)
+{
+	bench_thread("one", body, one);
+	bench_thread("two", body, two);
+}
+
 static void make_changers(void)
 {
 	lengths[0] = lengths[1] = 3;
-	bench_thread("one", change, &lengths[0]);
-	bench_thread("two", change, &lengths[1]);
+	make_two(change, &lengths[0], &lengths[1]);
 }
 
 /* With no preemption there are two orders; with one at most, each thread may be left at two points: six. */
@@ -115,8 +120,7 @@ static void make_racers(void)
 {
 	lengths[0] = 1;
 	lengths[1] = 2;
-	bench_thread("one", last_wins, &lengths[0]);
-	bench_thread("two", last_wins, &lengths[1]);
+	make_two(last_wins, &lengths[0], &lengths[1]);
 }
 
 static void test_random(void)
@@ -140,11 +144,7 @@ static void step_aloud(void *letter)
 	}
 }
 
-static void make_steppers(void)
-{
-	bench_thread("one", step_aloud, "a");
-	bench_thread("two", step_aloud, "b");
-}
+static void make_steppers(void) { make_two(step_aloud, "a", "b"); }
 
 HANDLER(change_word, atomic_inc_uint(&word))
 HANDLER(tell_change, if (atomic_load_relaxed(&word) != 0) bench_outcome("changed"))

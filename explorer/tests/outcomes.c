@@ -97,7 +97,7 @@ static struct {
 	const char *letters;
 	void (*handler)(void *);
 	void *cookie;
-} softints[SOFTINTS] = {[STORES] = {"ih", handle}, [COUNTS] = {"p", count_plainly}, [LOCKS] = {"m", lock_and_store}};
+} softints[SOFTINTS] = {[STORES] = {"ih", handle, NULL}, [COUNTS] = {"p", count_plainly, NULL}, [LOCKS] = {"m", lock_and_store, NULL}};
 
 UNSEEN static void change_block(void *arg)
 {
@@ -436,7 +436,7 @@ UNSEEN static void execute(unsigned thread, char letter, unsigned value)
 	case '@': workqueue_enqueue(queue, work, NULL); break;
 	case '$': kmem_free(work, sizeof(*work)); break;
 	case ',': workqueue_wait(queue, work); break;
-	default: EXPECT(!"a letter");
+	default: EXPECT(letter == '\0');
 	}
 }
 
