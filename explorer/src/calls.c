@@ -14,7 +14,6 @@ struct cpu *cpu_here(const struct routine *me)
 	return me->self->cpu;
 }
 
-/* A point that waits for nothing. */
 void at_call(const char *call)
 {
 	point(call, NULL, NULL, NULL);

@@ -33,7 +33,6 @@ void refuse(const char *format, ...)
 	_exit(2);
 }
 
-/* The run is wrong: it is left. */
 void fail(const char *format, ...)
 {
 	va_list words;
@@ -55,7 +54,6 @@ static void check_end(void)
 		check_none_left();
 }
 
-/* The body of the first thread. */
 static void run_setup(void *arg)
 {
 	(void)arg;
@@ -109,7 +107,6 @@ static void keep_outcome(void)
 	made->count = 1;
 }
 
-/* Executes one schedule in this process. */
 static enum end run_here(void)
 {
 	struct thread nobody = {.call = "bench_explore"};
@@ -235,7 +232,6 @@ static void draw_priorities(void)
 		search->priorities[at] = search->lowest + (unsigned)(random_number() >> 33 & 0xffffff);
 }
 
-/* The points at which they fall. */
 static void draw_changes(unsigned length)
 {
 	for (unsigned at = 0; at < sizeof(search->changes) / sizeof(search->changes[0]); at++)
@@ -323,7 +319,6 @@ static enum end in_child(void (*body)(void), bool silent)
 
 /* ---- In the parent. ---- */
 
-/* Writes down the schedule of the last run. */
 static void keep_schedule(struct bench_found *found)
 {
 	const struct step *last = &search->steps[search->length == 0 ? 0 : search->length - 1];
@@ -485,7 +480,6 @@ int bench_explore(void (*setup)(void), const struct bench_options *given)
 
 /* ---- What a test calls. ---- */
 
-/* The body of a thread that a test has made. */
 struct body {
 	void (*body)(void *);
 	void *arg;

@@ -107,7 +107,6 @@ static const char *at_or_nothing(const char *place, char *text, size_t room)
 	return text;
 }
 
-/* Whether these bytes are a live block's. */
 static bool is_within(const struct block *block, const volatile void *at, size_t size)
 {
 	return block->live && (const volatile unsigned char *)at + size <= block->at + block->size;
@@ -168,7 +167,6 @@ static void check_block(const struct block *block)
 	forbid(block->at + (block->live ? block->size : 0), FENCE + (block->live ? 0 : block->size));
 }
 
-/* Nobody may use it any more. */
 static void end_block(struct block *block)
 {
 	const struct thread *self = kupaldiz_self;

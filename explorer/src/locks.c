@@ -223,7 +223,6 @@ bool has_ended_section(const struct routine *me)
 	return run.ends[(uintptr_t)me->of] != me->noted;
 }
 
-/* How many references to a target were released. */
 uint64_t *releases_of(const void *target)
 {
 	struct released *row = row_for(RELEASED, (uintptr_t)target);
@@ -241,7 +240,6 @@ bool has_ended_handler(const struct routine *me)
 	return run.handlers != me->noted;
 }
 
-/* A wait for the section that a CPU is in. */
 static void await_section(struct routine *me, unsigned cpu)
 {
 	me->noted = run.ends[cpu];
@@ -350,7 +348,6 @@ void end_self(void)
 	end_of_thread(kupaldiz_self);
 }
 
-/* The body of a thread that the layer makes. */
 static void run_start(void *of)
 {
 	struct start start = *(struct start *)of;
@@ -430,7 +427,6 @@ void sleep_until(int64_t time)
 	set_deadline(run.current, NEVER);
 }
 
-/* Another thread may go on here. */
 void bench_yield(void)
 {
 	wait_here(NULL, NULL);

@@ -201,7 +201,6 @@ static size_t length_of_line(const char *text)
 	return cut == 0 ? LETTERS : cut;
 }
 
-/* A text in lines of so many letters, cut at blanks. */
 static void write_lines(FILE *to, double y, const char *text)
 {
 	char line[LETTERS + 1];

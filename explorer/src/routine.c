@@ -153,7 +153,6 @@ static struct routine *pop_starter(void)
 	return found;
 }
 
-/* The first thing that a new thread does. */
 static void begin_routine(void)
 {
 	struct routine *me = run.current;

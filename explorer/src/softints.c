@@ -85,7 +85,6 @@ static void run_waiting(struct thread *me, unsigned number, int level)
 	release_cpu(me);
 }
 
-/* Runs the handlers of a CPU's level for ever. */
 static void run_handlers(void *of)
 {
 	const struct queue queue = *(struct queue *)of;

@@ -9,7 +9,6 @@ LAYER(uint64_t, xc_broadcast, (unsigned flags, xcfunc_t body, void *arg_a, void 
 LAYER(uint64_t, xc_unicast, (unsigned flags, xcfunc_t body, void *arg_a, void *arg_b, struct cpu_info *cpu));
 LAYER(void, xc_wait, (uint64_t ticket));
 
-/* A call that was asked for. */
 struct xcall {
 	struct xcall *next;
 	unsigned flags;
