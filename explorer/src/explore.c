@@ -351,16 +351,13 @@ static bool find_shorter(struct bench_found *found, unsigned preemptions, unsign
  * schedules with so many can be tried. */
 static void cut_down(struct bench_found *found)
 {
-	for (unsigned bound = 0; bound < found->preemptions; bound++)
-		if (find_shorter(found, bound, UINT_MAX))
-			break;
-	for (unsigned most = 0; most < found->changes; most++)
-		if (find_shorter(found, found->preemptions, most))
-			break;
+	for (unsigned bound = 0; bound < found->preemptions && !find_shorter(found, bound, UINT_MAX); bound++)
+		;
+	for (unsigned most = 0; most < found->changes && !find_shorter(found, found->preemptions, most); most++)
+		;
 	search->limit = 1;
-	for (unsigned most = 0; most < found->changes && search->limit > 0; most++)
-		if (find_shorter(found, UINT_MAX, most))
-			break;
+	for (unsigned most = 0; most < found->changes && search->limit > 0 && !find_shorter(found, UINT_MAX, most); most++)
+		;
 }
 
 /* A thread goes on for so many points. How many there are then. */

@@ -13,6 +13,7 @@ import re
 import subprocess
 import sys
 from concurrent.futures import ThreadPoolExecutor
+from itertools import zip_longest
 from typing import NamedTuple
 
 SOURCES = pathlib.Path(__file__).resolve().parent.parent / "src"
@@ -112,8 +113,9 @@ def run(program, planted=0):
 
 def judge(name, right, said):
     """Prints by which program a fault is told. Whether it is."""
-    told = next((text for (_, text), (_, other) in zip(said, right) if text != other), None)
-    counted = next((text for (runs, text), (before, _) in zip(said, right) if runs != before), None)
+    pairs = list(zip_longest(said, right, fillvalue=("", "")))
+    told = next((text for (_, text), (_, other) in pairs if text != other), None)
+    counted = next((text for (runs, text), (before, _) in pairs if runs != before), None)
     how = "told   " if told is not None else "counted" if counted is not None else "UNTOLD "
     print(f"{how} {name}: {(told or counted or '').split(chr(10))[0].strip(', ')}", flush=True)
     return told is not None or counted is not None
