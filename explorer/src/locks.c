@@ -96,15 +96,11 @@ void lock_release(uintptr_t *word, struct thread *me)
 
 /* ---- What threads wait in. ---- */
 
-struct sleepq {
-	int none;
-};
-
+/* There are no queues: each thread has what it waits for. */
 struct sleepq *sleepq_of(const void *address)
 {
-	static struct sleepq all;
 	(void)address;
-	return &all;
+	return NULL;
 }
 
 void sleepq_lock(struct sleepq *sleepq)

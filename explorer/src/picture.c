@@ -74,11 +74,6 @@ static unsigned row_of(unsigned thread)
 	return (unsigned)__builtin_popcount(seen & ((UINT32_C(1) << thread) - 1));
 }
 
-static unsigned rows(void)
-{
-	return row_of(THREADS);
-}
-
 /* The step that ends what this one begins; the end of the picture where none does. */
 static unsigned end_of(unsigned from, const struct pair *pair)
 {
@@ -229,7 +224,7 @@ static void draw_legend(FILE *to)
 bool draw(const char *name, const struct bench_found *found)
 {
 	FILE *to = fopen(name, "w");
-	double list = TOP + rows() * ROW + 20, high = list + (search->length + 2 + (unsigned)strlen(found->line) / 100) * LINE_HIGH;
+	double list = TOP + row_of(THREADS) * ROW + 20, high = list + (search->length + 2 + (unsigned)strlen(found->line) / 100) * LINE_HIGH;
 	if (to == NULL)
 		return false;
 	fprintf(to, "<svg xmlns=\"http://www.w3.org/2000/svg\" width=\"%d\" height=\"%.0f\" viewBox=\"0 0 %d %.0f\" role=\"img\">\n<title>", WIDE, high,
