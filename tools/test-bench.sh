@@ -40,6 +40,12 @@ prints_what_was_tried() {
         grep -qx 'bridge: every schedule of its points was tried, or one that is the same as it' <("$out/plain/drivers" bridge)
 }
 
+# So many runs are enough with the reduction, and no fewer: each touch of a step counts (tests/rules.py).
+compares_outcomes() {
+    "$out/plain/outcomes" 1 40 | tee "$log.said"
+    grep -q ' have the same outcomes by 5764 schedules as by 536252; ' "$log.said"
+}
+
 # The table of the README and that of tests/faults.txt say what was printed.
 drivers_as_told() {
     "$out/plain/drivers" | "$folder/tests/told.py" drivers
@@ -101,11 +107,11 @@ for way in plain sanitized; do
 done
 counted "the seven drivers in every order, as the README says" drivers_as_told
 check "what it prints" prints_what_was_tried
-check "outcomes with the reduction and without" "$out/plain/outcomes" 1 40
+check "outcomes with the reduction and without" compares_outcomes
 check "the same of short programs, for a minute" "$out/plain/outcomes" for 60 1
 tail -n 1 "$log"
 check "the same with sanitizers" "$out/sanitized/outcomes" 61 4
-counted "faults in the reduction's rules are told by programs that are written there" make -s -C $folder rules EACH=1
+counted "faults in the reduction's rules and touches are told by programs that are written there" make -s -C $folder rules
 check "the outcomes of real threads are among the bench's" make -s -C $folder beside
 counted "each misuse of the layer's tests by the same line" make -s -C $folder misuses
 counted "faults in the seven drivers, as the table says" faults_as_told

@@ -14,31 +14,29 @@ struct cpu *cpu_here(const struct routine *me)
 	return me->self->cpu;
 }
 
-/* A point that waits for nothing. */
 void at_call(const char *call)
 {
 	point(call, NULL, NULL, NULL);
 }
 
-/* ---- Calls that touch one thing. ---- */
+/* A point of a call with a thing that lies in memory. */
+void at_live(const char *call, const void *thing, size_t size)
+{
+	at_call(call);
+	check_live(call, thing, size);
+}
 
 void at_thing(const char *call, enum kind kind, const void *thing, size_t size, unsigned how)
 {
-	at_call(call);
-	if (thing != NULL)
-		check_live(call, thing, size);
+	at_live(call, thing, size);
 	touch(kind, thing, 0, how);
 }
 
-/* ---- Calls whose thread has its CPU. ---- */
-
-void at_cpu(const char *call, unsigned how)
+/* A call whose thread takes its CPU, unless it has that. */
+void at_cpu(const char *call)
 {
 	struct routine *me = here(call);
-	bool needs = me->self->holds == 0;
-	point(call, NULL, needs ? is_free : NULL, &cpu_here(me)->hold);
-	if (needs)
-		touch(ON_LOCK, &cpu_here(me)->hold, 0, WRITES | ACQUIRES | how);
+	point(call, NULL, me->self->holds == 0 ? is_free : NULL, &cpu_here(me)->hold);
 }
 
 /* ---- mutex(9). ---- */
@@ -64,71 +62,65 @@ bool can_take(const struct routine *me)
 	return mutex->mtx_word == 0 && (!mutex->mtx_spins || me->self->holds > 0 || *hold == 0);
 }
 
-static void at_mutex(const char *call, kmutex_t *mutex, guard_fn *guard, unsigned how)
+static void at_enter(const char *call, kmutex_t *mutex)
 {
-	struct routine *me = here(call);
-	point(call, NULL, guard, mutex);
+	point(call, NULL, can_take, mutex);
 	check_live(call, mutex, sizeof(*mutex));
-	touch(ON_LOCK, mutex, 0, WRITES | (how == ACQUIRES && steps_off(me, mutex) ? 0 : how));
-	if (mutex->mtx_spins)
-		touch(ON_LOCK, &cpu_here(me)->hold, 0, WRITES | how);
+	if (!steps_off(run.current, mutex))
+		touch(ON_LOCK, mutex, 0, ACQUIRES);
 }
 
-WRAPPED(void, mutex_enter, (kmutex_t *mutex), (mutex), at_mutex(__func__, mutex, can_take, ACQUIRES))
-WRAPPED(void, mutex_spin_enter, (kmutex_t *mutex), (mutex), at_mutex(__func__, mutex, can_take, ACQUIRES))
-WRAPPED(void, mutex_exit, (kmutex_t *mutex), (mutex), at_mutex(__func__, mutex, NULL, RELEASES))
-WRAPPED(void, mutex_spin_exit, (kmutex_t *mutex), (mutex), at_mutex(__func__, mutex, NULL, RELEASES))
-
-ANSWERED(int, mutex_tryenter, (kmutex_t *mutex), (mutex), at_mutex(__func__, mutex, NULL, 0), if (answer) acquire_clock(ON_LOCK, mutex, 0))
-
-WRAPPED(void, mutex_destroy, (kmutex_t *mutex), (mutex), AT(ON_LOCK, mutex, WRITES); track_ended(mutex))
-WRAPPED(void, mutex_obj_hold, (kmutex_t *mutex), (mutex), AT(ON_LOCK, mutex, WRITES))
+WRAPPED(void, mutex_enter, (kmutex_t *mutex), (mutex), at_enter(__func__, mutex))
+WRAPPED(void, mutex_spin_enter, (kmutex_t *mutex), (mutex), at_enter(__func__, mutex))
+WRAPPED(void, mutex_exit, (kmutex_t *mutex), (mutex), LIVE(mutex))
+WRAPPED(void, mutex_spin_exit, (kmutex_t *mutex), (mutex), LIVE(mutex))
+WRAPPED(int, mutex_tryenter, (kmutex_t *mutex), (mutex), LIVE(mutex))
+WRAPPED(void, mutex_destroy, (kmutex_t *mutex), (mutex), AT(ON_LOCK, mutex, 0); track_ended(mutex))
+WRAPPED(void, mutex_obj_hold, (kmutex_t *mutex), (mutex), AT(ON_LOCK, mutex, 0))
 WRAPPED(bool, mutex_obj_free, (kmutex_t *mutex), (mutex), AT(ON_LOCK, mutex, WRITES))
 
 /* ---- condvar(9). ---- */
 
 /* A wait gives the lock back, and takes it again in the step in which the thread goes on. */
-static void begin_cv_wait(const char *call, kcondvar_t *cv, kmutex_t *mutex)
+static void at_cv_wait(const char *call, kcondvar_t *cv, kmutex_t *mutex)
 {
-	at_call(call);
-	check_live(call, cv, sizeof(*cv));
+	at_live(call, cv, sizeof(*cv));
 	check_live(call, mutex, sizeof(*mutex));
-	touch(ON_LOCK, mutex, 0, WRITES | RELEASES);
 	run.current->relock = mutex;
 }
 
-static void end_cv_wait(kmutex_t *mutex)
+static void end_cv_wait(const kmutex_t *mutex)
 {
-	touch(ON_LOCK, mutex, 0, WRITES | ACQUIRES);
+	touch(ON_LOCK, mutex, 0, ACQUIRES);
 	run.current->relock = NULL;
 }
 
-AROUND(void, cv_wait, (kcondvar_t *cv, kmutex_t *mutex), (cv, mutex), begin_cv_wait(__func__, cv, mutex), end_cv_wait(mutex))
-ANSWERED(int, cv_wait_sig, (kcondvar_t *cv, kmutex_t *mutex), (cv, mutex), begin_cv_wait(__func__, cv, mutex), end_cv_wait(mutex))
-ANSWERED(int, cv_timedwait, (kcondvar_t *cv, kmutex_t *mutex, int ticks), (cv, mutex, ticks), begin_cv_wait(__func__, cv, mutex), end_cv_wait(mutex))
-ANSWERED(int, cv_timedwait_sig, (kcondvar_t *cv, kmutex_t *mutex, int ticks), (cv, mutex, ticks), begin_cv_wait(__func__, cv, mutex), end_cv_wait(mutex))
+AROUND(void, cv_wait, (kcondvar_t *cv, kmutex_t *mutex), (cv, mutex), at_cv_wait(__func__, cv, mutex), end_cv_wait(mutex))
+ANSWERED(int, cv_wait_sig, (kcondvar_t *cv, kmutex_t *mutex), (cv, mutex), at_cv_wait(__func__, cv, mutex), end_cv_wait(mutex))
+ANSWERED(int, cv_timedwait, (kcondvar_t *cv, kmutex_t *mutex, int ticks), (cv, mutex, ticks), at_cv_wait(__func__, cv, mutex), end_cv_wait(mutex))
+ANSWERED(int, cv_timedwait_sig, (kcondvar_t *cv, kmutex_t *mutex, int ticks), (cv, mutex, ticks), at_cv_wait(__func__, cv, mutex), end_cv_wait(mutex))
 
 static void at_wake(const char *call, kcondvar_t *cv)
 {
-	at_thing(call, ON_CV, cv, sizeof(*cv), WRITES);
+	at_live(call, cv, sizeof(*cv));
 	track_wake(call, run.current->place, cv, sleepq_has_waiter(NULL, cv));
 }
 
 WRAPPED(void, cv_signal, (kcondvar_t *cv), (cv), at_wake(__func__, cv))
 WRAPPED(void, cv_broadcast, (kcondvar_t *cv), (cv), at_wake(__func__, cv))
-WRAPPED(bool, cv_has_waiters, (kcondvar_t *cv), (cv), AT(ON_CV, cv, 0))
+WRAPPED(bool, cv_has_waiters, (kcondvar_t *cv), (cv), LIVE(cv))
 WRAPPED(bool, cv_is_valid, (kcondvar_t *cv), (cv), AT(ON_CV, cv, 0))
 WRAPPED(void, cv_destroy, (kcondvar_t *cv), (cv), AT(ON_CV, cv, WRITES); track_ended(cv))
 
 /* ---- rwlock(9): a thread that waits for one is in the lock's own queue. ---- */
 
-AROUND(void, rw_enter, (krwlock_t *rw, const krw_t how), (rw, how), AT(ON_LOCK, rw, WRITES),
+AROUND(void, rw_enter, (krwlock_t *rw, const krw_t how), (rw, how), AT(ON_LOCK, rw, 0),
     touch(ON_LOCK, rw, 0, WRITES); acquire_clock(ON_LOCK, rw, 0))
 ANSWERED(int, rw_tryenter, (krwlock_t *rw, const krw_t how), (rw, how), AT(ON_LOCK, rw, WRITES), if (answer) acquire_clock(ON_LOCK, rw, 0))
 WRAPPED(void, rw_exit, (krwlock_t *rw), (rw), AT(ON_LOCK, rw, WRITES); release_clock(ON_LOCK, rw, 0))
 ANSWERED(int, rw_tryupgrade, (krwlock_t *rw), (rw), AT(ON_LOCK, rw, WRITES), if (answer) acquire_clock(ON_LOCK, rw, 0))
 WRAPPED(void, rw_downgrade, (krwlock_t *rw), (rw), AT(ON_LOCK, rw, WRITES); release_clock(ON_LOCK, rw, 0))
-WRAPPED(void, rw_destroy, (krwlock_t *rw), (rw), AT(ON_LOCK, rw, WRITES); track_ended(rw))
+WRAPPED(void, rw_destroy, (krwlock_t *rw), (rw), AT(ON_LOCK, rw, 0); track_ended(rw))
 
 /* Whether others read, which rw_write_held doesn't ask. */
 WRAPPED(int, rw_read_held, (krwlock_t *rw), (rw), AT(ON_LOCK, rw, 0))
@@ -136,9 +128,9 @@ WRAPPED(int, rw_lock_held, (krwlock_t *rw), (rw), AT(ON_LOCK, rw, 0))
 
 /* ---- pserialize(9). ---- */
 
-WRAPPED(int, pserialize_read_enter, (void), (), at_cpu(__func__, 0))
+WRAPPED(int, pserialize_read_enter, (void), (), at_cpu(__func__))
 WRAPPED(void, pserialize_read_exit, (int s), (s), at_call(__func__))
-AROUND(void, pserialize_perform, (pserialize_t psz), (psz), at_thing(__func__, ON_TARGET, psz, 1, 0), touch(ON_TARGET, psz, 0, 0))
+WRAPPED(void, pserialize_perform, (pserialize_t psz), (psz), at_thing(__func__, ON_TARGET, psz, 1, 0))
 WRAPPED(void, pserialize_destroy, (pserialize_t psz), (psz), at_thing(__func__, ON_TARGET, psz, 1, WRITES))
 
 /* ---- psref(9). ---- */
@@ -146,38 +138,37 @@ WRAPPED(void, pserialize_destroy, (pserialize_t psz), (psz), at_thing(__func__, 
 WRAPPED(void, psref_class_destroy, (struct psref_class *psref_class), (psref_class),
     at_thing(__func__, ON_TARGET, psref_class, 1, WRITES))
 WRAPPED(void, psref_target_init, (struct psref_target *target, struct psref_class *psref_class), (target, psref_class),
-    AT(ON_TARGET, target, WRITES); check_live(__func__, psref_class, 1); touch(ON_TARGET, psref_class, 0, 0))
+    AT(ON_TARGET, target, WRITES); check_live(__func__, psref_class, 1))
 
 AROUND(void, psref_target_destroy, (struct psref_target *target, struct psref_class *psref_class), (target, psref_class),
     AT(ON_TARGET, target, WRITES); check_live(__func__, psref_class, 1); touch(ON_TARGET, psref_class, 0, 0); run.current->target = target,
-    run.current->target = NULL; touch(ON_TARGET, psref_class, 0, 0); acquire_clock(ON_REFERENCES, target, 0))
+    run.current->target = NULL; acquire_clock(ON_REFERENCES, target, 0))
 
 /* A call with a reference of this CPU's to a target or a count. */
 static void at_reference(const char *call, const void *target, size_t size, unsigned how)
 {
 	struct routine *me = here(call);
-	at_cpu(call, RELEASES);
+	at_cpu(call);
 	check_live(call, target, size);
 	touch(ON_REFERENCES, target, cpu_here(me)->info.ci_index, how);
 	touch(ON_TARGET, target, 0, 0);
 }
 
 WRAPPED(void, psref_acquire, (struct psref *psref, const struct psref_target *target, struct psref_class *psref_class),
-    (psref, target, psref_class), at_reference(__func__, target, sizeof(*target), WRITES))
+    (psref, target, psref_class), at_reference(__func__, target, sizeof(*target), 0))
 AROUND(void, psref_release, (struct psref *psref, const struct psref_target *target, struct psref_class *psref_class), (psref, target, psref_class),
     at_reference(__func__, target, sizeof(*target), WRITES); release_clock(ON_REFERENCES, target, 0), ++*releases_of(target))
 WRAPPED(void, psref_copy, (struct psref *to, const struct psref *from, struct psref_class *psref_class),
-    (to, from, psref_class), at_reference(__func__, from->psref_target, sizeof(*from->psref_target), WRITES))
+    (to, from, psref_class), at_reference(__func__, from->psref_target, sizeof(*from->psref_target), 0))
 WRAPPED(bool, psref_held, (const struct psref_target *target, struct psref_class *psref_class), (target, psref_class),
     at_reference(__func__, target, sizeof(*target), 0))
 
 /* ---- localcount(9). ---- */
 
 WRAPPED(void, localcount_init, (struct localcount *lc), (lc), AT(ON_TARGET, lc, WRITES))
-WRAPPED(void, localcount_fini, (struct localcount *lc), (lc), AT(ON_TARGET, lc, WRITES))
+WRAPPED(void, localcount_fini, (struct localcount *lc), (lc), AT(ON_TARGET, lc, 0))
 AROUND(void, localcount_drain, (struct localcount *lc, kcondvar_t *cv, kmutex_t *interlock), (lc, cv, interlock),
-    AT(ON_TARGET, lc, WRITES); check_live(__func__, interlock, sizeof(*interlock)); touch(ON_LOCK, interlock, 0, WRITES | RELEASES);
-    run.current->target = lc; run.current->relock = interlock,
+    AT(ON_TARGET, lc, WRITES); check_live(__func__, interlock, sizeof(*interlock)); run.current->target = lc; run.current->relock = interlock,
     end_cv_wait(interlock); run.current->target = NULL; acquire_clock(ON_REFERENCES, lc, 0))
 WRAPPED(void, localcount_acquire, (struct localcount *lc), (lc), at_reference(__func__, lc, sizeof(*lc), WRITES))
 AROUND(void, localcount_release, (struct localcount *lc, kcondvar_t *cv, kmutex_t *interlock), (lc, cv, interlock),

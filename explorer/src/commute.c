@@ -7,10 +7,10 @@
  * Model Checking Software", POPL 2005. The search looks back from a step to the last one at which its thread was enabled, and it does so from the
  * step that a disabled thread would make next, too.
  *
- * A step comes after another one if they conflict, and after what that one comes after. A guard's reads are among the accesses of its step, so a
- * step that enables or disables another one conflicts with it. Two conflicting steps of different threads are a race if the later one's thread might
- * have gone on before the earlier step. For each race the search adds a backtrack point: at the earlier step a thread is planned that leads to the later
- * step first.
+ * A step comes after another one if they conflict, and after what that one comes after. A guard's reads are among the accesses of its step, or, in a wait
+ * for several sections, of its last step. So a step that enables or disables another one conflicts with it. Two conflicting steps of different threads are
+ * a race if the later one's thread might have gone on before the earlier step. For each race the search adds a backtrack point: at the earlier step a
+ * thread is planned that leads to the later step first.
  *
  * A plain access is no access of a step, unless it is a point of its own. Let two steps that commute here have plain accesses to one memory, and one of
  * them write. Where the two are neighbours nothing orders them, and so the run is wrong by a data race (plain.c), whichever comes first. As long as no run is

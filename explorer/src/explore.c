@@ -33,7 +33,6 @@ void refuse(const char *format, ...)
 	_exit(2);
 }
 
-/* The run is wrong: it is left. */
 void fail(const char *format, ...)
 {
 	va_list words;
@@ -55,7 +54,6 @@ static void check_end(void)
 		check_none_left();
 }
 
-/* The body of the first thread. */
 static void run_setup(void *arg)
 {
 	(void)arg;
@@ -109,7 +107,6 @@ static void keep_outcome(void)
 	made->count = 1;
 }
 
-/* Executes one schedule in this process. */
 static enum end run_here(void)
 {
 	struct thread nobody = {.call = "bench_explore"};
@@ -235,7 +232,6 @@ static void draw_priorities(void)
 		search->priorities[at] = search->lowest + (unsigned)(random_number() >> 33 & 0xffffff);
 }
 
-/* The points at which they fall. */
 static void draw_changes(unsigned length)
 {
 	for (unsigned at = 0; at < sizeof(search->changes) / sizeof(search->changes[0]); at++)
@@ -323,7 +319,6 @@ static enum end in_child(void (*body)(void), bool silent)
 
 /* ---- In the parent. ---- */
 
-/* Writes down the schedule of the last run. */
 static void keep_schedule(struct bench_found *found)
 {
 	const struct step *last = &search->steps[search->length == 0 ? 0 : search->length - 1];
@@ -356,16 +351,13 @@ static bool find_shorter(struct bench_found *found, unsigned preemptions, unsign
  * schedules with so many can be tried. */
 static void cut_down(struct bench_found *found)
 {
-	for (unsigned bound = 0; bound < found->preemptions; bound++)
-		if (find_shorter(found, bound, UINT_MAX))
-			break;
-	for (unsigned most = 0; most < found->changes; most++)
-		if (find_shorter(found, found->preemptions, most))
-			break;
+	for (unsigned bound = 0; bound < found->preemptions && !find_shorter(found, bound, UINT_MAX); bound++)
+		;
+	for (unsigned most = 0; most < found->changes && !find_shorter(found, found->preemptions, most); most++)
+		;
 	search->limit = 1;
-	for (unsigned most = 0; most < found->changes && search->limit > 0; most++)
-		if (find_shorter(found, UINT_MAX, most))
-			break;
+	for (unsigned most = 0; most < found->changes && search->limit > 0 && !find_shorter(found, UINT_MAX, most); most++)
+		;
 }
 
 /* A thread goes on for so many points. How many there are then. */
@@ -485,7 +477,6 @@ int bench_explore(void (*setup)(void), const struct bench_options *given)
 
 /* ---- What a test calls. ---- */
 
-/* The body of a thread that a test has made. */
 struct body {
 	void (*body)(void *);
 	void *arg;
@@ -503,7 +494,7 @@ static void run_body(void *of)
 void bench_thread(const char *name, void (*body)(void *), void *arg)
 {
 	struct routine *me = here(__func__);
-	struct body *made = allocate(sizeof(*made), 16, false);
+	struct body *made = bench_allocate(sizeof(*made), 16, false);
 	(void)me;
 	if (body == NULL)
 		refuse("bench_thread without a body");

@@ -11,7 +11,6 @@
 #include <sys/mman.h>
 
 #include "inside.h"
-#include "stand_ins.h"
 
 enum { MOST_PLANS = 4096 };
 
@@ -49,7 +48,6 @@ void prepare_failures(bool maps)
 	plans->left_out = false;
 }
 
-/* A run begins. */
 void forget_failures(void)
 {
 	plans->told[0] = '\0';
@@ -153,7 +151,6 @@ bool ends_early(const struct routine *routine)
 	return threads[routine->number].as != IN_TIME;
 }
 
-/* A wait has ended, early or not. */
 void note_ending(struct routine *me, bool early)
 {
 	threads[me->number].ending = early ? threads[me->number].as : IN_TIME;

@@ -9,7 +9,6 @@
 #include <sys/mman.h>
 
 #include "inside.h"
-#include "stand_ins.h"
 
 void __asan_poison_memory_region(const volatile void *at, size_t size) __attribute__((weak));
 void __asan_unpoison_memory_region(const volatile void *at, size_t size) __attribute__((weak));
@@ -61,7 +60,7 @@ static uint32_t *owner_of(const volatile unsigned char *at)
 }
 
 /* A block of memory. One that is judged must be given back by the end. */
-void *allocate(size_t size, size_t align, bool judged)
+void *bench_allocate(size_t size, size_t align, bool judged)
 {
 	unsigned number = run.current == NULL ? 0 : run.current->number;
 	const struct thread *self = kupaldiz_self;
@@ -108,7 +107,6 @@ static const char *at_or_nothing(const char *place, char *text, size_t room)
 	return text;
 }
 
-/* Whether these bytes are a live block's. */
 static bool is_within(const struct block *block, const volatile void *at, size_t size)
 {
 	return block->live && (const volatile unsigned char *)at + size <= block->at + block->size;
@@ -169,7 +167,6 @@ static void check_block(const struct block *block)
 	forbid(block->at + (block->live ? block->size : 0), FENCE + (block->live ? 0 : block->size));
 }
 
-/* Nobody may use it any more. */
 static void end_block(struct block *block)
 {
 	const struct thread *self = kupaldiz_self;
@@ -179,7 +176,7 @@ static void end_block(struct block *block)
 	block->freed_place = self == NULL ? NULL : self->place;
 }
 
-void release(void *address)
+void bench_free(void *address)
 {
 	struct block *block = block_at(address);
 	if (address == NULL)
@@ -209,14 +206,14 @@ void bench_unhide(void *at)
 	allow(at, block->size - (size_t)((unsigned char *)at - block->at));
 }
 
-void *resize(void *address, size_t size)
+void *bench_realloc(void *address, size_t size)
 {
 	const struct block *block = address == NULL ? NULL : block_at(address);
 	size_t before = block == NULL ? 0 : block->size;
-	void *made = allocate(size, 16, false);
+	void *made = bench_allocate(size, 16, false);
 	if (address != NULL) {
 		memcpy(made, address, before < size ? before : size);
-		release(address);
+		bench_free(address);
 	}
 	return made;
 }

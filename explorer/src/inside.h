@@ -5,6 +5,7 @@
 #include <stdio.h>
 
 #include "layer.h"
+#include "stand_ins.h"
 
 #include "../bench.h"
 
@@ -322,9 +323,11 @@ uint32_t enabled_now(void);
 struct cpu *cpu_here(const struct routine *me);
 void at_call(const char *call);
 void at_thing(const char *call, enum kind kind, const void *thing, size_t size, unsigned how);
-void at_cpu(const char *call, unsigned how);
+void at_live(const char *call, const void *thing, size_t size);
+void at_cpu(const char *call);
 
-/* A call that touches one thing, whose size is known. */
+/* A call with a thing whose size is known, and one that touches it. */
+#define LIVE(thing)		at_live(__func__, thing, sizeof(*(thing)))
 #define AT(kind, thing, how)	at_thing(__func__, kind, thing, sizeof(*(thing)), how)
 
 /* ---- failures.c: calls that fail, and waits that end early. ---- */
@@ -407,11 +410,8 @@ void *row_for(enum table table, uintptr_t key);
 void map_heap(void);
 bool is_live(const void *at);
 size_t size_of_block(const void *at);
-void *resize(void *block, size_t size);
 void check_live(const char *call, const volatile void *at, size_t size);
 void check_usable(const struct routine *me, const volatile void *at, size_t size, const struct use *use);
-void *allocate(size_t size, size_t align, bool judged);
-void release(void *block);
 void check_heap(void);
 
 /* ---- state.c ---- */

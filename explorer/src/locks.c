@@ -8,7 +8,6 @@
 #include <string.h>
 
 #include "inside.h"
-#include "stand_ins.h"
 
 /* ---- Time. ---- */
 
@@ -97,15 +96,11 @@ void lock_release(uintptr_t *word, struct thread *me)
 
 /* ---- What threads wait in. ---- */
 
-struct sleepq {
-	int none;
-};
-
+/* There are no queues: each thread has what it waits for. */
 struct sleepq *sleepq_of(const void *address)
 {
-	static struct sleepq all;
 	(void)address;
-	return &all;
+	return NULL;
 }
 
 void sleepq_lock(struct sleepq *sleepq)
@@ -136,7 +131,7 @@ static void set_deadline(struct routine *me, int64_t deadline)
 /* The wake-up alone has enabled it, unless its time is over or it might end early. */
 static void leave_queue(struct routine *me, const void *of)
 {
-	touch(ON_WAKE, me, 0, WRITES | (is_late(me) || ends_early(me) ? 0 : ACQUIRES));
+	touch(ON_WAKE, me, 0, is_late(me) || ends_early(me) ? 0 : ACQUIRES);
 	note_ending(me, !me->woken && !is_late(me));
 	if (me->woken)
 		acquire_clock(ON_WAKE, me, 0);
@@ -157,8 +152,6 @@ static bool wait_for_wake(const void *of, int64_t deadline)
 	if (me->relock != NULL)
 		check_live(me->call, me->relock, sizeof(*me->relock));
 	leave_queue(me, of);
-	if (deadline != NEVER)
-		touch(ON_TIME, NULL, 0, 0);
 	me->queue = NULL;
 	set_deadline(me, NEVER);
 	return me->woken;
@@ -226,7 +219,6 @@ bool has_ended_section(const struct routine *me)
 	return run.ends[(uintptr_t)me->of] != me->noted;
 }
 
-/* How many references to a target were released. */
 uint64_t *releases_of(const void *target)
 {
 	struct released *row = row_for(RELEASED, (uintptr_t)target);
@@ -244,13 +236,10 @@ bool has_ended_handler(const struct routine *me)
 	return run.handlers != me->noted;
 }
 
-/* A wait for the section that a CPU is in. */
 static void await_section(struct routine *me, unsigned cpu)
 {
-	uint64_t number = run.ends[cpu];
-	me->noted = number;
+	me->noted = run.ends[cpu];
 	wait_here(has_ended_section, (const void *)(uintptr_t)cpu);
-	touch(ON_END, (const void *)(uintptr_t)(number + 1), cpu, ORDERS | WRITES);
 }
 
 bool pause_longer(struct pauses *pauses, const struct registry_stage *met)
@@ -304,7 +293,6 @@ uint32_t bench_destroy(struct registry_keeper *keeper, struct registry_cpu *cpu,
 	const void *target = run.current->target;
 	touch(ON_SECTION, NULL, ANY, 0);
 	touch(ON_REFERENCES, target, ANY, 0);
-	touch(ON_TARGET, target, 0, WRITES);
 	uint32_t answer = registry_destroy(keeper, cpu, number, met);
 	acquire_sections();
 	if (answer == REGISTRY_DONE)
@@ -328,7 +316,7 @@ static void acquire_ended(const struct routine *me)
 		uint64_t section = me->sections[number];
 		if (section == 0 || run.ends[number] < section)
 			continue;
-		touch(ON_END, (const void *)(uintptr_t)section, number, ORDERS | WRITES);
+		touch(ON_END, (const void *)(uintptr_t)section, number, ORDERS);
 		acquire_clock(ON_END, (const void *)(uintptr_t)section, number);
 	}
 }
@@ -356,7 +344,6 @@ void end_self(void)
 	end_of_thread(kupaldiz_self);
 }
 
-/* The body of a thread that the layer makes. */
 static void run_start(void *of)
 {
 	struct start start = *(struct start *)of;
@@ -367,12 +354,12 @@ static void run_start(void *of)
 
 int bench_create(pthread_t *id, void *(*body)(void *), void *arg, const char *file)
 {
-	struct start *start = allocate(sizeof(*start), 16, false);
+	struct start *start = bench_allocate(sizeof(*start), 16, false);
 	*start = (struct start){body, arg};
 	bool callout = strstr(file, "callout") != NULL, works = strstr(file, "workqueue") != NULL;
 	/* It may be bound as it begins. */
 	if (!callout)
-		touch(ON_BOUND, NULL, ANY, WRITES);
+		touch(ON_BOUND, NULL, ANY, 0);
 	/* Its CPU goes by its number. */
 	if (works)
 		touch(ON_THREAD, NULL, 0, WRITES);
@@ -391,7 +378,7 @@ int bench_join(pthread_t id)
 {
 	struct routine *joined = &run.routines[id];
 	wait_here(has_ended, joined);
-	touch(ON_THREAD, joined, 0, ORDERS | WRITES | ACQUIRES);
+	touch(ON_THREAD, joined, 0, ORDERS | ACQUIRES);
 	return 0;
 }
 
@@ -433,11 +420,9 @@ void sleep_until(int64_t time)
 {
 	set_deadline(run.current, time);
 	wait_here(is_late, NULL);
-	touch(ON_TIME, NULL, 0, 0);
 	set_deadline(run.current, NEVER);
 }
 
-/* Another thread may go on here. */
 void bench_yield(void)
 {
 	wait_here(NULL, NULL);
@@ -454,34 +439,14 @@ int bench_sleep(const struct timespec *time)
 
 static char line[BENCH_LINE];
 
-void *bench_malloc(size_t size)
-{
-	return allocate(size, 16, true);
-}
-
-void *bench_aligned_alloc(size_t align, size_t size)
-{
-	return allocate(size, align, true);
-}
-
 void *bench_calloc(size_t count, size_t size)
 {
-	return memset(allocate(count * size, 16, kupaldiz_self != NULL && !run.own_memory), 0, count * size);
-}
-
-void *bench_realloc(void *block, size_t size)
-{
-	return resize(block, size);
-}
-
-void bench_free(void *block)
-{
-	release(block);
+	return memset(bench_allocate(count * size, 16, kupaldiz_self != NULL && !run.own_memory), 0, count * size);
 }
 
 int bench_aligned(void **block, size_t align, size_t size)
 {
-	*block = allocate(size, align, false);
+	*block = bench_allocate(size, align, false);
 	return 0;
 }
 

@@ -28,7 +28,6 @@ void check_none_made(const char *call, const void *from, size_t size)
 	}
 }
 
-/* Stops where a lock was initialised and never destroyed. */
 void check_none_left(void)
 {
 	unsigned left = 0;

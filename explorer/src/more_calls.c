@@ -1,6 +1,5 @@
 /* more_calls.c - the layer's other calls: memory, CPUs, soft interrupts, callouts, threads, works, time */
 #include "inside.h"
-#include "stand_ins.h"
 
 /* ---- kmem(9), pool(9), percpu(9). ---- */
 
@@ -42,25 +41,20 @@ static struct pool *pool_of(pool_cache_t cache)
 	return (struct pool *)(void *)cache;
 }
 
-WRAPPED(void *, pool_get, (struct pool *pool, int flags), (pool, flags), at_pool(__func__, pool, 0))
+WRAPPED(void *, pool_get, (struct pool *pool, int flags), (pool, flags), LIVE(pool))
 WRAPPED(void *, pool_cache_get, (pool_cache_t cache, int flags), (cache, flags),
     at_pool(__func__, pool_of(cache), WRITES); acquire_clock(ON_MEMORY, &pool_of(cache)->pr_out, 0))
 WRAPPED(void, pool_destroy, (struct pool *pool), (pool), at_pool(__func__, pool, WRITES))
-WRAPPED(void, pool_cache_destroy, (pool_cache_t cache), (cache), at_pool(__func__, pool_of(cache), WRITES))
+WRAPPED(void, pool_cache_destroy, (pool_cache_t cache), (cache), at_pool(__func__, pool_of(cache), 0))
 WRAPPED(void, pool_put, (struct pool *pool, void *object), (pool, object),
     at_block(__func__, object, pool->pr_size); touch_memory(&pool->pr_out, sizeof(pool->pr_out), 0))
 WRAPPED(void, pool_cache_put, (pool_cache_t cache, void *object), (cache, object),
     at_block(__func__, object, pool_of(cache)->pr_size); touch_memory(&pool_of(cache)->pr_out, sizeof(size_t), WRITES);
     release_clock(ON_MEMORY, &pool_of(cache)->pr_out, 0))
 
-/* This CPU's part, which is written from here on, or was. */
-static void at_part(const percpu_t *percpu)
-{
-	touch(ON_TARGET, percpu, cpu_here(run.current)->info.ci_index, WRITES);
-}
-
-WRAPPED(void *, percpu_getref, (percpu_t *percpu), (percpu), at_cpu(__func__, 0); at_part(percpu))
-WRAPPED(void, percpu_putref, (percpu_t *percpu), (percpu), at_call(__func__); at_part(percpu))
+WRAPPED(void *, percpu_getref, (percpu_t *percpu), (percpu), at_cpu(__func__); check_live(__func__, percpu, 1))
+WRAPPED(void, percpu_putref, (percpu_t *percpu), (percpu), at_thing(__func__, ON_TARGET, percpu, 1, 0))
+WRAPPED(void, percpu_free, (percpu_t *percpu, size_t size), (percpu, size), at_thing(__func__, ON_TARGET, percpu, 1, WRITES))
 
 /* What percpu_foreach has each part looked at by. */
 struct look {
@@ -73,8 +67,7 @@ struct look {
 static void look_at(void *own, void *of, struct cpu_info *cpu)
 {
 	const struct look *each = of;
-	point("percpu_foreach", NULL, NULL, NULL);
-	touch(ON_TARGET, each->percpu, cpu->ci_index, 0);
+	at_thing("percpu_foreach", ON_TARGET, each->percpu, 1, 0);
 	each->look(own, each->arg, cpu);
 }
 
@@ -83,9 +76,6 @@ void percpu_foreach(percpu_t *percpu, percpu_callback_t look, void *arg)
 	struct look each = {percpu, look, arg};
 	layer_percpu_foreach(percpu, look_at, &each);
 }
-
-WRAPPED(void, percpu_free, (percpu_t *percpu, size_t size), (percpu, size),
-    at_thing(__func__, ON_TARGET, percpu, 1, WRITES))
 
 /* ---- CPUs, softint(9). ---- */
 
@@ -118,27 +108,20 @@ void curlwp_bindx(int bound)
 
 WRAPPED(void, kupaldiz_bind, (unsigned cpu), (cpu), (void)here(__func__); if (cpu < KUPALDIZ_CPUS) touch_bound(&cpus[cpu]))
 WRAPPED(void, kupaldiz_unbind, (void), (), struct routine *me = here(__func__); if (me->self != NULL) touch_bound(cpu_here(me)))
-WRAPPED(void, kpreempt_disable, (void), (), at_cpu(__func__, 0))
+WRAPPED(void, kpreempt_disable, (void), (), at_cpu(__func__))
 WRAPPED(void, kpreempt_enable, (void), (), at_call(__func__))
 
 /* A new level lets soft interrupts of the CPU go on, or keeps them off. */
-static void at_level(void)
-{
-	touch(ON_LOCK, &cpu_here(run.current)->hold, 0, WRITES);
-}
-
-WRAPPED(int, kupaldiz_splraise, (int level), (level),
-    at_cpu("splraise", 0); at_level(); acquire_clock(ON_LOCK, &cpu_here(run.current)->hold, 0))
-WRAPPED(void, splx, (int level), (level),
-    at_call(__func__); at_level(); release_clock(ON_LOCK, &cpu_here(run.current)->hold, 0))
-WRAPPED(void, softint_schedule, (void *cookie), (cookie), at_cpu(__func__, RELEASES))
+WRAPPED(int, kupaldiz_splraise, (int level), (level), at_cpu("splraise"); acquire_clock(ON_LOCK, &cpu_here(run.current)->hold, 0))
+WRAPPED(void, splx, (int level), (level), at_call(__func__); release_clock(ON_LOCK, &cpu_here(run.current)->hold, 0))
+WRAPPED(void, softint_schedule, (void *cookie), (cookie), at_cpu(__func__))
 
 LAYER(void, softint_disestablish, (void *cookie));
 
 void softint_disestablish(void *cookie)
 {
 	at_call(__func__);
-	touch(ON_PENDING, NULL, ANY, WRITES);
+	touch(ON_PENDING, NULL, ANY, 0);
 	layer_softint_disestablish(cookie);
 	for (unsigned cpu = 0; cpu < KUPALDIZ_CPUS; cpu++)
 		acquire_clock(ON_PENDING, NULL, cpu);
@@ -152,30 +135,24 @@ AROUND(void, percpu_foreach_xcall, (percpu_t *percpu, unsigned flags, percpu_cal
 
 LAYER(void, delay, (unsigned microseconds));
 
-static void at_callout(const char *call, callout_t *callout)
-{
-	at_call(call);
-	check_live(call, callout, sizeof(*callout));
-}
-
 /* The layer's own soft interrupt for callouts is never ended. */
 AROUND(void, callout_init, (callout_t *callout, unsigned flags), (callout, flags), track_made(__func__, callout); run.own_memory = true,
     run.own_memory = false)
-WRAPPED(void, callout_destroy, (callout_t *callout), (callout), at_callout(__func__, callout); track_ended(callout))
+WRAPPED(void, callout_destroy, (callout_t *callout), (callout), LIVE(callout); track_ended(callout))
 WRAPPED(void, callout_setfunc, (callout_t *callout, void (*body)(void *), void *arg), (callout, body, arg),
-    at_callout(__func__, callout))
+    LIVE(callout))
 WRAPPED(void, callout_reset, (callout_t *callout, int ticks, void (*body)(void *), void *arg),
-    (callout, ticks, body, arg), at_callout(__func__, callout))
-WRAPPED(void, callout_schedule, (callout_t *callout, int ticks), (callout, ticks), at_callout(__func__, callout))
-WRAPPED(bool, callout_stop, (callout_t *callout), (callout), at_callout(__func__, callout))
-WRAPPED(bool, callout_halt, (callout_t *callout, void *interlock), (callout, interlock), at_callout(__func__, callout))
-WRAPPED(bool, callout_pending, (callout_t *callout), (callout), at_callout(__func__, callout))
-WRAPPED(bool, callout_expired, (callout_t *callout), (callout), at_callout(__func__, callout))
-WRAPPED(bool, callout_active, (callout_t *callout), (callout), at_callout(__func__, callout))
-WRAPPED(bool, callout_invoking, (callout_t *callout), (callout), at_callout(__func__, callout))
-WRAPPED(void, callout_ack, (callout_t *callout), (callout), at_callout(__func__, callout))
-WRAPPED(int, getticks, (void), (), at_thing(__func__, ON_TIME, NULL, 0, 0))
-WRAPPED(time_t, getuptime, (void), (), at_thing(__func__, ON_TIME, NULL, 0, 0))
+    (callout, ticks, body, arg), LIVE(callout))
+WRAPPED(void, callout_schedule, (callout_t *callout, int ticks), (callout, ticks), LIVE(callout))
+WRAPPED(bool, callout_stop, (callout_t *callout), (callout), LIVE(callout))
+WRAPPED(bool, callout_halt, (callout_t *callout, void *interlock), (callout, interlock), LIVE(callout))
+WRAPPED(bool, callout_pending, (callout_t *callout), (callout), LIVE(callout))
+WRAPPED(bool, callout_expired, (callout_t *callout), (callout), LIVE(callout))
+WRAPPED(bool, callout_active, (callout_t *callout), (callout), LIVE(callout))
+WRAPPED(bool, callout_invoking, (callout_t *callout), (callout), LIVE(callout))
+WRAPPED(void, callout_ack, (callout_t *callout), (callout), LIVE(callout))
+WRAPPED(int, getticks, (void), (), at_call(__func__))
+WRAPPED(time_t, getuptime, (void), (), at_call(__func__))
 WRAPPED(int, kthread_join, (lwp_t *thread), (thread), at_call(__func__))
 WRAPPED(int, kpause, (const char *name, bool interruptible, int ticks, kmutex_t *mutex),
     (name, interruptible, ticks, mutex), at_call(__func__))
@@ -197,7 +174,7 @@ WRAPPED(int, copyoutstr, (const void *kernel, void *user, size_t length, size_t 
 
 /* Memory with a work isn't given back before the work's function is called. */
 AROUND(void, workqueue_enqueue, (struct workqueue *queue, struct work *work, struct cpu_info *cpu), (queue, work, cpu),
-    at_call(__func__); check_live(__func__, queue, 1); check_live(__func__, work, sizeof(*work)), track_made(__func__, work))
+    at_live(__func__, queue, 1); check_live(__func__, work, sizeof(*work)), track_made(__func__, work))
 
 void bench_dequeued(const void *work)
 {
@@ -205,5 +182,5 @@ void bench_dequeued(const void *work)
 }
 
 WRAPPED(void, workqueue_wait, (struct workqueue *queue, struct work *work), (queue, work),
-    at_call(__func__); check_live(__func__, queue, 1))
-WRAPPED(void, workqueue_destroy, (struct workqueue *queue), (queue), at_call(__func__); check_live(__func__, queue, 1))
+    at_live(__func__, queue, 1))
+WRAPPED(void, workqueue_destroy, (struct workqueue *queue), (queue), at_live(__func__, queue, 1))

@@ -53,7 +53,7 @@ static void text_at(FILE *to, double x, double y, const char *kind, const char *
 {
 	fprintf(to, "<text x=\"%.1f\" y=\"%.1f\" class=\"%s\">", x, y, kind);
 	escape(to, text);
-	fputs("</text>\n", to);
+	fputs("</text>", to);
 }
 
 /* The address of what a step touches of a kind. */
@@ -72,11 +72,6 @@ static unsigned row_of(unsigned thread)
 	for (unsigned at = 0; at < search->length; at++)
 		seen |= UINT32_C(1) << search->steps[at].chosen;
 	return (unsigned)__builtin_popcount(seen & ((UINT32_C(1) << thread) - 1));
-}
-
-static unsigned rows(void)
-{
-	return row_of(THREADS);
 }
 
 /* The step that ends what this one begins; the end of the picture where none does. */
@@ -158,11 +153,11 @@ static void draw_steps(FILE *to)
 		escape(to, search->steps[at].call);
 		fputc(' ', to);
 		escape(to, place_of_step(&search->steps[at]));
-		fputs("</title></circle>\n", to);
-		if (search->length > 45 && (at + 1) % 5 != 0)
-			continue;
+		fputs("</title></circle>", to);
 		snprintf(number, sizeof(number), "%u", at + 1);
-		text_at(to, x - 4, y - 12, "faint", number);
+		if (search->length <= 45 || (at + 1) % 5 == 0)
+			text_at(to, x - 4, y - 12, "faint", number);
+		fputc('\n', to);
 	}
 }
 
@@ -185,6 +180,7 @@ static double list_steps(FILE *to, double y)
 		text_at(to, 50, y, at == 0 || search->steps[at - 1].chosen != step->chosen ? "" : "faint", search->names[step->chosen]);
 		text_at(to, 180, y, "", step->call);
 		text_at(to, 380, y, "", place_of_step(step));
+		fputc('\n', to);
 	}
 	return y;
 }
@@ -200,7 +196,6 @@ static size_t length_of_line(const char *text)
 	return cut == 0 ? LETTERS : cut;
 }
 
-/* A text in lines of so many letters, cut at blanks. */
 static void write_lines(FILE *to, double y, const char *text)
 {
 	char line[LETTERS + 1];
@@ -208,6 +203,7 @@ static void write_lines(FILE *to, double y, const char *text)
 		size_t cut = length_of_line(text);
 		snprintf(line, sizeof(line), "%.*s", (int)cut, text);
 		text_at(to, 14, y, "said", line);
+		fputc('\n', to);
 		text += cut + (text[cut] == ' ');
 		y += LINE_HIGH;
 	}
@@ -218,8 +214,9 @@ static void draw_legend(FILE *to)
 	static const char *const kinds[] = {"section", "lock", "reference", "count", "wait"};
 	double x = 430;
 	for (unsigned at = 0; at < sizeof(kinds) / sizeof(kinds[0]); at++, x += 92) {
-		fprintf(to, "<rect class=\"%s\" x=\"%.1f\" y=\"14\" width=\"16\" height=\"9\" rx=\"1\"/>\n", kinds[at], x);
+		fprintf(to, "<rect class=\"%s\" x=\"%.1f\" y=\"14\" width=\"16\" height=\"9\" rx=\"1\"/>", kinds[at], x);
 		text_at(to, x + 21, 23, "", kinds[at]);
+		fputc('\n', to);
 	}
 }
 
@@ -227,7 +224,7 @@ static void draw_legend(FILE *to)
 bool draw(const char *name, const struct bench_found *found)
 {
 	FILE *to = fopen(name, "w");
-	double list = TOP + rows() * ROW + 20, high = list + (search->length + 2 + (unsigned)strlen(found->line) / 100) * LINE_HIGH;
+	double list = TOP + row_of(THREADS) * ROW + 20, high = list + (search->length + 2 + (unsigned)strlen(found->line) / 100) * LINE_HIGH;
 	if (to == NULL)
 		return false;
 	fprintf(to, "<svg xmlns=\"http://www.w3.org/2000/svg\" width=\"%d\" height=\"%.0f\" viewBox=\"0 0 %d %.0f\" role=\"img\">\n<title>", WIDE, high,

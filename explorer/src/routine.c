@@ -146,14 +146,6 @@ void leave_run(enum end end)
 
 /* ---- The life of a thread. ---- */
 
-static struct routine *pop_starter(void)
-{
-	struct routine *found = starter;
-	starter = NULL;
-	return found;
-}
-
-/* The first thing that a new thread does. */
 static void begin_routine(void)
 {
 	struct routine *me = run.current;
@@ -203,7 +195,8 @@ void start_routines(void)
 /* Whether this thread has come to its first point: whoever began it goes on, and this one when it is chosen. */
 void first_point(struct routine *me)
 {
-	struct routine *next = pop_starter();
+	struct routine *next = starter;
+	starter = NULL;
 	me->begun = true;
 	switch_to(next);
 }

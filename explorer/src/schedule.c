@@ -254,7 +254,6 @@ static void check_replayed(const struct step *step, uint32_t enabled)
 	}
 }
 
-/* Begins a step of the thread that was chosen. */
 static unsigned begin_step(uint32_t enabled)
 {
 	struct step *step = &search->steps[run.step], *before = run.step == 0 ? NULL : step - 1;
@@ -311,7 +310,6 @@ static void tick(uint32_t enabled)
 	touch_deadlines(ANY, 0);
 }
 
-/* Goes on with the thread that is chosen. */
 static void choose(void)
 {
 	uint32_t enabled;

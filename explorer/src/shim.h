@@ -29,11 +29,11 @@
 /* A mutex that orders steps, which conflict: that of the list of callouts. What is under the others is told apart by what a call touches. */
 #define WATCHED(mutex)			(__builtin_strstr(__FILE__, "callout.c") != NULL ? (const void *)(mutex) : NULL)
 
-#define malloc(size)			bench_malloc(size)
+#define malloc(size)			bench_allocate(size, 16, true)
 #define calloc(count, size)		bench_calloc(count, size)
 #define realloc(block, size)		bench_realloc(block, size)
 #define free(block)			bench_free(block)
-#define aligned_alloc(align, size)	bench_aligned_alloc(align, size)
+#define aligned_alloc(align, size)	bench_allocate(size, align, true)
 #define posix_memalign(block, align, size)	bench_aligned(block, align, size)
 
 #define FAILS()				bench_fails()

@@ -82,7 +82,6 @@ static void show_counts(FILE *to, const struct bench_found *found)
 		fprintf(to, "%s: %llu failures were tried in turn\n", options.name, (unsigned long long)found->failures);
 }
 
-/* Which plain accesses weren't seen. */
 static void show_unseen(FILE *to)
 {
 	if (unseen_count > 0)

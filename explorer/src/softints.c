@@ -63,7 +63,7 @@ static void acquire_cpu(struct thread *me)
 
 static void release_cpu(struct thread *me)
 {
-	touch(ON_LOCK, &me->cpu->hold, 0, WRITES | RELEASES);
+	release_clock(ON_LOCK, &me->cpu->hold, 0);
 	me->cpu->hold = (uintptr_t)me->lender;
 	me->lender = NULL;
 }
@@ -85,7 +85,6 @@ static void run_waiting(struct thread *me, unsigned number, int level)
 	release_cpu(me);
 }
 
-/* Runs the handlers of a CPU's level for ever. */
 static void run_handlers(void *of)
 {
 	const struct queue queue = *(struct queue *)of;
@@ -115,7 +114,7 @@ void ensure_softint_thread(struct thread *me, struct cpu *cpu, int level)
 	touch(ON_PENDING, NULL, cpu->info.ci_index, WRITES | RELEASES);
 	if (*softint != NULL)
 		return;
-	struct queue *queue = allocate(sizeof(*queue), 16, false);
+	struct queue *queue = bench_allocate(sizeof(*queue), 16, false);
 	*queue = (struct queue){cpu, level};
 	*softint = make_routine("softint", run_handlers, queue, true);
 	start_routines();

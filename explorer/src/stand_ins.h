@@ -10,11 +10,10 @@
 
 #include "registry.h"
 
-void *bench_malloc(size_t size);
+void *bench_allocate(size_t size, size_t align, bool judged);
 void *bench_calloc(size_t count, size_t size);
 void *bench_realloc(void *block, size_t size);
 void bench_free(void *block);
-void *bench_aligned_alloc(size_t align, size_t size);
 bool bench_fails(void);
 void bench_may_end_early(bool signals);
 int bench_last_ending(void);

@@ -107,7 +107,6 @@ static int look_at(struct dl_phdr_info *object, size_t size, void *first)
 	return 0;
 }
 
-/* Keeps what the memory has now. */
 void save_state(void)
 {
 	bool first = true;

@@ -36,7 +36,6 @@ static const struct routine *stuck_softint(void)
 	return NULL;
 }
 
-/* What a thread waits for. */
 struct waiting {
 	const struct routine *on;	/* NULL where no thread can be told */
 	char what[320];

@@ -78,14 +78,12 @@ void *row_with(enum table table, uintptr_t key)
 	return find_from(table, *list_of(table, key), key);
 }
 
-/* The next row with the same key. */
 void *row_after(enum table table, const void *row)
 {
 	const struct keyed *of = row;
 	return find_from(table, of->next, of->key);
 }
 
-/* One row more with a key. */
 void *add_row(enum table table, uintptr_t key)
 {
 	uint32_t *list = list_of(table, key);

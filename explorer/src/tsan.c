@@ -54,29 +54,24 @@ void __tsan_vptr_update(void **at, void *value)
 		access_plainly(at, sizeof(*at), true, PC);
 }
 
-void __tsan_read_range(void *at, size_t size)
-{
-	access_plainly(at, size, false, PC);
-}
+#define RANGE(name, writes) \
+	void __tsan_##name(void *at, size_t size) \
+	{ \
+		access_plainly(at, size, writes, PC); \
+	}
 
-void __tsan_write_range(void *at, size_t size)
-{
-	access_plainly(at, size, true, PC);
-}
+#define COPY(name) \
+	void *__tsan_##name(void *to, const void *from, size_t size) \
+	{ \
+		access_plainly(from, size, false, PC); \
+		access_plainly(to, size, true, PC); \
+		return name(to, from, size); \
+	}
 
-void *__tsan_memcpy(void *to, const void *from, size_t size)
-{
-	access_plainly(from, size, false, PC);
-	access_plainly(to, size, true, PC);
-	return memcpy(to, from, size);
-}
-
-void *__tsan_memmove(void *to, const void *from, size_t size)
-{
-	access_plainly(from, size, false, PC);
-	access_plainly(to, size, true, PC);
-	return memmove(to, from, size);
-}
+RANGE(read_range, false)
+RANGE(write_range, true)
+COPY(memcpy)
+COPY(memmove)
 
 void *__tsan_memset(void *to, int byte, size_t size)
 {
@@ -103,11 +98,11 @@ static void access_by_language(const volatile void *at, size_t size, unsigned ho
 	me->announced = NULL;
 }
 
-#define CHANGE(bits, name) \
+#define CHANGE(bits, name, builtin) \
 	uint##bits##_t __tsan_atomic##bits##_##name(volatile uint##bits##_t *at, uint##bits##_t value, int order) \
 	{ \
 		access_by_language(at, sizeof(*at), KUPALDIZ_LOADS | KUPALDIZ_STORES | order_of(order), PC); \
-		return __atomic_##name(at, value, __ATOMIC_SEQ_CST); \
+		return __atomic_##builtin(at, value, __ATOMIC_SEQ_CST); \
 	}
 
 #define EXCHANGE(bits, name) \
@@ -129,17 +124,13 @@ static void access_by_language(const volatile void *at, size_t size, unsigned ho
 		access_by_language(at, sizeof(*at), KUPALDIZ_STORES | (order_of(order) & KUPALDIZ_RELEASES), PC); \
 		__atomic_store_n(at, value, __ATOMIC_SEQ_CST); \
 	} \
-	uint##bits##_t __tsan_atomic##bits##_exchange(volatile uint##bits##_t *at, uint##bits##_t value, int order) \
-	{ \
-		access_by_language(at, sizeof(*at), KUPALDIZ_LOADS | KUPALDIZ_STORES | order_of(order), PC); \
-		return __atomic_exchange_n(at, value, __ATOMIC_SEQ_CST); \
-	} \
-	CHANGE(bits, fetch_add) \
-	CHANGE(bits, fetch_sub) \
-	CHANGE(bits, fetch_and) \
-	CHANGE(bits, fetch_or) \
-	CHANGE(bits, fetch_xor) \
-	CHANGE(bits, fetch_nand) \
+	CHANGE(bits, exchange, exchange_n) \
+	CHANGE(bits, fetch_add, fetch_add) \
+	CHANGE(bits, fetch_sub, fetch_sub) \
+	CHANGE(bits, fetch_and, fetch_and) \
+	CHANGE(bits, fetch_or, fetch_or) \
+	CHANGE(bits, fetch_xor, fetch_xor) \
+	CHANGE(bits, fetch_nand, fetch_nand) \
 	EXCHANGE(bits, compare_exchange_strong) \
 	EXCHANGE(bits, compare_exchange_weak) \
 	uint##bits##_t __tsan_atomic##bits##_compare_exchange_val(volatile uint##bits##_t *at, uint##bits##_t expected, uint##bits##_t value, int order, \

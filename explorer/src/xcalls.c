@@ -9,7 +9,6 @@ LAYER(uint64_t, xc_broadcast, (unsigned flags, xcfunc_t body, void *arg_a, void 
 LAYER(uint64_t, xc_unicast, (unsigned flags, xcfunc_t body, void *arg_a, void *arg_b, struct cpu_info *cpu));
 LAYER(void, xc_wait, (uint64_t ticket));
 
-/* A call that was asked for. */
 struct xcall {
 	struct xcall *next;
 	unsigned flags;
@@ -72,7 +71,7 @@ static void make_calls(void *arg)
 /* Asks for a call. What xc_wait takes. */
 static uint64_t enqueue_xcall(const struct xcall *asked_for)
 {
-	struct xcall *xcall = allocate(sizeof(*xcall), 16, false);
+	struct xcall *xcall = bench_allocate(sizeof(*xcall), 16, false);
 	if (caller == NULL)
 		caller = make_routine("xcall", make_calls, NULL, true);
 	start_routines();

@@ -1,16 +1,13 @@
 /*
  * counts - small programs have as many schedules as combinatorics says, and each question gets every possible answer
  */
-#include <errno.h>
 #include <string.h>
 #include <sys/atomic.h>
 #include <sys/callout.h>
 #include <sys/condvar.h>
 #include <sys/intr.h>
-#include <sys/localcount.h>
 #include <sys/mutex.h>
 #include <sys/percpu.h>
-#include <sys/rwlock.h>
 #include <sys/systm.h>
 
 #include "finds.h"
@@ -68,8 +65,6 @@ static void test_count(unsigned a, unsigned b, unsigned c, unsigned d)
 	EXPECT(reduced.schedules == 1);
 }
 
-HANDLER(do_nothing, (void)0)
-
 /* ---- What is tried where the search ends early. ---- */
 
 static unsigned word;
@@ -80,11 +75,16 @@ static void change(void *arg)
 		atomic_inc_uint(&word);
 }
 
+static void make_two(void (*body)(void *), void *one, void *two)
+{
+	bench_thread("one", body, one);
+	bench_thread("two", body, two);
+}
+
 static void make_changers(void)
 {
 	lengths[0] = lengths[1] = 3;
-	bench_thread("one", change, &lengths[0]);
-	bench_thread("two", change, &lengths[1]);
+	make_two(change, &lengths[0], &lengths[1]);
 }
 
 /* With no preemption there are two orders; with one at most, each thread may be left at two points: six. */
@@ -120,8 +120,7 @@ static void make_racers(void)
 {
 	lengths[0] = 1;
 	lengths[1] = 2;
-	bench_thread("one", last_wins, &lengths[0]);
-	bench_thread("two", last_wins, &lengths[1]);
+	make_two(last_wins, &lengths[0], &lengths[1]);
 }
 
 static void test_random(void)
@@ -145,11 +144,7 @@ static void step_aloud(void *letter)
 	}
 }
 
-static void make_steppers(void)
-{
-	bench_thread("one", step_aloud, "a");
-	bench_thread("two", step_aloud, "b");
-}
+static void make_steppers(void) { make_two(step_aloud, "a", "b"); }
 
 HANDLER(change_word, atomic_inc_uint(&word))
 HANDLER(tell_change, if (atomic_load_relaxed(&word) != 0) bench_outcome("changed"))
@@ -307,19 +302,10 @@ static void test_hurried(void)
 	EXPECT(found.hurried == 0 && found.exhausted);
 }
 
-/* ---- Questions: what one thread asks another one may change at the same time, so both answers are come to. ---- */
+/* ---- Questions: what a thread asks another one, or a handler, may change at the same time, so each answer is come to. ---- */
 
-static krwlock_t rw;
-static kmutex_t lock;
-static struct localcount local;
 static percpu_t *parts;
 
-HANDLER(read_once, rw_enter(&rw, RW_READER); rw_exit(&rw))
-HANDLER(ask_readers, bench_outcome("%d", rw_read_held(&rw) + rw_lock_held(&rw)))
-HANDLER(count_once, localcount_acquire(&local); localcount_release(&local, &cv, &lock))
-HANDLER(ask_count, bench_outcome("%u", localcount_debug_refcnt(&local)))
-HANDLER(end_cv, cv_destroy(&cv))
-HANDLER(ask_cv, bench_outcome("%d", cv_is_valid(&cv)))
 
 /* Adds to the part of CPU 0, and then to that of CPU 1. */
 BODY(add_to_parts)
@@ -340,28 +326,6 @@ static void look_at(void *own, void *arg, struct cpu_info *cpu)
 }
 
 HANDLER(ask_parts, percpu_foreach(parts, look_at, arg))
-
-static bool ready;
-
-HANDLER(set_ready, mutex_enter(&lock); ready = true; cv_signal(&cv); mutex_exit(&lock))
-
-/* The time may be over before the wake-up, or not. */
-BODY(wait_for_a_tick)
-{
-	const char *how = "ready";
-	mutex_enter(&lock);
-	if (!ready)
-		how = cv_timedwait(&cv, &lock, 1) == EWOULDBLOCK ? "late" : "woken";
-	mutex_exit(&lock);
-	bench_outcome("%s", how);
-}
-
-/* Two waits of one length: either thread may be the first that goes on. */
-BODY(pause_for_a_tick)
-{
-	(void)kpause("question", false, 1, NULL);
-	bench_outcome("%u", atomic_inc_uint_nv(&word));
-}
 
 static void *softint;
 
@@ -448,32 +412,14 @@ BODY(set_two)
 	}
 }
 
-/* Whoever has the lock, it is held. */
-HANDLER(write_once, rw_enter(&rw, RW_WRITER); rw_exit(&rw))
-HANDLER(ask_writer, bench_outcome("%d", rw_lock_held(&rw)))
-
 static void make_things(void)
 {
-	rw_init(&rw);
-	cv_init(&cv, "question");
-	mutex_init(&lock, MUTEX_DEFAULT, IPL_NONE);
-	localcount_init(&local);
 	softint = softint_establish(SOFTINT_NET | SOFTINT_MPSAFE, handle, NULL);
 	parts = percpu_alloc(sizeof(unsigned));
 }
 
 static void end_things(void)
 {
-	rw_destroy(&rw);
-	if (cv_is_valid(&cv))
-		cv_destroy(&cv);
-	cv_init(&cv, "end");
-	mutex_enter(&lock);
-	localcount_drain(&local, &cv, &lock);
-	mutex_exit(&lock);
-	localcount_fini(&local);
-	cv_destroy(&cv);
-	mutex_destroy(&lock);
 	percpu_free(parts, sizeof(unsigned));
 	if (softint != NULL)
 		softint_disestablish(softint);
@@ -484,55 +430,16 @@ static void end_things(void)
 #define QUESTION(first, second, ...)	{#first, NULL, first, second, .finish = end_things, .outcomes = {__VA_ARGS__}}
 
 static const struct find questions[] = {
-	QUESTION(set_ready, wait_for_a_tick, "late", "ready", "woken"),
-	QUESTION(pause_for_a_tick, pause_for_a_tick, "12"),
 	QUESTION(schedule_and_end, NULL, "", "0", "1"),
 	QUESTION(raise_and_lower, NULL, "0", "3"),
 	QUESTION(schedule_two, NULL, "21"),
 	QUESTION(schedule_greedy, NULL, "g2ggg"),
 	QUESTION(set_two, NULL, "", "12", "2"),
-	QUESTION(write_once, ask_writer, "0", "1"),
-	QUESTION(read_once, ask_readers, "0", "1", "2"),
-	QUESTION(count_once, ask_count, "0", "1"),
-	QUESTION(end_cv, ask_cv, "0", "1"),
 	QUESTION(add_to_parts, ask_parts, "00", "01", "10", "11"),
 };
 
-/* ---- What two threads of one CPU do where each may be the first to bind. ---- */
-
-static unsigned bound_to[2];
-
-static void bind_and_tell(void *arg)
-{
-	bench_point();
-	int bound = curlwp_bind();
-	*(unsigned *)arg = cpu_number();
-	bench_point();
-	curlwp_bindx(bound);
-}
-
-/* The seventh thread has the first one's CPU. */
-static void make_binders(void)
-{
-	bench_thread("first", bind_and_tell, &bound_to[0]);
-	for (unsigned at = 0; at < 5; at++)
-		bench_thread("between", do_nothing, NULL);
-	bench_thread("seventh", bind_and_tell, &bound_to[1]);
-}
-
-static void tell_binders(void) { bench_outcome("%u%u", bound_to[0], bound_to[1]); }
-
-static void test_binds(void)
-{
-	struct bench_found found;
-	const struct bench_options options = {.quiet = true, .finish = tell_binders, .found = &found};
-	EXPECT(bench_explore(make_binders, &options) == 0 && found.exhausted);
-	EXPECT(found.outcomes == 3 && has_outcome(&found, "00") && has_outcome(&found, "01") && has_outcome(&found, "10"));
-}
-
 int main(void)
 {
-	test_binds();
 	test_bounds();
 	test_cut_bound();
 	test_random();

@@ -48,21 +48,15 @@ HANDLER(transmit, (void)if_transmit(1, transmit_one))
 HANDLER(detach_one, KASSERT(if_detach(1) == 0))
 HANDLER(attach_one, (void)if_attach())
 
-static void begin_ifindex(void)
+static void begin_interface(void)
 {
 	ifindex_init();
 	(void)if_attach();
 	bench_thread("transmit", transmit, NULL);
-	bench_thread("detach", detach_one, NULL);
 }
 
-static void begin_growth(void)
-{
-	ifindex_init();
-	(void)if_attach();
-	bench_thread("transmit", transmit, NULL);
-	bench_thread("attach", attach_one, NULL);
-}
+static void begin_ifindex(void) { begin_interface(); bench_thread("detach", detach_one, NULL); }
+static void begin_growth(void) { begin_interface(); bench_thread("attach", attach_one, NULL); }
 
 static void begin_ifindex_wide(void)
 {
@@ -124,23 +118,16 @@ BODY(set_entry)
 	KASSERT(entry_ioctl(ENTRYSET, &request) == 0);
 }
 
-static void begin_ioctl(void)
+static void begin_entry(void)
 {
 	struct entry_request request = {.er_key = 1, .er_value = 5};
 	entry_init();
 	(void)entry_ioctl(ENTRYSET, &request);
 	bench_thread("get", get_entry, NULL);
-	bench_thread("delete", delete_entry, NULL);
 }
 
-static void begin_replace(void)
-{
-	struct entry_request request = {.er_key = 1, .er_value = 5};
-	entry_init();
-	(void)entry_ioctl(ENTRYSET, &request);
-	bench_thread("get", get_entry, NULL);
-	bench_thread("set", set_entry, NULL);
-}
+static void begin_ioctl(void) { begin_entry(); bench_thread("delete", delete_entry, NULL); }
+static void begin_replace(void) { begin_entry(); bench_thread("set", set_entry, NULL); }
 
 static void begin_replace_wide(void) { begin_replace(); bench_thread("another", get_entry, NULL); }
 

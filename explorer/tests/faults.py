@@ -29,91 +29,35 @@ class Fault(NamedTuple):
 
 FREED = r"data race|use of freed memory|written to freed memory|is not live|being destroyed|being drained|ends by signal 11|AddressSanitizer|status 1"
 
-BRIDGE_END = """	PSLIST_WRITER_REMOVE(bif, bif_next);
-	BRIDGE_PSZ_PERFORM(sc);
-	BRIDGE_UNLOCK(sc);
 
-	psref_target_destroy(&bif->bif_psref, sc->sc_class);
-	PSLIST_ENTRY_DESTROY(bif, bif_next);
-	kmem_free(bif, sizeof(*bif));
-"""
-BRIDGE_ACQUIRE = """		psref_acquire(&psref, &bif->bif_psref, sc->sc_class);
-		BRIDGE_PSZ_REXIT(s);
-"""
+def block(driver, first, count):
+    """So many lines of a driver, from the one on that begins so."""
+    lines = (EXAMPLES / f"{driver}.c").read_text().split("\n")
+    (at,) = (at for at, line in enumerate(lines) if line.lstrip().startswith(first))
+    return "\n".join(lines[at : at + count]) + "\n"
+
+
+BRIDGE_END = block("bridge", "PSLIST_WRITER_REMOVE(bif, bif_next);", 7)
+BRIDGE_ACQUIRE = block("bridge", "psref_acquire(&psref, &bif->bif_psref, sc->sc_class);", 2)
 BRIDGE_RELEASE = """		BRIDGE_PSZ_RENTER(s);
 		psref_release(&psref, &bif->bif_psref, sc->sc_class);
 """
-DETACH = """	atomic_store_release(&iftable->it_entries[index], NULL);
-	pserialize_perform(ifnet_psz);
-	mutex_exit(&ifnet_mtx);
-
-	psref_target_destroy(&ifp->if_psref, ifnet_psref_class);
-	kmem_free(ifp, sizeof(*ifp));
-"""
-GROW = """	atomic_store_release(&iftable, new);
-	pserialize_perform(ifnet_psz);
-	kmem_free(old, iftable_size(old->it_limit));
-"""
-IF_GET = """	if (__predict_true(ifp != NULL))
-		psref_acquire(psref, &ifp->if_psref, ifnet_psref_class);
-	pserialize_read_exit(s);
-"""
-DEVSW_END = """	atomic_store_relaxed(&devswrefs[major], NULL);
-	pserialize_perform(device_psz);
-	localcount_drain(&ref->dr_lc, &device_cv, &device_lock);
-	mutex_exit(&device_lock);
-
-	localcount_fini(&ref->dr_lc);
-	kmem_free(ref, sizeof(*ref));
-"""
-DEVSW_FIND = """	if (ref != NULL)
-		localcount_acquire(&ref->dr_lc);
-	pserialize_read_exit(s);
-"""
-DEVSW_RELEASE = """	localcount_release(&ref->dr_lc, &device_cv, &device_lock);
-"""
-OPEN = """	error = (*ref->dr_devsw->d_open)(minor);	/* may sleep */
-	devsw_release(ref);
-"""
-REMOVE = """	PSLIST_WRITER_REMOVE(e, e_link);
-	pserialize_perform(entry_psz);
-	mutex_exit(&entry_lock);
-	psref_target_destroy(&e->e_target, entry_class);
-	PSLIST_ENTRY_DESTROY(e, e_link);
-	pool_cache_put(entry_cache, e);
-"""
-REPLACE = """	PSLIST_WRITER_REMOVE(other, e_link);
-	pserialize_perform(entry_psz);
-	mutex_exit(&entry_lock);
-"""
-ENTRY_GET = """	if (e != NULL)
-		psref_acquire(psref, &e->e_target, entry_class);
-	pserialize_read_exit(s);
-"""
-COPYOUT = """	error = copyout(&e->e_content, data, sizeof(e->e_content));
-	psref_release(&psref, &e->e_target, entry_class);
-"""
-UNLISTEN = """	PSLIST_WRITER_REMOVE(l, l_link);
-	pserialize_perform(listener_psz);
-	mutex_exit(&listener_lock);
-	psref_target_destroy(&l->l_target, listener_class);
-	PSLIST_ENTRY_DESTROY(l, l_link);
-	kmem_free(l, sizeof(*l));
-"""
-DELIVER = """		psref_acquire(&psref, &l->l_target, listener_class);
-		pserialize_read_exit(s);
-"""
-FOUND_HOOK = """	localcount_acquire(&hook.lc);
-	pserialize_read_exit(s);
-"""
-UNHOOK = """	atomic_store_relaxed(&hook.sc, NULL);
-	pserialize_perform(hook.psz);
-	localcount_drain(&hook.lc, &hook.cv, &hook.lock);
-"""
-CALL_HOOK = """	*answer = value + 1;
-	(void)sc->sc_seen;
-	rw_exit(&sc->sc_rwlock);
-"""
+DETACH = block("ifindex", "atomic_store_release(&iftable->it_entries[index], NULL);", 6)
+GROW = block("ifindex", "atomic_store_release(&iftable, new);", 3)
+IF_GET = block("ifindex", "if (__predict_true(ifp != NULL))", 3)
+DEVSW_END = block("devsw", "atomic_store_relaxed(&devswrefs[major], NULL);", 7)
+DEVSW_FIND = block("devsw", "if (ref != NULL)", 3)
+DEVSW_RELEASE = block("devsw", "localcount_release(&ref->dr_lc, &device_cv, &device_lock);", 1)
+OPEN = block("devsw", "error = (*ref->dr_devsw->d_open)(minor);", 2)
+REMOVE = block("ioctl", "PSLIST_WRITER_REMOVE(e, e_link);", 6)
+REPLACE = block("ioctl", "PSLIST_WRITER_REMOVE(other, e_link);", 3)
+ENTRY_GET = block("ioctl", "if (e != NULL)", 3)
+COPYOUT = block("ioctl", "error = copyout(&e->e_content, data, sizeof(e->e_content));", 2)
+UNLISTEN = block("rxintr", "PSLIST_WRITER_REMOVE(l, l_link);", 6)
+DELIVER = block("rxintr", "psref_acquire(&psref, &l->l_target, listener_class);", 2)
+FOUND_HOOK = block("unload", "localcount_acquire(&hook.lc);", 2)
+UNHOOK = block("unload", "atomic_store_relaxed(&hook.sc, NULL);", 3)
+CALL_HOOK = block("unload", "*answer = value + 1;", 3)
 WORK = """		mutex_exit(&sc->sc_lock);
 		rw_enter(&sc->sc_rwlock, RW_WRITER);
 		sc->sc_seen = ticks;

@@ -45,7 +45,6 @@ HANDLER(two_one, mutex_enter(&two); mutex_enter(&one); mutex_exit(&one); mutex_e
 HANDLER(read_twice, rw_enter(&rw, RW_READER); rw_enter(&rw, RW_READER); rw_exit(&rw); rw_exit(&rw))
 HANDLER(read_again, for (unsigned turn = 0; turn < 2; turn++) { rw_enter(&rw, RW_READER); rw_exit(&rw); })
 HANDLER(write_once, rw_enter(&rw, RW_WRITER); rw_exit(&rw))
-HANDLER(keep_lock, mutex_enter(&one))
 
 /* A writer that becomes a reader lets those go on that wait to read. */
 BODY(downgrade)
@@ -160,14 +159,6 @@ BODY(never_ends)
 
 static unsigned *volatile nowhere;
 
-BODY(spin_for_flag)
-{
-	while (!atomic_load_acquire(&flag))
-		;
-}
-
-HANDLER(set_flag, atomic_store_release(&flag, true))
-
 /* The sanitizers, where the bench is built with them, leave the crash to it. */
 const char *__asan_default_options(void)
 {
@@ -181,8 +172,6 @@ __attribute__((no_sanitize("undefined"))) BODY(crash)
 }
 
 HANDLER(set_word, atomic_store_relaxed(&word, 1))
-HANDLER(assert_it, KASSERTMSG(atomic_load_relaxed(&word) == 0, "word is %u", atomic_load_relaxed(&word)))
-HANDLER(dies, panic("out of %s", "luck"))
 HANDLER(exit_at_once, kthread_exit(0))
 
 BODY(join_never)
@@ -190,9 +179,6 @@ BODY(join_never)
 	lwp_t *made;
 	(void)kthread_create(PRI_NONE, KTHREAD_MUSTJOIN, NULL, exit_at_once, NULL, &made, "worker");
 }
-
-HANDLER(return_at_once, (void)0)
-HANDLER(make_returning, (void)kthread_create(PRI_NONE, 0, NULL, return_at_once, NULL, NULL, "worker"))
 
 /* ---- Soft interrupts, drains. ---- */
 
@@ -463,14 +449,6 @@ static void make_counts(void)
 
 HANDLER(count_last, localcount_acquire(&locals[SOME - 1]))
 
-BODY(keep_reference)
-{
-	static struct psref psref;
-	(void)curlwp_bind();
-	psref_acquire(&psref, &target, things);
-}
-
-HANDLER(keep_section, (void)pserialize_read_enter())
 static void left_object(void) { (void)mutex_obj_alloc(MUTEX_DEFAULT, IPL_NONE); }
 
 /* What ends a test, which takes down what make_things has made: all of it, all but one lock, or with a lock held. */
@@ -565,7 +543,6 @@ static const struct find finds[] = {
 	    read_twice, write_once},
 	{"a downgrade", NULL, downgrade, read_beside, .finish = destroy_things},
 	{"a writer between two readers", NULL, read_again, write_once, .finish = destroy_things},
-	{"a lock at the end of a thread", "pthread_exit: with a lock", keep_lock, write_once},
 	{"a lost wake-up", "came while nobody waited", wait_carelessly, wake, .switches = 2},
 	{"freed memory", "data race: thread \"first\" writes at finds.c:*, and thread \"second\" frees at *finds.c:",
 	    use_block, free_block, .make = make_block},
@@ -584,12 +561,8 @@ static const struct find finds[] = {
 	    hold_and_lock, destroy_locked, .make = make_target},
 	{"a target that is left", "a target or a local count is left at the end", write_once, write_once, .make = make_target},
 	{"a thread that never ends", "the run doesn't end", never_ends, write_once},
-	{"a thread that spins for another", NULL, spin_for_flag, set_flag},
 	{"a crash", "the code ends by signal 11", crash, set_word},
-	{"an assertion", "KASSERTMSG: not so: ", assert_it, set_word},
-	{"a panic", "panic: out of luck, at", dies, set_word},
 	{"a thread that isn't joined", "taken by kthread_create", join_never, write_once},
-	{"a thread that returns", "kthread_create: the body returned without kthread_exit", make_returning, write_once},
 	{"freed before its handler is ended", "use of freed memory",
 	    free_and_disestablish, write_once, .make = freed_before_disestablish},
 	{"an attach that a drain loses", "KASSERT: not so: !attached || slot == 2",
@@ -609,10 +582,6 @@ static const struct find finds[] = {
 	    write_once, write_once, .make = make_targets},
 	{"the last of many counts with references that are left", "a local count with 2 references is left at the end",
 	    count_last, count_last, .make = make_counts},
-	{"a passive reference that is left", "pthread_exit: the thread has passive references",
-	    keep_reference, write_once, .make = make_target},
-	{"a section that is left", "pthread_exit: inside a read section", keep_section, write_once},
-	{"locks that are destroyed", NULL, write_once, write_once, .finish = destroy_things},
 	{"a lock that is left", "1 locks, condition variables or callouts are left at the end, one of them made by mutex_init",
 	    write_once, write_once, .finish = destroy_some},
 	{"a lock that is held at the end", "pthread_exit: with a lock", write_once, write_once, .finish = end_locked},

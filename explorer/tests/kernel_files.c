@@ -108,33 +108,31 @@ HANDLER(do_nothing, (void)0)
 
 static int no_bridge;
 
-static void begin_bridge(void)
+/* Whether there is one. */
+static bool begin_bridge(void)
 {
 	no_bridge = bridge_init();
 	if (no_bridge == 0) {
 		bridge_add(ONE);
 		bridge_add(TWO);
+	} else {
+		bench_thread("nothing", do_nothing, NULL);
 	}
+	return no_bridge == 0;
 }
 
 static void begin_forward(void)
 {
-	begin_bridge();
-	if (no_bridge != 0) {
-		bench_thread("nothing", do_nothing, NULL);
+	if (!begin_bridge())
 		return;
-	}
 	bench_thread("answer", answer, NULL);
 	bench_thread("delete", delete_two, NULL);
 }
 
 static void begin_age(void)
 {
-	begin_bridge();
-	if (no_bridge != 0) {
-		bench_thread("nothing", do_nothing, NULL);
+	if (!begin_bridge())
 		return;
-	}
 	(void)bridge_forward(ONE, 0x10, 0x20);
 	bridge_start();
 	bench_thread("forward", forward, NULL);

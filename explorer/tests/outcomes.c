@@ -6,6 +6,7 @@
  *     outcomes [FIRST COUNT]        the random programs with these seeds
  *     outcomes for SECONDS FIRST    short ones, from this seed on, as many as there is time for
  *     outcomes print FIRST COUNT    each program with each outcome, a line each: for a comparison with real threads
+ *     outcomes reduced FIRST COUNT  what the search with the reduction comes to, for a comparison with a reduction that has a fault
  */
 #include <string.h>
 #include <sys/atomic.h>
@@ -17,10 +18,14 @@
 #include <sys/localcount.h>
 #include <sys/lwp.h>
 #include <sys/mutex.h>
+#include <sys/percpu.h>
+#include <sys/pool.h>
 #include <sys/pserialize.h>
 #include <sys/psref.h>
 #include <sys/rwlock.h>
 #include <sys/systm.h>
+#include <sys/workqueue.h>
+#include <sys/xcall.h>
 #include <time.h>
 
 #include "cases.h"
@@ -35,7 +40,8 @@ static unsigned words[2];	/* by atomic accesses */
 static unsigned plains[2];	/* by plain ones */
 static bool racy;		/* a data race is no fault, and what it decides is an outcome */
 static bool prints;		/* the outcomes, instead of comparing them */
-static kmutex_t locks[2], spin;
+static bool reduced_alone;	/* shows what it comes to */
+static kmutex_t locks[2], spin, *shared;
 static krwlock_t rw;
 static kcondvar_t cv;
 static bool flag, gone;
@@ -47,6 +53,12 @@ static bool drained;
 static void *own_softints[MOST];
 static unsigned *blocks[MOST];
 static callout_t callout;
+static struct pool pool;
+static pool_cache_t cache;
+static void *pooled;
+static percpu_t *percpu;
+static struct workqueue *queue;
+static struct work *work;
 static char seen[MOST][LONGEST + 1];
 static unsigned count[MOST];
 
@@ -85,7 +97,7 @@ static struct {
 	const char *letters;
 	void (*handler)(void *);
 	void *cookie;
-} softints[SOFTINTS] = {[STORES] = {"ih", handle}, [COUNTS] = {"p", count_plainly}, [LOCKS] = {"m", lock_and_store}};
+} softints[SOFTINTS] = {[STORES] = {"ih", handle, NULL}, [COUNTS] = {"p", count_plainly, NULL}, [LOCKS] = {"m", lock_and_store, NULL}};
 
 UNSEEN static void change_block(void *arg)
 {
@@ -203,15 +215,17 @@ static void end_target(void)
 	psref_target_destroy(&target, things);
 }
 
-HANDLER(store_and_exit, atomic_store_relaxed(&words[1], 24); kthread_exit(0))
+HANDLER(store_and_exit, atomic_store_relaxed(&words[1], 24); *(unsigned *)arg = cpu_number() + 1; kthread_exit(0))
 
-/* Has a thread that it makes store a word, and waits for its end, or for another word meanwhile. */
-static void make_thread(unsigned thread)
+/* Has a thread that it makes store a word, looks at another word meanwhile, and waits for its end. */
+static void make_thread(unsigned thread, struct cpu_info *on)
 {
 	lwp_t *made;
-	EXPECT(kthread_create(PRI_NONE, KTHREAD_MUSTJOIN, NULL, store_and_exit, NULL, &made, "worker") == 0);
+	unsigned cpu;
+	EXPECT(kthread_create(PRI_NONE, KTHREAD_MUSTJOIN, on, store_and_exit, &cpu, &made, "worker") == 0);
 	observe(thread, atomic_load_relaxed(&words[0]));
 	kthread_join(made);
+	observe(thread, cpu);
 }
 
 static void lock_words(unsigned thread, krw_t how, unsigned value)
@@ -222,6 +236,111 @@ static void lock_words(unsigned thread, krw_t how, unsigned value)
 	else
 		observe(thread, atomic_load_relaxed(&words[0]));
 	rw_exit(&rw);
+}
+
+static void try_rw(unsigned thread, krw_t how)
+{
+	int taken = rw_tryenter(&rw, how);
+	observe(thread, (unsigned)taken);
+	if (taken)
+		rw_exit(&rw);
+}
+
+static void upgrade(unsigned thread)
+{
+	rw_enter(&rw, RW_READER);
+	observe(thread, (unsigned)rw_tryupgrade(&rw));
+	rw_exit(&rw);
+}
+
+static void downgrade(unsigned thread)
+{
+	rw_enter(&rw, RW_WRITER);
+	rw_downgrade(&rw);
+	observe(thread, atomic_load_relaxed(&words[0]));
+	rw_exit(&rw);
+}
+
+/* Acquires a reference twice, as if the target were never gone. */
+static void use_rashly(void)
+{
+	struct psref one, two;
+	int bound = curlwp_bind();
+	psref_acquire(&one, &target, things);
+	psref_copy(&two, &one, things);
+	psref_release(&one, &target, things);
+	psref_release(&two, &target, things);
+	curlwp_bindx(bound);
+}
+
+static void ask_held(unsigned thread)
+{
+	int bound = curlwp_bind();
+	observe(thread, psref_held(&target, things));
+	curlwp_bindx(bound);
+}
+
+static void bind_anywhere(unsigned thread)
+{
+	int bound = curlwp_bind();
+	observe(thread, cpu_number() + 1);
+	observe(thread, atomic_load_relaxed(&words[1]));
+	curlwp_bindx(bound);
+}
+
+static void store_value(void *value, void *other)
+{
+	(void)other;
+	atomic_store_relaxed(&words[0], *(const unsigned *)value);
+}
+
+/* Has a CPU store a word. */
+static void call_cpu(unsigned value)
+{
+	xc_wait(xc_unicast(0, store_value, &value, NULL, kupaldiz_cpu(0)));
+}
+
+static void look_at(void *own, void *arg, struct cpu_info *cpu)
+{
+	(void)own;
+	(void)arg;
+	(void)cpu;
+}
+
+static void tell_cpu(struct work *done, void *cpu)
+{
+	(void)done;
+	*(unsigned *)cpu = cpu_number() + 1;
+}
+
+/* Has a queue of its own do a work, on the CPU of the queue's thread. */
+static void make_own_queue(unsigned thread)
+{
+	struct workqueue *own;
+	struct work once;
+	unsigned cpu = 0;
+	EXPECT(workqueue_create(&own, "own", tell_cpu, &cpu, PRI_NONE, IPL_NONE, WQ_MPSAFE) == 0);
+	workqueue_enqueue(own, &once, NULL);
+	workqueue_wait(own, &once);
+	workqueue_destroy(own);
+	observe(thread, cpu);
+}
+
+/* An object tells the order in which those of its cache were made. */
+UNSEEN static int number_object(void *arg, void *object, int flags)
+{
+	static unsigned made;
+	(void)arg;
+	(void)flags;
+	*(unsigned *)object = ++made;
+	return 0;
+}
+
+UNSEEN static void use_cache(unsigned thread)
+{
+	unsigned *object = pool_cache_get(cache, PR_WAITOK);
+	observe(thread, *object);
+	pool_cache_put(cache, object);
 }
 
 /* Does what a letter says. */
@@ -247,7 +366,7 @@ UNSEEN static void execute(unsigned thread, char letter, unsigned value)
 	case 'W': lock_words(thread, RW_WRITER, value); break;
 	case 'g': use_target(thread); break;
 	case 'D': end_target(); break;
-	case 'h': break;
+	case 'h': case 'I': break;
 	case 'i': softint_schedule(softints[STORES].cookie); break;
 	case 'o': callout_reset(&callout, 1, ring, NULL); break;
 	case 'O': (void)callout_halt(&callout, NULL); break;
@@ -273,10 +392,51 @@ UNSEEN static void execute(unsigned thread, char letter, unsigned value)
 	case 'p': softint_schedule(softints[COUNTS].cookie); break;
 	case '{': mutex_enter(&spin); break;
 	case '}': mutex_exit(&spin); break;
-	case 'n': make_thread(thread); break;
+	case 'n': make_thread(thread, NULL); break;
+	case '.': make_thread(thread, kupaldiz_cpu(0)); break;
 	case 'q': count_in(thread); break;
 	case 'Q': drain(); break;
-	default: EXPECT(!"a letter");
+	case 'u': mutex_enter(&locks[0]); cv_wait(&cv, &locks[0]); mutex_exit(&locks[0]); break;
+	case 'N': observe(thread, cv_has_waiters(&cv)); break;
+	case 'V': observe(thread, cv_is_valid(&cv)); break;
+	case 'C': cv_destroy(&cv); break;
+	case 'M': mutex_destroy(&locks[1]); break;
+	case 'H': mutex_obj_hold(shared); break;
+	case 'F': observe(thread, mutex_obj_free(shared)); break;
+	case 'R': try_rw(thread, RW_READER); break;
+	case 'J': try_rw(thread, RW_WRITER); break;
+	case 'U': upgrade(thread); break;
+	case 'E': downgrade(thread); break;
+	case 'G': observe(thread, (unsigned)rw_read_held(&rw)); break;
+	case '!': observe(thread, (unsigned)rw_lock_held(&rw)); break;
+	case '-': rw_destroy(&rw); break;
+	case '^': softint_disestablish(softints[STORES].cookie); softints[STORES].cookie = NULL; break;
+	case 'Z': pserialize_destroy(psz); break;
+	case '0': psref_class_destroy(things); break;
+	case '1': psref_target_init(&target, things); break;
+	case '2': use_rashly(); break;
+	case '3': ask_held(thread); break;
+	case '4': localcount_init(&local); break;
+	case '5': localcount_acquire(&local); break;
+	case '6': mutex_enter(&locks[1]); localcount_drain(&local, &cv, &locks[1]); mutex_exit(&locks[1]); break;
+	case '7': localcount_fini(&local); break;
+	case '8': observe(thread, localcount_debug_refcnt(&local)); break;
+	case '%': localcount_release(&local, &cv, &locks[1]); break;
+	case '&': bind_anywhere(thread); break;
+	case '=': kupaldiz_unbind(); break;
+	case '~': call_cpu(value); break;
+	case '?': pool_put(&pool, pooled); break;
+	case '*': pool_destroy(&pool); break;
+	case '/': use_cache(thread); break;
+	case '_': pool_cache_destroy(cache); break;
+	case ';': (void)percpu_getref(percpu); percpu_putref(percpu); break;
+	case '\'': percpu_foreach(percpu, look_at, NULL); break;
+	case '`': make_own_queue(thread); break;
+	case '"': percpu_free(percpu, sizeof(unsigned)); break;
+	case '@': workqueue_enqueue(queue, work, NULL); break;
+	case '$': kmem_free(work, sizeof(*work)); break;
+	case ',': workqueue_wait(queue, work); break;
+	default: EXPECT(letter == '\0');
 	}
 }
 
@@ -288,41 +448,83 @@ UNSEEN static void run_text(void *arg)
 		execute(thread, text[at], thread * 8 + at + 1);
 }
 
-#define WITH_LOCKS	"()[]twsTSqQm"
-#define WITH_CV		"wsTSqQ"
-#define WITH_SECTIONS	"<>PgDqQ"
 #define PLAINLY		"xyXYz#p"
-#define NOT_BESIDE	PLAINLY "v"	/* a processor reorders plain accesses; real time is another one */
+#define NOT_BESIDE	PLAINLY "vn.&`"	/* a processor reorders plain accesses; real time is another one, and a thread's CPU */
+
+/* ---- What programs work on: what one doesn't need isn't made. ---- */
+
+static void make_locks(void) { mutex_init(&locks[0], MUTEX_DEFAULT, IPL_SOFTNET); mutex_init(&locks[1], MUTEX_DEFAULT, IPL_SOFTNET); }
+static void end_lock(void) { mutex_destroy(&locks[0]); }
+static void end_other_lock(void) { mutex_destroy(&locks[1]); }
+static void make_spin(void) { mutex_init(&spin, MUTEX_SPIN, IPL_SOFTNET); }
+static void end_spin(void) { mutex_destroy(&spin); }
+static void make_shared(void) { shared = mutex_obj_alloc(MUTEX_DEFAULT, IPL_NONE); }
+static void hold_shared(void) { mutex_obj_hold(shared); }
+static void make_rw(void) { rw_init(&rw); }
+static void end_rw(void) { rw_destroy(&rw); }
+static void make_cv(void) { cv_init(&cv, "flag"); }
+static void end_cv(void) { cv_destroy(&cv); }
+static void make_psz(void) { psz = pserialize_create(); }
+static void end_psz(void) { pserialize_destroy(psz); }
+static void make_class(void) { things = psref_class_create("thing", IPL_SOFTNET); }
+static void end_class(void) { psref_class_destroy(things); }
+static void make_target(void) { psref_target_init(&target, things); }
+static void end_target_left(void) { if (!gone) psref_target_destroy(&target, things); }
+static void make_callout(void) { callout_init(&callout, 0); }
+static void end_callout(void) { (void)callout_halt(&callout, NULL); callout_destroy(&callout); }
+static void make_local(void) { localcount_init(&local); }
+static void end_local(void) { if (!drained) drain(); }
+static void make_pool(void) { pool_init(&pool, 8, 0, 0, 0, "pool", NULL, IPL_NONE); pooled = pool_get(&pool, PR_WAITOK); }
+static void make_cache(void) { cache = pool_cache_init(sizeof(unsigned), 0, 0, 0, "cache", NULL, IPL_NONE, number_object, NULL, NULL); }
+static void end_cache(void) { pool_cache_destroy(cache); }
+static void make_parts(void) { percpu = percpu_alloc(sizeof(unsigned)); }
+static void do_work(struct work *done, void *arg) { (void)done; (void)arg; atomic_store_relaxed(&words[0], 21); }
+static void end_queue(void) { workqueue_destroy(queue); }
+
+static void make_queue(void)
+{
+	work = kmem_zalloc(sizeof(*work), KM_SLEEP);
+	EXPECT(workqueue_create(&queue, "queue", do_work, NULL, PRI_NONE, IPL_NONE, WQ_MPSAFE) == 0);
+}
 
 /* A soft interrupt waits on CPU 0 from the beginning, and its thread is made before the others. */
 static void schedule_early(void) { kupaldiz_bind(0); softint_schedule(softints[STORES].cookie); kupaldiz_unbind(); }
 
-static void begin(void)
+static void make_softints(void)
 {
-	static const char *const names[] = {"one", "two", "three", "four"};
-	for (unsigned at = 0; at < 2 && uses(WITH_LOCKS); at++)
-		mutex_init(&locks[at], MUTEX_DEFAULT, IPL_SOFTNET);
-	if (uses("rW"))
-		rw_init(&rw);
-	if (uses(WITH_CV))
-		cv_init(&cv, "flag");
-	if (uses(WITH_SECTIONS))
-		psz = pserialize_create();
-	if (uses("gD")) {
-		things = psref_class_create("thing", IPL_SOFTNET);
-		psref_target_init(&target, things);
-	}
-	if (uses("{}"))
-		mutex_init(&spin, MUTEX_SPIN, IPL_SOFTNET);
 	for (unsigned at = 0; at < SOFTINTS; at++)
 		if (uses(softints[at].letters))
 			softints[at].cookie = softint_establish(SOFTINT_NET | SOFTINT_MPSAFE, softints[at].handler, NULL);
-	if (uses("h"))
-		schedule_early();
-	if (uses("oO"))
-		callout_init(&callout, 0);
-	if (uses("qQ"))
-		localcount_init(&local);
+}
+
+static void end_softints(void)
+{
+	for (unsigned at = 0; at < SOFTINTS; at++)
+		if (softints[at].cookie != NULL)
+			softint_disestablish(softints[at].cookie);
+}
+
+/* Programs with these letters work on it, and one with a letter of the last two makes or ends it itself. */
+static const struct thing {
+	const char *letters;
+	void (*make)(void), (*end)(void);
+	const char *maker, *ender;
+} all_things[] = {
+	{"()[]twsTSqQmuM56%", make_locks, end_lock, "", ""}, {"()[]twsTSqQmuM56%", NULL, end_other_lock, "", "M"}, {"HF", make_shared, NULL, "", ""},
+	{"I", hold_shared, NULL, "", ""}, {"{}", make_spin, end_spin, "", ""}, {"rWRJUEG!-", make_rw, end_rw, "", "-"},
+	{"wsTSqQuNVC56%", make_cv, end_cv, "", "C"}, {"<>PgDqQZ58", make_psz, end_psz, "", "Z"}, {"gD0123", make_class, end_class, "", "0"},
+	{"gD0123", make_target, end_target_left, "1", "0"}, {"ihpm", make_softints, end_softints, "", ""}, {"h", schedule_early, NULL, "", ""},
+	{"oO", make_callout, end_callout, "", ""}, {"qQ5678%", make_local, end_local, "4", "67"}, {"?*", make_pool, NULL, "", ""},
+	{"/_", make_cache, end_cache, "", "_"}, {"';\"", make_parts, NULL, "", ""}, {"@$,", make_queue, end_queue, "", ""},
+};
+enum { THINGS = sizeof(all_things) / sizeof(all_things[0]) };
+
+static void begin(void)
+{
+	static const char *const names[] = {"one", "two", "three", "four"};
+	for (const struct thing *it = all_things; it < &all_things[THINGS]; it++)
+		if (uses(it->letters) && !uses(it->maker) && it->make != NULL)
+			it->make();
 	for (unsigned at = 0; at < MOST; at++) {
 		if (strpbrk(texts[at], "jef") != NULL) {
 			blocks[at] = kmem_zalloc(sizeof(unsigned), KM_SLEEP);
@@ -331,30 +533,6 @@ static void begin(void)
 		if (texts[at][0] != '\0')
 			bench_thread(names[at], run_text, texts[at]);
 	}
-}
-
-static void end_references(void)
-{
-	if (uses("qQ") && !drained)
-		drain();
-	if (uses("gD") && !gone)
-		psref_target_destroy(&target, things);
-	if (uses("gD"))
-		psref_class_destroy(things);
-	if (uses(WITH_SECTIONS))
-		pserialize_destroy(psz);
-}
-
-static void end_locks(void)
-{
-	for (unsigned at = 0; at < 2 && uses(WITH_LOCKS); at++)
-		mutex_destroy(&locks[at]);
-	if (uses("rW"))
-		rw_destroy(&rw);
-	if (uses("{}"))
-		mutex_destroy(&spin);
-	if (uses(WITH_CV))
-		cv_destroy(&cv);
 }
 
 static void finish(void)
@@ -366,15 +544,9 @@ static void finish(void)
 	/* A soft interrupt of real threads may run later. */
 	if (!prints || !uses("iohjm"))
 		bench_outcome("%u %u %u %u", words[0], words[1], plains[0], plains[1]);
-	if (uses("oO")) {
-		(void)callout_halt(&callout, NULL);
-		callout_destroy(&callout);
-	}
-	for (unsigned at = 0; at < SOFTINTS; at++)
-		if (uses(softints[at].letters))
-			softint_disestablish(softints[at].cookie);
-	end_references();
-	end_locks();
+	for (const struct thing *it = &all_things[THINGS]; it-- > all_things;)
+		if (uses(it->letters) && !uses(it->ender) && it->end != NULL)
+			it->end();
 }
 
 /* A program that has more schedules without the reduction is too long. */
@@ -393,7 +565,7 @@ static struct bench_found explore(bool whole)
 
 static void show(const struct bench_found *found, const char *which)
 {
-	printf("%s: %llu schedules, %u outcomes, %s%s\n", which, (unsigned long long)found->schedules, found->outcomes, found->line,
+	printf("%s: %llu schedules, %u outcomes, %s%s\n", which, (unsigned long long)(found->schedules + found->cut), found->outcomes, found->line,
 	    is_tried(found) ? "" : " (not tried)");
 	for (unsigned at = 0; at < found->outcomes; at++)
 		printf("    %s\n", found->outcome[at].text);
@@ -423,9 +595,20 @@ static void print_outcomes(void)
 		printf("%s|%s|%s: LEFT OUT\n", texts[0], texts[1], texts[2]);
 }
 
+static void show_program(const char *head)
+{
+	printf("%s%s, ticks %u: %s | %s | %s | %s\n", head, racy ? ", racy" : "", ticks, texts[0], texts[1], texts[2], texts[3]);
+}
+
 /* Compares the two ways of the search for the program that is written. */
 static void compare(void)
 {
+	if (reduced_alone) {
+		struct bench_found found = explore(false);
+		show_program("program");
+		show(&found, "reduced");
+		return;
+	}
 	if (prints && !uses(NOT_BESIDE))
 		print_outcomes();
 	if (prints)
@@ -442,7 +625,7 @@ static void compare(void)
 	reduceds += reduced.schedules + reduced.cut;
 	if (agree(&whole, &reduced))
 		return;
-	printf("different%s, ticks %u: %s | %s | %s | %s\n", racy ? ", racy" : "", ticks, texts[0], texts[1], texts[2], texts[3]);
+	show_program("different");
 	show(&whole, "whole");
 	show(&reduced, "reduced");
 	exit(1);
@@ -469,7 +652,8 @@ static void make_text(char *text, unsigned parts)
 {
 	static const char *const pieces[] = {"a", "b", "A", "B", "+", "(a)", "[A]", "([B])", "t", "<a>", "<ab>", "P", "(A)", "r", "W", "AB", "ba", "s", "w", "g", "i",
 	    "k", "o", "oO", "<iab>", "<iA>", "<ib>", "T", "TS", "S", "j", "je", "jAe", "jf", "lAL", "lAjL", "q",
-	    "q", "(S)", "kA", "x", "X", "xy", "Y", "z", "(x)", "(X)", "[Y]", "#", "({#})", "{x}", "<y>", "lXL", "lpyL", "p", "n", "B(t)", "v", "vS", "K", "d", "kv", "m", "(m)"};
+	    "q", "(S)", "kA", "x", "X", "xy", "Y", "z", "(x)", "(X)", "[Y]", "#", "({#})", "{x}", "<y>", "lXL", "lpyL", "p", "n", "B(t)", "v", "vS", "K", "d", "kv", "m", "(m)",
+	    "R", "J", "U", "E", "G!", "N", "&", "~", "/", ";"};
 	for (unsigned at = 0; at < parts; at++)
 		add(text, pieces[pick(sizeof(pieces) / sizeof(pieces[0]))]);
 }
@@ -479,7 +663,7 @@ static unsigned points_of(const char *text)
 {
 	unsigned points = 0;
 	for (; *text != '\0'; text++)
-		points += strchr("gqDQ", *text) != NULL ? 6 : strchr("twsTjfeoOrWnphm", *text) != NULL ? 3 : *text != 'c';
+		points += strchr("gqDQ~", *text) != NULL ? 6 : strchr("twsTjfeoOrWnphmRJUE/", *text) != NULL ? 3 : *text != 'c';
 	return points;
 }
 
@@ -523,6 +707,13 @@ static const char *const written[][3] = {
 	{"(#)", "(#)", "(x)"}, {"X(A)", "(a)x"}, {"X{a}", "{A}Y", "y"}, {"{#}", "c{p}"}, {"clpxL", "x"}, {"n", "Ba"}, {"nx", "Xb"}, {"A(a)", "ko"}, {"o"},
 	{"z", "y"}, {"Ab", "aB", "ab"}, {"t", "[A](a)"}, {"hc<b>"}, {"T", "oaS"}, {"cai", "cb<A>"}, {"kv", "kv"}, {"hc<bb>", "B"}, {"cm", "()", "c<ab>"},
 	{"K", "dv", "k"}, {"ckj", "cj"},
+	{"[]", "M"}, {"HF", "F"}, {"F", "IF"}, {"V", "C"}, {"u", "S"}, {"u", "NS"}, {"T", "NN"}, {"TS", "N"},
+	{"R", "W"}, {"U", "r"}, {"U", "R"}, {"E", "r"}, {"E", "R"}, {"G", "r"}, {"!", "r"}, {"!", "W"},
+	{"r", "-"}, {"P", "Z"}, {"D", "0"}, {"1", "2"}, {"2", "D"}, {"3", "D"}, {"c2", "c33"}, {"4", "5%"},
+	{"6", "7"}, {"8", "6"}, {"5A%", "8a"}, {"b&", "bcb"}, {"b&", "bcb=b"}, {"&", "c=&"}, {"'", "\""},
+	{"b`", "b`"}, {"ib", "^"}, {"J", "J"}, {"U", "!G!"}, {"E", "!G!"}, {"bn", "bi"}, {"cjAe", "cm", "k"},
+	{"bn", "bn"}, {"b&", "b."}, {"~", "~"}, {"~a", "A"}, {"?", "*"}, {"/", "/"}, {"/", "//"}, {"/", "_"},
+	{";", "\""}, {"@", "$"},
 };
 
 static void compare_written(void)
@@ -570,13 +761,15 @@ int main(int count_of_words, char **given)
 		return compare_for_a_while(strtoull(given[3], NULL, 10));
 	}
 	prints = count_of_words == 4 && strcmp(given[1], "print") == 0;
+	reduced_alone = count_of_words == 4 && strcmp(given[1], "reduced") == 0;
 	unsigned first = count_of_words >= 3 ? (unsigned)atoi(given[count_of_words - 2]) : 1;
 	unsigned number = count_of_words >= 3 ? (unsigned)atoi(given[count_of_words - 1]) : 60;
 	compare_written();
 	for (unsigned at = 0; at < number; at++)
 		compare_random(first + at);
-	EXPECT(prints || 2 * faults < compared);
-	if (!prints)
-		print_counts();
+	if (prints || reduced_alone)
+		return 0;
+	EXPECT(2 * faults < compared);
+	print_counts();
 	return 0;
 }

@@ -1,14 +1,19 @@
 #!/usr/bin/env python3
-"""Plants a fault in each rule of the reduction, one at a time, and lets the random comparison look for it.
+"""Plants faults in the explorer's reduction, one at a time, each of which some program of the random comparison must tell.
 
-    rules.py FOLDER SECONDS LINK.. -- COMPILE..    compiles the rule's file in a folder, links `outcomes` with it, and runs that for so many seconds
+    rules.py FOLDER LINK.. -- COMPILE..    compiles the sources in a folder, links `outcomes` with them, and runs that
 
-A fault is told where a program comes to another outcome, or to another fault, with the reduction than without. The last line is 'N passed, M failed'.
+First those of RULES. Then, for each place of the sources where a step says what it touches: the step doesn't say it; or it says that it reads what it writes.
+`outcomes` shows what the search with the reduction comes to. A fault is told where that differs from what it comes to without one: in an outcome or a fault,
+or at least in the number of runs. The last line is 'N passed, M failed'.
 """
+import os
 import pathlib
 import re
 import subprocess
 import sys
+from concurrent.futures import ThreadPoolExecutor
+from itertools import zip_longest
 from typing import NamedTuple
 
 SOURCES = pathlib.Path(__file__).resolve().parent.parent / "src"
@@ -32,53 +37,111 @@ RULES = [
     Rule("commute", "a guard may have been false before its thread waited", "return !step->guarded;", "return true;"),
     Rule("commute", "a thread that was disabled is looked for further back", "return (search->steps[earlier].enabled >> step->chosen & 1) != 0;", "return true;"),
     Rule("schedule", "a conflict wakes what sleeps", "if (are_dependent(set, &before->set))", "if (false && are_dependent(set, &before->set))"),
-    Rule("schedule", "a soft interrupt comes before or after each step of a thread with the CPU", "		touch(ON_LOCK, &me->self->cpu->hold, 0, 0);\n", "		;\n"),
-    Rule("schedule", "a tick conflicts with deadlines", "	touch_deadlines(ANY, 0);\n", ""),
     Rule("schedule", "threads that are disabled at the end race", "	find_races_of_all_disabled(run.finish + 1);", "	;"),
     Rule("schedule", "threads that are disabled at a cut race", "			find_races_of_all_disabled(run.step);", "			;"),
     Rule("schedule", "the clock that is disabled races", "if (!clock_may_jump() && run.ticks < options.ticks)", "if (false)"),
+    Rule("schedule", "the clock that is disabled waits for deadlines", ", {.size = 1, .kind = ON_DEADLINE, .cpu = ANY}", ""),
+    Rule("schedule", "the clock that is disabled writes the time", "{.size = 1, .kind = ON_TIME, .how = WRITES}", "{.size = 1, .kind = ON_TIME}"),
     Rule("schedule", "a soft interrupt waits for its queue", ".kind = ON_PENDING, .cpu = cpu", ".kind = ON_NOTHING, .cpu = cpu"),
     Rule("schedule", "a tick may change places, as long as the clock may jump", "if (run.ticks == options.ticks)\n		make_barrier();", "make_barrier();"),
-    Rule("locks", "a wake-up may come to a waiter whose time is over", "WRITES | (is_late(me) || ends_early(me) ? 0 : ACQUIRES)", "WRITES | ACQUIRES"),
-    Rule("locks", "a waiter whose time is over conflicts with wake-ups", "		touch(ON_CV, of, 0, WRITES);\n}\n\n/* Waits to be woken", "		;\n}\n\n/* Waits to be woken"),
-    Rule("locks", "a section of a CPU conflicts with a wait", "	touch(ON_SECTION, NULL, ANY, 0);\n	acquire_sections();\n	for", "	acquire_sections();\n	for"),
-    Rule("softints", "an interrupt conflicts with what has the CPU", "	touch(ON_LOCK, &me->cpu->hold, 0, WRITES);\n	acquire_clock", "	acquire_clock"),
-    Rule("more_calls", "an end of a soft interrupt conflicts with its queues", "	touch(ON_PENDING, NULL, ANY, WRITES);\n", ""),
+    Rule("locks", "a wake-up may come to a waiter whose time is over", "is_late(me) || ends_early(me) ? 0 : ACQUIRES", "ACQUIRES"),
 ]
 
+# What no program tells: the later step of each waits until the earlier one is made, so no order is lost. But it acquires the clock that the other releases.
+ORDERED = {
+    "locks": "touch(ON_THREAD, joined, 0, ORDERS | ACQUIRES);",
+    "routine": "touch(ON_THREAD, me, 0, WRITES | RELEASES);",
+    "xcalls": "made++;\n		touch(ON_XCALL, NULL, 0, WRITES | RELEASES);",
+}
 
-def plant(rule, folder):
-    """Writes the file with the fault in it. Its name."""
+# What a step touches: a kind of thing, or a call that says it; and that it writes that.
+KIND = r'(?P<kind>(?:(?<=\btouch\()|(?<=\bAT\()|(?<=at_thing\(__func__, )|(?<="percpu_foreach", ))ON_[A-Z]+)'
+CALL = r"(?P<call>\btouch_(?:memory|deadlines|bound)\((?!const |unsigned ))"
+HOW = r"(?P<how>(?<!how = )(?<!& )\bWRITES\b)"
+PLANTED = {"kind": "(PLANTED({}) ? UNTOLD : 0) + {}", "call": "PLANTED({}) ? (void)0 : {}", "how": "(PLANTED({}) ? 0 : {})"}
+RECORD = "	record_access((struct access){(uintptr_t)address, 1,"
+CHOICE = """#include <stdlib.h>
+int planted;
+__attribute__((constructor)) static void choose(void) { planted = atoi(getenv("PLANTED")); }
+"""
+
+
+def plant_touches(folder):
+    """Writes the sources with each fault in them, of which the environment chooses one by its number from 1 on. The names of the faults."""
+    names = []
+
+    def plant(found):
+        line = found.string.count("\n", 0, found.start())
+        what = "reads" if found.lastgroup == "how" else "untold"
+        names.append(f"{file.stem}.c:{line + 1}: {what}: {found.string.splitlines()[line].strip()[:90]}")
+        return PLANTED[found.lastgroup].format(len(names), found.group())
+
+    (folder / "planted.h").write_text("enum { UNTOLD = 64 };\nextern int planted;\n#define PLANTED(number)	(planted == (number))\n")
+    (folder / "planted.c").write_text(CHOICE)
+    for file in sorted(SOURCES.glob("*.c")):
+        ordered = ORDERED.get(file.stem, "\0")
+        text = re.sub(f"{KIND}|{CALL}|{HOW}", plant, file.read_text().replace(ordered, "\0")).replace("\0", ordered)
+        if file.stem == "schedule":
+            text = text.replace(RECORD, f"	bool told = kind < UNTOLD;\n	kind %= UNTOLD;\n	if (told)\n	{RECORD}")
+        (folder / file.name).write_text(text)
+    return names
+
+
+def plant_rule(rule, folder):
+    """Writes the file with the fault in it."""
     text = (SOURCES / f"{rule.file}.c").read_text()
     if text.count(rule.before) != 1:
         sys.exit(f"{rule.file}.c, {rule.name}: it fits {text.count(rule.before)} times")
-    file = folder / f"{rule.file}.c"
-    file.write_text(text.replace(rule.before, rule.after))
-    return file
+    (folder / f"{rule.file}.c").write_text(text.replace(rule.before, rule.after))
 
 
-def build(rule, folder, link, words):
-    made, program = folder / "rule.o", folder / "outcomes"
-    subprocess.run([*words, f"-I{SOURCES}", "-w", "-c", "-o", made, plant(rule, folder)], check=True)
-    subprocess.run([link[0], "-Wl,-z,now", "-o", program, link[1], made, *link[2:], "-pthread"], check=True)
+def build(folder, link, words):
+    """Compiles the files of the folder, and links the program with them instead of the library's own."""
+    for file in folder.glob("*.c"):
+        subprocess.run([*words, f"-I{SOURCES}", "-w", "-c", "-o", file.with_suffix(".o"), file], check=True)
+    program = folder / "outcomes"
+    subprocess.run([link[0], "-Wl,-z,now", "-o", program, link[1], *folder.glob("*.o"), *link[2:], "-pthread"], check=True)
     return program
 
 
+def run(program, planted=0):
+    """What the reduced searches come to: for each program the number of runs, and the rest."""
+    ran = subprocess.run([program, "reduced", "1", "0"], stdout=subprocess.PIPE, stderr=subprocess.STDOUT, text=True, check=False,
+                         env={**os.environ, "PLANTED": str(planted)})
+    return [(re.findall(r"reduced: \d+", each), re.sub(r"reduced: \d+", "", each)) for each in re.split(r"^program", ran.stdout, flags=re.M)]
+
+
+def judge(name, right, said):
+    """Prints by which program a fault is told. Whether it is."""
+    pairs = list(zip_longest(said, right, fillvalue=("", "")))
+    told = next((text for (_, text), (_, other) in pairs if text != other), None)
+    counted = next((text for (runs, text), (before, _) in pairs if runs != before), None)
+    how = "told   " if told is not None else "counted" if counted is not None else "UNTOLD "
+    print(f"{how} {name}: {(told or counted or '').split(chr(10))[0].strip(', ')}", flush=True)
+    return told is not None or counted is not None
+
+
 def main():
-    folder, seconds, words = pathlib.Path(sys.argv[1]), sys.argv[2], sys.argv[3:]
+    folder, words = pathlib.Path(sys.argv[1]), sys.argv[2:]
     link, compiles = words[: words.index("--")], words[words.index("--") + 1 :]
-    folder.mkdir(parents=True, exist_ok=True)
-    passed = failed = 0
+
+    def prepared(name):
+        (folder / name).mkdir(parents=True, exist_ok=True)
+        return folder / name
+
+    touches = prepared("touches")
+    names = plant_touches(touches)
+    program = build(touches, link, [*compiles, "-include", touches / "planted.h"])
+    right = run(program)
+    passed = []
     for rule in RULES:
-        program = build(rule, folder, link, compiles)
-        said, told = "", None
-        for arguments in (("for", seconds, "1"), ("1", "0")):
-            said = said if told else subprocess.run([program, *arguments], stdout=subprocess.PIPE, stderr=subprocess.STDOUT, text=True, check=False).stdout
-            told = re.search(r"^different.*", said, re.M)
-        passed, failed = passed + bool(told), failed + (not told)
-        print(f"{'told  ' if told else 'UNTOLD'} {rule.name}: {told.group(0) if told else said.strip()[-200:]}", flush=True)
-    print(f"{passed} passed, {failed} failed")
-    sys.exit(failed != 0)
+        plant_rule(rule, prepared(rule.name))
+        passed.append(judge(rule.name, right, run(build(folder / rule.name, link, compiles))))
+    with ThreadPoolExecutor(os.cpu_count()) as pool:
+        for name, said in zip(names, pool.map(lambda number: run(program, number), range(1, len(names) + 1))):
+            passed.append(judge(name, right, said))
+    print(f"{sum(passed)} passed, {len(passed) - sum(passed)} failed")
+    sys.exit(not all(passed))
 
 
 main()
