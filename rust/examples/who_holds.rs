@@ -18,7 +18,7 @@ fn main() -> Result<(), Box<dyn Error>> {
     let retired = registry.detach(&cpus[0], Kind::Driver, &WM0)?;
     let held = match retired.destroy(&cpus[0], Patience::at_most(Duration::from_millis(10))) {
         Ok(freed) => return Err(format!("{freed}").into()),
-        Err(held) => held,
+        Err(held) => held, // two references to it are held
     };
     println!("{held}");
     drop((one, two));
