@@ -68,8 +68,8 @@ void __wrap_free(void *block)
 }
 #endif
 
-/* What an opening takes and keeps: for the keeper a handle and two rows, for each CPU a handle and five, and three blocks that they share. */
-enum { OF_KEEPER = 3, OF_CPU = 6, SHARED = 3 };
+/* What an opening takes and keeps: for the keeper a handle and two rows, for each CPU a handle and six, and three blocks that they share. */
+enum { OF_KEEPER = 3, OF_CPU = 7, SHARED = 3 };
 
 enum { NAMES = SLOTS * 3 / 4, HANDLES = 3 * SLOTS + CPUS, LONGEST = 10 * 1000 * 1000, LINE = 64 };
 

@@ -38,9 +38,10 @@ static uint64_t *hints_of(struct model *model, unsigned cpu, const struct regist
 	return model->cpus[cpu].hints[place_of(name, HINTS * model->settings.slots)];
 }
 
-static struct registry_entry *miss_of(struct model *model, unsigned cpu, const struct registry_name *name)
+/* The places of the last two misses with the name's hint. */
+static uint64_t *missed_with(struct model *model, unsigned cpu, const struct registry_name *name)
 {
-	return &model->cpus[cpu].misses[place_of(name, model->settings.slots + SPARE_MISSES)];
+	return model->cpus[cpu].missed[place_of(name, HINTS * model->settings.slots)];
 }
 
 /* The entry that the CPU remembers with this kind and name, or NULL. */
@@ -102,17 +103,39 @@ static const struct registry_entry *next_older(const struct model *model, uint64
 	return newest;
 }
 
+/* The number of the newest entry when the CPU missed this kind and name, or 0. */
+static uint64_t missed_under(struct model *model, unsigned cpu, uint64_t kind, const struct registry_name *name)
+{
+	const uint64_t *places = missed_with(model, cpu, name);
+	for (unsigned i = 0; i < 2; i++)
+		if (is_of(&model->cpus[cpu].misses[places[i]], kind, name))
+			return model->cpus[cpu].misses[places[i]].number;
+	return 0;
+}
+
 /* Whether the CPU knows that there is no such entry: none is live, or the CPU missed it while the newest one was the same. */
 static bool is_missed(struct model *model, unsigned cpu, uint64_t kind, const struct registry_name *name)
 {
-	const struct registry_entry *newest = next_older(model, UINT64_MAX), *miss = miss_of(model, cpu, name);
-	return newest == NULL || (is_of(miss, kind, name) && miss->number == newest->number);
+	const struct registry_entry *newest = next_older(model, UINT64_MAX);
+	return newest == NULL || missed_under(model, cpu, kind, name) == newest->number;
 }
 
-/* The CPU remembers that a search from outside has found none: some entry is live. */
+static uint64_t most_misses(const struct model *model)
+{
+	return model->settings.slots + SPARE_MISSES < MOST_MISSES ? model->settings.slots + SPARE_MISSES : MOST_MISSES;
+}
+
+/* The CPU remembers that a search from outside has found none, in the place of the last miss if it was of the same, else in the next: some entry is live. */
 static void remember_miss(struct model *model, unsigned cpu, uint64_t kind, const struct registry_name *name)
 {
-	*miss_of(model, cpu, name) = (struct registry_entry){next_older(model, UINT64_MAX)->number, 0, kind, *name, 0};
+	struct model_cpu *own = &model->cpus[cpu];
+	uint64_t *places = missed_with(model, cpu, name);
+	if (!is_of(&own->misses[places[0]], kind, name)) {
+		places[1] = places[0];
+		places[0] = own->next_miss;
+		own->next_miss = (own->next_miss + 1) % most_misses(model);
+	}
+	own->misses[places[0]] = (struct registry_entry){next_older(model, UINT64_MAX)->number, 0, kind, *name, 0};
 }
 
 uint32_t model_enter(struct model *model, unsigned cpu)

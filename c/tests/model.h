@@ -14,8 +14,8 @@ enum { CPUS = REGISTRY_MOST_CPUS, SLOTS = REGISTRY_MOST_SLOTS };
 #else
 enum { CPUS = 8, SLOTS = 32 };
 #endif
-/* So many hints a slot a CPU keeps, and so many misses more than slots. */
-enum { HINTS = 8, SPARE_MISSES = 8 };
+/* So many hints a slot a CPU keeps, once for entries and once for misses; and so many misses more than slots, up to a bound. */
+enum { HINTS = 8, SPARE_MISSES = 8, MOST_MISSES = 256 };
 
 enum state { VACANT, LIVE, RETIRED };
 
@@ -38,7 +38,9 @@ struct model_cpu {
 	bool spare;			/* whether it keeps a block for its next local reference */
 	struct registry_entry rows[SLOTS];	/* the entry that the CPU found last in that slot */
 	uint64_t hints[HINTS * SLOTS][2];	/* the slots plus 1 where entries with that hint were found last and before, or 0 */
-	struct registry_entry misses[SLOTS + SPARE_MISSES];	/* the last kind and name of that place that no entry had, while the newest entry had this number */
+	struct registry_entry misses[SLOTS + SPARE_MISSES];	/* the last kinds and names that no entry had, while the newest entry had this number */
+	uint64_t missed[HINTS * SLOTS][2];	/* the places of the last miss with that hint and of the one before, or 0 */
+	uint64_t next_miss;		/* the place of the next one */
 };
 
 /* A wait of a perform: the CPUs whose section was open as it began, and is open still. */

@@ -89,7 +89,7 @@ def names():
     )
     subprocess.run([ROOT / "netbsd/named.sh"], check=True)
     headers = [f"netbsd/include/{folder}/*.h" for folder in ("kupaldiz", "sys", "net")]
-    tests = TESTS, "netbsd/examples/*.c", "explorer/tests/*.c", "explorer/tests/*.inc"
+    tests = TESTS, "netbsd/examples/*.c", "explorer/tests/*.c"
     tree = real(NAMES, LISTED, *headers, *tests)
     # Those of three headers, which are soon compiled.
     tree[LISTED] = "".join(f"{line}\n" for line in tree[LISTED].splitlines() if line.startswith(("sys/cdefs.h", "sys/types.h", "sys/systm.h")))
