@@ -1,8 +1,8 @@
 //! The audit of local references, through the handles: it is lent one CPU at a time, and takes no memory.
 
-ghost use Rattle.std.specs.Prelude.{◌≡◌, ◌≢◌, ◌<◌, ◌≤◌, ◌≤ℤ◌, ◌^◌, ℕ, length, take, get_or, neg_ℤ, pos, true, false, Some};
+ghost use Rattle.std.specs.Prelude.{◌≡◌, ◌≢◌, ◌*◌, ◌<◌, ◌≤◌, ◌≤ℤ◌, ◌^◌, ℕ, length, take, get_or, neg_ℤ, pos, true, false, Some};
 ghost use Rattle.c_calls.specs.Types.{Entry};
-ghost use Rattle.registry_values.specs.Common.{slot_at};
+ghost use Rattle.registry_values.specs.Common.{slot_at, sum_of};
 ghost use Rattle.protocol.specs.Common.{IsIn};
 ghost use Rattle.passive_list.specs.Common.{OnPlainCpu};
 ghost use Rattle.cpu_words.specs.Common.{AreWordsOf};
@@ -249,48 +249,61 @@ fn write_next(
     match keeper.slot(t) {
         Slot::Vacant => at,
         Slot::Live(entry) | Slot::Retired(entry) => {
-            list[at] = balance(keeper, cpus, t, entry.number);
+            write_balance(keeper, cpus, t, entry.number, &mut list[at]);
             at + 1
         }
     }
 }
 
-/// What the counts say of the entry with this number in the slot.
-fn balance(keeper: &Keeper, cpus: &mut [CpuHandle], t: u8, number: u64) -> CBalance
+/// Writes what the counts say of the entry with this number in the slot.
+fn write_balance(keeper: &Keeper, cpus: &mut [CpuHandle], t: u8, number: u64, place: &mut CBalance)
     requires all { AreAllHere keeper.now.words.settings.cpus (bodies_of cpus.old) }
     requires entry { Occupies keeper.now.keeper t number }
     ensures cpus { bodies_of cpus.new ≡ bodies_of cpus.old }
-    ensures tally { tally_in keeper.now.words.settings.cpus result ≡ tally_met keeper.now.keeper (cpus_in (bodies_of cpus.old)) number t }
-    ensures cut { IsCut keeper.now.words.settings.cpus result }
+    ensures tally { tally_in keeper.now.words.settings.cpus place.new ≡ tally_met keeper.now.keeper (cpus_in (bodies_of cpus.old)) number t }
+    ensures cut { IsCut keeper.now.words.settings.cpus place.new }
 {
     let total = less_bias(keeper.rows()[t as usize].total_or_bias());
-    let locals = locals(keeper, cpus, t, number);
-    let held = sum(&locals[..keeper.settings().cpus as usize]) + total;
-    CBalance {
-        number,
-        slot: u64::from(t),
-        held,
-        locals,
-        total,
-    }
+    write_locals(keeper, cpus, t, number, &mut place.locals);
+    let held = sum_of_first(&place.locals, keeper.settings().cpus) + total;
+    place.number = number;
+    place.slot = u64::from(t);
+    place.held = held;
+    place.total = total;
 }
 
-/// Of each CPU its net count for the entry, and zeros past the last.
-fn locals(keeper: &Keeper, cpus: &mut [CpuHandle], t: u8, number: u64) -> [i64; MOST_CPUS]
+/// The sum of so many of these, from the first on.
+fn sum_of_first(locals: &[i64; MOST_CPUS], cpus: u8) -> i64
+    requires few { cpus ≤ MOST_CPUS }
+    requires range { (c : ℕ) → (neg_ℤ (pos (2 ^ 50)) ≤ℤ get_or locals.now c (pos 0)) × (get_or locals.now c (pos 0) ≤ℤ pos (2 ^ 50)) }
+    ensures value { result ≡ sum_of (take cpus locals.now) }
+    ensures least { neg_ℤ (pos (MOST_CPUS * 2 ^ 50)) ≤ℤ result }
+    ensures most { result ≤ℤ pos (MOST_CPUS * 2 ^ 50) }
+{
+    sum(&locals[..cpus as usize])
+}
+
+/// Writes of each CPU its net count for the entry, and zeros past the last.
+fn write_locals(
+    keeper: &Keeper,
+    cpus: &mut [CpuHandle],
+    t: u8,
+    number: u64,
+    row: &mut [i64; MOST_CPUS],
+)
     requires all { AreAllHere keeper.now.words.settings.cpus (bodies_of cpus.old) }
     requires few { keeper.now.words.settings.cpus ≤ MOST_CPUS }
     requires entry { (t < MOST_SLOTS) × (0 < number) }
     ensures cpus { bodies_of cpus.new ≡ bodies_of cpus.old }
-    ensures value { take keeper.now.words.settings.cpus result ≡ locals_met keeper.now.keeper (cpus_in (bodies_of cpus.old)) t number }
-    ensures cut { (c : ℕ) → keeper.now.words.settings.cpus ≤ c → get_or result c (pos 0) ≡ pos 0 }
-    ensures range { (c : ℕ) → (neg_ℤ (pos (2 ^ 50)) ≤ℤ get_or result c (pos 0)) × (get_or result c (pos 0) ≤ℤ pos (2 ^ 50)) }
+    ensures value { take keeper.now.words.settings.cpus row.new ≡ locals_met keeper.now.keeper (cpus_in (bodies_of cpus.old)) t number }
+    ensures cut { (c : ℕ) → keeper.now.words.settings.cpus ≤ c → get_or row.new c (pos 0) ≡ pos 0 }
+    ensures range { (c : ℕ) → (neg_ℤ (pos (2 ^ 50)) ≤ℤ get_or row.new c (pos 0)) × (get_or row.new c (pos 0) ≤ℤ pos (2 ^ 50)) }
 {
-    let mut locals = [0; MOST_CPUS];
+    *row = [0; MOST_CPUS];
     for c in 0..keeper.settings().cpus {
         let at = c as usize;
-        locals[at] = local(keeper, &mut cpus[at], t, number);
+        row[at] = local(keeper, &mut cpus[at], t, number);
     }
-    locals
 }
 
 /// One CPU's net count for the entry.

@@ -6,7 +6,7 @@ use Rattle.passive_list.specs.Common.{OnPlainCpu}
 use Rattle.c_calls.specs.Opening.{bodies_of, body_at}
 use Rattle.c_calls.proofs.Audited.{locals_more, none_local}
 use Rattle.c_calls.proofs.Handles.{body_is, count_bodies, same_bodies}
-use Rattle.c_calls.proofs.audit.locals.Goals as goal
+use Rattle.c_calls.proofs.audit.write_locals.Goals as goal
 
 pub loop-c-init : goal.loop-c-init
 loop-c-init c = (refl, none_local _ _ _ _)
@@ -35,7 +35,7 @@ loop-c-preserved c =
     let has = c.requires.all.each k few in
     let same : to_z w64 (of_z w64 c.local.result) ≡ c.local.result = omega (arith, ints, c.local.type_inv) in (
       same_bodies hs k c.local.new.cpu h lt c.local.ensures.same ∙ i.0,
-      locals_more c.args.keeper.now.keeper c.args.t c.args.number (bodies_of c.args.cpus.now) k c.loop-c.locals has.0 (to_z w64 (of_z w64 c.local.result)) (omega (arith, few, c.requires.few))
+      locals_more c.args.keeper.now.keeper c.args.t c.args.number (bodies_of c.args.cpus.now) k c.loop-c.row has.0 (to_z w64 (of_z w64 c.local.result)) (omega (arith, few, c.requires.few))
           (omega (arith, few, c.requires.all.count)) has.1
           (same ∙ c.local.ensures.value has.0 (sym at ∙ has.1)) (subst (λ (z : ℤ). (neg_ℤ (pos (2 ^ 50)) ≤ℤ z) × (z ≤ℤ pos (2 ^ 50))) (sym same) c.local.ensures.range) i.1,
     )
