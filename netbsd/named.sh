@@ -32,7 +32,7 @@ for limits in ../../../include/registry_limits.h ../../../crates/registry_c/incl
     [ ! -f "$limits" ] || is_made registry_limits.h "$limits" || cp "$limits" registry_limits.h
 done
 
-# Of each header the calls whose lines have a place: those whose bodies begin with begin_call.
+# By header: the calls that note a place. Their bodies begin with begin_call.
 write_places() {
     printf '/* places.h - macros of the names of a header'"'"'s calls, which note where each is made */\n#ifndef KUPALDIZ_WITHOUT_PLACES\n'
     while read -r header calls; do

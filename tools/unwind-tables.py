@@ -246,7 +246,7 @@ HEAD = """.section .note.GNU-stack,"",%progbits
 .uleb128 1
 """
 HEAD_END = ".balign 8\n.Lcie_end:\n"
-# Before the name by which a table speaks of a function that others see: one of its own, local in the end, as a shared library may not speak of the function's.
+# A table names a function that others see by a local name of its own, which begins so: a shared library's table may not use the function's name.
 OWN = "unwound."
 
 

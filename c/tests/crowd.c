@@ -50,7 +50,7 @@ static struct basket {
 	struct registry_local reference;
 } baskets[CPUS];
 
-/* Of each name, how many changes of its driver have begun and ended, and the number of the live one since then, or 0. Whose name it is writes them. */
+/* By name: how many changes of its driver began, how many ended, and the number of the driver that is live since, or 0. The name's owner writes them. */
 static struct {
 	atomic_uint_fast64_t begun, ended, number;
 } known[NAMES];

@@ -1,6 +1,6 @@
 /*
  * misuse - what a caller can get wrong beside what history.c tries at random: cursors, waits, audits, references that outlive their registry, and handles
- * that can't be written to. Each call answers its own number and changes nothing
+ * that can't be written to. Each call returns its own number and changes nothing
  */
 #include <sys/mman.h>
 #include <unistd.h>

@@ -125,7 +125,7 @@ static uint64_t most_misses(const struct model *model)
 	return model->settings.slots + SPARE_MISSES < MOST_MISSES ? model->settings.slots + SPARE_MISSES : MOST_MISSES;
 }
 
-/* The CPU remembers that a search from outside has found none, in the place of the last miss if it was of the same, else in the next: some entry is live. */
+/* The CPU remembers that a search from outside found none. It writes over the last miss if that has the same name, else it takes the next place. */
 static void remember_miss(struct model *model, unsigned cpu, uint64_t kind, const struct registry_name *name)
 {
 	struct model_cpu *own = &model->cpus[cpu];

@@ -23,7 +23,7 @@ static void await_seen(unsigned more)
 		sleep_for(20);
 }
 
-/* What a thread has of its turn: something that it has seen, or nothing, for which others get time. */
+/* What a thread saw in its turn. If it saw nothing, it gives others time. */
 static void note_seen(bool is_some)
 {
 	atomic_fetch_add(&seen, is_some);
