@@ -234,14 +234,14 @@ ONLY = "c/src/waiting.c"
 def told(file, *said):
     """A command that runs the tool on code with a survivor, and fails where it doesn't say each of these."""
     tests = "".join(f'grep -qF -e "{it}" said || {{ echo "it does not say: {it}"; exit 1; }}\n' for it in said)
-    return f"#!/bin/sh\ntools/mutants.py --least 1 --only {file} >said 2>&1\nstatus=$?\ncat said\n[ $status = 1 ] || exit 3\n{tests}"
+    return f"#!/bin/sh\ntools/mutants.py --least 1 {file} >said 2>&1\nstatus=$?\ncat said\n[ $status = 1 ] || exit 3\n{tests}"
 
 
 def of_c():
     programs = {f"c/tests/{it}.c": QUIET for it in ("deferred", "waits")}
     survivor = f"survived: {ONLY}:3, comparison: return a < b ? b : a; -> return a <= b ? b : a;"
     good = told(ONLY, "return a >= b ? b : a;: killed by turns", survivor, ": hung by turns")
-    run = ["tools/mutants.py", "--least", "1", "--only", f"{ONLY}:3"]
+    run = ["tools/mutants.py", "--least", "1", f"{ONLY}:3"]
     faults = (
         Fault("a test that sees nothing", "return a >= b ? b : a;: survived", (("c/tests/turns.c", "most(1, 2) != 2 || most(4, 3) != 4 || ", ""),), run),
         Fault("a test that fails at first", "turns fails on the tree as it stands", (("c/tests/turns.c", "most(4, 3) != 4", "most(4, 3) == 4"),), run),
