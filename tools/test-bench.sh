@@ -2,14 +2,10 @@
 # Builds the bench, explorer, and runs its tests: small programs whose schedules are counted, and whose outcomes are compared with the reduction and without;
 # the seven drivers in every order; faults planted in them; one case for each thing that it finds or refuses; its picture; real threads beside it. Plain, with
 # the sanitizers of addresses and undefined behaviour, and some under valgrind. out/libregistry.a stands already. The last line is 'N passed, M failed'.
-set -uo pipefail
-cd "$(dirname "$0")/.." || exit
+# shellcheck source=tools/checks.sh
+. "$(dirname "$0")/checks.sh"
 folder=explorer
 out=out/bench
-# shellcheck source=tools/checks.sh
-. tools/checks.sh
-room=$(mktemp -d)
-trap 'rm -rf "$room"; forget_log' EXIT
 
 # The picture of the README, made again: an XML parser takes it, and it has a row for each thread with its CPU, a bar for each kind, a mark for the
 # fault, and the place of each step.
