@@ -125,112 +125,6 @@ def run_examples():
     return Case("run-examples", ["run-examples.py", "engines.py", "parts.py"], PAGES, ["tools/run-examples.py", "--program", "program"], faults)
 
 
-HEADER = """/*
- * registry.h - a registry
- */
-
-/* What a call returns. */
-enum {
-	REGISTRY_DONE = 0,	/* the call has done what it says */
-	REGISTRY_NULL = 77	/* a pointer is NULL */
-};
-
-/* How large a registry is. */
-struct registry_settings {
-	uint64_t cpus;	/* 1 to 8 */
-};
-
-/* ---- Opening. Any thread may call these. ---- */
-
-/*
- * registry_open - make a registry
- *
- * `settings` may be NULL.
- * Returns REGISTRY_DONE.
- */
-registry_answer registry_open(struct registry *it, const struct registry_settings *settings)
-    REGISTRY_NONNULL(1) REGISTRY_CHECKED;
-"""
-FRAME = """.Sh NAME
-@names
-.Sh SYNOPSIS
-@synopsis
-.Sh DESCRIPTION
-@types registry_settings
-@constants REGISTRY_DONE
-@calls
-.Sh EXAMPLES
-@example c/examples/packet.c opened
-"""
-PACKET = "static int opened(void)\n{\n\treturn 1;\n}\n"
-WAITS = """/*
- * registry_waits - whether the registry waits: {0} doesn't
- */
-bool registry_waits(void);
-"""
-MADE = """.\\" Made by tools/header-pages.py from crates/registry_c/include/registry.h and man/registry.3.in.
-.Sh NAME
-.Nm registry_open
-.Sh SYNOPSIS
-.Ss Opening
-.Ft registry_answer
-.Fo registry_open
-.Fa "struct registry *it"
-.Fa "const struct registry_settings *settings"
-.Fc
-.Sh DESCRIPTION
-.Bl -tag -width Ds
-.It Vt struct registry_settings
-How large a registry is.
-.Bl -tag -width Ds -compact
-.It Vt "uint64_t cpus"
-1 to 8
-.El
-.El
-.Bl -tag -width REGISTRY_SECTIONS_SPENT -offset indent -compact
-.It Dv REGISTRY_DONE
-the call has done what it says
-.It Dv REGISTRY_NULL
-a pointer is
-.Dv NULL
-.El
-.Ss Opening
-Any thread may call these.
-.Bl -tag -width Ds
-.It Fn registry_open it settings
-Make a registry.
-.Pp
-.Fa settings
-may be
-.Dv NULL .
-.Pp
-Returns
-.Dv REGISTRY_DONE .
-.El
-.Sh EXAMPLES
-.Bd -literal -offset indent
-static int opened(void)
-{
-	return 1;
-}
-.Ed
-"""
-MADE_OF_WAITS = """.\\" Made by tools/header-pages.py from c/include/waiting.h and man/registry_waiting.3.in.
-.Ft bool
-.Fn registry_waits void
-.Bl -tag -width Ds
-.It Fn registry_waits void
-Whether the registry waits:
-.Li {0}
-doesn't.
-.El
-"""
-PAGE, FACE, CLIENT = "man/registry.3", "crates/registry_c/include/registry.h", "c/examples/packet.c"
-MAKES = f"""#!/bin/sh
-tools/header-pages.py make && diff {PAGE} wanted && diff man/registry_waiting.3 wanted_of_waits && tools/header-pages.py check
-"""
-
-
 DRAWING = """<svg><rect data-crate="low"/><rect data-crate="high"/><path data-from="high" data-to="low"/></svg>
 """
 PICTURED = "examples/perform-and-destroy.txt"
@@ -250,17 +144,30 @@ def picture():
     return [Case("picture", ["picture.py", "kit.py", "parts.py"], tree, ["tools/picture.py", "check"], faults)]
 
 
+PAGE, FACE = "man/registry.3", "crates/registry_c/include/registry.h"
+WANTED = """.Nm registry_depth ,
+.Fn registry_depth "const struct registry_cpu *cpu" "uint64_t *depth"
+.It Fn registry_depth cpu depth
+The number of open enters, 0 to
+.Dv REGISTRY_MOST_DEPTH .
+.It Vt struct registry_settings
+.It Vt "uint64_t cpus"
+.It Dv REGISTRY_GRACE
+.It Dv REGISTRY_DONE
+static registry_answer take_out(struct registry_cpu *cpu, const struct registry_name *name)
+"""
+# It says which of the lines the page doesn't have.
+MAKES = f"#!/bin/sh\ntools/header-pages.py make && ! grep -vxFf {PAGE} wanted && tools/header-pages.py check\n"
+
+
 def header_pages():
-    tree = {FACE: HEADER, f"{PAGE}.in": FRAME, "wanted": MADE, CLIENT: PACKET, "make": MAKES,
-            "c/include/waiting.h": WAITS, "man/registry_waiting.3.in": "@synopsis\n@calls\n", "wanted_of_waits": MADE_OF_WAITS}
+    tree = {**real(FACE, "c/include/waiting.h", "man/registry*.3.in", "c/examples/packet.c", "c/examples/shared.c"), "wanted": WANTED, "make": MAKES}
     faults = (
-        *of(FACE, ("another type of a parameter", '> .Fa "struct registry *it"', "struct registry *it,", "struct keeper *it,"),
-            ("another summary of a call", "> Make a registry.", "make a registry", "open a registry"),
-            ("a call more", "< .Nm registry_more", "REGISTRY_CHECKED;\n", "REGISTRY_CHECKED;\n\n/*\n * registry_more - one more\n */\nvoid registry_more(void);\n"),
-            ("a struct that is gone", "'@types registry_settings' of the frame names nothing", "\nstruct registry_settings {", "\nstruct settings {")),
-        *of(CLIENT, ("another example", "< \treturn 2;", "return 1", "return 2"),
-            ("an example that is gone", "'@example c/examples/packet.c opened' of the frame names nothing", "opened", "closed")),
-        *of(f"{PAGE}.in", ("a part that isn't one", "'@call' of the frame names nothing", "@calls", "@call")),
+        *of(FACE, ("another type of a parameter", '"uint64_t *depth"', "*cpu, uint64_t *depth)", "*cpu, uint32_t *depth)"),
+            ("another summary of a call", "The number of open enters", "registry_depth - the number", "registry_depth - how many"),
+            ("a struct that is gone", "of the frame names nothing", "\nstruct registry_settings {", "\nstruct settings {")),
+        *of(f"{PAGE}.in", ("an example that is gone", "'@example c/examples/packet.c gone' of the frame names nothing", "packet.c send_by", "packet.c gone"),
+            ("a part that isn't one", "'@call' of the frame names nothing", "@calls", "@call")),
     )
     return Case("header-pages", ["header-pages.py", "parts.py"], tree, ["./make"], faults)
 
