@@ -18,7 +18,6 @@ import contextlib
 import functools
 import os
 import pathlib
-import queue
 import re
 import signal
 import subprocess
@@ -26,7 +25,7 @@ import sys
 import tempfile
 import time
 
-from parts import ROOT, end_all, guard, of_session, run_all, started
+from parts import ROOT, end_all, guard, of_session, started
 
 # ---- The rules: each changes one thing of a text and leaves the rest. ----
 
@@ -61,7 +60,7 @@ DECLARES = re.compile(r"(?:return|break|continue|goto|let|use|struct|enum|typede
 STORE = re.compile(r"\s(?:[-+|&*/^]|<<|>>)?=\s|\+\+|--")
 
 
-def shown(text):
+def visible(text):
     """The text with blanks in place of what no rule changes."""
     return HIDDEN.sub(lambda found: re.sub(r"[^\n]", " ", found[0]), text)
 
@@ -163,7 +162,7 @@ def by_bodies(code, _):
 
 def changes(text):
     """All wrong bodies of a text, in its order."""
-    code = shown(text)
+    code = visible(text)
     found = {it for rule in (by_operators, by_values, by_conditions, by_statements, by_bodies) for it in rule(code, text)}
     return sorted(found, key=lambda it: (it.start, it.rule, it.new))
 
@@ -178,8 +177,8 @@ BARE = "CFLAGS=-O2 -g0"
 MOST_BYTES = 1 << 32
 # A build takes at most so many seconds. On a wrong body a test may take --least and so many times what it took without it.
 LONGEST, TIMES = 1200, 5
-# So many are tried at a time, and so much of a line is shown.
-AT_ONCE, MOST_SHOWN = 2, 120
+# So much of a line is shown.
+MOST_SHOWN = 120
 # A test: its name, the command that builds it, the one that runs it, and how much memory it may take, if that is bounded.
 Test = collections.namedtuple("Test", "name build run memory", defaults=(MOST_BYTES,))
 # A wrong body: its file, line and rule, the line or lines as they are and as they become, and the whole text of the file with it.
@@ -258,12 +257,12 @@ LIBRARIES = (
 )
 
 
+@functools.cache
 def files():
     """Each file that is changed, with its library."""
     return {str(path.relative_to(ROOT)): library for library in LIBRARIES for path in sorted(ROOT.glob(library.files))}
 
 
-@functools.cache
 def mutants_of(file):
     """All wrong bodies of a file."""
     text, found = (ROOT / file).read_text(), []
@@ -275,128 +274,95 @@ def mutants_of(file):
     return list(dict.fromkeys(found))
 
 
-def run(words, folder, seconds, memory=None):
-    """Runs a command, and ends it with all that it started; its status, or None where the time was over, and what it said last."""
-    environment = {it: text for it, text in os.environ.items() if it not in ("CARGO_TARGET_DIR", "REGISTRY_LIB_DIR")} | {"CARGO_BUILD_JOBS": "1"}
-    limits = ["prlimit", "--core=0", f"--fsize={MOST_BYTES}", *([f"--data={memory}"] if memory else [])]
-    with tempfile.TemporaryFile() as said:
-        with started([*limits, *words], cwd=folder, env=environment, stdout=said, stderr=said) as process:
-            with contextlib.suppress(subprocess.TimeoutExpired):
-                process.wait(seconds)
-            status = process.poll()
-            end_all(of_session(process.pid), signal.SIGKILL)
-            process.wait()
-        said.seek(max(0, said.tell() - 4000))
-        return status, said.read().decode(errors="replace")
+class Trial:
+    """A copy of the tree, in which one wrong body at a time is tried; how long each test may run there, and how many wrong bodies of each file it saw."""
 
-
-class Lane:
-    """A copy of the tree, in which one wrong body at a time is tried."""
-
-    def __init__(self, folder, stands=None):
-        self.folder, self.stands = folder, stands
-        of = stands.folder if stands else ROOT
+    def __init__(self, folder, least):
+        self.folder, self.least, self.limits, self.seen = folder, least, {}, collections.defaultdict(collections.Counter)
         folder.mkdir()
-        names = [it for it in COPIED if (of / it).exists()]
         copy = 'to=$1; shift; tar -c --exclude=target --exclude=out/rust "$@" | tar -x -C "$to"'
-        subprocess.run(["sh", "-c", copy, "sh", folder, *names], cwd=of, check=True)
+        subprocess.run(["sh", "-c", copy, "sh", folder, *(it for it in COPIED if (ROOT / it).exists())], cwd=ROOT, check=True)
 
-    def seconds(self, test):
-        """Builds a test of the tree as it stands, and runs it: it has to pass. For how long."""
+    def run(self, words, seconds=LONGEST, memory=None):
+        """Runs a command, and ends it with all that it started; its status, or None where the time was over, and what it said last."""
+        environment = {it: text for it, text in os.environ.items() if it not in ("CARGO_TARGET_DIR", "REGISTRY_LIB_DIR")} | {"CARGO_BUILD_JOBS": "1"}
+        limits = ["prlimit", "--core=0", f"--fsize={MOST_BYTES}", *([f"--data={memory}"] if memory else [])]
+        with tempfile.TemporaryFile() as said:
+            with started([*limits, *words], cwd=self.folder, env=environment, stdout=said, stderr=said) as process:
+                with contextlib.suppress(subprocess.TimeoutExpired):
+                    process.wait(seconds)
+                status = process.poll()
+                end_all(of_session(process.pid), signal.SIGKILL)
+                process.wait()
+            said.seek(max(0, said.tell() - 4000))
+            return status, said.read().decode(errors="replace")
+
+    def measure(self, test):
+        """Builds a test of the tree as it stands, and runs it: it has to pass. It may take longer later on, and not for ever."""
         for words in (test.build, test.run):
             began = time.monotonic()
-            status, said = run(words, self.folder, LONGEST)
+            status, said = self.run(words)
             if status != 0:
                 sys.exit(f"mutants: {test.name} fails on the tree as it stands: {' '.join(words)}: {said.strip()[-300:]}")
-        return time.monotonic() - began
+        self.limits[test.name] = self.least + TIMES * (time.monotonic() - began)
 
     def object(self, library, file):
         """What the compiler makes of a file as it is here; None where it makes nothing."""
         words, made = library.compiled(file)
         (self.folder / made).unlink(missing_ok=True)
-        return (self.folder / made).read_bytes() if run(words, self.folder, LONGEST)[0] == 0 else None
+        return (self.folder / made).read_bytes() if self.run(words)[0] == 0 else None
 
-    def fails(self, test, limit):
+    def fails(self, test):
         """How a test that was built fails here twice; nothing where it passes once."""
-        found = [run(test.run, self.folder, limit, test.memory)[0]]
+        found = [self.run(test.run, self.limits[test.name], test.memory)[0]]
         if found[0] != 0:
-            found.append(run(test.run, self.folder, limit, test.memory)[0])
+            found.append(self.run(test.run, self.limits[test.name], test.memory)[0])
         return "" if 0 in found else "hung" if None in found else "killed"
 
-    def judge(self, tests, limits):
-        """What comes of the wrong body that is here, and by which test; `tests` in the order in which they run."""
-        built = set()
+    def judge(self, tests):
+        """What comes of the wrong body that is here, and the test that sees it; `tests` in the order in which they run."""
         for test in tests:
-            if tuple(test.build) not in built and run(test.build, self.folder, LONGEST)[0] != 0:
-                return "not built", ""
-            built.add(tuple(test.build))
-            outcome = self.fails(test, limits[test.name])
-            if outcome:
-                return ("busy", "") if self.stands.fails(test, limits[test.name]) else (outcome, test.name)
-        return "survived", ""
+            if self.run(test.build)[0] != 0:
+                return "not built", None
+            if outcome := self.fails(test):
+                return outcome, test
+        return "survived", None
 
-    def try_mutant(self, library, mutant, tests, limits):
+    def came_of(self, library, mutant, tests):
         """What came of a wrong body, and by which test. The file is put back, as a newer one: what was built of the wrong one is built again."""
-        path = self.folder / mutant.file
+        path, stands = self.folder / mutant.file, library.compiled and self.object(library, mutant.file)
         before = path.read_text()
-        stands = library.compiled and self.object(library, mutant.file)
         try:
             path.write_text(mutant.text)
             made = library.compiled and self.object(library, mutant.file)
             if library.compiled and made in (None, stands):
-                return "not built" if made is None else "same code", ""
-            return self.judge(tests, limits)
+                return "not built" if made is None else "same code", None
+            outcome, test = self.judge(tests)
         finally:
             path.write_text(before)
+        is_busy = test and (self.run(test.build)[0] != 0 or self.fails(test))
+        return ("busy", None) if is_busy else (outcome, test)
+
+    def try_mutant(self, mutant):
+        """Tries a wrong body, and says what came of it. The test that is called as its file comes first, until others saw more."""
+        library, stem, seen = files()[mutant.file], pathlib.Path(mutant.file).stem, self.seen[mutant.file]
+        tests = library.tests(mutant.file)
+        for test in (it for it in tests if it.name not in self.limits):
+            self.measure(test)
+        outcome, test = self.came_of(library, mutant, sorted(tests, key=lambda it: (-seen[it.name] - it.name.endswith(stem), self.limits[it.name])))
+        seen.update([test.name] if test else [])
+        print(f"{mutant.file}:{mutant.line}: {mutant.rule}: {mutant.new}: {outcome}{f' by {test.name}' if test else ''}", flush=True)
+        return outcome
 
 
-class Tried:
-    """The wrong bodies, their tests, how long each of these may run, and what came of the bodies so far."""
-
-    def __init__(self, bodies, least):
-        self.bodies, self.least, self.came, self.limits, self.of_file = bodies, least, {}, {}, files()
-        self.seen = collections.defaultdict(collections.Counter)
-        self.tests = {file: self.of_file[file].tests(file) for file in sorted({it.file for it in bodies})}
-
-    def measure(self, lane):
-        for test in {it.name: it for tests in self.tests.values() for it in tests}.values():
-            self.limits[test.name] = self.least + TIMES * lane.seconds(test)
-
-    def one(self, lane, mutant):
-        """Tries a wrong body. The test that is called as its file comes first, until others saw more."""
-        stem, seen = pathlib.Path(mutant.file).stem, self.seen[mutant.file]
-        tests = sorted(self.tests[mutant.file], key=lambda it: (-seen[it.name] - it.name.endswith(stem), self.limits[it.name]))
-        outcome, by = lane.try_mutant(self.of_file[mutant.file], mutant, tests, self.limits)
-        self.came[mutant] = outcome
-        seen.update([by] if by else [])
-        print(f"{mutant.file}:{mutant.line}: {mutant.rule}: {mutant.new}: {outcome}{f' by {by}' if by else ''}", flush=True)
-
-    def report(self):
-        """Says what came of it; the status that goes with it."""
-        survivors = sorted(it for it, outcome in self.came.items() if outcome == "survived")
-        for outcome, count in collections.Counter(self.came.values()).items():
-            print(f"{count:5} {outcome}")
-        print("".join(f"survived: {it.file}:{it.line}, {it.rule}: {it.old} -> {it.new}\n" for it in survivors), end="")
-        print(f"{len(self.came)} of {len(self.bodies)} tried, {len(survivors)} survived")
-        return int(bool(survivors))
-
-
-def try_all(tried, room):
-    """Tries each wrong body in a lane that no other one has just now."""
-    stands = Lane(room / "stands")
-    tried.measure(stands)
-    free = queue.SimpleQueue()
-    for number in range(min(AT_ONCE, len(tried.bodies))):
-        free.put(Lane(room / f"lane{number}", stands))
-
-    def one(mutant):
-        lane = free.get()
-        try:
-            tried.one(lane, mutant)
-        finally:
-            free.put(lane)
-
-    run_all(one, tried.bodies, AT_ONCE)
+def report(came):
+    """Says what came of the wrong bodies; the status that goes with it."""
+    survivors = [it for it, outcome in came.items() if outcome == "survived"]
+    for outcome, count in collections.Counter(came.values()).items():
+        print(f"{count:5} {outcome}")
+    print("".join(f"survived: {it.file}:{it.line}, {it.rule}: {it.old} -> {it.new}\n" for it in survivors), end="")
+    print(f"{len(came)} tried, {len(survivors)} survived")
+    return int(bool(survivors))
 
 
 def chosen(words):
@@ -414,11 +380,11 @@ def main():
     parser.add_argument("--least", type=int, default=5)
     parser.add_argument("only", nargs="*")
     given = parser.parse_args()
-    tried = Tried(chosen(given.only), given.least)
+    bodies = chosen(given.only)
     guard()
     with tempfile.TemporaryDirectory() as room:
-        try_all(tried, pathlib.Path(room))
-    return tried.report()
+        trial = Trial(pathlib.Path(room, "tree"), given.least)
+        return report({it: trial.try_mutant(it) for it in bodies})
 
 
 if __name__ == "__main__":
