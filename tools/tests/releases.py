@@ -16,7 +16,7 @@ CARGO = '#!/bin/sh\nmkdir -p "$CARGO_TARGET_DIR/package" && echo crate >"$CARGO_
 PACKAGES = "#!/bin/sh\necho deb >../libkupaldiz0.1.deb && echo changes >../kupaldiz.changes\n"
 PARTS = ("heap", "composed", "strings", "limits")
 # tools/proof-record.py and what it takes.
-RECORDS = ("proof-record.py", "limits.py", "kit.py")
+RECORDS = ("proof-record.py", "limits.py", "parts.py", "kit.py")
 SOURCES = {
     "crates.txt": "registry_values: std\nlow: registry_values std\nregistry_c staticlib: low std\n",
     **real("crates/registry_values/src/limits.rt", "crates/registry_values/specs/Limits.antt"),
@@ -177,7 +177,7 @@ PATH=$PWD/bin:$PATH tools/proof-record.py check $out/libregistry.a
 """,
 }
 OTHER_RECORD = "out/cpus-16-slots-64/libregistry.proved"
-BUILD_TOOLS = ["build-archive.sh", "limits-header.py", "parts.py", *RECORDS]
+BUILD_TOOLS = ["build-archive.sh", *RECORDS]
 # What is asked for, and what is said of it.
 BAD_LIMITS = {
     "--cpus 7": "--cpus may be 8 to 128, in digits or as 2^5; it is 7",

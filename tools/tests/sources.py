@@ -1,4 +1,4 @@
-"""Faults of sources: tools/limits-header.py, tools/check-imports.py and tools/event-table.py."""
+"""Faults of sources: tools/limits.py, tools/check-imports.py and tools/event-table.py."""
 from .trees import Case, Fault, of, real
 
 # Each place that says a limit again: a part of the line, with its number.
@@ -27,18 +27,18 @@ def check_limits():
     names = [f"{kind}_{it}" for kind in ("MOST", "USUAL") for it in ("CPUS", "SLOTS", "CHANGES", "SECTIONS", "COUNT")] + ["MOST_DEPTH"]
     faults += of(LIMITS, ("a limit that Rattle doesn't say", "MOST_DEPTH is None", "const MOST_DEPTH", "const DEPTH"),
                  *((f"another {it} in Rattle", f"{it} is", f"\npub const {it}:", f"\npub const {it}: u64 = 7;\nconst OTHER_{it}:") for it in names))
-    everywhere = f"sed -i 's/1 << 62/7/' {LIMITS}; for it in {HEADER} {' '.join(COPIES)}; do tools/limits-header.py >$it; done; exec tools/limits-header.py check"
+    everywhere = f"sed -i 's/1 << 62/7/' {LIMITS}; for it in {HEADER} {' '.join(COPIES)}; do tools/limits.py header >$it; done; exec tools/limits.py check"
     faults.append(Fault("another default, in all headers, too", "MOST_SECTIONS is 7, and 4611686018427387904 in the default build", command=["sh", "-c", everywhere]))
     tree = real(LIMITS, VERSION, HEADER, *COPIES, *{path for path, _, _ in PLACES})
-    return Case("limits", ["parts.py", "limits-header.py", "limits.py"], tree, ["tools/limits-header.py", "check"], faults)
+    return Case("limits", ["parts.py", "limits.py"], tree, ["tools/limits.py", "check"], faults)
 
 
 # The header of the default limits and that of others, which two names tell apart; each is C and C++.
 MAKES = f"""#!/bin/sh
 set -e
 sed -e 's/MOST_CPUS: usize = 64/MOST_CPUS: usize = 16/' -e 's/MOST_SLOTS: usize = 255/MOST_SLOTS: usize = 64/' -e 's/MOST_CHANGES: u64 = .*;/MOST_CHANGES: u64 = 1_000_000;/' {LIMITS} >other.rt
-tools/limits-header.py >default.h
-tools/limits-header.py other.rt >other.h
+tools/limits.py header >default.h
+tools/limits.py header other.rt >other.h
 grep -q 'registry_for_64_cpus_255_slots_v0_1$' default.h && grep -q 'REGISTRY_BUILD	""$' default.h
 grep -q 'registry_for_16_cpus_64_slots_v0_1$' other.h && grep -q 'REGISTRY_BUILD	"-16x64"$' other.h
 for header in default.h other.h; do
@@ -51,9 +51,9 @@ done
 
 
 def limits_header():
-    faults = [*of(LIMITS, *((f"no {it}", f"limits-header: the file says no {it}", f"const {it}:", f"const SOME_{it}:") for it in ("MOST_CPUS", "MOST_DEPTH"))),
-              *of(VERSION, ("no version", f"limits-header: {VERSION} says no version", "REGISTRY_VERSION_MINOR\t1", "REGISTRY_VERSION_SMALL\t1"))]
-    return Case("limits-header", ["limits-header.py", "limits.py", "parts.py"], {**real(LIMITS, VERSION), "try": MAKES}, ["./try"], faults, counts=False)
+    faults = [*of(LIMITS, *((f"no {it}", f"limits: the file says no {it}", f"const {it}:", f"const SOME_{it}:") for it in ("MOST_CPUS", "MOST_DEPTH"))),
+              *of(VERSION, ("no version", f"limits: {VERSION} says no version", "REGISTRY_VERSION_MINOR\t1", "REGISTRY_VERSION_SMALL\t1"))]
+    return Case("header of limits", ["limits.py", "parts.py"], {**real(LIMITS, VERSION), "try": MAKES}, ["./try"], faults, counts=False)
 
 
 IMPORTS = {
