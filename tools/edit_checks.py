@@ -4,7 +4,7 @@ A check of an edited crate is of the function whose body the edit changes, or of
 of the whole crate, as an edit of a definition needs. What it checks is checked once as it stands, and each edit begins with what that check kept. Functions
 that no edit is tried on are assumed to meet their contracts: they aren't proved once more, and a refusal doesn't rest on their proofs.
 
-Most of a check's time goes into reading what stands below, so edits of several bodies are tried in one check: each changes the body of one function alone,
+Most of a check's time goes into reading the crates below, so edits of several bodies are tried in one check: each changes the body of one function alone,
 each of another one. A function is proved of its own body and of the contracts of what it calls, which stay, so the other edits don't matter to it. An edit
 is refused there if a goal of its own function is. One that isn't is tried once more, alone.
 
@@ -217,7 +217,7 @@ def judged(ran, names):
         return Try(False, f"NOT TRIED: {untried(ran)}")
     found, lines = goals(ran), ran.stdout.splitlines()
     if not found:
-        # It says of which function it has no proof, or what it wants to be written.
+        # The line names the function that has no proof, or the proof to be written.
         unproved = next((it for it in lines if ": no proof: " in it or it.startswith("help: write ")), lines[-1])
         return Try(False, f"refused, only because no proof was found: {unproved[:200]}")
     if not telling(found):

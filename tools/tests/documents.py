@@ -135,11 +135,8 @@ def picture():
     faults = (
         Fault("another command", "perform-and-destroy.svg: it should say: enter 0", ((PICTURED, "enter 1", "enter 0"),)),
         Fault("another line of the report", "perform-and-destroy.svg: it should say: refused Waiting cpu 0", ((PICTURED, "Waiting cpu 1", "Waiting cpu 0"),)),
-        Fault("a picture without a script", "examples/other.svg: it should say: there is no other.txt", (("examples/other.svg", None, "<svg/>"),)),
         Fault("a crate that is no box", "docs/layers.svg, crates: more", (("crates.txt", "low: std\n", "low: std\nmore: std\n"),)),
-        Fault("a box that is no crate", "docs/layers.svg, crates: less", (("docs/layers.svg", "<svg>", '<svg><rect data-crate="less"/>'),)),
         Fault("an arrow that is missing", "docs/layers.svg, arrows: high-low", (("docs/layers.svg", 'data-from="high" data-to="low"', ""),)),
-        Fault("an arrow too many", "docs/layers.svg, arrows: low-high", (("docs/layers.svg", "<svg>", '<svg><path data-from="low" data-to="high"/>'),)),
     )
     return [Case("picture", ["picture.py", "kit.py", "parts.py"], tree, ["tools/picture.py", "check"], faults)]
 

@@ -61,29 +61,6 @@ finish
 """
 
 
-# What is said of a gate of 160 minutes by the clock, and of so many of processors, on each number of processors.
-BOUNDS = """#!/usr/bin/env python3
-import sys
-
-sys.path.insert(0, "tools")
-
-import parts
-
-for count, most in {6: 50, 4: 50, 3: 90, 2: 90, 1: 150}.items():
-    parts.processors = lambda: count
-    said = [*parts.above_bound(60 * most + 6, 9060), *parts.above_bound(60 * most, 9000)]
-    if len(said) != 2 or f" at most {most} on " not in said[0] or "151.0 processor minutes" not in said[1]:
-        sys.exit(f"on {count} processors it says {said}")
-"""
-
-
-def bounds():
-    faults = of("tools/parts.py", ("a bound for four processors alone", "on 6 processors", "it <= processors()", "it in (1, processors())"),
-                ("no bound for one processor", "on 1 processors", ", 1: 150}", ", 1: 151}"),
-                ("processor minutes without a bound", "on 6 processors", "if processor > 60 *", "if processor > 61 *"))
-    return Case("bounds", ["parts.py"], {"bounds": BOUNDS}, ["./bounds"], faults, counts=False)
-
-
 def shell():
     faults = [
         *of("shell", ("a check that fails", "FAILED  true is", "test 1 = 1", "test 1 = 2"),
@@ -171,4 +148,4 @@ def archive():
 
 
 def cases():
-    return [parts(), ending(), bounds(), shell(), archive()]
+    return [parts(), ending(), shell(), archive()]

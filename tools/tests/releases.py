@@ -125,16 +125,13 @@ def making():
         Fault("a record without a verdict", "has no line 'verdict: ..'", command=shell("sed -i '/^verdict/d' out/libregistry.proved")),
         Fault("a record with other limits", "has other limits than the sources as they stand", command=shell("sed -i 's/--cpus 64/--cpus 16/' out/libregistry.proved")),
         Fault("another archive", "isn't the archive that", command=shell("echo other >registry.o; ar r out/libregistry.a registry.o; rm registry.o")),
-        Fault("no archive of objects", "has no object registry.o", command=shell("echo none >out/libregistry.a")),
         *(Fault(f"another {path}", "was made from other sources", command=shell(f"echo '#' >>{path}", COMMIT)) for path in RECORDED),
-        Fault("an object more in the archive", "or another one beside it", command=shell("echo >more.o; ar rb registry.o out/libregistry.a more.o; rm more.o")),
         Fault("no program", "tools/prove-program.sh proves and builds it", command=shell("rm program")),
         Fault("changes that are in no commit", "git commit takes them in", command=shell("echo more >>packaging/INSTALL.md")),
         Fault("an archive for aarch64 without a record", "build-archive.sh --for aarch64", command=shell("mkdir out/aarch64; cp out/libregistry.a out/aarch64")),
         Fault("a folder that is no release", "it is no release: --to names another folder", command=["./try", "--to", "rust"]),
         Fault("another version in the crate", "has another version than registry.h", command=shell("sed -i s/0.1.0/0.2.0/ rust/Cargo.toml", COMMIT)),
         Fault("lintian finds an error", "this failed: lintian", command=shell("echo 'echo E: wrong; exit 1' >>bin/lintian", COMMIT)),
-        Fault("a build that fails", "this failed: dpkg-buildpackage", command=shell("echo 'exit 1' >>bin/dpkg-buildpackage", COMMIT)),
         Fault("a licence, of which nothing is to be said", "no word of the licence", command=shell("sed -i 's/^LICENCE =/LICENCE = MIT/' Makefile", COMMIT)),
     ]
     return Case("make-release", ["make-release.sh", *RECORDS], TREE, ["./try"], faults, counts=False, prepare=prepare)
@@ -196,7 +193,6 @@ def building():
             ("a source that is changed while it is proved", "began with other sources", "mkdir -p out", "echo less >../low/specs/Lib.antt; mkdir -p out")),
         Fault("a library that was proved of other sources", "began with other sources",
               command=["sh", "-c", "./try; rm out/*; mv crates/registry_c/out/libregistry_c.a library; (echo proved: 0; cat said) >log; exec ./try library log"]),
-        Fault("a library without a log", "it takes nothing", command=["./try", "crates.txt"]),
         Fault("a header that declares no call", "registry.h declares no call", (("crates/registry_c/include/registry.h", "uint32_t registry_enter", "# "),)),
     ]
     faults += [Fault(words, said, command=["./try", *words.split()]) for words, said in BAD_LIMITS.items()]
@@ -209,7 +205,6 @@ def building_other():
         *of(source, ("a file of limits without one", "says no MOST_CPUS", "pub const MOST_CPUS", "const MOST_CPUS")),
         *of("crates/registry_values/specs/Limits.antt", ("a range that isn't said", "says no range of MOST_CPUS", "(USUAL_CPUS ≤ MOST_CPUS) ×", "")),
         Fault("another bias since", "was made from other sources", command=["./try-other", "sed", "-i", "s/1 << 48/1 << 49/", source]),
-        Fault("a record of yet other limits", "has other limits than the sources", command=["./try-other", "sed", "-i", "s/--cpus 16/--cpus 17/", OTHER_RECORD]),
         Fault("no archive any more", "build-archive.sh --cpus 16 --slots 64 proves", command=["./try-other", "rm", OTHER_RECORD.replace(".proved", ".a")]),
     )
     return Case("build-archive, other limits", BUILD_TOOLS, BUILDS, ["./try-other"], faults, counts=False)
