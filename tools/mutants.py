@@ -1,16 +1,15 @@
 #!/usr/bin/env -S python3 -B
 """Makes small wrong bodies of the code that nothing proves, and says which of them every test accepts.
 
-    tools/mutants.py [--least N] [FILE[:LINE]]..    those of a file, or of one line of it; without a name all
+    tools/mutants.py [--least N] [--sample N] [--seed N] [FILE[:LINE]]..    those of a file, or of one line of it; without a name all
 
-The code is c/src/waiting.c, what is C of the archive, netbsd/src/*.c and rust/src/*.rs. Each wrong body is built
-in a copy of the tree, and the tests of the file's own library run until one fails. A body that the compiler makes the same code of isn't run. Those tests
-come first that saw most other wrong bodies of the file, and of these the shortest.
+The code is c/src/waiting.c, what is C of the archive, netbsd/src/*.c and rust/src/*.rs. Each wrong body is built in a copy of the tree, and the tests of the
+file's own library run until one fails: first those that saw most other wrong bodies of the file, and of these the shortest. A body that the compiler makes the
+same code of isn't run. A test that fails runs a second time: one failure on a busy machine kills nothing. Then it must pass on the tree as it stands, or the
+body is left untried, as `busy`. It hangs if it takes five times as long as on the tree as it stands, and --least seconds (5).
 
-A test that fails runs a second time: one failure on a busy machine kills nothing. Then it must pass on the tree as it stands, or the body is left untried, as
-`busy`. It hangs if it takes five times as long as on the tree as it stands, and --least seconds (5).
-
-Where one survives, the status is 1: either a test is missing, or the body harms nobody, as one that costs time alone.
+`--sample` takes N of them, by the seed (1 where none is given). Where one survives, the status is 1: either a test is missing, or the body harms nobody, as
+one that costs time alone.
 """
 import argparse
 import collections
@@ -18,6 +17,7 @@ import contextlib
 import functools
 import os
 import pathlib
+import random
 import re
 import signal
 import subprocess
@@ -50,14 +50,14 @@ NEGATION = re.compile(r"(?:(?<=\()|(?<=(?:&&|\|\|) )|(?<=[=,] )|(?<=if )|(?<=ret
 # What gives something up that was taken: it may come too early.
 RELEASES = re.compile(r"(?:^|_)(?:give|unlock|unhold|exit|leave|release|drop|end|signal|broadcast|wake|notify|store|free)(?:_|$)")
 # What a function of Rust may do in place of its body, by the type that it returns.
-NUMBERS = ("u8", "u32", "u64", "usize", "i64")
-BODIES = {"": ("",), "bool": ("true", "false"), "Option": ("None",), "Result<()": ("Ok(())",), **{it: ("0", "1") for it in NUMBERS}}
+BODIES = {"": ("",), "bool": ("true", "false"), "Option": ("None",), "Result<()": ("Ok(())",), **{it: ("0", "1") for it in "u8 u32 u64 usize i64".split()}}
 FUNCTION = re.compile(r"\bfn \w+[^;{]*?(?:-> (?P<result>Result<\(\)|[^\s<{;]+)[^;{]*)?\{")
 # What comes before a statement of its own: labels, and heads of branches and loops whose body it is.
 LABEL = re.compile(r"\s*(?:(?:else|do)\b|(?:case [^:;]*|default|\w+):(?!:))?\s*")
 HEAD = re.compile(r"(?:if|while|for|switch) (?=\()")
-DECLARES = re.compile(r"(?:return|break|continue|goto|let|use|struct|enum|typedef|static|const|extern|pub|impl|type|mod|fn|do)\b|\w+\s+\**\w")
-STORE = re.compile(r"\s(?:[-+|&*/^]|<<|>>)?=\s|\+\+|--")
+LEAVES = r"(?:return|break|continue|goto)\b"
+DECLARES = re.compile(rf"{LEAVES}|(?:let|use|struct|enum|typedef|static|const|extern|pub|impl|type|mod|fn|do)\b|\w+\s+\**\w")
+STORE = re.compile(r"\s(?:[-+|&*/^]|<<|>>)?=(?=\s|$)|\+\+|--")
 
 
 def visible(text):
@@ -147,7 +147,7 @@ def by_statements(code, text):
         elif said.endswith((")", "?")):
             yield Change("call left out", own, end, "")
             called = re.split(r"\W", said.partition("(")[0])[-1]
-            if before is not None and not code[start:own].strip() and RELEASES.search(called) and not DECLARES.match(code[before:].lstrip()):
+            if before is not None and not code[start:own].strip() and RELEASES.search(called) and not re.match(LEAVES, code[before:].lstrip()):
                 yield Change("released early", before, end + 1, f"\n{text[own:end]}; {text[before:start].strip()}")
     yield from (Change("call left out", *found.span(), ";") for found in re.finditer(r"\bunsafe \{[^{}]*\};", code))
 
@@ -177,8 +177,6 @@ BARE = "CFLAGS=-O2 -g0"
 MOST_BYTES = 1 << 32
 # A build takes at most so many seconds. On a wrong body a test may take --least and so many times what it took without it.
 LONGEST, TIMES = 1200, 5
-# So much of a line is shown.
-MOST_SHOWN = 120
 # A test: its name, the command that builds it, the one that runs it, and how much memory it may take, if that is bounded.
 Test = collections.namedtuple("Test", "name build run memory", defaults=(MOST_BYTES,))
 # A wrong body: its file, line and rule, the line or lines as they are and as they become, and the whole text of the file with it.
@@ -269,7 +267,7 @@ def mutants_of(file):
     for change in changes(text):
         first, last = text.rfind("\n", 0, change.start) + 1, text.find("\n", change.end)
         new = text[first:change.start] + change.new + text[change.end:last]
-        shown = (it if len(it) <= MOST_SHOWN else f"{it[:MOST_SHOWN]} .." for it in (" ".join(each.split()) for each in (text[first:last], new)))
+        shown = (it if len(it) <= 120 else f"{it[:120]} .." for it in (" ".join(each.split()) for each in (text[first:last], new)))
         found.append(Mutant(file, text.count("\n", 0, change.start) + 1, change.rule, *shown, text[:first] + new + text[last:]))
     return list(dict.fromkeys(found))
 
@@ -365,22 +363,24 @@ def report(came):
     return int(bool(survivors))
 
 
-def chosen(words):
-    """The wrong bodies that the words name, in their order."""
+def chosen(words, sample, seed):
+    """The wrong bodies that the words name, in their order; or so many of them by chance."""
     found = {}
     for file, _, line in (word.partition(":") for word in words or files()):
         if file not in files():
             sys.exit(f"mutants: no code that is changed: {file}")
         found.update((it, None) for it in mutants_of(file) if not line or str(it.line) == line)
-    return list(found) or sys.exit("mutants: no wrong body there")
+    bodies = list(found) or sys.exit("mutants: no wrong body there")
+    return random.Random(seed).sample(bodies, min(sample, len(bodies))) if sample else bodies
 
 
 def main():
     parser = argparse.ArgumentParser(usage=__doc__.split("\n")[2].strip(), allow_abbrev=False)
-    parser.add_argument("--least", type=int, default=5)
+    for name, default in (("least", 5), ("sample", None), ("seed", 1)):
+        parser.add_argument(f"--{name}", type=int, default=default)
     parser.add_argument("only", nargs="*")
     given = parser.parse_args()
-    bodies = chosen(given.only)
+    bodies = chosen(given.only, given.sample, given.seed)
     guard()
     with tempfile.TemporaryDirectory() as room:
         trial = Trial(pathlib.Path(room, "tree"), given.least)
