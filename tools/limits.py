@@ -130,17 +130,10 @@ def within(word, constant, text):
 
 def wanted(words):
     """The limits that the words name, by their constants."""
-    found = {}
-    for flag, text in zip(words[::2], [*words[1::2], None]):
-        word = flag.removeprefix("--")
-        if not flag.startswith("--") or word not in CHOSEN:
-            raise Fault(f"{flag} is no limit: it is --{' or --'.join(CHOSEN)}")
-        if text is None:
-            raise Fault(f"--{word} has no number")
-        if CHOSEN[word] in found:
-            raise Fault(f"--{word} is given twice")
-        found[CHOSEN[word]] = within(word, CHOSEN[word], text)
-    return found
+    flags, numbers = words[::2], words[1::2]
+    if len(set(flags)) != len(numbers) or len(flags) != len(numbers) or not set(flags) <= {f"--{it}" for it in CHOSEN}:
+        raise Fault(f"{' '.join(words)}: each of --{', --'.join(CHOSEN)} may be given once, with a number")
+    return {CHOSEN[it[2:]]: within(it[2:], CHOSEN[it[2:]], text) for it, text in zip(flags, numbers)}
 
 
 def said(path=ROOT / LIMITS):
@@ -180,6 +173,8 @@ def in_c(name, value):
 
 def header(of):
     """The whole header for these limits."""
+    if lacking := [it for it in DEFAULTS if of[it] is None]:
+        raise Fault(f"the file says no {lacking[0]}")
     lines = [f"\n/* {SAID[name]} */\n#define REGISTRY_{name}\t{in_c(name, of[name])}\n" for name in DEFAULTS]
     default = all(of[name] == DEFAULTS[name] for name in ("MOST_CPUS", "MOST_SLOTS"))
     build = "" if default else f"-{of['MOST_CPUS']}x{of['MOST_SLOTS']}"
@@ -200,17 +195,8 @@ def faults():
         yield "" if of[name] == wanted else f"{LIMITS}: {name} is {of[name]}, and {wanted} in the default build"
 
 
-def header_of(path=ROOT / LIMITS):
-    """The header with the limits of a file."""
-    of = limits(path)
-    lacking = [it for it in DEFAULTS if of[it] is None]
-    if lacking:
-        raise Fault(f"the file says no {lacking[0]}")
-    return header(of)
-
-
 def main(use=None, *words):
-    uses = {"name": lambda: f"{name(wanted(words))}\n", "file": lambda: file(wanted(words)), "header": lambda: header_of(*words[:1])}
+    uses = {"name": lambda: f"{name(wanted(words))}\n", "file": lambda: file(wanted(words)), "header": lambda: header(limits(*words[:1]))}
     if use == "check":
         return counted(faults())
     if use not in uses:

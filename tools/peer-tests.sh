@@ -23,13 +23,8 @@ write_lists() {
             sed -E 's/^Types: deb$/Types: deb-src/; s/^deb /deb-src /' "$list" >"$apt/sources/${list##*/}"
         fi
     done
-    cat >"$apt/apt.conf" <<LIST
-Dir::State::lists "$apt/lists";
-Dir::Cache "$apt/cache";
-Dir::Etc::sourcelist "/dev/null";
-Dir::Etc::sourceparts "$apt/sources";
-APT::Sandbox::User "";
-LIST
+    printf '%s;\n' "Dir::State::lists \"$apt/lists\"" "Dir::Cache \"$apt/cache\"" 'Dir::Etc::sourcelist "/dev/null"' \
+        "Dir::Etc::sourceparts \"$apt/sources\"" 'APT::Sandbox::User ""' >"$apt/apt.conf"
 }
 
 # Fetches and unpacks the two packages.

@@ -30,10 +30,10 @@ for part; do
     [[ " ${parts[*]} " == *" $part "* ]] || refuse "there is no part $part: ${parts[*]}"
 done
 [ $# -eq 0 ] || parts=("$@")
-[ -f "$release/SHA256SUMS" ] || refuse "there is no $release: tools/make-release.sh makes it"
+need "$release/SHA256SUMS" "tools/make-release.sh makes it"
 [ "$(id -u)" -eq 0 ] || refuse "it makes roots, and so it runs as root"
 for pair in mmdebstrap:mmdebstrap unshare:util-linux chroot:coreutils; do
-    command -v "${pair%%:*}" >/dev/null || refuse "there is no ${pair%%:*}: apt-get install ${pair##*:}"
+    need "$(command -v "${pair%%:*}" || echo "${pair%%:*}")" "apt-get install ${pair##*:}"
 done
 version=$(sed -nE 's/^.*  kupaldiz-([0-9.]+)\.crate$/\1/p' "$release/SHA256SUMS")
 [ -n "$version" ] || refuse "$release/SHA256SUMS names no crate: tools/make-release.sh makes it"
