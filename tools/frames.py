@@ -25,7 +25,7 @@ OUTSIDE = {f"{it}@plt" for it in ("malloc", "realloc", "free", "memcpy", "memmov
 # Of a processor: how its binutils are called, what a table may count from (the stack pointer, or where a frame of several pages will end), what a call takes,
 # what a function that calls none may use beneath the stack pointer, what calls and jumps, and which of these are calls.
 Processor = collections.namedtuple("Processor", "prefix bases return_address red_zone calls call")
-X86 = Processor("", ("rsp", "r11"), 8, 128, re.compile(r"\t(?P<by>call|jmp|j[a-z]+)\s+(?:[0-9a-f]+ <(?P<to>.*?)(?:\+0x[0-9a-f]+)?>|(?P<pointer>\*.*))$"), ("call",))
+X86 = Processor("", ("rsp", "r11"), 8, 128, re.compile(r"\t(?P<by>call|j[a-z]+)\s+(?:[0-9a-f]+ <(?P<to>.*?)(?:\+0x[0-9a-f]+)?>|(?P<pointer>\*.*))$"), ("call",))
 AARCH64 = Processor("aarch64-linux-gnu-", ("sp", "x9"), 0, 0, re.compile(
     r"\t(?P<by>blr?|br|b\.\w+|b|cbn?z|tbn?z)\t(?:.*, )?(?:[0-9a-f]+ <(?P<to>.*?)(?:\+0x[0-9a-f]+)?>|(?P<pointer>x\d+))(?:\s+//.*)?$"), ("bl", "blr"))
 

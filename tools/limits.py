@@ -1,7 +1,7 @@
 #!/usr/bin/env -S python3 -B
 """The limits of a build, as the proved code says them, and the version: for the tools that write them again or compare them. As a command:
 
-    tools/limits.py header [LIMITS.rt] >registry_limits.h    the header for C with the limits of a build; without a file: of crates/registry_values/src/limits.rt
+    tools/limits.py header [FILE]  the header for C with the limits of a build; without a file: of crates/registry_values/src/limits.rt
     tools/limits.py check          says where another number stands, in the headers and elsewhere, and whether the limits are the default's: 'N passed,
                                    M failed', one check for each place
     tools/limits.py name WORD..    what a build with these limits is called: each that isn't the default's, as cpus-16-slots-64; an empty line where
