@@ -39,6 +39,21 @@ faults_as_told() {
     tail -n 60 "$room/faults"
 }
 
+run_example() {
+    gcc -c -g -fsanitize=thread -fmacro-prefix-map="$room/=" -DKUPALDIZ_BENCH -I$folder -Inetbsd/include -Icrates/registry_c/include \
+        -o "$room/test.o" "$room/test.c" &&
+        gcc -o "$room/test" "$room/test.o" "$out/plain/libbench.a" out/libregistry.a -pthread && "$room/test"
+}
+
+# The example of the README runs as it is there, and without its perform prints what is there.
+example_as_told() {
+    sed -n '/^```c$/,/^```$/p' "$folder/README.md" | sed '/^```/d' >"$room/test.c"
+    run_example || return
+    sed -i '/pserialize_perform/d' "$room/test.c"
+    run_example >"$log.said"
+    diff "$log.said" <(sed -n '/^bench: /,/^```$/p' "$folder/README.md" | sed '/^```/d')
+}
+
 # The bench by clang, with what it compiles of the layer, and two of its small programs.
 with_clang() {
     make -s -C $folder CC=clang OUT="$room/clang" ARCHIVE="$PWD/out/libregistry.a" "$room/clang/plain/counts" "$room/clang/plain/finds" &&
@@ -89,6 +104,7 @@ for way in plain sanitized; do
     check "each name that a driver may use does what its page says, $way" "$out/$way/named"
 done
 counted "the seven drivers in every order, as the README says" drivers_as_told
+check "the example of the README, right and wrong, as it says" example_as_told
 check "what it prints" prints_what_was_tried
 check "outcomes with the reduction and without" compares_outcomes
 check "the same of short programs, for a minute" "$out/plain/outcomes" for 60 1
