@@ -7,11 +7,12 @@ ghost use Rattle.cpu_words.specs.Opening.{AreOpening, AreSeats, keeper_with};
 
 use crate::law::Words;
 use crate::layout::{total_place, words_of};
-use crate::seat::{CpuSeat, KeeperSeat};
+use crate::seat::{CpuSeat, KeeperSeat, Seat};
 use crate::steps::seat;
 use atomic_table::Table;
 use registry_values::{BIAS, Refusal, Settings};
 use std::alloc::{AllocError, Global};
+use std::marker::PhantomData;
 
 impl Words {
     /// The words of a registry with these settings, the keeper's seat, and the seat of each CPU, CPU 0 first. All words are 0 but the
@@ -49,7 +50,10 @@ impl Words {
         let row = opening_words(alloc, settings)?;
         let (table, token) = Table::of_words(alloc, row.as_slice(), &settings)?;
         let words = Words { table, settings };
-        let mut keeper = KeeperSeat { token };
+        let mut keeper = Seat {
+            token,
+            marker: PhantomData,
+        };
         seat_all(&words, &mut keeper, &mut seats);
         Ok((words, keeper, seats))
     }

@@ -12,21 +12,6 @@ pub none_more : (is : Event → Bool) (a b : List LogItem) → HasNone is a → 
 none_more is [] b first second = second
 none_more is (d ∷ a) b first second = (first.0, none_more is a b first.1 second)
 
--- Which seats' events are hears
-
-abbrev maker_is_cpu : Maker → Bool
-maker_is_cpu (the_cpu c) = true
-maker_is_cpu m = false
-
-hears_not : (e : Event) → maker_is_cpu (maker e) ≡ false → is_hear e ≡ false
-hears_not (Hear (Some c)) is = let q : true ≡ false = is in cc
-hears_not e is = refl
-
--- no one but a CPU hears so
-pub deaf : (m : Maker) (ds : List LogItem) → maker_is_cpu m ≡ false → AreBy m ds → HasNone is_hear ds
-deaf m [] is by = tt
-deaf m (d ∷ ds) is by = (hears_not d.event (ap maker_is_cpu by.0 ∙ is), deaf m ds is by.1)
-
 -- Where the items of a seat are
 
 pub seat_in : (id : ℕ) (its : List LogItem) (past rest : List (ℕ × LogItem)) (x : ℕ × LogItem) → by_seat id its ≡ past ++ x ∷ rest → x.0 ≡ id

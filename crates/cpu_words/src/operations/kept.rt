@@ -54,7 +54,7 @@ pub(crate) fn join<S: KeepingSlot>(
 {
     // The contract alone speaks of the slot.
     let _slot = slot;
-    let ReferenceSeat { token } = reference;
+    let ReferenceSeat { token, marker: _ } = reference;
     words
         .table
         .shared

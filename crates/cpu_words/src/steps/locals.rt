@@ -12,11 +12,11 @@ ghost use Rattle.cpu_words.specs.Locals.{down_reply, IsTaking, IsBack, IsNetCoun
 
 use crate::law::Words;
 use crate::layout::count_place;
-use crate::operations::by_cpu;
+use crate::operations::by_seat;
 use crate::operations::in_hand::InHandReference;
 use crate::seat::{CpuSeat, ReferenceSeat};
 use protocol::Event;
-use std::marker::Brand;
+use std::marker::{Brand, PhantomData};
 
 /// CPU `cpu` counts a local reference to its last found entry, the one with `number` (from 1) in `slot` (from 0), and has it in its hand:
 /// one addition to its count word. Returns the word as it was, which is its net count for that number, over the bias.
@@ -36,7 +36,7 @@ pub fn count_add(words: &Words, seat: &mut CpuSeat, cpu: u8, slot: u8, number: u
     // The contract alone speaks of the entry's number.
     let _number = number;
     let word = count_place(words, cpu, slot);
-    by_cpu::add::<Brand>(words, seat, word, 1, Event::CountAdd(cpu))
+    by_seat::add::<_, Brand>(words, seat, word, 1, Event::CountAdd(cpu))
 }
 
 /// The reference that CPU `cpu` has just counted leaves its hand and gets a seat of its own.
@@ -57,6 +57,7 @@ pub fn split_ref(words: &Words, seat: &mut CpuSeat, cpu: u8) -> ReferenceSeat
             .table
             .shared
             .split_seat::<InHandReference>(&mut seat.token),
+        marker: PhantomData,
     }
 }
 
@@ -78,6 +79,7 @@ pub fn split_back(words: &Words, seat: &mut CpuSeat, cpu: u8) -> ReferenceSeat
             .table
             .shared
             .split_seat::<InHandReference>(&mut seat.token),
+        marker: PhantomData,
     }
 }
 
@@ -92,7 +94,7 @@ pub fn join_ref(words: &Words, seat: &mut CpuSeat, cpu: u8, reference: Reference
 {
     // The contract alone speaks of the CPU's number.
     let _cpu = cpu;
-    let ReferenceSeat { token } = reference;
+    let ReferenceSeat { token, marker: _ } = reference;
     words
         .table
         .shared
@@ -125,7 +127,7 @@ pub fn count_down(
 {
     // The contract alone speaks of the entry's number.
     let _number = number;
-    by_cpu::compare_exchange::<Brand>(
+    by_seat::compare_exchange::<_, Brand>(
         words,
         seat,
         count_place(words, cpu, slot),

@@ -18,9 +18,3 @@ returns-clause-room c = (c.add.ensures.told.1 _ _ c.requires.may).2
 
 pub returns-clause-alone : goal.returns-clause-alone
 returns-clause-alone c = (c.add.ensures.told.1 _ _ c.requires.may).3
-
-pub add-requires-clause-own : goal.add-requires-clause-own
-add-requires-clause-own c n = (ap the_cpu (sym c.requires.cpu), tt)
-
-pub add-requires-clause-quiet : goal.add-requires-clause-quiet
-add-requires-clause-quiet c n = (refl, tt)

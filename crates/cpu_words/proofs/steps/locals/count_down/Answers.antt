@@ -21,9 +21,3 @@ returns-clause-counted c = (c.compare_exchange.ensures.told _ _ c.requires.may).
 
 pub returns-clause-collected : goal.returns-clause-collected
 returns-clause-collected c = (c.compare_exchange.ensures.told _ _ c.requires.may).4
-
-pub compare_exchange-requires-clause-own : goal.compare_exchange-requires-clause-own
-compare_exchange-requires-clause-own c n = (ap the_cpu (sym c.requires.cpu), tt)
-
-pub compare_exchange-requires-clause-quiet : goal.compare_exchange-requires-clause-quiet
-compare_exchange-requires-clause-quiet c n = (refl, tt)

@@ -11,9 +11,3 @@ pub returns : goal.returns
 returns c =
     let told = c.load.ensures.told.2 c.args.cpu c.args.slot c.args.number c.args.k refl c.record_place-word.ensures.place in
     record { step = search rules; same = search rules; word = told.0; alone = told.1; name = told.2 }
-
-pub load-requires-clause-own : goal.load-requires-clause-own
-load-requires-clause-own c n = (ap the_cpu (sym c.requires.cpu.1), tt)
-
-pub load-requires-clause-quiet : goal.load-requires-clause-quiet
-load-requires-clause-quiet c n = (refl, tt)

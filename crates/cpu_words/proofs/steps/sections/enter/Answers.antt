@@ -6,9 +6,3 @@ use Rattle.cpu_words.proofs.steps.sections.enter.Goals as goal
 
 pub add-requires-clause-may : goal.add-requires-clause-may
 add-requires-clause-may c = rw c.section_place.ensures.place (enter_may _ _ _ c.requires.cpu.1 c.requires.may)
-
-pub add-requires-clause-own : goal.add-requires-clause-own
-add-requires-clause-own c n = (ap the_cpu (sym c.requires.cpu.1), tt)
-
-pub add-requires-clause-quiet : goal.add-requires-clause-quiet
-add-requires-clause-quiet c n = (refl, tt)
