@@ -10,7 +10,6 @@ use Rattle.protocol.specs.Common.{subtraction_due_at, addition_due_at, is_adding
 use Rattle.registry_values.specs.Common.{bias, no_mark, slot_at}
 use Rattle.cpu_words.specs.declared.view.InHand.{InHand}
 use Rattle.cpu_words.specs.declared.view.InHand.TheVariants.{Empty as NoEntry, Taking as TakingEntry, Giving as GivingEntry, Back as BackEntry, Trying as TryingEntry}
-use Rattle.cpu_words.specs.declared.view.Looked.{Looked}
 use Rattle.cpu_words.specs.declared.view.LogItem.{LogItem}
 use Rattle.cpu_words.specs.declared.view.Teller.{Teller}
 use Rattle.cpu_words.specs.declared.view.CpuView.{CpuView}

@@ -1,5 +1,5 @@
 -- Passive references without a section, on the words.
-use Rattle.std.proofs.Common.{◌≡◌, ◌≢◌, inl, inr, ⊎_elim, ℕ, ◌+◌, ◌-◌, ◌%◌, ◌^◌, ◌<◌, ◌≤◌, ◌&&◌, ◌==◌, nat_le, Bool, true, false, if◌then◌else◌, List, [], ◌∷◌, length, set, take, get_or, Some, None, is_none, IsTrue, refl, sym, ap}
+use Rattle.std.proofs.Common.{◌≡◌, ◌≢◌, inl, inr, ⊎_elim, ℕ, ◌+◌, ◌-◌, ◌%◌, ◌^◌, ◌<◌, ◌≤◌, ◌&&◌, ◌==◌, nat_le, Bool, true, if◌then◌else◌, List, [], ◌∷◌, length, set, take, get_or, Some, None, is_none, IsTrue, refl, sym, ap}
 use Rattle.std.proofs.Common.{◌∙◌, subst, arith, leb-true, get_or-set_same, get_or-set_other}
 use Rattle.std.proofs.lemmas.Bool.{and_from, and_parts, le-leb, lt-ltb, eq-eqb, ne_eqb, cases_eq, cases_lt}
 use Rattle.std.specs.List.{Contains}
@@ -20,7 +20,7 @@ use Rattle.protocol.proofs.slots.Occupied.{one_in, one_number}
 use Rattle.cpu_words.specs.declared.view.InHand.TheVariants.{Empty as NoEntry, Trying as TryingEntry}
 use Rattle.cpu_words.specs.Common.{InHand, CpuView, View, Cpu, passive_of, live_of, index, cpu_view, depth_of, SameHand, HandFits, trying_in, references_to}
 use Rattle.cpu_words.specs.Common.{CpuShown, cpu_of, Agrees, Good, Ruled, GoesOn, did, Makes, CpuMay, IsIdle}
-use Rattle.cpu_words.specs.Common.{EndTold, HasConfirmed, HasTakenBack, HasTried, IsTrying, MayEndTry, MayTakeBack, MayTry, TriedTold, event_by, is_hear, maker, the_cpu}
+use Rattle.cpu_words.specs.Common.{EndTold, HasConfirmed, HasTakenBack, HasTried, IsTrying, MayEndTry, MayTakeBack, MayTry, TriedTold, event_by}
 use Rattle.cpu_words.proofs.shown.Passes.{attached_longer, attached_prefix, number_within, prefix_longer, take_whole, taken_is_prefix}
 use Rattle.cpu_words.proofs.shown.Placing.{agrees_same}
 use Rattle.cpu_words.proofs.shown.ReferenceLists.{to_same, to_other, in_cons, some_of}
@@ -382,19 +382,3 @@ pub end_try_may : (z : Settings) (x : CpuView) (c t n : ℕ) → x.id ≡ c → 
 end_try_may z x c t n id may =
     subst (λ (p : ℕ × ℕ × ℕ). CpuMay z x (index z (live_of p.1)) (λ m. m) (λ m. did (event_by p.2 (Confirm p.0) (Recall p.0 p.1) m) (Word m)) (EndTold p.2 (Confirm p.0) (Recall p.0 p.1)))
     (λ k. (id k, may.at.slot k, may.at.number k)) (end_at z x may.entry may.search may.trying may.attached (subst (λ (u : ℕ). u < x.settings.slots) (sym may.at.slot) may.slot))
-
--- both events are the CPU's, and neither hears
-
-pub end_is_own : (x : CpuView) (c t n m : ℕ) → x.id ≡ c → maker (event_by n (Confirm c) (Recall c t) m) ≡ the_cpu x.id
-end_is_own x c t n m id = by (m == n) ∙ ap the_cpu (sym id)
-  where
-    by : (b : Bool) → maker (if b then Confirm c else Recall c t) ≡ the_cpu c
-    by true = refl
-    by false = refl
-
-pub end_is_quiet : (c t n m : ℕ) → is_hear (event_by n (Confirm c) (Recall c t) m) ≡ false
-end_is_quiet c t n m = by (m == n)
-  where
-    by : (b : Bool) → is_hear (if b then Confirm c else Recall c t) ≡ false
-    by true = refl
-    by false = refl

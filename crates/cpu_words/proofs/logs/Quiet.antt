@@ -1,9 +1,9 @@
 -- What seats know of their own sections and of the keeper's log: what is done on other seats' part, and what is no enter, exit or hear, leaves it.
-use Rattle.std.proofs.Common.{◌≡◌, ◌≢◌, ⊎_elim, ℕ, Bool, true, false, List, [], ◌∷◌, ◌++◌, Option, Some, refl, sym, ap, ◌∙◌, subst, append_assoc}
+use Rattle.std.proofs.Common.{◌≡◌, ◌≢◌, ⊎_elim, ℕ, Bool, true, false, List, [], ◌∷◌, ◌++◌, Option, refl, sym, ap, ◌∙◌, subst, append_assoc}
 use Rattle.std.proofs.lemmas.List.{append-nil}
 use mathlib.Core.List.{IsPrefix}
-use Rattle.cpu_words.specs.Types.{Event, Hear}
-use Rattle.cpu_words.specs.Common.{HasHeardAll, HasItsSections, HasNone, LogItem, Logged, Maker, Teller, has_heard_from, heard_from, is_border, is_hear, maker, part, the_cpu, AreBy}
+use Rattle.cpu_words.specs.Types.{Event}
+use Rattle.cpu_words.specs.Common.{HasHeardAll, HasItsSections, HasNone, LogItem, Logged, Teller, has_heard_from, heard_from, is_border, is_hear, part}
 use Rattle.cpu_words.proofs.logs.Loads.{no_place, part_same}
 use Rattle.cpu_words.proofs.logs.Parts.{by_seat, part_append}
 use Rattle.cpu_words.proofs.logs.Told.{no_act, same_act, same_acts, stands}

@@ -1,4 +1,3 @@
-use Rattle.std.proofs.Common.{refl}
 use Rattle.cpu_words.proofs.by_keeper.Draining.{passive_look_may}
 use Rattle.cpu_words.proofs.steps.drain.passive_look.Goals as goal
 

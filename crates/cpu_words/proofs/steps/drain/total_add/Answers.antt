@@ -1,4 +1,3 @@
-use Rattle.std.proofs.Common.{refl}
 use Rattle.cpu_words.proofs.by_keeper.Totals.{total_add_may}
 use Rattle.cpu_words.proofs.steps.drain.total_add.Goals as goal
 

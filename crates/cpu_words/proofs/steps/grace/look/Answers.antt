@@ -1,4 +1,3 @@
-use Rattle.std.proofs.Common.{refl}
 use Rattle.cpu_words.proofs.by_keeper.Grace.{look_may}
 use Rattle.cpu_words.proofs.steps.grace.look.Goals as goal
 

@@ -1,4 +1,3 @@
-use Rattle.std.proofs.Common.{refl}
 use Rattle.cpu_words.proofs.by_keeper.Grace.{snapshot_now_may}
 use Rattle.cpu_words.proofs.steps.grace.snapshot_now.Goals as goal
 

@@ -1,4 +1,3 @@
-use Rattle.std.proofs.Common.{refl}
 use Rattle.cpu_words.proofs.by_keeper.Storing.{store_next_may}
 use Rattle.cpu_words.proofs.steps.list.store_next.Goals as goal
 

@@ -1,7 +1,5 @@
 -- `count_add`: its clauses `change`, `word`, `room` and `alone`; what `add` requires.
-use Rattle.std.proofs.Common.{refl, sym, ap}
 use Rattle.cpu_words.proofs.by_cpu.Locals.{count_add_may}
-use Rattle.cpu_words.specs.Common.{the_cpu}
 use Rattle.cpu_words.proofs.steps.locals.count_add.Goals as goal
 
 pub add-requires-clause-may : goal.add-requires-clause-may

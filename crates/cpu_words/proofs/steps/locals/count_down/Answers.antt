@@ -1,7 +1,6 @@
 -- `count_down`: its clauses `floor`, `net`, `alone`, `counted` and `collected`; what `compare_exchange` requires.
-use Rattle.std.proofs.Common.{refl, sym, ap}
+use Rattle.std.proofs.Common.{refl}
 use Rattle.cpu_words.proofs.by_cpu.Locals.{count_down_may}
-use Rattle.cpu_words.specs.Common.{the_cpu}
 use Rattle.cpu_words.proofs.steps.locals.count_down.Goals as goal
 
 pub compare_exchange-requires-clause-may : goal.compare_exchange-requires-clause-may

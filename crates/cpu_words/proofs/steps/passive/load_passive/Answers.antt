@@ -1,7 +1,6 @@
 -- `load_passive`: what it returns; what `load` requires.
-use Rattle.std.proofs.Common.{refl, sym, ap, rules}
+use Rattle.std.proofs.Common.{refl, rules}
 use Rattle.cpu_words.proofs.by_cpu.Passives.{load_may}
-use Rattle.cpu_words.specs.Common.{the_cpu}
 use Rattle.cpu_words.proofs.steps.passive.load_passive.Goals as goal
 
 pub load-requires-clause-may : goal.load-requires-clause-may

@@ -1,7 +1,6 @@
 -- `passive_add`: what it returns; what `add` requires.
-use Rattle.std.proofs.Common.{refl, sym, ap, rules}
+use Rattle.std.proofs.Common.{refl, rules}
 use Rattle.cpu_words.proofs.by_cpu.Passives.{add_may}
-use Rattle.cpu_words.specs.Common.{the_cpu}
 use Rattle.cpu_words.proofs.steps.passive.passive_add.Goals as goal
 
 pub add-requires-clause-may : goal.add-requires-clause-may

@@ -1,7 +1,6 @@
 -- `passive_sub`: what it returns; what `subtract` requires.
-use Rattle.std.proofs.Common.{refl, sym, ap, rules}
+use Rattle.std.proofs.Common.{refl, rules}
 use Rattle.cpu_words.proofs.by_cpu.Passives.{sub_may}
-use Rattle.cpu_words.specs.Common.{the_cpu}
 use Rattle.cpu_words.proofs.steps.passive.passive_sub.Goals as goal
 
 pub subtract-requires-clause-may : goal.subtract-requires-clause-may

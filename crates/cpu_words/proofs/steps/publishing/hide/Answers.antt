@@ -1,4 +1,3 @@
-use Rattle.std.proofs.Common.{refl}
 use Rattle.cpu_words.proofs.by_keeper.LiveWords.{hide_may}
 use Rattle.cpu_words.proofs.steps.publishing.hide.Goals as goal
 

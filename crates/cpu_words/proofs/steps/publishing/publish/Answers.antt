@@ -1,5 +1,4 @@
 -- `publish`: its clause `attached`; what `store` requires.
-use Rattle.std.proofs.Common.{refl}
 use Rattle.cpu_words.proofs.by_keeper.Publishing.{publish_may}
 use Rattle.cpu_words.proofs.logs.OwnLog.{attached_by}
 use Rattle.cpu_words.proofs.steps.publishing.publish.Goals as goal

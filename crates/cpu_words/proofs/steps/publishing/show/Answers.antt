@@ -1,4 +1,3 @@
-use Rattle.std.proofs.Common.{refl}
 use Rattle.cpu_words.proofs.by_keeper.LiveWords.{show_may}
 use Rattle.cpu_words.proofs.steps.publishing.show.Goals as goal
 

@@ -1,4 +1,3 @@
-use Rattle.std.proofs.Common.{refl}
 use Rattle.cpu_words.proofs.by_keeper.Unpublishing.{unpublish_may}
 use Rattle.cpu_words.proofs.steps.publishing.unpublish.Goals as goal
 

@@ -1,7 +1,5 @@
 -- `recall`: its clause `whole`; what `load` requires.
-use Rattle.std.proofs.Common.{refl, sym, ap}
 use Rattle.cpu_words.proofs.by_cpu.Recalling.{recall_may}
-use Rattle.cpu_words.specs.Common.{the_cpu}
 use Rattle.cpu_words.proofs.steps.recalls.recall.Goals as goal
 
 pub load-requires-clause-may : goal.load-requires-clause-may

@@ -1,7 +1,5 @@
 -- `recall_head`: its clauses `change` and `whole`; what `load` requires.
-use Rattle.std.proofs.Common.{refl, sym, ap}
 use Rattle.cpu_words.proofs.by_cpu.Recalling.{recall_head_may}
-use Rattle.cpu_words.specs.Common.{the_cpu}
 use Rattle.cpu_words.proofs.steps.recalls.recall_head.Goals as goal
 
 pub load-requires-clause-may : goal.load-requires-clause-may

@@ -1,5 +1,5 @@
 -- `refind`: its clauses `found`, `other` and `whole`; what `load_either` requires.
-use Rattle.cpu_words.proofs.by_cpu.Recalling.{refind_may, refind_is_own, refind_is_quiet}
+use Rattle.cpu_words.proofs.by_cpu.Recalling.{refind_may}
 use Rattle.cpu_words.proofs.steps.recalls.refind.Goals as goal
 
 pub load_either-requires-clause-may : goal.load_either-requires-clause-may

@@ -1,7 +1,5 @@
 -- `seek`: what `load` requires.
-use Rattle.std.proofs.Common.{refl, sym, ap}
 use Rattle.cpu_words.proofs.by_cpu.Searching.{seek_may}
-use Rattle.cpu_words.specs.Common.{the_cpu}
 use Rattle.cpu_words.proofs.steps.search.seek.Goals as goal
 
 pub load-requires-clause-may : goal.load-requires-clause-may

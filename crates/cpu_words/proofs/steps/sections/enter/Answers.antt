@@ -1,7 +1,5 @@
 -- `enter`: what `add` requires.
-use Rattle.std.proofs.Common.{refl, sym, ap}
 use Rattle.cpu_words.proofs.by_cpu.Sections.{enter_may}
-use Rattle.cpu_words.specs.Common.{the_cpu}
 use Rattle.cpu_words.proofs.steps.sections.enter.Goals as goal
 
 pub add-requires-clause-may : goal.add-requires-clause-may

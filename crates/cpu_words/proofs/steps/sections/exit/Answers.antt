@@ -1,7 +1,5 @@
 -- `exit`: what `add` requires.
-use Rattle.std.proofs.Common.{refl, sym, ap}
 use Rattle.cpu_words.proofs.by_cpu.Sections.{exit_may}
-use Rattle.cpu_words.specs.Common.{the_cpu}
 use Rattle.cpu_words.proofs.steps.sections.exit.Goals as goal
 
 pub add-requires-clause-may : goal.add-requires-clause-may

@@ -1,7 +1,5 @@
 -- `begin_try`: what `add` requires.
-use Rattle.std.proofs.Common.{refl, sym, ap}
 use Rattle.cpu_words.proofs.by_cpu.Trying.{try_may}
-use Rattle.cpu_words.specs.Common.{the_cpu}
 use Rattle.cpu_words.proofs.steps.tries.begin_try.Goals as goal
 
 pub add-requires-clause-may : goal.add-requires-clause-may

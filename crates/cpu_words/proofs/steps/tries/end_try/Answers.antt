@@ -1,5 +1,5 @@
 -- `end_try`: its clauses `confirmed` and `late`; what `load_either` requires.
-use Rattle.cpu_words.proofs.by_cpu.Trying.{end_try_may, end_is_own, end_is_quiet}
+use Rattle.cpu_words.proofs.by_cpu.Trying.{end_try_may}
 use Rattle.cpu_words.proofs.steps.tries.end_try.Goals as goal
 
 pub load_either-requires-clause-may : goal.load_either-requires-clause-may

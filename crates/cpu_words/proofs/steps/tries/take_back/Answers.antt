@@ -1,7 +1,5 @@
 -- `take_back`: what `subtract` requires.
-use Rattle.std.proofs.Common.{refl, sym, ap}
 use Rattle.cpu_words.proofs.by_cpu.Trying.{back_may}
-use Rattle.cpu_words.specs.Common.{the_cpu}
 use Rattle.cpu_words.proofs.steps.tries.take_back.Goals as goal
 
 pub subtract-requires-clause-may : goal.subtract-requires-clause-may
