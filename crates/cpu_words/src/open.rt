@@ -7,12 +7,11 @@ ghost use Rattle.cpu_words.specs.Opening.{AreOpening, AreSeats, keeper_with};
 
 use crate::law::Words;
 use crate::layout::{total_place, words_of};
-use crate::seat::{CpuSeat, KeeperSeat, Seat};
+use crate::seat::{CpuSeat, KeeperSeat, MayDrop, Seat};
 use crate::steps::seat;
 use atomic_table::Table;
 use registry_values::{BIAS, Refusal, Settings};
 use std::alloc::{AllocError, Global};
-use std::marker::PhantomData;
 
 impl Words {
     /// The words of a registry with these settings, the keeper's seat, and the seat of each CPU, CPU 0 first. All words are 0 but the
@@ -52,7 +51,7 @@ impl Words {
         let words = Words { table, settings };
         let mut keeper = Seat {
             token,
-            marker: PhantomData,
+            end: MayDrop,
         };
         seat_all(&words, &mut keeper, &mut seats);
         Ok((words, keeper, seats))

@@ -7,10 +7,20 @@ ghost use Rattle.cpu_words.specs.Views.{Seated};
 use crate::view::{CpuView, KeeperView, Logged, ReferenceView};
 use registry_values::Change;
 use std::collections::LinkedList;
-use std::marker::{Model, PhantomData};
+use std::marker::Model;
+
+/// The end of a seat that can be dropped.
+#[derive(Drop)]
+pub struct MayDrop;
+
+/// The end of a seat that can't be dropped, and is joined into another.
+pub struct MustJoin;
 
 /// What the owner of a seat knows, by the seat's kind.
 pub trait SeatView {
+    /// How such a seat ends.
+    type End;
+
     ghost use Rattle.cpu_words.specs.declared.view.View.{View};
     ghost use Rattle.cpu_words.specs.Logs.{IsStanding};
 
@@ -23,6 +33,8 @@ pub trait SeatView {
 }
 
 impl SeatView for KeeperView {
+    type End = MayDrop;
+
     ghost use Rattle.cpu_words.specs.Views.{keeper_of};
     ghost use Rattle.cpu_words.specs.declared.view.View.TheVariants.{Keeper};
 
@@ -34,6 +46,8 @@ impl SeatView for KeeperView {
 }
 
 impl SeatView for CpuView {
+    type End = MayDrop;
+
     ghost use Rattle.cpu_words.specs.Views.{cpu_of};
     ghost use Rattle.cpu_words.specs.declared.view.View.TheVariants.{Cpu};
 
@@ -45,6 +59,8 @@ impl SeatView for CpuView {
 }
 
 impl SeatView for ReferenceView {
+    type End = MustJoin;
+
     ghost use Rattle.cpu_words.specs.Views.{reference_of};
     ghost use Rattle.cpu_words.specs.declared.view.View.TheVariants.{Reference};
 
@@ -56,6 +72,8 @@ impl SeatView for ReferenceView {
 }
 
 impl SeatView for LinkedList<Change> {
+    type End = MayDrop;
+
     ghost use Rattle.cpu_words.specs.Views.{note_of};
     ghost use Rattle.cpu_words.specs.declared.view.View.TheVariants.{Note};
 
@@ -70,7 +88,7 @@ impl SeatView for LinkedList<Change> {
 #[derive(Drop)]
 pub struct Seat<V: SeatView> {
     pub(crate) token: atomic_table::Seat<u8, Logged>,
-    pub(crate) marker: PhantomData<V>,
+    pub(crate) end: V::End,
 }
 
 /// The seat of the keeper, the writer behind the interlock. A table has one.

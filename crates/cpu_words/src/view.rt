@@ -6,7 +6,6 @@ use registry_values::{Change, Entry, Mark, Settings, Slot};
 use std::collections::LinkedList;
 
 /// What is in a CPU's hand, by entry. The ids that the core gives its references are in no view.
-#[derive(Drop)]
 pub enum InHand {
     Empty,
     /// Counted up, and not given its seat yet.
@@ -20,7 +19,6 @@ pub enum InHand {
 }
 
 /// A look of the keeper at a CPU's word, and what it found.
-#[derive(Drop)]
 pub struct Looked {
     /// The look: at which CPU, and for a slot or for none.
     pub event: Event,
@@ -64,7 +62,6 @@ pub struct Logged {
 }
 
 /// What the keeper's seat knows: all that only the keeper writes, and what it has counted itself.
-#[derive(Drop)]
 pub struct KeeperView {
     /// The settings of the table.
     pub settings: Settings,
@@ -103,7 +100,6 @@ pub struct KeeperView {
 }
 
 /// What a CPU's seat knows: its words and its pass, and what it holds.
-#[derive(Drop)]
 pub struct CpuView {
     /// The settings of the table.
     pub settings: Settings,

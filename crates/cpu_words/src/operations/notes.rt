@@ -66,7 +66,7 @@ pub(crate) fn lay(words: &Words, seat: &mut CpuSeat, note: NoteSeat)
     ensures known_log { (seat.new.known_log ≡ seat.old.known_log) × (seat.new.noted_log ≡ note.known_log) × (seat.new.teller ≡ note.teller) }
     ensures list { seat.new.list ≡ seat.old.list }
 {
-    let NoteSeat { token, marker: _ } = note;
+    let NoteSeat { token, end: _ } = note;
     words
         .table
         .shared
@@ -82,7 +82,7 @@ pub(crate) fn lay_by_keeper(words: &Words, keeper: &mut KeeperSeat, note: NoteSe
     ensures known_log { (keeper.new.noted_log ≡ note.known_log) × (keeper.new.teller ≡ note.teller) }
     ensures list { keeper.new.list ≡ keeper.old.list }
 {
-    let NoteSeat { token, marker: _ } = note;
+    let NoteSeat { token, end: _ } = note;
     words
         .table
         .shared

@@ -14,7 +14,7 @@ use crate::law::Words;
 use crate::layout::{count_place, passive_place, total_place};
 use crate::operations::given_up::GivenUp;
 use crate::operations::{by_seat, hearing};
-use crate::seat::{KeeperSeat, ReferenceSeat};
+use crate::seat::{KeeperSeat, MustJoin, ReferenceSeat};
 use protocol::Event;
 use std::marker::Brand;
 
@@ -98,7 +98,10 @@ pub fn join_keeper(words: &Words, keeper: &mut KeeperSeat, reference: ReferenceS
     ensures event { JoinsBy JoinKeeper (Keeper keeper.old.view) (Reference reference.view) (Keeper keeper.new.view) }
     ensures change { keeper.new.view ≡ keeper_after_join keeper.old.view reference.view }
 {
-    let ReferenceSeat { token, marker: _ } = reference;
+    let ReferenceSeat {
+        token,
+        end: MustJoin,
+    } = reference;
     words
         .table
         .shared

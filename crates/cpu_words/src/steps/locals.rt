@@ -14,9 +14,9 @@ use crate::law::Words;
 use crate::layout::count_place;
 use crate::operations::by_seat;
 use crate::operations::in_hand::InHandReference;
-use crate::seat::{CpuSeat, ReferenceSeat};
+use crate::seat::{CpuSeat, MustJoin, ReferenceSeat};
 use protocol::Event;
-use std::marker::{Brand, PhantomData};
+use std::marker::Brand;
 
 /// CPU `cpu` counts a local reference to its last found entry, the one with `number` (from 1) in `slot` (from 0), and has it in its hand:
 /// one addition to its count word. Returns the word as it was, which is its net count for that number, over the bias.
@@ -57,7 +57,7 @@ pub fn split_ref(words: &Words, seat: &mut CpuSeat, cpu: u8) -> ReferenceSeat
             .table
             .shared
             .split_seat::<InHandReference>(&mut seat.token),
-        marker: PhantomData,
+        end: MustJoin,
     }
 }
 
@@ -79,7 +79,7 @@ pub fn split_back(words: &Words, seat: &mut CpuSeat, cpu: u8) -> ReferenceSeat
             .table
             .shared
             .split_seat::<InHandReference>(&mut seat.token),
-        marker: PhantomData,
+        end: MustJoin,
     }
 }
 
@@ -94,7 +94,10 @@ pub fn join_ref(words: &Words, seat: &mut CpuSeat, cpu: u8, reference: Reference
 {
     // The contract alone speaks of the CPU's number.
     let _cpu = cpu;
-    let ReferenceSeat { token, marker: _ } = reference;
+    let ReferenceSeat {
+        token,
+        end: MustJoin,
+    } = reference;
     words
         .table
         .shared
