@@ -30,7 +30,7 @@ pub use Rattle.cpu_words.specs.Kept.{AttachedKeeps, KeepsAsLong, KeepsDriver}
 pub use Rattle.cpu_words.specs.Lives.{LiveTold, MayHide, MayShow, keeper_after_live}
 pub use Rattle.cpu_words.specs.Locals.{CountTold, DownTold, HasCounted, HasCountedDown, HasFoundCollected, HasSplit, HasSplitBack, IsBack, IsMetAlone, IsNetCount, IsPlaceCount, IsTaking, MayCount}
 pub use Rattle.cpu_words.specs.Locals.{MayCountDown, down_reply, reference_in, reference_of_hand, with_empty_hand, with_hand, with_reference_in_hand}
-pub use Rattle.cpu_words.specs.Logs.{AreBy, AreByOwn, AreToldBefore, HasComeIf, HasHeardAll, HasItsSections, IsSeatOf, IsStanding, IsToldBefore, IsToldByCpu, IsToldByKeeper, IsToldByReference, Knows, LoggedRuled, Maker, another}
+pub use Rattle.cpu_words.specs.Logs.{AreBy, AreByOwn, AreToldBefore, HasComeIf, HasHeardAll, HasItsSections, IsSeatOf, IsStanding, IsToldBefore, IsTold, Knows, LoggedRuled, Maker, another}
 pub use Rattle.cpu_words.specs.Logs.{cuts_off, events_of, first_logged, fresh, gives_up, heard_by_cpu, heard_by_keeper, hears_note, joined_seat, keeps_for, known_log_of, leaves_hand}
 pub use Rattle.cpu_words.specs.Logs.{logged_after_split, logged_with_note, maker, maker_of_note, no_log, no_teller, seats_next, spent_seat, takes_in, teller_if, teller_of, tells_history}
 pub use Rattle.cpu_words.specs.Logs.{tells_pass, the_cpu, the_keeper, told_by_cpu, untold, who, whole_log, without_logs}
@@ -51,11 +51,11 @@ pub use Rattle.cpu_words.specs.Searching.{IsValueThere, search_for, search_with_
 pub use Rattle.cpu_words.specs.Sections.{HasEntered, HasExited, HasWholePass, IsIdle, MayEnter, MayExit}
 pub use Rattle.cpu_words.specs.Spots.{AreApart, FirstWordsFree, IsSpot, LinesApart, OnePlace, Spot, count_of, head_word, index, live_of, next_of, owner, passive_of, record_of, rows_from, section_of, stride_of}
 pub use Rattle.cpu_words.specs.Spots.{total_of, word_at, words_of}
-pub use Rattle.cpu_words.specs.Steps.{CpuMay, JoinsBy, JoinsOn, KeeperMay, KeeperStores, Makes, Moves, OneSeat, ReferenceMay, SeatMakes, SplitsBy, SplitsOn}
+pub use Rattle.cpu_words.specs.Steps.{CpuMay, JoinsBy, JoinsOn, KeeperMay, KeeperStores, Makes, Moves, OneSeat, ReferenceMay, SeatMakes, SeatMay, SplitsBy, SplitsOn}
 pub use Rattle.cpu_words.specs.Storing.{CountStored, HasCountWord, HasLink, HasRecordWord, LinkStored, RecordStored}
 pub use Rattle.cpu_words.specs.Tries.{EndTold, HasConfirmed, HasTakenBack, HasTried, IsTrying, MayEndTry, MayTakeBack, MayTry, TriedTold, event_by}
 pub use Rattle.cpu_words.specs.Vacating.{IsDrained, MayVacate, MayWrite, VacateTold, keeper_after_vacate}
-pub use Rattle.cpu_words.specs.Views.{CpuOwn, CpuShown, LivesShow, GivesUp, HandFits, IsCollectedFor, KeeperOwn, KeeperShown, Named, ReferenceShown, SameHand, Seated, Shown, collected_net, collected_one, cpu_of}
-pub use Rattle.cpu_words.specs.Views.{cpu_view, depth_of, first_view, is_to, keeper_of, keeper_own, keeper_view, new_cpu, new_keeper, no_settings, note_of, number_at, one_more, own_of, reference_of}
+pub use Rattle.cpu_words.specs.Views.{CpuShown, LivesShow, GivesUp, HandFits, IsCollectedFor, KeeperShown, Named, ReferenceShown, SameHand, Seated, Shown, collected_net, collected_one, cpu_of}
+pub use Rattle.cpu_words.specs.Views.{cpu_view, depth_of, first_view, is_to, keeper_of, keeper_view, new_cpu, new_keeper, no_settings, note_of, number_at, one_more, reference_of}
 pub use Rattle.cpu_words.specs.Views.{references_to, trying_in, with_number, without}
 pub use Rattle.cpu_words.specs.Waiting.{HadHeard, HasEndedOn, HasEndedSince, HaveEnded, IsBeforeTelling, WaitingEnds}

@@ -11,7 +11,6 @@ use Rattle.cpu_words.specs.declared.view.InHand.{InHand}
 use Rattle.cpu_words.specs.declared.view.InHand.TheVariants.{Empty as NoEntry, Taking as TakingEntry, Giving as GivingEntry, Back as BackEntry, Trying as TryingEntry}
 use Rattle.cpu_words.specs.declared.view.CpuView.{CpuView}
 use Rattle.cpu_words.specs.declared.view.KeeperView.{KeeperView}
-use Rattle.cpu_words.specs.declared.view.ReferenceView.{ReferenceView}
 use Rattle.cpu_words.specs.declared.view.LogItem.{LogItem}
 use Rattle.cpu_words.specs.declared.view.Teller.{Teller}
 use Rattle.cpu_words.specs.declared.view.Logged.{Logged}
@@ -182,18 +181,9 @@ first_logged z = record { view = first_view z; log = []; known_log = []; noted_l
 
 -- What a step is told: the seat stays of its kind, takes no slots, its log goes on with just these events, its known log stays, and the tale holds
 
-abbrev pub IsToldByCpu : (CpuView → ℕ → List LogItem) → (CpuView → ℕ → CpuView → Type 0) → Step ℕ → Me ℕ Logged → ℕ → Me ℕ Logged → Type 0
-IsToldByCpu does tells st m n l =
-    (l ≡ (record m.0 { view = Cpu (cpu_of l.0.view); log = l.0.log; list = l.0.list }, m.1)) × (l.0.log ≡ m.0.log ++ does (cpu_of m.0.view) n) × tells (cpu_of m.0.view) n (cpu_of l.0.view)
-    × ListGoesOn m.0.list l.0.log l.0.list
-
-abbrev pub IsToldByKeeper : (KeeperView → ℕ → List LogItem) → (KeeperView → ℕ → KeeperView → Type 0) → Step ℕ → Me ℕ Logged → ℕ → Me ℕ Logged → Type 0
-IsToldByKeeper does tells st m n l =
-    (l ≡ (record m.0 { view = Keeper (keeper_of l.0.view); log = l.0.log; list = l.0.list }, m.1)) × (l.0.log ≡ m.0.log ++ does (keeper_of m.0.view) n) × tells (keeper_of m.0.view) n (keeper_of l.0.view)
-    × ListGoesOn m.0.list l.0.log l.0.list
-
-abbrev pub IsToldByReference : (ReferenceView → ℕ → List LogItem) → (ReferenceView → ℕ → Type 0) → Step ℕ → Me ℕ Logged → ℕ → Me ℕ Logged → Type 0
-IsToldByReference does tells st m n l = (l ≡ (record m.0 { log = l.0.log; list = l.0.list }, m.1)) × (l.0.log ≡ m.0.log ++ does (reference_of m.0.view) n) × tells (reference_of m.0.view) n
+abbrev pub IsTold : {X : Type 0} → (X → View) → (View → X) → (X → ℕ → List LogItem) → (X → ℕ → X → Type 0) → Step ℕ → Me ℕ Logged → ℕ → Me ℕ Logged → Type 0
+IsTold as_view of_view does tells st m n l =
+    (l ≡ (record m.0 { view = as_view (of_view l.0.view); log = l.0.log; list = l.0.list }, m.1)) × (l.0.log ≡ m.0.log ++ does (of_view m.0.view) n) × tells (of_view m.0.view) n (of_view l.0.view)
     × ListGoesOn m.0.list l.0.log l.0.list
 
 -- A load that hears. A CPU's seat has heard then what the keeper did: what it had heard, and what the note told, are prefixes of that, and some state shows its view in which the keeper had done just
@@ -205,7 +195,7 @@ heard_by_cpu tells st m n l = (l ≡ (record m.0 { view = Cpu (cpu_of l.0.view);
 
 -- the keeper finds what the note told in its own log, and its history as long as that says
 abbrev pub heard_by_keeper : (KeeperView → ℕ → List LogItem) → (KeeperView → ℕ → KeeperView → Type 0) → Step ℕ → Me ℕ Logged → ℕ → Me ℕ Logged → Type 0
-heard_by_keeper does tells st m n l = IsToldByKeeper does tells st m n l × IsOwnLog m.0.log m.0.noted_log (keeper_of m.0.view)
+heard_by_keeper does tells st m n l = IsTold Keeper keeper_of does tells st m n l × IsOwnLog m.0.log m.0.noted_log (keeper_of m.0.view)
 
 -- The keeper's load that hears a note: its log says who told it
 

@@ -13,6 +13,6 @@ loads_by (LoadRecord (Local id k)) v = LoadRecord (Local v.entry.number k)
 loads_by e v = e
 
 -- What the inner step is told. Which id the core gives the reference is in no view, so the event names any.
-abbrev pub tells_local : Event → ReferenceView → ℕ → Type 0
-tells_local event v m = (id k : ℕ) → event ≡ LoadRecord (Local id k)
-    → ((o : ℕ) × Makes (LoadRecord (Local o k)) (Word m) (Reference v) (Reference v)) × (m ≡ word (words_of v.entry) k) × IsTrue (is_key v.entry.rec.name)
+abbrev pub tells_local : Event → ReferenceView → ℕ → ReferenceView → Type 0
+tells_local event v m w = (w ≡ v) × ((id k : ℕ) → event ≡ LoadRecord (Local id k)
+    → ((o : ℕ) × Makes (LoadRecord (Local o k)) (Word m) (Reference v) (Reference v)) × (m ≡ word (words_of v.entry) k) × IsTrue (is_key v.entry.rec.name))

@@ -110,14 +110,17 @@ abbrev pub Moves : Settings → View → ℕ → (ℕ → ℕ) → (ℕ → List
 Moves z v i f ds tells = (s : Table ℕ View) (r : Ruled z s) → (id : ℕ) → get_elem? s.views id ≡ some v → slice_index s.words i < 18446744073709551616
     → (w : View) × GoesOn z s r (ds (slice_index s.words i)) (stepped s i (f (slice_index s.words i)) id [] w keeps) × tells (slice_index s.words i) w
 
+abbrev pub SeatMay : {X : Type 0} → (X → View) → (View → X) → Settings → X → ℕ → (ℕ → ℕ) → (ℕ → List LogItem) → (X → ℕ → X → Type 0) → Type 0
+SeatMay as_view of_view z x i f ds tells = Moves z (as_view x) i f ds (λ n w. (w ≡ as_view (of_view w)) × tells x n (of_view w))
+
 abbrev pub CpuMay : Settings → CpuView → ℕ → (ℕ → ℕ) → (ℕ → List LogItem) → (CpuView → ℕ → CpuView → Type 0) → Type 0
-CpuMay z x i f ds tells = Moves z (Cpu x) i f ds (λ n w. (w ≡ Cpu (cpu_of w)) × tells x n (cpu_of w))
+CpuMay z x i f ds tells = SeatMay Cpu cpu_of z x i f ds tells
 
 abbrev pub KeeperMay : Settings → KeeperView → ℕ → (ℕ → ℕ) → (ℕ → List LogItem) → (KeeperView → ℕ → KeeperView → Type 0) → Type 0
-KeeperMay z k i f ds tells = Moves z (Keeper k) i f ds (λ n w. (w ≡ Keeper (keeper_of w)) × tells k n (keeper_of w))
+KeeperMay z k i f ds tells = SeatMay Keeper keeper_of z k i f ds tells
 
 abbrev pub KeeperStores : Settings → KeeperView → ℕ → ℕ → (ℕ → List LogItem) → (KeeperView → ℕ → KeeperView → Type 0) → Type 0
 KeeperStores z k i n ds tells = Moves z (Keeper k) i (λ _. n) (λ _. ds n) (λ _ w. (w ≡ Keeper (keeper_of w)) × tells k n (keeper_of w))
 
-abbrev pub ReferenceMay : Settings → ReferenceView → ℕ → (ℕ → List LogItem) → (ReferenceView → ℕ → Type 0) → Type 0
-ReferenceMay z v i ds tells = Moves z (Reference v) i (λ n. n) ds (λ n w. (w ≡ Reference v) × tells v n)
+abbrev pub ReferenceMay : Settings → ReferenceView → ℕ → (ℕ → ℕ) → (ℕ → List LogItem) → (ReferenceView → ℕ → ReferenceView → Type 0) → Type 0
+ReferenceMay z v i f ds tells = SeatMay Reference reference_of z v i f ds tells

@@ -10,7 +10,6 @@ use Rattle.protocol.specs.Common.{subtraction_due_at, addition_due_at, is_adding
 use Rattle.registry_values.specs.Common.{bias, no_mark, slot_at}
 use Rattle.cpu_words.specs.declared.view.InHand.{InHand}
 use Rattle.cpu_words.specs.declared.view.InHand.TheVariants.{Empty as NoEntry, Taking as TakingEntry, Giving as GivingEntry, Back as BackEntry, Trying as TryingEntry}
-use Rattle.cpu_words.specs.declared.view.Looked.{Looked}
 use Rattle.cpu_words.specs.declared.view.LogItem.{LogItem}
 use Rattle.cpu_words.specs.declared.view.Teller.{Teller}
 use Rattle.cpu_words.specs.declared.view.CpuView.{CpuView}
@@ -64,32 +63,10 @@ abbrev pub without : ℕ → List Entry → List Entry
 without n [] = []
 without n (e ∷ es) = if is_to n e then es else e ∷ without n es
 
--- What is each view's own: the core doesn't say it
+-- What of the view of the CPU c, and of the keeper's, the core says; the rest is the view's own
 
-pub record CpuOwn : Type 0 where
-  pub hand : InHand
-  pub references : List Entry
-  pub acquired : List ℕ
-  pub released : List ℕ
-  pub met : List ℕ
-  pub noted_pass : List Change
-
-pub record KeeperOwn : Type 0 where
-  pub counts : List (List ℕ)
-  pub given_up : List ℕ
-  pub looks : ℕ
-  pub last_look : Option Looked
-  pub noted_pass : List Change
-
-abbrev pub own_of : CpuView → CpuOwn
-own_of x = record { hand = x.hand; references = x.references; acquired = x.acquired; released = x.released; met = x.met; noted_pass = x.noted_pass }
-
-abbrev pub keeper_own : KeeperView → KeeperOwn
-keeper_own k = record { counts = k.counts; given_up = k.given_up; looks = k.looks; last_look = k.last_look; noted_pass = k.noted_pass }
-
--- the view of the CPU c, and the keeper's, in a state of the core
-abbrev pub cpu_view : State → ℕ → CpuOwn → CpuView
-cpu_view g c own = record {
+abbrev pub cpu_view : State → ℕ → CpuView → CpuView
+cpu_view g c x = record x {
   settings = g.settings;
   id = c;
   section = section_at g c;
@@ -97,16 +74,10 @@ cpu_view g c own = record {
   pass = take (seen_at g c) g.history;
   search = search_at g c;
   found = found_at g c;
-  hand = own.hand;
-  references = own.references;
-  acquired = own.acquired;
-  released = own.released;
-  met = own.met;
-  noted_pass = own.noted_pass;
 }
 
-abbrev pub keeper_view : State → KeeperOwn → KeeperView
-keeper_view g own = record {
+abbrev pub keeper_view : State → KeeperView → KeeperView
+keeper_view g k = record k {
   settings = g.settings;
   seated = g.seated;
   history = g.history;
@@ -119,11 +90,6 @@ keeper_view g own = record {
   rows = g.rows;
   totals = g.totals;
   lives = g.lives;
-  counts = own.counts;
-  given_up = own.given_up;
-  looks = own.looks;
-  last_look = own.last_look;
-  noted_pass = own.noted_pass;
 }
 
 -- the hand of the core, by entry
@@ -162,7 +128,7 @@ depth_of (Some b) = 1
 
 pub record CpuShown (g : State) (x : CpuView) : Type 0 where
   pub seated : x.id < g.seated
-  pub is : x ≡ cpu_view g x.id (own_of x)
+  pub is : x ≡ cpu_view g x.id x
   pub hand : SameHand (hand_at g x.id) x.hand
   pub in_hand : HandFits g.history g.slots g.marks x.id x.hand
   pub depth : depth_at g x.id ≡ depth_of x.begin
@@ -200,7 +166,7 @@ abbrev pub LivesShow : List Slot → List ℕ → Type 0
 LivesShow slots lives = (t : ℕ) → is_honest (live_at lives t) (slot_at slots t) ≡ true
 
 pub record KeeperShown (g : State) (k : KeeperView) : Type 0 where
-  pub is : k ≡ keeper_view g (keeper_own k)
+  pub is : k ≡ keeper_view g k
   -- the count words of a vacant slot are the keeper's alone
   pub counts : (c t : ℕ) → slot_at g.slots t ≡ Vacant → count_at g.counts c t ≡ count_at k.counts c t
   pub sized : length k.counts ≡ g.settings.slots

@@ -41,7 +41,7 @@ impl Words {
         ensures ended { HasClosed self.settings keeper.view keeper.log result.words }
     {
         let Words { table, settings } = self;
-        let KeeperSeat { token } = keeper;
+        let KeeperSeat { token, end: _ } = keeper;
         LastWords {
             closed: table.close_with(token),
             settings,

@@ -2,7 +2,8 @@
 
 ghost use Rattle.std.specs.Prelude.{◌≡◌};
 
-use crate::view::{CpuView, KeeperView, Logged};
+use crate::seat::SeatView;
+use crate::view::{KeeperView, Logged};
 use atomic_table::{Play, Table, TableRule};
 use registry_values::Settings;
 use std::alloc::Global;
@@ -71,19 +72,18 @@ impl Domain for Brand {
     ghost settings = { no_settings };
 }
 
-/// What a step of a CPU's seat tells of the view before, the word found and the view after. Each call of an inner step picks its own.
-pub(crate) trait CpuTale {
+/// What a step of a seat tells of the view before, the word found and the view after. Each call of an inner step picks its own.
+pub(crate) trait Tale<V> {
     ghost use Rattle.std.specs.Prelude.{ℕ, List};
     ghost use Rattle.cpu_words.specs.declared.view.LogItem.{LogItem};
-    ghost use Rattle.cpu_words.specs.declared.view.CpuView.{CpuView};
 
     // the events that it is, with their replies, by the view before and the word found
-    ghost does: { CpuView → ℕ → List LogItem };
+    ghost does: { V → ℕ → List LogItem };
 
-    ghost tells: { CpuView → ℕ → CpuView → Type 0 };
+    ghost tells: { V → ℕ → V → Type 0 };
 }
 
-impl CpuTale for Brand {
+impl<V> Tale<V> for Brand {
     ghost use Rattle.std.specs.Prelude.{[]};
 
     ghost does = { λ x n. [] };
@@ -91,77 +91,15 @@ impl CpuTale for Brand {
     ghost tells = { λ x n y. Unit {0} };
 }
 
-/// The same for the keeper's seat.
-pub(crate) trait KeeperTale {
-    ghost use Rattle.std.specs.Prelude.{ℕ, List};
-    ghost use Rattle.cpu_words.specs.declared.view.LogItem.{LogItem};
-    ghost use Rattle.cpu_words.specs.declared.view.KeeperView.{KeeperView};
-
-    // the events that it is, with their replies, by the view before and the word found
-    ghost does: { KeeperView → ℕ → List LogItem };
-
-    ghost tells: { KeeperView → ℕ → KeeperView → Type 0 };
+/// A step of a seat.
+pub(crate) struct Told<V: SeatView, T: Tale<V>> {
+    marker: PhantomData<(V, T)>,
 }
 
-impl KeeperTale for Brand {
-    ghost use Rattle.std.specs.Prelude.{[]};
+impl<V: SeatView, T: Tale<V>> Play<u8, Logged> for Told<V, T> {
+    ghost use Rattle.cpu_words.specs.Logs.{IsTold};
 
-    ghost does = { λ k n. [] };
-
-    ghost tells = { λ k n l. Unit {0} };
-}
-
-/// The same for the seat of a local reference, whose view no step changes.
-pub(crate) trait ReferenceTale {
-    ghost use Rattle.std.specs.Prelude.{ℕ, List};
-    ghost use Rattle.cpu_words.specs.declared.view.LogItem.{LogItem};
-    ghost use Rattle.cpu_words.specs.declared.view.ReferenceView.{ReferenceView};
-
-    // the events that it is, with their replies, by the view and the word found
-    ghost does: { ReferenceView → ℕ → List LogItem };
-
-    ghost tells: { ReferenceView → ℕ → Type 0 };
-}
-
-impl ReferenceTale for Brand {
-    ghost use Rattle.std.specs.Prelude.{[]};
-
-    ghost does = { λ v n. [] };
-
-    ghost tells = { λ v n. Unit {0} };
-}
-
-/// A step of a CPU's seat.
-pub(crate) struct CpuPlay<T: CpuTale> {
-    marker: PhantomData<T>,
-}
-
-impl<T: CpuTale> Play<u8, Logged> for CpuPlay<T> {
-    ghost use Rattle.cpu_words.specs.Logs.{IsToldByCpu};
-
-    ghost then = { IsToldByCpu T.does T.tells };
-}
-
-/// A step of the keeper's seat.
-pub(crate) struct KeeperPlay<T: KeeperTale> {
-    marker: PhantomData<T>,
-}
-
-impl<T: KeeperTale> Play<u8, Logged> for KeeperPlay<T> {
-    ghost use Rattle.cpu_words.specs.Logs.{IsToldByKeeper};
-
-    ghost then = { IsToldByKeeper T.does T.tells };
-}
-
-/// A step of a local reference's seat.
-pub(crate) struct ReferencePlay<T: ReferenceTale> {
-    marker: PhantomData<T>,
-}
-
-impl<T: ReferenceTale> Play<u8, Logged> for ReferencePlay<T> {
-    ghost use Rattle.cpu_words.specs.Logs.{IsToldByReference};
-
-    ghost then = { IsToldByReference T.does T.tells };
+    ghost then = { IsTold V.as_view V.of_view T.does T.tells };
 }
 
 /// A CPU's load that hears a note. The log has it with the CPU that told the note.
@@ -184,12 +122,12 @@ impl Play<u8, Logged> for NoteHearing {
     ghost then = { hears_note KeeperHears };
 }
 
-/// A load of the keeper's seat that hears what a note laid beside it tells.
-pub(crate) struct KeeperHearing<T: KeeperTale> {
+/// A step of the keeper's seat that hears what a note laid beside it tells.
+pub(crate) struct KeeperHearing<T: Tale<KeeperView>> {
     marker: PhantomData<T>,
 }
 
-impl<T: KeeperTale> Play<u8, Logged> for KeeperHearing<T> {
+impl<T: Tale<KeeperView>> Play<u8, Logged> for KeeperHearing<T> {
     ghost use Rattle.cpu_words.specs.Logs.{heard_by_keeper};
 
     ghost then = { heard_by_keeper T.does T.tells };

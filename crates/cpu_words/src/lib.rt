@@ -21,5 +21,5 @@ pub use closing::LastWords;
 pub use headline::{ended_run, honest_marks, running_headline};
 pub use law::{Domain, RegistryRule, Words};
 pub use layout::layout_law;
-pub use seat::{CpuSeat, KeeperSeat, NoteSeat, ReferenceSeat};
+pub use seat::{CpuSeat, KeeperSeat, NoteSeat, ReferenceSeat, Seat, SeatView};
 pub use view::{CpuView, InHand, KeeperView, LogItem, Logged, Looked, ReferenceView, Teller, View};

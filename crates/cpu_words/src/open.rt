@@ -7,7 +7,7 @@ ghost use Rattle.cpu_words.specs.Opening.{AreOpening, AreSeats, keeper_with};
 
 use crate::law::Words;
 use crate::layout::{total_place, words_of};
-use crate::seat::{CpuSeat, KeeperSeat};
+use crate::seat::{CpuSeat, KeeperSeat, MayDrop, Seat};
 use crate::steps::seat;
 use atomic_table::Table;
 use registry_values::{BIAS, Refusal, Settings};
@@ -49,7 +49,10 @@ impl Words {
         let row = opening_words(alloc, settings)?;
         let (table, token) = Table::of_words(alloc, row.as_slice(), &settings)?;
         let words = Words { table, settings };
-        let mut keeper = KeeperSeat { token };
+        let mut keeper = Seat {
+            token,
+            end: MayDrop,
+        };
         seat_all(&words, &mut keeper, &mut seats);
         Ok((words, keeper, seats))
     }

@@ -15,9 +15,9 @@ use Rattle.cpu_words.proofs.by_cpu.Counting.{one_more_same, one_more_other, plac
 use Rattle.cpu_words.proofs.shown.CpusShown.{found_is_in}
 use Rattle.passive_list.specs.declared.place.Found.{Found}
 use Rattle.passive_list.specs.declared.place.NumberedCount.{NumberedCount}
-use Rattle.passive_list.specs.Common.{Memory, place_at, IsKept, IsOurCpu}
+use Rattle.passive_list.specs.Common.{Memory, place_at, IsKept, IsOurCpu, IsOurReference}
 use Rattle.passive_list.proofs.Agreeing.{IsFoundAs, found_as, found_none}
-use Rattle.local_count.specs.References.{IsOurReference, net_by, why_not_acquired_local}
+use Rattle.local_count.specs.References.{net_by, why_not_acquired_local}
 use Rattle.local_count.proofs.Agreeing.{place_count, counted_agrees}
 
 -- Where an acquire is refused

@@ -8,8 +8,8 @@ use Rattle.cpu_words.specs.Common.{number_at, with_number, one_more, IsShownCpu,
 use Rattle.cpu_words.proofs.by_cpu.Counting.{one_more_same, one_more_other}
 use Rattle.passive_list.specs.declared.place.Found.{Found}
 use Rattle.passive_list.specs.declared.place.NumberedCount.{NumberedCount}
-use Rattle.passive_list.specs.Common.{Memory, place_at, IsOurCpu}
-use Rattle.local_count.specs.References.{IsOurReference, net_by}
+use Rattle.passive_list.specs.Common.{Memory, place_at, IsOurCpu, IsOurReference}
+use Rattle.local_count.specs.References.{net_by}
 use Rattle.local_count.proofs.Agreeing.{net_most, counted_agrees}
 
 -- what the count leaves

@@ -1,25 +1,11 @@
--- Local references: how their plain data agree with what the seat knows, and what a CPU's calls leave.
-use Rattle.std.specs.Prelude.{◌≡◌, ℕ, ◌+◌, ◌-◌, ◌++◌, ◌<◌, ◌==◌, if◌then◌else◌, Option, Some, None, Result, IfErr}
-use Rattle.atomic_table.specs.Seated.{TableId}
-use Rattle.passive_list.specs.Types.{Entry, Kind, Refusal, NothingFound, CountAdd, CountDown, JoinRef, SplitBack, SplitRef, Collected, Done, Ref, Word, MOST_SLOTS, CpuView, ReferenceView, Cpu}
+-- Local references: what a CPU's calls leave.
+use Rattle.std.specs.Prelude.{◌≡◌, ℕ, ◌+◌, ◌-◌, ◌++◌, ◌==◌, if◌then◌else◌, Option, Some, None, Result, IfErr}
+use Rattle.passive_list.specs.Types.{Entry, Refusal, NothingFound, CountAdd, CountDown, JoinRef, SplitBack, SplitRef, Collected, Done, Ref, Word, CpuView, ReferenceView, Cpu}
 use Rattle.registry_values.specs.Common.{why_uncounted, Answers, bias}
 use Rattle.cpu_words.specs.declared.view.InHand.TheVariants.{Giving as GivingEntry, Back as BackEntry}
 use Rattle.cpu_words.specs.Common.{number_at, with_number, one_more, did, Makes, with_hand}
 use Rattle.passive_list.specs.declared.place.NumberedCount.{NumberedCount}
 use Rattle.passive_list.specs.Common.{OnCpu}
-
--- a reference that names its own table: that table, and what its seat knows
-pub record OnPlainRef : Type 0 where
-  pub table : TableId
-  pub reference : ReferenceView
-
--- the fields of a reference: what its seat knows, and the number, slot and kind of its entry
-pub record IsOurReference (v : ReferenceView) (n s : ℕ) (k : Kind) : Type 0 where
-  pub number : v.entry.number ≡ n
-  pub slot : v.entry.slot ≡ s
-  pub kind : v.entry.rec.kind ≡ k
-  pub begun : 0 < n
-  pub few : s < MOST_SLOTS
 
 -- a number's net count by the place of its slot, over the bias: none where the place is for another number
 abbrev pub net_by : NumberedCount → ℕ → ℕ

@@ -7,9 +7,8 @@ ghost use Rattle.local_count.specs.References.{AnswersAcquireLocal, why_not_acqu
 
 use crate::local_ref::LocalRef;
 use crate::net::{net_count, set_net};
-use crate::plain_ref::PlainRef;
 use cpu_words::{Domain, Words, steps};
-use passive_list::{Cpu, PlainCpu};
+use passive_list::{Cpu, PlainCpu, PlainRef};
 use registry_values::{BIAS, Refusal, why_uncounted};
 use std::marker::PhantomData;
 

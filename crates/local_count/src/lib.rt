@@ -8,18 +8,14 @@
 #![tactic(auto)]
 
 mod acquire;
-mod giving_up;
-mod interfaces;
 mod local_ref;
 mod net;
-mod plain_ref;
 mod release;
 
 pub use acquire::{acquire_local, acquire_local_on, why_not_acquired_local};
-pub use giving_up::release_under;
-pub use interfaces::publish_iface;
 pub use local_ref::LocalRef;
 pub use net::net_count;
-pub use passive_list::{collect, collected, free_iface, total};
-pub use plain_ref::PlainRef;
+pub use passive_list::{
+    PlainRef, collect, collected, free_iface, publish_iface, release_under, total,
+};
 pub use release::{try_release, try_release_on};

@@ -6,9 +6,8 @@ ghost use Rattle.local_count.specs.References.{HasReleased, HasComeBack};
 
 use crate::local_ref::LocalRef;
 use crate::net::{net_count, set_net};
-use crate::plain_ref::PlainRef;
 use cpu_words::{Domain, Words, steps};
-use passive_list::{Cpu, PlainCpu};
+use passive_list::{Cpu, PlainCpu, PlainRef};
 
 /// Releases a local reference on this CPU, which needn't be the one that acquired it: this CPU's net count for the entry goes down by one,
 /// and may be negative. The reference comes back only if the keeper had collected this CPU's count word for its slot. It shows that then,

@@ -16,6 +16,7 @@ pub use Rattle.passive_list.specs.Publishing.{HasAttached, HasEntry, LogsAttach,
 pub use Rattle.passive_list.specs.Memories.{HasCleared, HasForgotten, HasNumbered, IsCount, IsMiss, IsOfRow, IsRow, IsTrueMiss, KeepsOthers, Memory, Missed, Misses, Recalls, RecallsAt, Remembers, WasAbsent, entry_of, hint_of, hinted, is_for, keeps, memo_at, memo_of, miss_at, miss_of, missed_as, no_hint, no_memo, no_memory, no_miss, with_miss, with_seen}
 pub use Rattle.passive_list.specs.Recalling.{HasRecalledHeadOn, HasRecalledOn, HasRefoundAs, HasRefoundOn}
 pub use Rattle.passive_list.specs.Remembering.{FindsAfterHead, FindsAfterWord, FindsAndRemembers, FindsBy, FindsInside, FindsInsideBy, FindsWhatStays, HasFoundAnew, HasFoundByMemory, HasFoundInSection, HasFoundInside, HasFoundKept, HasFoundRemembered, HasRecalledAs, HasRecalledByMemory, HasRecalledInVain, HasSeen, IsAbsentAt, RecallsBy, RecallsSeen, RefindsSeen, RemembersAnswer}
+pub use Rattle.passive_list.specs.References.{IsOurReference, OnPlainRef}
 pub use Rattle.passive_list.specs.Retiring.{AreFresh, AreSnapshots, AreWritten, HasDetached, LogsDetach, LogsSnapshots, with_snapshots}
 pub use Rattle.passive_list.specs.Searches.{GoesOnByLoads, GoesOnBySoMany, HasGoneOverBy, HasSearchedFor, HasWalkedBy, IsLoad, IsWalkLoad, SearchesOnce, nobody}
 pub use Rattle.passive_list.specs.Sections.{AnswersEnter, HasEnteredOn, HasExitedOn, may_begin}

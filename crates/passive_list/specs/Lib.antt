@@ -18,3 +18,4 @@ pub mod GoingOver
 pub mod Searches
 pub mod Recalling
 pub mod Draining
+pub mod References

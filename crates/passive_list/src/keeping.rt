@@ -9,49 +9,53 @@ ghost use Rattle.passive_list.specs.Draining.{HasAttachedKeeping};
 ghost use Rattle.passive_list.specs.Publishing.{LogsAttach};
 
 use crate::keeper::{Keeper, SlotState};
+use crate::plain_ref::PlainRef;
 use crate::publishing::publish_entry;
-use cpu_words::{ReferenceSeat, Words, steps};
+use cpu_words::{Words, steps};
 use registry_values::{Entry, Record};
 
-/// Publishes an interface in `slot`, which keeps the reference of this seat from now on. It does what `publish` does, and spends the seat
-/// before the first word is stored. Returns the entry.
+/// Publishes an interface in `slot`, which keeps the reference to its driver from now on. It does what `publish` does, and spends the
+/// reference before the first word is stored. Returns the entry.
 ///
 /// Conditions:
 ///
 /// - the slot is one of the table's and vacant, and keeps nothing (`Keeper::keeps`);
 /// - the record's kind is Iface, its name's words aren't both 0, and no live entry has this kind and name;
-/// - the reference is to a driver, live or retired, with this number (`PlainRef` has both beside the seat);
-/// - words and seat are of the keeper's table;
+/// - the reference is of the keeper's table, to a driver, live or retired;
 /// - the history has room for this change and for the detach of each live entry, the new one too.
-pub fn publish_keeping(
+pub fn publish_iface(
     words: &Words,
     keeper: &mut Keeper,
     slot: u8,
     rec: Record,
-    reference: ReferenceSeat,
-    number: u64,
+    reference: PlainRef,
 ) -> Entry
     requires words { AreWordsOf words.now keeper.old.words.table keeper.old.words.settings }
     requires reference { reference.table ≡ keeper.old.words.table }
-    requires number { reference.view.entry.number ≡ number }
     requires vacant { (slot < keeper.old.words.settings.slots) × (slot_at keeper.old.keeper.slots slot ≡ Vacant) }
     requires nothing { kept_at keeper.old.keeper.view.keeps slot ≡ None }
     requires kind { rec.kind ≡ Iface }
-    requires driver { reference.view.entry.rec.kind ≡ Driver }
+    requires driver { reference.reference.entry.rec.kind ≡ Driver }
     requires name { IsTrue (is_key rec.name) }
     requires free { is_taken (key_of_record rec) keeper.old.keeper.slots ≡ false }
     requires room { length keeper.old.keeper.view.history + live_count keeper.old.keeper.slots + 2 ≤ keeper.old.words.settings.change_limit }
     ensures entry { result ≡ record { number = suc (length keeper.old.keeper.view.history); slot = slot; rec = rec } }
-    ensures change { HasAttachedKeeping keeper.old.keeper reference.view result keeper.new.keeper }
-    ensures log { LogsAttach keeper.old.keeper.view result (keeper.old.keeper.log ++ did (Keep slot reference.view.entry.number) Done) keeper.new.keeper.log }
+    ensures change { HasAttachedKeeping keeper.old.keeper reference.reference result keeper.new.keeper }
+    ensures log { LogsAttach keeper.old.keeper.view result (keeper.old.keeper.log ++ did (Keep slot reference.reference.entry.number) Done) keeper.new.keeper.log }
     ensures words { keeper.new.words ≡ keeper.old.words }
 {
+    let PlainRef {
+        seat,
+        number,
+        slot: _,
+        kind: _,
+    } = reference;
     let entry = Entry {
         number: keeper.changes + 1,
         slot,
         rec,
     };
-    steps::keep(words, &mut keeper.seat, slot, reference);
+    steps::keep(words, &mut keeper.seat, slot, seat);
     keeper.rows[slot as usize].keeps = Some(number);
     publish_entry(words, &mut keeper.seat, &keeper.rows, &entry);
     keeper.rows[slot as usize].state = SlotState::Live(entry);

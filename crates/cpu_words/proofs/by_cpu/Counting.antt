@@ -13,7 +13,7 @@ use Rattle.registry_values.proofs.Fit.{ranges}
 use Rattle.protocol.proofs.slots.Cells.{get_or_all, row_here, row_other, cell_here, cell_other}
 use Rattle.protocol.proofs.history.History.{at_within, one_entry}
 use Rattle.protocol.proofs.slots.Occupied.{not_vacant, one_in, one_number, attached_in}
-use Rattle.cpu_words.specs.Common.{InHand, CpuView, Spot, section_of, passive_of, count_of, head_word, live_of, next_of, record_of, total_of, word_at, index, number_at, with_number, one_more, own_of, cpu_view}
+use Rattle.cpu_words.specs.Common.{InHand, CpuView, Spot, section_of, passive_of, count_of, head_word, live_of, next_of, record_of, total_of, word_at, index, number_at, with_number, one_more, cpu_view}
 use Rattle.cpu_words.specs.Common.{SameHand, HandFits, depth_of, collected_net, collected_one, GivesUp, CpuShown, trying_in, Agrees, Good, IsNetCount, IsPlaceCount, IsMetAlone}
 use Rattle.cpu_words.proofs.shown.Placing.{agrees_set}
 use Rattle.cpu_words.proofs.by_cpu.CpuSteps.{CpuLists, lists_of, with_lists, LeavesOthers}
@@ -149,7 +149,7 @@ pub record Recount (x : CpuView) (e : Entry) (v : ℕ) (acquired released : List
   pub same_released : (m : ℕ) → m ≢ e.number → number_at released m ≡ number_at x.released m
 
 abbrev pub recounted : State → CpuView → ℕ → ℕ → CpuLists → InHand → List ℕ → List ℕ → CpuView
-recounted g x t n l k acquired released = cpu_view (with_lists g l) x.id (record (own_of x) { hand = k; acquired = acquired; released = released; met = with_number x.met t n })
+recounted g x t n l k acquired released = cpu_view (with_lists g l) x.id (record x { hand = k; acquired = acquired; released = released; met = with_number x.met t n })
 
 -- after a count for e in the slot t, an occupant that was counted is the one met last in its slot
 met_on : (g : State) (x : CpuView) (e : Entry) (t v : ℕ) (acquired released : List ℕ) → Good g → CpuShown g x → IsIn e (slot_at g.slots t) → Recount x e v acquired released

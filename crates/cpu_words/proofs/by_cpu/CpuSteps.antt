@@ -7,7 +7,7 @@ use Rattle.cpu_words.specs.Types.{Entry, Change, Settings, Event, Reply, Vacant,
 use Rattle.protocol.specs.Common.{IsAttached, State, section_at, begin_at, depth_at, seen_at, search_at, found_at, hand_at, passive_at, count_at, step, standing_of}
 use Rattle.registry_values.specs.Common.{slot_at}
 use Rattle.protocol.proofs.keeps.Keeping.{step_holds}
-use Rattle.cpu_words.specs.Common.{CpuView, View, Keeper, Cpu, Reference, Note, Spent, CpuOwn, own_of, cpu_view, SameHand, depth_of, GivesUp, CpuShown, Agrees, IsFresh, Good, Ruled, GoesOn, by_number}
+use Rattle.cpu_words.specs.Common.{CpuView, View, Keeper, Cpu, Reference, Note, Spent, cpu_view, SameHand, depth_of, GivesUp, CpuShown, Agrees, IsFresh, Good, Ruled, GoesOn, by_number}
 use Rattle.cpu_words.specs.Common.{did, Makes}
 use Rattle.cpu_words.proofs.shown.Showing.{standing_in, Stay, shows_set}
 use Rattle.cpu_words.proofs.laws.Reaching.{more}
@@ -71,7 +71,7 @@ pub record LeavesOthers (g : State) (c : ℕ) (l : CpuLists) : Type 0 where
   pub vacant : (d t : ℕ) → slot_at g.slots t ≡ Vacant → count_at l.counts d t ≡ count_at g.counts d t
   pub gives_up : (given_up : List ℕ) (t : ℕ) (e : Entry) → slot_at g.slots t ≡ Retired e → GivesUp g given_up t e.number → GivesUp (with_lists g l) given_up t e.number
 
-other_view : (g : State) (l : CpuLists) (c d : ℕ) (own : CpuOwn) → LeavesOthers g c l → d ≢ c → cpu_view g d own ≡ cpu_view (with_lists g l) d own
+other_view : (g : State) (l : CpuLists) (c d : ℕ) (own : CpuView) → LeavesOthers g c l → d ≢ c → cpu_view g d own ≡ cpu_view (with_lists g l) d own
 other_view g l c d own leaves ne n = record {
   settings = g.settings;
   id = d;
@@ -104,7 +104,7 @@ cpu_stays g l c seat i leaves mine j (Keeper k) ne sits shown backed = record {
 cpu_stays g l c seat i leaves mine j (Cpu y) ne sits shown backed =
     let other : y.id ≢ c = λ e. ne (sits ∙ ap seat e ∙ sym mine) in record {
       seated = shown.seated;
-      is = shown.is ∙ other_view g l c y.id (own_of y) leaves other;
+      is = shown.is ∙ other_view g l c y.id y leaves other;
       hand = subst (λ h. SameHand h y.hand) (sym (leaves.hands y.id other)) shown.hand;
       in_hand = shown.in_hand;
       depth = leaves.depths y.id other ∙ shown.depth;
@@ -140,7 +140,7 @@ good_after g l c e r good leaves lt made = record {
 }
 
 -- a CPU's step on a word keeps the rule, and is its event
-pub cpu_makes : (z : Settings) (s : Table ℕ View) (r : Ruled z s) (i : ℕ) (x : CpuView) (word m : ℕ) (l : CpuLists) (e : Event) (rep : Reply) (own : CpuOwn)
+pub cpu_makes : (z : Settings) (s : Table ℕ View) (r : Ruled z s) (i : ℕ) (x : CpuView) (word m : ℕ) (l : CpuLists) (e : Event) (rep : Reply) (own : CpuView)
     → get_elem? s.views i ≡ some (Cpu x) → step r.g e ≡ Some (record { state = with_lists r.g l; reply = rep }) → LeavesOthers r.g x.id l
     → ((n : ℕ) → sum_by (standing_of n) l.locals ≡ standing_in n r.g) → own.noted_pass ≡ x.noted_pass → CpuShown (with_lists r.g l) (cpu_view (with_lists r.g l) x.id own)
     → Agrees z (set s.words word m) (with_lists r.g l)
@@ -192,7 +192,7 @@ same_counts g c l hands passive counts nets section begins depths seen searches 
 pub shown_on : (g : State) (x : CpuView) (l : CpuLists) → CpuShown g x → l.hands ≡ g.hands → l.passive ≡ g.passive → l.nets ≡ g.nets
     → get_or l.depths x.id 0 ≡ depth_of (get_or l.begins x.id None) → seen_at g x.id ≤ get_or l.seen x.id 0 → get_or l.seen x.id 0 ≤ length g.history
     → ((e : Entry) → get_or l.found x.id None ≡ Some e → IsAttached (take (get_or l.seen x.id 0) g.history) e)
-    → CpuShown (with_lists g l) (cpu_view (with_lists g l) x.id (own_of x))
+    → CpuShown (with_lists g l) (cpu_view (with_lists g l) x.id x)
 shown_on g x l had hands passive nets depth more within found = record {
   seated = had.seated;
   is = refl;

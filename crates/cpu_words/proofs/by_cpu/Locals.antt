@@ -18,7 +18,7 @@ use Rattle.protocol.proofs.slots.Occupied.{attached_in, in_within}
 use Rattle.protocol.proofs.keeps.References.{giving_holds}
 use Rattle.protocol.proofs.counts.Sums.{local_changed}
 use Rattle.cpu_words.specs.declared.view.InHand.TheVariants.{Empty as NoEntry, Taking as TakingEntry, Giving as GivingEntry, Back as BackEntry}
-use Rattle.cpu_words.specs.Common.{CpuView, View, Cpu, count_of, index, number_at, with_number, one_more, own_of, cpu_view, HandFits, IsCollectedFor, CpuShown, cpu_of, Agrees, Good, Ruled, GoesOn}
+use Rattle.cpu_words.specs.Common.{CpuView, View, Cpu, count_of, index, number_at, with_number, one_more, cpu_view, HandFits, IsCollectedFor, CpuShown, cpu_of, Agrees, Good, Ruled, GoesOn}
 use Rattle.cpu_words.specs.Common.{did, Makes, CpuMay, down_reply, IsNetCount, IsPlaceCount, IsMetAlone, MayCount, HasCounted, CountTold, MayCountDown, HasCountedDown, HasFoundCollected, DownTold}
 use Rattle.cpu_words.specs.Common.{with_hand, trying_in}
 use Rattle.cpu_words.proofs.shown.Placing.{agrees_set}
@@ -73,7 +73,7 @@ count_add_at z x e may is s r i at fits =
     let words = subst (λ m. Agrees z (set s.words (index z (count_of c t)) m) (with_lists g l)) (sym next)
     (count_words z s.words g c t (count_at g.counts c t + 1) (count_at g.nets c t + 1) (Taking n) g.locals r.good r.words seen.lt there) in
     let done = cpu_makes z s r i x (index z (count_of c t)) ((word + 1) % 2 ^ 64) l (CountAdd c) (Word word)
-    (record (own_of x) { hand = TakingEntry e; acquired = acquired; met = with_number x.met t n }) at made
+    (record x { hand = TakingEntry e; acquired = acquired; met = with_number x.met t n }) at made
     (leaves_counts g c t (count_at g.counts c t + 1) (count_at g.nets c t + 1) (Taking n) g.locals e r.good counts.1 there counts.2) (λ k. refl) refl shown words in
     let y = recounted g x t n l (TakingEntry e) acquired x.released in
     let change : y ≡ record x { hand = TakingEntry e; acquired = acquired; met = with_number x.met t n } =
@@ -198,7 +198,7 @@ down_counted z s r i x e old at is p found =
     let next : count_at g.counts c t - 1 ≡ old - 1 = ap (λ k. k - 1) (same ∙ net) in
     let words = subst (λ m. Agrees z (set s.words (index z (count_of c t)) m) (with_lists g l)) next
     (count_words z s.words g c t (count_at g.counts c t - 1) (count_at g.nets c t - 1) Empty locals r.good r.words p.seen.lt p.there) in
-    let done = cpu_makes z s r i x (index z (count_of c t)) (old - 1) l (CountDown c) (Word word) (record (own_of x) { hand = NoEntry; released = released; met = with_number x.met t n }) at made
+    let done = cpu_makes z s r i x (index z (count_of c t)) (old - 1) l (CountDown c) (Word word) (record x { hand = NoEntry; released = released; met = with_number x.met t n }) at made
     (leaves_counts g c t (count_at g.counts c t - 1) (count_at g.nets c t - 1) Empty locals e r.good p.here p.there counting)
     (λ k. let a = local_changed k g.locals p.id (Lifted c) Free within lifted in omega arith) refl shown words in
     let y = recounted g x t n l NoEntry x.acquired released in
@@ -228,13 +228,13 @@ down_collected z s r i x e old at is p off =
     (counting_cases g.slots g.marks c t e p.here) in
     let l = hand_lists g c (Back n p.id) g.locals in
     let shown = shown_hand g x (Back n p.id) g.locals (BackEntry e) r.good p.had refl (p.attached, gone) (λ u. sym (ap (trying_in u) is)) in
-    let view : with_hand x (BackEntry e) ≡ cpu_view (with_lists g l) c (record (own_of x) { hand = BackEntry e }) = ap (λ (v : CpuView). with_hand v (BackEntry e)) p.had.is in
+    let view : with_hand x (BackEntry e) ≡ cpu_view (with_lists g l) c (record x { hand = BackEntry e }) = ap (λ (v : CpuView). with_hand v (BackEntry e)) p.had.is in
     let made : step g (CountDown c) ≡ Some (record { state = with_lists g l; reply = Collected }) = rw (p.hand, p.slot, ne_eqb (count_at g.counts c t) (count_at g.nets c t) differs) refl in
     let words = agrees_set z s.words g (with_lists g l) (count_of c t) word r.words refl (p.seen.lt, p.there) (sym has) (λ q there ne. same_words g c (Back n p.id) g.locals q) in
-    let done = cpu_makes z s r i x (index z (count_of c t)) word l (CountDown c) Collected (record (own_of x) { hand = BackEntry e }) at made (leaves_hands g c (Back n p.id) g.locals) (λ k. refl) refl
+    let done = cpu_makes z s r i x (index z (count_of c t)) word l (CountDown c) Collected (record x { hand = BackEntry e }) at made (leaves_hands g c (Back n p.id) g.locals) (λ k. refl) refl
     (subst (CpuShown (with_lists g l)) view shown) words in
     let replied : Collected ≡ down_reply old word = sym (ap (λ b. if b then Word word else Collected) (ne_eqb word old off)) in
-    let y = cpu_view (with_lists g l) c (record (own_of x) { hand = BackEntry e }) in (
+    let y = cpu_view (with_lists g l) c (record x { hand = BackEntry e }) in (
       y,
       subst (λ (a : Reply). GoesOn z s r (did (CountDown c) a) (stepped s (index z (count_of c t)) word i [] (Cpu y) keeps)) replied done.0,
       (λ same. absurd (off same)),

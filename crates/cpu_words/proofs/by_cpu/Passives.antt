@@ -15,7 +15,7 @@ use Rattle.protocol.proofs.history.History.{one_entry}
 use Rattle.protocol.proofs.slots.Cells.{cell_here, cell_other}
 use Rattle.protocol.proofs.slots.Occupied.{attached_in, one_in, in_within, one_number, slot_occupied, slot_found}
 use Rattle.protocol.proofs.slots.Numbers.{slot_number}
-use Rattle.cpu_words.specs.Common.{CpuView, LogItem, View, Cpu, Spot, section_of, passive_of, count_of, head_word, live_of, next_of, record_of, total_of, word_at, index, CpuOwn, own_of, cpu_view, depth_of}
+use Rattle.cpu_words.specs.Common.{CpuView, LogItem, View, Cpu, Spot, section_of, passive_of, count_of, head_word, live_of, next_of, record_of, total_of, word_at, index, cpu_view, depth_of}
 use Rattle.cpu_words.specs.Common.{references_to, trying_in, without, CpuShown, cpu_of, Agrees, Good, Ruled, GoesOn, by_number, did, Makes, CpuMay, IsIdle, MayAdd, MayUse, HasSubtracted, IsAloneAt, tells_added}
 use Rattle.cpu_words.specs.Common.{tells_subtracted, tells_passive}
 use Rattle.cpu_words.proofs.shown.Placing.{agrees_set}
@@ -134,7 +134,7 @@ put_here g x t m good seen within =
 -- the CPU's word for the slot of e counts other references, to e alone more or less
 pub put_shown : (g : State) (x : CpuView) (e : Entry) (references : List Entry) (m : ℕ) → Good g → CpuShown g x → IsIdle x → Known g x e → m ≡ references_to e.number references
     → ((n : ℕ) → (e.number ≡ n → ⊥) → references_to n references ≡ references_to n x.references) → ((f : Entry) → Contains references f → IsAttached x.pass f)
-    → CpuShown (with_lists g (put g x.id e.slot m)) (cpu_view (with_lists g (put g x.id e.slot m)) x.id (record (own_of x) { references = references }))
+    → CpuShown (with_lists g (put g x.id e.slot m)) (cpu_view (with_lists g (put g x.id e.slot m)) x.id (record x { references = references }))
 put_shown g x e references m good had idle known is others attached = record {
   seated = had.seated;
   is = refl;
@@ -194,7 +194,7 @@ put_makes z s r i x e references m event at idle known is others attached made =
     let had : CpuShown g x = (r.shows.fits i (Cpu x) at).1 in
     let seen = seen_of g x r.good had in
     let l = put g x.id e.slot m in
-    let own : CpuOwn = record (own_of x) { references = references } in
+    let own : CpuView = record x { references = references } in
     let shown = put_shown g x e references m r.good had idle known is others attached in
     let words = put_words z s.words g x.id e.slot m r.good seen.lt known.lt (put_here g x e.slot m r.good seen known.lt) r.words in
     let stands = put_word z s.words g x e r.good had known r.words in

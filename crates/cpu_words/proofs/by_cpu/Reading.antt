@@ -62,8 +62,8 @@ local_here g v id good shown stands =
 
 -- the step: the seat's reference is live, so its entry has its slot
 pub local_may : (z : Settings) (v : ReferenceView) (t k : ℕ) → v.entry.slot ≡ t → k < 5
-    → ReferenceMay z v (index z (record_of t k)) (λ n. did (LoadRecord (Local v.entry.number k)) (Word n)) (tells_local (LoadRecord (Local 0 k)))
-local_may z v t k slot few = subst (λ (u : ℕ). ReferenceMay z v (index z (record_of u k)) (λ n. did (LoadRecord (Local v.entry.number k)) (Word n)) (tells_local (LoadRecord (Local 0 k)))) slot
+    → ReferenceMay z v (index z (record_of t k)) (λ n. n) (λ n. did (LoadRecord (Local v.entry.number k)) (Word n)) (tells_local (LoadRecord (Local 0 k)))
+local_may z v t k slot few = subst (λ (u : ℕ). ReferenceMay z v (index z (record_of u k)) (λ n. n) (λ n. did (LoadRecord (Local v.entry.number k)) (Word n)) (tells_local (LoadRecord (Local 0 k)))) slot
     (λ s r i at fits.
     let g = r.g in
     let e = v.entry in
@@ -85,11 +85,14 @@ local_may z v t k slot few = subst (λ (u : ℕ). ReferenceMay z v (index z (rec
           (ap (λ (x : LocalPlace). number_or_none (number_standing x)) place.1) done.0,
       (
         refl,
-        λ id j event.
-            let same : k ≡ j = cc in (
-              (place.0, subst (λ (h : ℕ). Makes (LoadRecord (Local place.0 h)) (Word found) (Reference v) (Reference v)) same done.1),
-              stands ∙ row_word g e k r.good here ∙ ap (word (words_of e)) same,
-              row_keyed g e r.good here,
-            ),
+        (
+          refl,
+          λ id j event.
+              let same : k ≡ j = cc in (
+                (place.0, subst (λ (h : ℕ). Makes (LoadRecord (Local place.0 h)) (Word found) (Reference v) (Reference v)) same done.1),
+                stands ∙ row_word g e k r.good here ∙ ap (word (words_of e)) same,
+                row_keyed g e r.good here,
+              ),
+        ),
       ),
     ))

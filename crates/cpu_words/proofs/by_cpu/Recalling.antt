@@ -1,5 +1,5 @@
 -- An entry is recalled, on the words.
-use Rattle.std.proofs.Common.{◌≡◌, ◌≢◌, inl, ⊎_elim, ℕ, zero, suc, ◌≤◌, ◌<◌, ◌&&◌, ◌==◌, nat_lt, if◌then◌else◌, List, [], length, take, get_or, set, Option, Some, None, is_none, is_some, Bool, true, false, refl, sym, ap}
+use Rattle.std.proofs.Common.{◌≡◌, ◌≢◌, inl, ⊎_elim, ℕ, zero, suc, ◌≤◌, ◌<◌, ◌&&◌, ◌==◌, nat_lt, if◌then◌else◌, List, [], length, take, get_or, set, Option, Some, None, is_none, is_some, Bool, true, refl, sym, ap}
 use Rattle.std.proofs.Common.{◌∙◌, subst, arith, get_or-set_same, get_or-set_other}
 use Rattle.std.proofs.lemmas.Bool.{and_from, lt-ltb, eq-eqb, ne_eqb, cases_eq}
 use Rattle.std.proofs.lemmas.Option.{same_Some}
@@ -16,8 +16,8 @@ use Rattle.protocol.proofs.history.History.{at_within, one_entry}
 use Rattle.protocol.proofs.keeps.CountKeeps.{live_tells}
 use Rattle.protocol.proofs.runs.Fresh.{head_newest, honest_tells, live_is}
 use Rattle.protocol.proofs.slots.Occupied.{in_within}
-use Rattle.cpu_words.specs.Common.{CpuView, View, Keeper, Cpu, head_word, live_of, index, own_of, cpu_view, cpu_of, depth_of, CpuShown, Good, Ruled, GoesOn, by_number, did, Makes, CpuMay, LivesShow}
-use Rattle.cpu_words.specs.Common.{HasRefound, HasWholePass, IsLiveNumber, IsRefound, MayRecall, MayRefind, RecalledTold, RefindTold, event_by, is_hear, maker, the_cpu}
+use Rattle.cpu_words.specs.Common.{CpuView, View, Keeper, Cpu, head_word, live_of, index, cpu_view, cpu_of, depth_of, CpuShown, Good, Ruled, GoesOn, by_number, did, Makes, CpuMay, LivesShow}
+use Rattle.cpu_words.specs.Common.{HasRefound, HasWholePass, IsLiveNumber, IsRefound, MayRecall, MayRefind, RecalledTold, RefindTold, event_by}
 use Rattle.cpu_words.proofs.shown.Passes.{attached_prefix, prefix_longer, take_whole, taken_is_prefix}
 use Rattle.cpu_words.proofs.shown.Seeing.{seen_of}
 use Rattle.cpu_words.proofs.by_cpu.CpuSteps.{CpuLists, lists_of, with_lists, same_counts, shown_on, good_after, cpu_makes}
@@ -63,7 +63,7 @@ sees z s r i x word m e found f at loaded own made others finds there =
     let seen = seen_of g x r.good had in
     let n = length g.history in
     let l : CpuLists = seeing_lists g x.id found in
-    let y = cpu_view (with_lists g l) x.id (own_of x) in
+    let y = cpu_view (with_lists g l) x.id x in
     let all : get_or l.seen x.id 0 ≡ n = get_or-set_same g.seen x.id n 0 seen.in_seen in
     let more : seen_at g x.id ≤ get_or l.seen x.id 0 = omega (arith, seen.within, all) in
     let within : get_or l.seen x.id 0 ≤ n = omega (arith, all) in
@@ -71,7 +71,7 @@ sees z s r i x word m e found f at loaded own made others finds there =
     let leaves = same_counts g x.id l refl refl refl refl (λ d ne. refl) (λ d ne. refl) (λ d ne. refl) (λ d ne. get_or-set_other g.seen x.id d _ 0 ne) (λ d ne. refl) others in
     let shown : CpuShown (with_lists g l) y = shown_on g x l had refl refl refl (had.depth ∙ ap depth_of seen.begin) more within
     (λ a is. subst (λ (p : List Change). IsAttached p a) (sym passes) (there a (sym finds ∙ is))) in
-    let done = cpu_makes z s r i x word m l e (Word m) (own_of x) at made leaves (λ k. refl) refl shown (loaded_words z s.words g l word m loaded r.words refl refl refl) in
+    let done = cpu_makes z s r i x word m l e (Word m) x at made leaves (λ k. refl) refl shown (loaded_words z s.words g l word m loaded r.words refl refl refl) in
     record {
       view = y;
       goes_on = subst (λ (d : Event). GoesOn z s r (did d (Word m)) (stepped s word m i [] (Cpu y) keeps)) own done.0;
@@ -220,19 +220,3 @@ pub refind_may : (z : Settings) (x : CpuView) (c t n : ℕ) → x.id ≡ c → M
 refind_may z x c t n id may =
     subst (λ (p : ℕ × ℕ × ℕ). CpuMay z x (index z (live_of p.1)) (λ m. m) (λ m. did (event_by p.2 (Refind p.0 p.1 p.2) (Recall p.0 p.1) m) (Word m)) (RefindTold p.2 (Refind p.0 p.1 p.2) (Recall p.0 p.1)))
     (λ k. (id k, may.at.slot k, may.at.number k)) (refind_at z x may.entry may.search may.inside may.attached (subst (λ (u : ℕ). u < x.settings.slots) (sym may.at.slot) may.slot))
-
--- both events are the CPU's, and neither hears
-
-pub refind_is_own : (x : CpuView) (c t n m : ℕ) → x.id ≡ c → maker (event_by n (Refind c t n) (Recall c t) m) ≡ the_cpu x.id
-refind_is_own x c t n m id = by (m == n) ∙ ap the_cpu (sym id)
-  where
-    by : (b : Bool) → maker (if b then Refind c t n else Recall c t) ≡ the_cpu c
-    by true = refl
-    by false = refl
-
-pub refind_is_quiet : (c t n m : ℕ) → is_hear (event_by n (Refind c t n) (Recall c t) m) ≡ false
-refind_is_quiet c t n m = by (m == n)
-  where
-    by : (b : Bool) → is_hear (if b then Refind c t n else Recall c t) ≡ false
-    by true = refl
-    by false = refl

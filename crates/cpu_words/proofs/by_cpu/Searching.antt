@@ -22,7 +22,7 @@ use Rattle.protocol.proofs.history.History.{at_within}
 use Rattle.protocol.proofs.keeps.SearchKeeps.{IsAnswer, AnswersLookup, record_answers}
 use Rattle.protocol.proofs.slots.Cells.{one_in}
 use Rattle.protocol.proofs.keeps.Searching.{Walks, stands_in, words_stand, search_walks, LinkTells, link_tells, head_ahead, at_next_ahead}
-use Rattle.cpu_words.specs.Common.{CpuView, View, Cpu, Spot, section_of, passive_of, count_of, head_word, live_of, next_of, record_of, total_of, word_at, index, own_of, cpu_view, cpu_of, depth_of, CpuShown}
+use Rattle.cpu_words.specs.Common.{CpuView, View, Cpu, Spot, section_of, passive_of, count_of, head_word, live_of, next_of, record_of, total_of, word_at, index, cpu_view, cpu_of, depth_of, CpuShown}
 use Rattle.cpu_words.specs.Common.{Agrees, Good, Ruled, GoesOn, did, Makes, CpuMay, sought, MaySeek, key_with, search_for, cpu_after_seek, search_with_place, MayLoadLink, link_answer, cpu_after_link}
 use Rattle.cpu_words.specs.Common.{LinkHolds, MayStandOn, Descends, SkipsNone, PassTells, HasFollowed, HasLoadedLink, HasSought, IsAtWord, MayLoadSearched, every_word, loaded_of, loaded_answer}
 use Rattle.cpu_words.specs.Common.{cpu_after_record_word, FoundHolds, HasSearched, HasLoadedWord, tells_compared}
@@ -193,7 +193,7 @@ follows z s r i x spot m n q at under found link tells leads at_head above =
     let seen = seen_of g x r.good had in
     let size = length g.history in
     let l : CpuLists = link_lists g x.id q m in
-    let y = cpu_view (with_lists g l) x.id (own_of x) in
+    let y = cpu_view (with_lists g l) x.id x in
     let sees : get_or l.seen x.id 0 ≡ size = get_or-set_same g.seen x.id size 0 seen.in_seen in
     let passes : y.pass ≡ g.history = ap (λ k. take k g.history) sees ∙ take_whole g.history in
     let searches : y.search ≡ next_search q m = get_or-set_same g.searches x.id (next_search q m) None seen.in_searches in
@@ -206,7 +206,7 @@ follows z s r i x spot m n q at under found link tells leads at_head above =
     let within : get_or l.seen x.id 0 ≤ size = omega (arith, sees) in
     let shown = shown_on g x l had refl refl refl (had.depth ∙ ap depth_of seen.begin) more within
     (λ e is. found_on g x (get_or l.seen x.id 0) had more within e (found_before (found_at g x.id) m e (sym finds ∙ is))) in
-    let done = cpu_makes z s r i x spot m l (LoadLink x.id) (link_answer m) (own_of x) at made leaves (λ k. refl) refl shown (loaded_words z _ _ l _ _ found r.words refl refl refl) in
+    let done = cpu_makes z s r i x spot m l (LoadLink x.id) (link_answer m) x at made leaves (λ k. refl) refl shown (loaded_words z _ _ l _ _ found r.words refl refl refl) in
     let change : y ≡ cpu_after_link x q m y.pass =
     (λ k. record y { search = searches k; found = finds k }) ∙ ap (λ (v : CpuView). record v { pass = y.pass; search = next_search q m; found = next_found v.found m }) (sym had.is)
     ∙ followed_is x q m y.pass in
@@ -293,12 +293,12 @@ begins_search z s r i x spot m kind name at may found =
     let seen = seen_of g x r.good had in
     let q : Search = record { key = key; start = seen_at g x.id; place = AtHead } in
     let l : CpuLists = begun_lists g x.id q in
-    let y = cpu_view (with_lists g l) x.id (own_of x) in
+    let y = cpu_view (with_lists g l) x.id x in
     let inside : begin_at g x.id ≡ Some may.inside.0 = sym seen.begin ∙ may.inside.1 in
     let made : step g (Seek x.id kind name) ≡ Some (record { state = with_lists g l; reply = Done }) = rw (idle_of g x seen had may.idle, inside) refl in
     let leaves = same_counts g x.id l refl refl refl refl (λ d ne. refl) (λ d ne. refl) (λ d ne. refl) (λ d ne. refl) (λ d ne. get_or-set_other g.searches x.id d _ None ne) (λ d ne. refl) in
     let shown = shown_on g x l had refl refl refl (had.depth ∙ ap depth_of seen.begin) (omega arith) seen.within (found_on g x (seen_at g x.id) had (omega arith) seen.within) in
-    let done = cpu_makes z s r i x spot m l (Seek x.id kind name) Done (own_of x) at made leaves (λ k. refl) refl shown (loaded_words z _ _ l _ _ found r.words refl refl refl) in
+    let done = cpu_makes z s r i x spot m l (Seek x.id kind name) Done x at made leaves (λ k. refl) refl shown (loaded_words z _ _ l _ _ found r.words refl refl refl) in
     let size : length x.pass ≡ seen_at g x.id = ap (λ (p : List Change). length p) seen.pass ∙ length-take-le (seen_at g x.id) g.history seen.within in
     let start : q ≡ search_for key x = λ k. record { key = key; start = sym size k; place = AtHead } in
     let search : y.search ≡ Some (search_for key x) = get_or-set_same g.searches x.id (Some q) None seen.in_searches ∙ ap (λ (o : Search). Some o) start in
@@ -460,7 +460,7 @@ searches_word z s r i x spot m q o at under found makes load worded =
     let seen = seen_of g x r.good had in
     let sees = seen_at g x.id in
     let l : CpuLists = loaded_lists g x.id q o in
-    let y = cpu_view (with_lists g l) x.id (own_of x) in
+    let y = cpu_view (with_lists g l) x.id x in
     let searching : search_at g x.id ≡ Some q = sym seen.search ∙ under in
     let searches : y.search ≡ loaded_search q o = get_or-set_same g.searches x.id (loaded_search q o) None seen.in_searches in
     let finds : y.found ≡ loaded_found (found_at g x.id) o = founds_here g.found x.id o seen.in_found in
@@ -473,7 +473,7 @@ searches_word z s r i x spot m q o at under found makes load worded =
     (λ d ne. get_or-set_other g.searches x.id d _ None ne) (λ d ne. founds_there g.found x.id d o ne) in
     let shown = shown_on g x l had refl refl refl (had.depth ∙ ap depth_of seen.begin) (omega arith) seen.within
     (λ e is. found_shown (take sees g.history) q (found_at g x.id) o (found_on g x sees had (omega arith) seen.within) holds e (sym finds ∙ is)) in
-    let done = cpu_makes z s r i x spot m l (LoadRecord (OfSearch x.id)) (loaded_answer (Some o)) (own_of x) at made leaves (λ k. refl) refl shown
+    let done = cpu_makes z s r i x spot m l (LoadRecord (OfSearch x.id)) (loaded_answer (Some o)) x at made leaves (λ k. refl) refl shown
     (loaded_words z _ _ l _ _ found r.words refl refl refl) in
     let change : y ≡ cpu_after_record_word x q (Some o) =
     (λ k. record y { search = searches k; found = finds k }) ∙ ap (λ (v : CpuView). record v { search = loaded_search q o; found = loaded_found v.found o }) (sym had.is) ∙ searched_is x q o in

@@ -6,7 +6,7 @@ use Rattle.std.specs.Prelude.{slice_index}
 use mathlib.Core.List.{IsPrefix}
 use Rattle.cpu_words.specs.Types.{Change, Settings, Enter, Exit, Done}
 use Rattle.protocol.specs.Common.{State, section_at, begin_at, depth_at, seen_at, step}
-use Rattle.cpu_words.specs.Common.{CpuView, Cpu, Spot, section_of, passive_of, count_of, head_word, live_of, next_of, record_of, total_of, word_at, index, own_of, cpu_view, depth_of, CpuShown, Agrees, Good}
+use Rattle.cpu_words.specs.Common.{CpuView, Cpu, Spot, section_of, passive_of, count_of, head_word, live_of, next_of, record_of, total_of, word_at, index, cpu_view, depth_of, CpuShown, Agrees, Good}
 use Rattle.cpu_words.specs.Common.{did, Makes, CpuMay, MayEnter, HasEntered, MayExit, HasExited}
 use Rattle.cpu_words.proofs.shown.Placing.{agrees_set}
 use Rattle.cpu_words.proofs.shown.Passes.{prefix_longer, take_whole}
@@ -43,7 +43,7 @@ enter_may z x c id may = subst (λ d. CpuMay z x (index z (section_of d)) (λ n.
     let next : (slice_index s.words (index z (section_of x.id)) + 1) % 2 ^ 64 ≡ section_at g x.id + 1 = omega (arith, found, room, seen.fit) in
     let n = length g.history in
     let l : CpuLists = record (lists_of g) { section = set g.section x.id (section_at g x.id + 1); begins = set g.begins x.id (Some n); depths = set g.depths x.id 1; seen = set g.seen x.id n } in
-    let y = cpu_view (with_lists g l) x.id (own_of x) in
+    let y = cpu_view (with_lists g l) x.id x in
     let section : y.section ≡ section_at g x.id + 1 = get_or-set_same g.section x.id (section_at g x.id + 1) 0 seen.in_section in
     let begins : y.begin ≡ Some n = get_or-set_same g.begins x.id (Some n) None seen.in_begins in
     let sees : get_or l.seen x.id 0 ≡ n = get_or-set_same g.seen x.id n 0 seen.in_seen in
@@ -57,7 +57,7 @@ enter_may z x c id may = subst (λ d. CpuMay z x (index z (section_of d)) (λ n.
     let shown = shown_on g x l had refl refl refl (get_or-set_same g.depths x.id 1 0 seen.in_depths ∙ sym (ap depth_of begins)) (omega (arith, seen.within, sees)) (omega (arith, sees))
     (found_on g x (get_or l.seen x.id 0) had (omega (arith, seen.within, sees)) (omega (arith, sees))) in
     let words = subst (λ m. Agrees z (set s.words (index z (section_of x.id)) m) (with_lists g l)) (sym next) (section_words z s.words g x l (section_at g x.id + 1) seen r.good r.words refl refl refl) in
-    let done = cpu_makes z s r i x (index z (section_of x.id)) ((slice_index s.words (index z (section_of x.id)) + 1) % 2 ^ 64) l (Enter x.id) Done (own_of x) at made leaves
+    let done = cpu_makes z s r i x (index z (section_of x.id)) ((slice_index s.words (index z (section_of x.id)) + 1) % 2 ^ 64) l (Enter x.id) Done x at made leaves
     (λ k. refl) refl shown words in
     let longer : IsPrefix x.pass y.pass =
     subst (λ p. IsPrefix p y.pass) (sym seen.pass) (prefix_longer g.history (seen_at g x.id) (get_or l.seen x.id 0) (omega (arith, seen.within, sees)) (omega (arith, sees))) in
@@ -77,7 +77,7 @@ exit_may z x c id may = subst (λ d. CpuMay z x (index z (section_of d)) (λ n. 
     let room : section_at g x.id ≤ 2 * g.settings.section_limit = r.good.holds.sections.limited x.id in
     let next : (slice_index s.words (index z (section_of x.id)) + 1) % 2 ^ 64 ≡ section_at g x.id + 1 = omega (arith, found, room, seen.fit) in
     let l : CpuLists = record (lists_of g) { section = set g.section x.id (section_at g x.id + 1); begins = set g.begins x.id None; depths = set g.depths x.id 0; found = set g.found x.id None } in
-    let y = cpu_view (with_lists g l) x.id (own_of x) in
+    let y = cpu_view (with_lists g l) x.id x in
     let section : y.section ≡ section_at g x.id + 1 = get_or-set_same g.section x.id (section_at g x.id + 1) 0 seen.in_section in
     let begins : y.begin ≡ None = get_or-set_same g.begins x.id None None seen.in_begins in
     let nothing : y.found ≡ None = get_or-set_same g.found x.id None None seen.in_found in
@@ -90,7 +90,7 @@ exit_may z x c id may = subst (λ d. CpuMay z x (index z (section_of d)) (λ n. 
     let shown = shown_on g x l had refl refl refl (get_or-set_same g.depths x.id 0 0 seen.in_depths ∙ sym (ap depth_of begins)) (omega arith) seen.within
     (λ e is. absurd (none-some e (sym nothing ∙ is))) in
     let words = subst (λ m. Agrees z (set s.words (index z (section_of x.id)) m) (with_lists g l)) (sym next) (section_words z s.words g x l (section_at g x.id + 1) seen r.good r.words refl refl refl) in
-    let done = cpu_makes z s r i x (index z (section_of x.id)) ((slice_index s.words (index z (section_of x.id)) + 1) % 2 ^ 64) l (Exit x.id) Done (own_of x) at made leaves (λ k. refl) refl shown words in
+    let done = cpu_makes z s r i x (index z (section_of x.id)) ((slice_index s.words (index z (section_of x.id)) + 1) % 2 ^ 64) l (Exit x.id) Done x at made leaves (λ k. refl) refl shown words in
     let change : y ≡ record x { section = x.section + 1; begin = None; found = None } =
     (λ k. record y { section = section k; begin = begins k; found = nothing k }) ∙ ap (λ (v : CpuView). record v { section = v.section + 1; begin = None; found = None }) (sym had.is) in
     (Cpu y, done.0, (refl, (done.1, change))))

@@ -1,5 +1,5 @@
 -- Passive references without a section, on the words.
-use Rattle.std.proofs.Common.{◌≡◌, ◌≢◌, inl, inr, ⊎_elim, ℕ, ◌+◌, ◌-◌, ◌%◌, ◌^◌, ◌<◌, ◌≤◌, ◌&&◌, ◌==◌, nat_le, Bool, true, false, if◌then◌else◌, List, [], ◌∷◌, length, set, take, get_or, Some, None, is_none, IsTrue, refl, sym, ap}
+use Rattle.std.proofs.Common.{◌≡◌, ◌≢◌, inl, inr, ⊎_elim, ℕ, ◌+◌, ◌-◌, ◌%◌, ◌^◌, ◌<◌, ◌≤◌, ◌&&◌, ◌==◌, nat_le, Bool, true, if◌then◌else◌, List, [], ◌∷◌, length, set, take, get_or, Some, None, is_none, IsTrue, refl, sym, ap}
 use Rattle.std.proofs.Common.{◌∙◌, subst, arith, leb-true, get_or-set_same, get_or-set_other}
 use Rattle.std.proofs.lemmas.Bool.{and_from, and_parts, le-leb, lt-ltb, eq-eqb, ne_eqb, cases_eq, cases_lt}
 use Rattle.std.specs.List.{Contains}
@@ -18,9 +18,9 @@ use Rattle.protocol.proofs.runs.Fresh.{honest_tells, live_is}
 use Rattle.protocol.proofs.slots.Cells.{cell_other}
 use Rattle.protocol.proofs.slots.Occupied.{one_in, one_number}
 use Rattle.cpu_words.specs.declared.view.InHand.TheVariants.{Empty as NoEntry, Trying as TryingEntry}
-use Rattle.cpu_words.specs.Common.{InHand, CpuView, View, Cpu, passive_of, live_of, index, CpuOwn, own_of, cpu_view, depth_of, SameHand, HandFits, trying_in, references_to}
+use Rattle.cpu_words.specs.Common.{InHand, CpuView, View, Cpu, passive_of, live_of, index, cpu_view, depth_of, SameHand, HandFits, trying_in, references_to}
 use Rattle.cpu_words.specs.Common.{CpuShown, cpu_of, Agrees, Good, Ruled, GoesOn, did, Makes, CpuMay, IsIdle}
-use Rattle.cpu_words.specs.Common.{EndTold, HasConfirmed, HasTakenBack, HasTried, IsTrying, MayEndTry, MayTakeBack, MayTry, TriedTold, event_by, is_hear, maker, the_cpu}
+use Rattle.cpu_words.specs.Common.{EndTold, HasConfirmed, HasTakenBack, HasTried, IsTrying, MayEndTry, MayTakeBack, MayTry, TriedTold, event_by}
 use Rattle.cpu_words.proofs.shown.Passes.{attached_longer, attached_prefix, number_within, prefix_longer, take_whole, taken_is_prefix}
 use Rattle.cpu_words.proofs.shown.Placing.{agrees_same}
 use Rattle.cpu_words.proofs.shown.ReferenceLists.{to_same, to_other, in_cons, some_of}
@@ -65,7 +65,7 @@ retried : (g : State) (x : CpuView) (passive : List (List ℕ)) (h : Hand) (k : 
     → HandFits g.history g.slots g.marks x.id k
     → ((t : ℕ) (f : Entry) → IsIn f (slot_at g.slots t) → passive_at passive x.id t ≡ references_to f.number references + trying_in t k)
     → ((n : ℕ) → (Occupies g.slots n → ⊥) → references_to n references ≡ 0) → ((f : Entry) → Contains references f → IsAttached x.pass f)
-    → CpuShown (with_lists g (try_lists g x.id passive h)) (cpu_view (with_lists g (try_lists g x.id passive h)) x.id (record (own_of x) { hand = k; references = references }))
+    → CpuShown (with_lists g (try_lists g x.id passive h)) (cpu_view (with_lists g (try_lists g x.id passive h)) x.id (record x { hand = k; references = references }))
 retried g x passive h k references good had same fits counts gone attached =
     let seen = seen_of g x good had in record {
       seated = had.seated;
@@ -165,7 +165,7 @@ try_at z x e idle inside attached room s r i at fits =
     let h : Hand = Trying e.slot e.number in
     let passive = with_cell g.passive e.slot x.id m in
     let l = try_lists g x.id passive h in
-    let own : CpuOwn = record (own_of x) { hand = TryingEntry e } in
+    let own : CpuView = record x { hand = TryingEntry e } in
     let made : step g (Try x.id e.slot e.number) ≡ Some (record { state = with_lists g l; reply = Word word }) =
     rw (idle_of g x seen had idle, le-leb e.number (seen_at g x.id) reach, lt-ltb e.slot g.settings.slots within, lt-ltb old g.settings.passive_limit below)
     (λ k. Some (record { state = with_lists g (try_lists g x.id (with_cell g.passive e.slot x.id (sym next k)) h); reply = Word (sym stands k) })) in
@@ -224,7 +224,7 @@ back_at z x e trying s r i at fits =
     let next : m ≡ old - 1 = omega (arith, stands, some_one, limited, seen.fit.passive) in
     let passive = with_cell g.passive e.slot x.id m in
     let l = try_lists g x.id passive Empty in
-    let own : CpuOwn = record (own_of x) { hand = NoEntry } in
+    let own : CpuView = record x { hand = NoEntry } in
     let made : step g (TakeBack x.id) ≡ Some (record { state = with_lists g l; reply = Word word }) =
     ap (take_back g x.id) hand ∙ (λ k. Some (record { state = with_lists g (try_lists g x.id (with_cell g.passive e.slot x.id (sym next k)) Empty); reply = Word (sym stands k) })) in
     let leaves = tries_leave g x.id passive Empty (λ d t ne. cell_other 0 g.passive e.slot x.id m t d (λ _ same. ne same)) in
@@ -284,7 +284,7 @@ confirms_leave g c = record {
 -- what the CPU's view shows then
 confirmed_shown : (g : State) (x : CpuView) (e : Entry) → Good g → CpuShown g x → IsTrying x e → IsIn e (slot_at g.slots e.slot) → IsAttached x.pass e → seen_at g x.id ≤ get_or (confirm_lists g x.id).seen x.id 0
     → get_or (confirm_lists g x.id).seen x.id 0 ≤ length g.history
-    → CpuShown (with_lists g (confirm_lists g x.id)) (cpu_view (with_lists g (confirm_lists g x.id)) x.id (record (own_of x) { hand = NoEntry; references = e ∷ x.references }))
+    → CpuShown (with_lists g (confirm_lists g x.id)) (cpu_view (with_lists g (confirm_lists g x.id)) x.id (record x { hand = NoEntry; references = e ∷ x.references }))
 confirmed_shown g x e good had trying here attached more within =
     let seen = seen_of g x good had in
     let on : (f : Entry) → IsAttached x.pass f → IsAttached (take (get_or (confirm_lists g x.id).seen x.id 0) g.history) f = λ f was.
@@ -333,7 +333,7 @@ confirms z s r i x e idle trying attached inside at same =
     let none : search_at g x.id ≡ None = sym seen.search ∙ idle in
     let test : may_confirm g x.id e.number (slot_at g.slots t) ≡ true = and_from (is_none (search_at g x.id)) (has_live e.number (slot_at g.slots t)) (ap is_none none) still in
     let l : CpuLists = confirm_lists g x.id in
-    let fresh : CpuOwn = record (own_of x) { hand = NoEntry; references = e ∷ x.references } in
+    let fresh : CpuView = record x { hand = NoEntry; references = e ∷ x.references } in
     let y = cpu_view (with_lists g l) x.id fresh in
     let n = length g.history in
     let sees : get_or l.seen x.id 0 ≡ n = get_or-set_same g.seen x.id n 0 seen.in_seen in
@@ -382,19 +382,3 @@ pub end_try_may : (z : Settings) (x : CpuView) (c t n : ℕ) → x.id ≡ c → 
 end_try_may z x c t n id may =
     subst (λ (p : ℕ × ℕ × ℕ). CpuMay z x (index z (live_of p.1)) (λ m. m) (λ m. did (event_by p.2 (Confirm p.0) (Recall p.0 p.1) m) (Word m)) (EndTold p.2 (Confirm p.0) (Recall p.0 p.1)))
     (λ k. (id k, may.at.slot k, may.at.number k)) (end_at z x may.entry may.search may.trying may.attached (subst (λ (u : ℕ). u < x.settings.slots) (sym may.at.slot) may.slot))
-
--- both events are the CPU's, and neither hears
-
-pub end_is_own : (x : CpuView) (c t n m : ℕ) → x.id ≡ c → maker (event_by n (Confirm c) (Recall c t) m) ≡ the_cpu x.id
-end_is_own x c t n m id = by (m == n) ∙ ap the_cpu (sym id)
-  where
-    by : (b : Bool) → maker (if b then Confirm c else Recall c t) ≡ the_cpu c
-    by true = refl
-    by false = refl
-
-pub end_is_quiet : (c t n m : ℕ) → is_hear (event_by n (Confirm c) (Recall c t) m) ≡ false
-end_is_quiet c t n m = by (m == n)
-  where
-    by : (b : Bool) → is_hear (if b then Confirm c else Recall c t) ≡ false
-    by true = refl
-    by false = refl

@@ -8,7 +8,7 @@ use Rattle.registry_values.specs.Common.{no_mark, have_passed, are_clear, mark_a
 use Rattle.registry_values.proofs.Fit.{ranges}
 use Rattle.protocol.proofs.slots.Cells.{cell_cases, cell_here, cell_other}
 use Rattle.protocol.proofs.counts.HeldSums.{one_self, one_other}
-use Rattle.cpu_words.specs.Common.{KeeperView, Keeper, Spot, section_of, passive_of, count_of, head_word, live_of, next_of, record_of, total_of, word_at, index, KeeperOwn, keeper_own, keeper_view, KeeperShown}
+use Rattle.cpu_words.specs.Common.{KeeperView, Keeper, Spot, section_of, passive_of, count_of, head_word, live_of, next_of, record_of, total_of, word_at, index, keeper_view, KeeperShown}
 use Rattle.cpu_words.specs.Common.{GivesUp, collected_net, collected_one, Agrees, Good, did, Makes, KeeperMay, MayLook, keeper_after_look, MayPassiveLook, LookedPassiveTold, MayCollect, CollectTold}
 use Rattle.cpu_words.proofs.shown.Placing.{agrees_set}
 use Rattle.cpu_words.proofs.by_keeper.KeeperSteps.{KeeperLists, keeper_lists, with_keeper, leaves_all, keeper_makes}
@@ -52,7 +52,7 @@ passive_look_may z k t c may s r i at fits =
     let passed : have_passed g.settings.cpus (get_or g.marks t []) ≡ true = row_told have_passed g k t seen may.passed in
     let m : Mark = mark_after_passive_look (mark_at g.marks t c) (passive_at g.passive c t) in
     let l : KeeperLists = record (keeper_lists g) { marks = with_cell g.marks t c m } in
-    let own : KeeperOwn = keeper_own (keeper_after_look k (PassiveLook t c) (Word w)) in
+    let own : KeeperView = keeper_after_look k (PassiveLook t c) (Word w) in
     let made : step g (PassiveLook t c) ≡ Some (record { state = with_keeper g l; reply = Word w }) = rw (here.rest, here.retired, lt-ltb c g.settings.cpus here.cpu, passed, found) refl in
     let shown : KeeperShown (with_keeper g l) (keeper_view (with_keeper g l) own) = shown_marked g k t c m g.due own r.good had here.cpu refl (due_alike g.due g.due refl) refl refl refl in
     let done = keeper_makes z s r i k place w l (PassiveLook t c) (Word w) own at made (leaves_all g l refl refl refl refl (same_collected g t c m refl)) (λ n. refl) refl shown
@@ -103,7 +103,7 @@ gives_up_collected g t c given_up good here still u e retired was =
 
 -- what the keeper's view shows after a collection
 shown_collected : (g : State) (k : KeeperView) (t c : ℕ) → Good g → KeeperShown g k → Looking g t c → (mark_at g.marks t c).collected ≡ false
-    → KeeperShown (with_keeper g (collecting g t c)) (keeper_view (with_keeper g (collecting g t c)) (keeper_own k))
+    → KeeperShown (with_keeper g (collecting g t c)) (keeper_view (with_keeper g (collecting g t c)) k)
 shown_collected g k t c good had here still = record {
   is = refl;
   counts = λ d u vacant. cell_other 0 g.counts t c 0 u d (λ same _. let q : Vacant ≡ Retired here.e = sym vacant ∙ ap (slot_at g.slots) same ∙ here.retired in cc) ∙ had.counts d u vacant;
@@ -162,12 +162,11 @@ collect_may z k t c may s r i at fits =
     let clear : are_clear g.settings.cpus (get_or g.marks t []) ≡ true = row_told are_clear g k t seen may.clear in
     let still : (mark_at g.marks t c).collected ≡ false = sym (ap (λ (x : List (List Mark)). (mark_at x t c).collected) seen.marks) ∙ may.uncollected in
     let l : KeeperLists = collecting g t c in
-    let own : KeeperOwn = keeper_own k in
     let made : step g (Collect t c) ≡ Some (record { state = with_keeper g l; reply = Word w }) = rw (here.rest, here.retired, lt-ltb c g.settings.cpus here.cpu, passed, clear, still, found) refl in
     let shown = shown_collected g k t c r.good had here still in
-    let done = keeper_makes z s r i k place 0 l (Collect t c) (Word w) own at made (leaves_all g l refl refl refl refl (still_collected g t c)) (λ n. refl) refl shown
+    let done = keeper_makes z s r i k place 0 l (Collect t c) (Word w) k at made (leaves_all g l refl refl refl refl (still_collected g t c)) (λ n. refl) refl shown
     (collect_words z s.words g t c r.good here r.words) in
-    let change : keeper_view (with_keeper g l) own ≡ record k { marks = with_cell k.marks t c (mark_after_collect (mark_at k.marks t c)); due = Adding t w } =
-    ap (λ n. record (keeper_view g own) { marks = marks_collected g t c; due = Adding t n }) (sym found)
+    let change : keeper_view (with_keeper g l) k ≡ record k { marks = with_cell k.marks t c (mark_after_collect (mark_at k.marks t c)); due = Adding t w } =
+    ap (λ n. record (keeper_view g k) { marks = marks_collected g t c; due = Adding t n }) (sym found)
     ∙ ap (λ (v : KeeperView). record v { marks = with_cell v.marks t c (mark_after_collect (mark_at v.marks t c)); due = Adding t w }) (sym had.is) in
-    (Keeper (keeper_view (with_keeper g l) own), done.0, (refl, (done.1, change)))
+    (Keeper (keeper_view (with_keeper g l) k), done.0, (refl, (done.1, change)))

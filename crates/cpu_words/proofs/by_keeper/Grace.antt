@@ -6,7 +6,7 @@ use Rattle.atomic_table.specs.Table.{keeps, stepped}
 use Rattle.cpu_words.specs.Types.{Settings, Slot, Retired, Mark, Due, Rest, Snapshots, Event, Look, Snapshot, Word}
 use Rattle.protocol.specs.Common.{State, with_cell, section_at, mark_at, at_rest, step, snapshot_mark, DueHolds}
 use Rattle.registry_values.specs.Common.{slot_at, mark_after_look}
-use Rattle.cpu_words.specs.Common.{KeeperView, Keeper, section_of, index, KeeperOwn, keeper_own, keeper_view, KeeperShown, GoesOn, by_number, did, Makes, KeeperMay, MayGlance, MayLook, MaySnapshot}
+use Rattle.cpu_words.specs.Common.{KeeperView, Keeper, section_of, index, keeper_view, KeeperShown, GoesOn, by_number, did, Makes, KeeperMay, MayGlance, MayLook, MaySnapshot}
 use Rattle.cpu_words.specs.Common.{due_next, LookTold, keeper_after_look}
 use Rattle.cpu_words.proofs.by_keeper.KeeperSteps.{KeeperLists, keeper_lists, with_keeper, leaves_all, keeper_makes}
 use Rattle.cpu_words.proofs.by_keeper.KeeperSees.{seen_by_keeper, loads}
@@ -26,7 +26,7 @@ look_may z k t c may s r i at fits =
     let rest : g.due ≡ Rest = sym seen.due ∙ may.glance.rest in
     let m : Mark = mark_after_look (mark_at g.marks t c) (section_at g c) in
     let l : KeeperLists = record (keeper_lists g) { marks = with_cell g.marks t c m } in
-    let own : KeeperOwn = keeper_own (keeper_after_look k (Look (Some t) c) (Word w)) in
+    let own : KeeperView = keeper_after_look k (Look (Some t) c) (Word w) in
     let made : step g (Look (Some t) c) ≡ Some (record { state = with_keeper g l; reply = Word w }) = rw (rest, retired, lt-ltb c g.settings.cpus lt, found) refl in
     let shown : KeeperShown (with_keeper g l) (keeper_view (with_keeper g l) own) = shown_marked g k t c m g.due own r.good had lt refl (due_alike g.due g.due refl) refl refl refl in
     let done = keeper_makes z s r i k (index z (section_of c)) w l (Look (Some t) c) (Word w) own at made (leaves_all g l refl refl refl refl (same_collected g t c m refl)) (λ n. refl) refl shown
@@ -48,7 +48,7 @@ glance_may z k c e may steps s r i at fits =
     let w = slice_index s.words (index z (section_of c)) in
     let found : w ≡ section_at g c = r.words.at (section_of c) lt in
     let l = keeper_lists g in
-    let own : KeeperOwn = keeper_own (keeper_after_look k e (Word w)) in
+    let own : KeeperView = keeper_after_look k e (Word w) in
     let steps_here = steps g (ap at_rest (sym seen.due ∙ may.rest)) (lt-ltb c g.settings.cpus lt) in
     let made : step g e ≡ Some (record { state = with_keeper g l; reply = Word w }) = steps_here.0 ∙ ap (λ n. Some (record { state = g; reply = Word n })) (sym found) in
     let shown : KeeperShown (with_keeper g l) (keeper_view (with_keeper g l) own) =
@@ -100,14 +100,13 @@ snapshot_may z k t c may s r i at fits =
     let found : w ≡ section_at g c = r.words.at (section_of c) lt in
     let m : Mark = snapshot_mark (section_at g c) in
     let l : KeeperLists = record (keeper_lists g) { marks = with_cell g.marks t c m; due = due_next g.settings t c } in
-    let own : KeeperOwn = keeper_own k in
     let fresh : false ≡ (mark_at g.marks t c).collected = sym (r.good.holds.balance.fresh c t c due) in
     let made : step g (Snapshot (Some t) c) ≡ Some (record { state = with_keeper g l; reply = Word w }) = rw (due, eq-eqb t t refl, eq-eqb c c refl, found) refl in
-    let shown : KeeperShown (with_keeper g l) (keeper_view (with_keeper g l) own) =
-    shown_marked g k t c m (due_next g.settings t c) own r.good had lt fresh (alike_after g.settings t c g.due due) refl refl refl in
-    let done = keeper_makes z s r i k (index z (section_of c)) w l (Snapshot (Some t) c) (Word w) own at made (leaves_all g l refl refl refl refl (same_collected g t c m fresh)) (λ n. refl) refl shown
+    let shown : KeeperShown (with_keeper g l) (keeper_view (with_keeper g l) k) =
+    shown_marked g k t c m (due_next g.settings t c) k r.good had lt fresh (alike_after g.settings t c g.due due) refl refl refl in
+    let done = keeper_makes z s r i k (index z (section_of c)) w l (Snapshot (Some t) c) (Word w) k at made (leaves_all g l refl refl refl refl (same_collected g t c m fresh)) (λ n. refl) refl shown
     (loads z _ _ _ _ r.words refl (λ q _. refl)) in
-    let change : keeper_view (with_keeper g l) own ≡ record k { marks = with_cell k.marks t c (snapshot_mark w); due = due_next k.settings t c } =
-    ap (λ n. record (keeper_view g own) { marks = with_cell g.marks t c (snapshot_mark n); due = due_next g.settings t c }) (sym found)
+    let change : keeper_view (with_keeper g l) k ≡ record k { marks = with_cell k.marks t c (snapshot_mark w); due = due_next k.settings t c } =
+    ap (λ n. record (keeper_view g k) { marks = with_cell g.marks t c (snapshot_mark n); due = due_next g.settings t c }) (sym found)
     ∙ ap (λ (v : KeeperView). record v { marks = with_cell v.marks t c (snapshot_mark w); due = due_next v.settings t c }) (sym had.is) in
-    (Keeper (keeper_view (with_keeper g l) own), done.0, (refl, (done.1, change)))
+    (Keeper (keeper_view (with_keeper g l) k), done.0, (refl, (done.1, change)))

@@ -13,7 +13,7 @@ use Rattle.protocol.proofs.slots.Occupied.{slot_has, slot_found, fresh_unoccupie
 use Rattle.protocol.proofs.keeps.Keeping.{step_holds}
 use Rattle.cpu_words.proofs.laws.Reaching.{more}
 use Rattle.cpu_words.proofs.shown.Standing.{standing_place}
-use Rattle.cpu_words.specs.Common.{InHand, CpuView, KeeperView, ReferenceView, View, Keeper, Cpu, Reference, Note, Spent, KeeperOwn, own_of, cpu_view, keeper_view, references_to, is_to, SameHand}
+use Rattle.cpu_words.specs.Common.{InHand, CpuView, KeeperView, ReferenceView, View, Keeper, Cpu, Reference, Note, Spent, cpu_view, keeper_view, references_to, is_to, SameHand}
 use Rattle.cpu_words.specs.Common.{HandFits, CpuShown, KeeperShown, Spot, section_of, passive_of, count_of, head_word, live_of, next_of, record_of, total_of, word_at, Agrees, IsFresh, Good, Ruled, GoesOn}
 use Rattle.cpu_words.specs.Common.{by_number, did, Makes}
 use Rattle.cpu_words.specs.declared.view.InHand.TheVariants.{Empty as NoEntry, Taking as TakingEntry, Giving as GivingEntry, Back as BackEntry, Trying as TryingEntry}
@@ -141,7 +141,7 @@ cpu_shown_on g l y good after leaves had =
     let within : seen_at g y.id ≤ length g.history = good.holds.sections.prefix y.id in
     let pass : take (seen_at g y.id) g.history ≡ take (seen_at g y.id) l.history = sym (take_on (seen_at g y.id) g.history zs within) ∙ ap (take (seen_at g y.id)) (sym more) in record {
       seated = omega arith;
-      is = had.is ∙ (λ k. record (cpu_view g y.id (own_of y)) { pass = pass k });
+      is = had.is ∙ (λ k. record (cpu_view g y.id y) { pass = pass k });
       hand = had.hand;
       in_hand = hand_on g l zs y.id (hand_at g y.id) y.hand more leaves.collected (after.references.in_hands y.id) had.hand had.in_hand;
       depth = had.depth;
@@ -214,7 +214,7 @@ keeper_good_after g l e r good leaves made = record {
 }
 
 -- the keeper's step on a word keeps the rule, and is its event
-pub keeper_makes : (z : Settings) (s : Table ℕ View) (r : Ruled z s) (i : ℕ) (k : KeeperView) (word m : ℕ) (l : KeeperLists) (e : Event) (rep : Reply) (own : KeeperOwn)
+pub keeper_makes : (z : Settings) (s : Table ℕ View) (r : Ruled z s) (i : ℕ) (k : KeeperView) (word m : ℕ) (l : KeeperLists) (e : Event) (rep : Reply) (own : KeeperView)
     → get_elem? s.views i ≡ some (Keeper k) → step r.g e ≡ Some (record { state = with_keeper r.g l; reply = rep }) → LeavesCpus r.g l
     → ((n : ℕ) → sum_by (standing_of n) l.locals ≡ standing_in n r.g) → own.noted_pass ≡ k.noted_pass → KeeperShown (with_keeper r.g l) (keeper_view (with_keeper r.g l) own)
     → Agrees z (set s.words word m) (with_keeper r.g l)

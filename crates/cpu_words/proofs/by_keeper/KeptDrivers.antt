@@ -6,7 +6,7 @@ use Rattle.protocol.specs.Common.{State, total_at, kept_at, step, IsIn}
 use Rattle.registry_values.specs.Common.{slot_at, slot_of, is_iface}
 use Rattle.protocol.proofs.slots.Occupied.{slot_has}
 use Rattle.protocol.proofs.counts.Bounds.{driver_positive}
-use Rattle.cpu_words.specs.Common.{KeeperView, Keeper, total_of, index, KeeperOwn, keeper_own, keeper_view, one_more, KeeperShown, GivesUp, Agrees, Good, did, Makes, KeeperMay, MayKeptSub, HasKeptSub}
+use Rattle.cpu_words.specs.Common.{KeeperView, Keeper, total_of, index, keeper_view, one_more, KeeperShown, GivesUp, Agrees, Good, did, Makes, KeeperMay, MayKeptSub, HasKeptSub}
 use Rattle.cpu_words.specs.Common.{KeptSubTold}
 use Rattle.cpu_words.proofs.shown.Lives.{honest_retired}
 use Rattle.cpu_words.proofs.by_keeper.KeeperSteps.{KeeperLists, with_keeper, keeper_makes}
@@ -49,8 +49,8 @@ kept_of g k t u may good had =
 abbrev giving_back : State → ℕ → ℕ → KeeperLists
 giving_back g t u = vacating g t (set g.totals u (total_at g.totals u - 1)) (set g.keeps t None)
 
-abbrev own_after : KeeperView → ℕ → ℕ → KeeperOwn
-own_after k t n = keeper_own (record k { counts = set k.counts t (replicate MOST_CPUS 0); given_up = one_more k.given_up n })
+abbrev own_after : KeeperView → ℕ → ℕ → KeeperView
+own_after k t n = record k { counts = set k.counts t (replicate MOST_CPUS 0); given_up = one_more k.given_up n }
 
 shown_kept_sub : (g : State) (k : KeeperView) (t d u : ℕ) (e : Entry) → Good g → KeeperShown g k → (x : Kept g t d u e)
     → KeeperShown (with_keeper g (giving_back g t u)) (keeper_view (with_keeper g (giving_back g t u)) (own_after k t x.driver.number))
@@ -87,7 +87,7 @@ kept_sub_may z k t u may s r i at fits =
     let found : w ≡ total_at g.totals u = r.words.at (total_of u) x.slot in
     let next : (w + (2 ^ 64 - 1)) % 2 ^ 64 ≡ v = omega (arith, found, x.some_left, fits) in
     let l : KeeperLists = giving_back g t u in
-    let own : KeeperOwn = own_after k t n in
+    let own : KeeperView = own_after k t n in
     let kind : is_iface e.rec.kind ≡ true = ap is_iface may.kind in
     let made : step g (KeptSub t) ≡ Some (record { state = with_keeper g l; reply = Done }) = rw (x.kept, x.of, x.drained.is, x.drained.retired, kind) refl in
     let words : Agrees z (set s.words (index z (total_of u)) ((w + (2 ^ 64 - 1)) % 2 ^ 64)) (with_keeper g l) =

@@ -8,7 +8,7 @@ use Rattle.cpu_words.specs.Types.{Entry, Settings, Slot, Live, Rest, Event, Show
 use Rattle.protocol.specs.Common.{State, is_honest, step}
 use Rattle.registry_values.specs.Common.{slot_at}
 use Rattle.protocol.proofs.slots.Occupied.{in_within}
-use Rattle.cpu_words.specs.Common.{KeeperView, View, Keeper, Spot, section_of, passive_of, count_of, head_word, next_of, record_of, live_of, total_of, word_at, index, keeper_own, keeper_view, KeeperShown}
+use Rattle.cpu_words.specs.Common.{KeeperView, View, Keeper, Spot, section_of, passive_of, count_of, head_word, next_of, record_of, live_of, total_of, word_at, index, keeper_view, KeeperShown}
 use Rattle.cpu_words.specs.Common.{Agrees, Ruled, GoesOn, by_number, did, Makes, KeeperStores, LiveTold, MayHide, MayShow, keeper_after_live}
 use Rattle.cpu_words.proofs.shown.Lives.{honest_stored, live_honest}
 use Rattle.cpu_words.proofs.shown.Placing.{agrees_set}
@@ -32,7 +32,7 @@ others g t v (total_of u) off = refl
 
 -- the keeper's view after it
 abbrev after_storing : State → KeeperView → ℕ → ℕ → KeeperView
-after_storing g k t v = keeper_view (with_keeper g (storing g t v)) (keeper_own k)
+after_storing g k t v = keeper_view (with_keeper g (storing g t v)) k
 
 shown_stored : (g : State) (k : KeeperView) (t v : ℕ) → KeeperShown g k → is_honest v (slot_at g.slots t) ≡ true → KeeperShown (with_keeper g (storing g t v)) (after_storing g k t v)
 shown_stored g k t v had honest = record {
@@ -58,7 +58,7 @@ stores z s r i k t v e at within honest made =
     let l : KeeperLists = storing g t v in
     let words : Agrees z (set s.words (index z (live_of t)) v) (with_keeper g l) =
     agrees_set z s.words g (with_keeper g l) (live_of t) v r.words refl within (get_or-set_same g.lives t v 0 (omega (arith, within, r.good.holds.shape.lives))) (λ q _ off. others g t v q off) in
-    keeper_makes z s r i k (index z (live_of t)) v l e Done (keeper_own k) at made (leaves_all g l refl refl refl refl (λ u d is. is)) (λ n. refl) refl (shown_stored g k t v had honest) words
+    keeper_makes z s r i k (index z (live_of t)) v l e Done k at made (leaves_all g l refl refl refl refl (λ u d is. is)) (λ n. refl) refl (shown_stored g k t v had honest) words
 
 changed : (g : State) (k : KeeperView) (t v : ℕ) → KeeperShown g k → after_storing g k t v ≡ keeper_after_live k t v
 changed g k t v had = ap (λ (y : KeeperView). keeper_after_live y t v) (sym had.is)

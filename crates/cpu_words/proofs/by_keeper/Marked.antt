@@ -9,7 +9,7 @@ use Rattle.registry_values.specs.Common.{no_mark, slot_at}
 use Rattle.protocol.proofs.slots.Cells.{cell_cases, row_here, row_other}
 use Rattle.registry_values.proofs.Fit.{ranges}
 use mathlib.Core.List.{IsPrefix}
-use Rattle.cpu_words.specs.Common.{KeeperView, number_at, KeeperOwn, keeper_view, KeeperShown, GivesUp, collected_net, collected_one, Good}
+use Rattle.cpu_words.specs.Common.{KeeperView, number_at, keeper_view, KeeperShown, GivesUp, collected_net, collected_one, Good}
 use Rattle.protocol.proofs.slots.Occupied.{in_within}
 
 -- a sum over the marks and net counts of a slot, as one mark changes
@@ -89,7 +89,7 @@ gives_up_marked g t c m due given_up good lt same alike u e here was =
         omega (arith, h, old, new, is)
 
 -- what the keeper's view shows after such a change
-pub shown_marked : (g : State) (k : KeeperView) (t c : ℕ) (m : Mark) (due : Due) (own : KeeperOwn) → Good g → KeeperShown g k → c < g.settings.cpus → m.collected ≡ (mark_at g.marks t c).collected
+pub shown_marked : (g : State) (k : KeeperView) (t c : ℕ) (m : Mark) (due : Due) (own : KeeperView) → Good g → KeeperShown g k → c < g.settings.cpus → m.collected ≡ (mark_at g.marks t c).collected
     → DueAlike due g.due → own.counts ≡ k.counts → own.given_up ≡ k.given_up → own.noted_pass ≡ k.noted_pass
     → KeeperShown (record g { marks = with_cell g.marks t c m; due = due }) (keeper_view (record g { marks = with_cell g.marks t c m; due = due }) own)
 shown_marked g k t c m due own good had lt same alike counts given_up noted_pass = record {

@@ -11,7 +11,7 @@ use Rattle.protocol.proofs.slots.Cells.{cell_in_new, cell_in_old}
 use Rattle.registry_values.proofs.Fit.{ranges}
 use Rattle.protocol.proofs.history.History.{length-after_change}
 use Rattle.protocol.proofs.slots.Occupied.{slot_cases, in_other, in_published, not_vacant}
-use Rattle.cpu_words.specs.Common.{KeeperView, Keeper, Spot, section_of, passive_of, count_of, head_word, live_of, next_of, record_of, total_of, IsSpot, word_at, index, keeper_own, keeper_view, KeeperShown}
+use Rattle.cpu_words.specs.Common.{KeeperView, Keeper, Spot, section_of, passive_of, count_of, head_word, live_of, next_of, record_of, total_of, IsSpot, word_at, index, keeper_view, KeeperShown}
 use Rattle.cpu_words.specs.Common.{number_at, collected_net, collected_one, Agrees, Good, did, Makes, KeeperStores, LeadsBelow, MayPublish, HasPublished, PublishTold}
 use Rattle.cpu_words.proofs.shown.Passes.{prefix_on}
 use Rattle.cpu_words.proofs.shown.Lives.{honest_vacant}
@@ -116,7 +116,7 @@ leaves_published g t e good may =
 
 -- what the keeper's view shows after it
 pub shown_published : (g : State) (k : KeeperView) (t : ℕ) (e : Entry) → Good g → KeeperShown g k → Publishes g t e
-    → KeeperShown (with_keeper g (publish_lists g t e)) (keeper_view (with_keeper g (publish_lists g t e)) (keeper_own k))
+    → KeeperShown (with_keeper g (publish_lists g t e)) (keeper_view (with_keeper g (publish_lists g t e)) k)
 shown_published g k t e good had may =
     let longer : length (after_change g.history (Attach e)) ≡ suc (length g.history) = length-after_change g.history (Attach e) in
     record {
@@ -159,11 +159,11 @@ publish_may z k t e may s r i at fits =
     let does = publishes g k t e r.good had may in
     let l = publish_lists g t e in
     let words : Agrees z (set s.words (index z head_word) (t + 1)) (with_keeper g l) = agrees_set z s.words g (with_keeper g l) head_word (t + 1) r.words refl tt refl (others g) in
-    let done = keeper_makes z s r i k (index z head_word) (t + 1) l (Publish t) Done (keeper_own k) at (made_publish g t e does) (leaves_published g t e r.good does) (λ n. refl) refl
+    let done = keeper_makes z s r i k (index z head_word) (t + 1) l (Publish t) Done k at (made_publish g t e does) (leaves_published g t e r.good does) (λ n. refl) refl
     (shown_published g k t e r.good had does) words in
-    let change : HasPublished k t e (keeper_view (with_keeper g l) (keeper_own k)) =
+    let change : HasPublished k t e (keeper_view (with_keeper g l) k) =
     ap (λ (v : KeeperView). record v { head = t + 1; history = after_change v.history (Attach e); slots = set v.slots t (Live e) }) (sym had.is) in
-    (Keeper (keeper_view (with_keeper g l) (keeper_own k)), done.0, (refl, (done.1, (e, may, change))))
+    (Keeper (keeper_view (with_keeper g l) k), done.0, (refl, (done.1, (e, may, change))))
   where
     others : (g : State) (q : Spot) → IsSpot g.settings q → (q ≡ head_word → ⊥) → word_at (with_keeper g (publish_lists g t e)) q ≡ word_at g q
     others g (section_of c) here off = refl

@@ -8,7 +8,7 @@ use Rattle.registry_values.specs.Common.{slot_at}
 use Rattle.protocol.proofs.slots.Cells.{by_cell, cell_here, cell_other}
 use Rattle.protocol.proofs.keeps.ListKeeps.{rows_cell}
 use Rattle.registry_values.proofs.Fit.{ranges}
-use Rattle.cpu_words.specs.Common.{KeeperView, Keeper, Spot, section_of, passive_of, count_of, head_word, live_of, next_of, record_of, total_of, IsSpot, word_at, index, KeeperOwn, keeper_own, keeper_view}
+use Rattle.cpu_words.specs.Common.{KeeperView, Keeper, Spot, section_of, passive_of, count_of, head_word, live_of, next_of, record_of, total_of, IsSpot, word_at, index, keeper_view}
 use Rattle.cpu_words.specs.Common.{KeeperShown, Agrees, Good, did, Makes, KeeperStores, MayWrite, HasRecordWord, HasCountWord, HasLink}
 use Rattle.cpu_words.proofs.shown.Placing.{agrees_set}
 use Rattle.cpu_words.proofs.by_keeper.KeeperSteps.{KeeperLists, keeper_lists, with_keeper, leaves_all, keeper_makes}
@@ -53,9 +53,8 @@ store_next_may z k t v leads may s r i at fits =
     let had : KeeperShown g k = (r.shows.fits i (Keeper k) at).1 in
     let on = stores_of g k t r.good had may in
     let l : KeeperLists = record (keeper_lists g) { next = set g.next t v } in
-    let own = keeper_own k in
     let made : step g (StoreNext t v) ≡ Some (record { state = with_keeper g l; reply = Done }) = rw (on.rest, lt-ltb t g.settings.slots on.slot, on.vacant) refl in
-    let shown : KeeperShown (with_keeper g l) (keeper_view (with_keeper g l) own) =
+    let shown : KeeperShown (with_keeper g l) (keeper_view (with_keeper g l) k) =
     record {
       is = refl;
       counts = had.counts;
@@ -68,9 +67,9 @@ store_next_may z k t v leads may s r i at fits =
       honest = had.honest;
       noted_pass = had.noted_pass;
     } in
-    let done = keeper_makes z s r i k (index z (next_of t)) v l (StoreNext t v) Done own at made (leaves_all g l refl refl refl refl (λ u d is. is)) (λ n. refl) refl shown
+    let done = keeper_makes z s r i k (index z (next_of t)) v l (StoreNext t v) Done k at made (leaves_all g l refl refl refl refl (λ u d is. is)) (λ n. refl) refl shown
     (link_words z s.words g t v r.good on.slot r.words) in
-    (Keeper (keeper_view (with_keeper g l) own), done.0, (refl, (done.1, ap (λ (x : KeeperView). record x { next = set x.next t v }) (sym had.is))))
+    (Keeper (keeper_view (with_keeper g l) k), done.0, (refl, (done.1, ap (λ (x : KeeperView). record x { next = set x.next t v }) (sym had.is))))
 
 -- Record words
 
@@ -140,9 +139,8 @@ store_record_may z k t j v lt may s r i at fits =
     let had : KeeperShown g k = (r.shows.fits i (Keeper k) at).1 in
     let on = stores_of g k t r.good had may in
     let l = with_record g t j v in
-    let own = keeper_own k in
     let made : step g (StoreSlot t j v) ≡ Some (record { state = with_keeper g l; reply = Done }) = rw (lt-ltb j 5 lt, on.rest, lt-ltb t g.settings.slots on.slot, on.vacant) refl in
-    let shown : KeeperShown (with_keeper g l) (keeper_view (with_keeper g l) own) =
+    let shown : KeeperShown (with_keeper g l) (keeper_view (with_keeper g l) k) =
     record {
       is = refl;
       counts = had.counts;
@@ -155,9 +153,9 @@ store_record_may z k t j v lt may s r i at fits =
       honest = had.honest;
       noted_pass = had.noted_pass;
     } in
-    let done = keeper_makes z s r i k (index z (record_of t j)) v l (StoreSlot t j v) Done own at made (leaves_all g l refl refl refl refl (λ u d is. is)) (λ n. refl) refl shown
+    let done = keeper_makes z s r i k (index z (record_of t j)) v l (StoreSlot t j v) Done k at made (leaves_all g l refl refl refl refl (λ u d is. is)) (λ n. refl) refl shown
     (record_words z s.words g t j v r.good on.slot lt r.words) in
-    (Keeper (keeper_view (with_keeper g l) own), done.0, (refl, (done.1, ap (λ (x : KeeperView). record x { rows = set x.rows t (with_word (row_at x.rows t) j v) }) (sym had.is))))
+    (Keeper (keeper_view (with_keeper g l) k), done.0, (refl, (done.1, ap (λ (x : KeeperView). record x { rows = set x.rows t (with_word (row_at x.rows t) j v) }) (sym had.is))))
 
 -- Count words
 
@@ -206,7 +204,7 @@ store_count_may z k t c v within may s r i at fits =
     let on = stores_of g k t r.good had may in
     let lt : c < g.settings.cpus = subst (λ (a : Settings). c < a.cpus) on.seen.settings within in
     let l = with_count g t c v in
-    let own : KeeperOwn = record (keeper_own k) { counts = with_cell k.counts t c v } in
+    let own : KeeperView = record k { counts = with_cell k.counts t c v } in
     let past : nat_lt (5 + c) 5 ≡ false = le-ltb (5 + c) 5 (omega arith) in
     let back : (5 + c) - 5 ≡ c = omega arith in
     let made : step g (StoreSlot t (5 + c) v) ≡ Some (record { state = with_keeper g l; reply = Done }) =

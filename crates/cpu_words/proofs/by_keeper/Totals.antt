@@ -21,7 +21,7 @@ use Rattle.protocol.proofs.slots.MarkRows.{any_within}
 use Rattle.protocol.proofs.counts.Sums.{local_changed, standing_within}
 use Rattle.protocol.proofs.counts.Bounds.{adding_range, adding_within, subtracting_range}
 use Rattle.cpu_words.specs.Common.{KeeperView, ReferenceView, Logged, View, Keeper, Reference, Spent, Spot, section_of, passive_of, count_of, head_word, live_of, next_of, record_of, total_of, word_at, index}
-use Rattle.cpu_words.specs.Common.{KeeperOwn, keeper_own, keeper_view, number_at, one_more, is_to, IsCollectedFor, KeeperShown, ReferenceShown, GivesUp, keeper_of, reference_of, Agrees, Good}
+use Rattle.cpu_words.specs.Common.{KeeperView, keeper_view, number_at, one_more, is_to, IsCollectedFor, KeeperShown, ReferenceShown, GivesUp, keeper_of, reference_of, Agrees, Good}
 use Rattle.cpu_words.specs.Common.{number_or_none, did, log_of_events, Makes, JoinsBy, JoinsOn, KeeperMay, KeeperStores, MayTotalAdd, TotalAddTold, MayTotalSub, TotalSubTold, MayJoinKeeper}
 use Rattle.cpu_words.specs.Common.{keeper_after_join, with_given_up, LoggedRuled, joined_seat, spent_seat, gives_up}
 use Rattle.cpu_words.proofs.laws.Reaching.{more}
@@ -69,7 +69,7 @@ totalling g t v = record (keeper_lists g) { totals = set g.totals t v; due = Res
 
 -- what the keeper's view shows of it
 shown_added : (g : State) (k : KeeperView) (t old : ℕ) → Good g → KeeperShown g k → g.due ≡ Adding t old
-    → KeeperShown (with_keeper g (totalling g t (total_at g.totals t + old - bias))) (keeper_view (with_keeper g (totalling g t (total_at g.totals t + old - bias))) (keeper_own k))
+    → KeeperShown (with_keeper g (totalling g t (total_at g.totals t + old - bias))) (keeper_view (with_keeper g (totalling g t (total_at g.totals t + old - bias))) k)
 shown_added g k t old good had due = record {
   is = refl;
   counts = had.counts;
@@ -120,16 +120,15 @@ total_add_may z k t old value may s r i at fits =
     let v = total_at g.totals t + old - bias in
     let is : value ≡ v = may.sum ∙ ap (λ (x : List ℕ). total_at x t + old - bias) seen.totals in
     let l : KeeperLists = totalling g t v in
-    let own : KeeperOwn = keeper_own k in
     let made : step g (TotalAdd t) ≡ Some (record { state = with_keeper g l; reply = Done }) = ap (total_add g t) due ∙ rw (eq-eqb t t refl) refl in
     let words : Agrees z (set s.words (index z (total_of t)) value) (with_keeper g l) =
     subst (λ n. Agrees z (set s.words (index z (total_of t)) n) (with_keeper g l)) (sym is)
     (total_words z s.words g l t v r.good (adding_within g t old r.good.holds due) r.words refl refl refl refl refl refl) in
-    let done = keeper_makes z s r i k (index z (total_of t)) value l (TotalAdd t) Done own at made (leaves_all g l refl refl refl refl (λ u d on. on)) (λ n. refl) refl
+    let done = keeper_makes z s r i k (index z (total_of t)) value l (TotalAdd t) Done k at made (leaves_all g l refl refl refl refl (λ u d on. on)) (λ n. refl) refl
     (shown_added g k t old r.good had due) words in
-    let change : keeper_view (with_keeper g l) own ≡ record k { totals = set k.totals t value; due = Rest } =
-    ap (λ n. record (keeper_view g own) { totals = set g.totals t n; due = Rest }) (sym is) ∙ ap (λ (x : KeeperView). record x { totals = set x.totals t value; due = Rest }) (sym had.is) in
-    (Keeper (keeper_view (with_keeper g l) own), done.0, (refl, (done.1, change)))
+    let change : keeper_view (with_keeper g l) k ≡ record k { totals = set k.totals t value; due = Rest } =
+    ap (λ n. record (keeper_view g k) { totals = set g.totals t n; due = Rest }) (sym is) ∙ ap (λ (x : KeeperView). record x { totals = set x.totals t value; due = Rest }) (sym had.is) in
+    (Keeper (keeper_view (with_keeper g l) k), done.0, (refl, (done.1, change)))
 
 -- an entry's number is one of the history's
 number_in_history : (g : State) (t : ℕ) (e : Entry) → Good g → IsIn e (slot_at g.slots t) → e.number ≤ length g.history
@@ -196,7 +195,7 @@ later_less g k t e good had here n above =
     one_more_other k.given_up e.number n ne ∙ had.later n above
 
 shown_subtracted : (g : State) (k : KeeperView) (t : ℕ) (e : Entry) → Good g → KeeperShown g k → slot_at g.slots t ≡ Retired e → g.due ≡ Subtracting t
-    → KeeperShown (with_keeper g (totalling g t (total_at g.totals t - 1))) (keeper_view (with_keeper g (totalling g t (total_at g.totals t - 1))) (keeper_own k))
+    → KeeperShown (with_keeper g (totalling g t (total_at g.totals t - 1))) (keeper_view (with_keeper g (totalling g t (total_at g.totals t - 1))) k)
 shown_subtracted g k t e good had retired due =
     let less = one_subtracted g.totals t (total_within g t e good (inr retired)) (subtracting_range g t good.holds due).1 in record {
       is = refl;
@@ -232,15 +231,14 @@ total_sub_may z k t may s r i at fits =
     let found : w ≡ total_at g.totals t = r.words.at (total_of t) range.0 in
     let next : (w + (2 ^ 64 - 1)) % 2 ^ 64 ≡ v = omega (arith, found, range.1, fits) in
     let l : KeeperLists = totalling g t v in
-    let own : KeeperOwn = keeper_own k in
     let made : step g (TotalSub t) ≡ Some (record { state = with_keeper g l; reply = Done }) = ap (total_sub g t) due ∙ rw (eq-eqb t t refl) refl in
     let words : Agrees z (set s.words (index z (total_of t)) ((w + (2 ^ 64 - 1)) % 2 ^ 64)) (with_keeper g l) =
     subst (λ n. Agrees z (set s.words (index z (total_of t)) n) (with_keeper g l)) (sym next) (total_words z s.words g l t v r.good range.0 r.words refl refl refl refl refl refl) in
-    let done = keeper_makes z s r i k (index z (total_of t)) ((w + (2 ^ 64 - 1)) % 2 ^ 64) l (TotalSub t) Done own at made (leaves_all g l refl refl refl refl (λ u d on. on)) (λ n. refl) refl
+    let done = keeper_makes z s r i k (index z (total_of t)) ((w + (2 ^ 64 - 1)) % 2 ^ 64) l (TotalSub t) Done k at made (leaves_all g l refl refl refl refl (λ u d on. on)) (λ n. refl) refl
     (shown_subtracted g k t e r.good had gone.1 due) words in
-    let change : keeper_view (with_keeper g l) own ≡ record k { totals = set k.totals t (total_at k.totals t - 1); due = Rest } =
+    let change : keeper_view (with_keeper g l) k ≡ record k { totals = set k.totals t (total_at k.totals t - 1); due = Rest } =
     ap (λ (x : KeeperView). record x { totals = set x.totals t (total_at x.totals t - 1); due = Rest }) (sym had.is) in
-    (Keeper (keeper_view (with_keeper g l) own), done.0, (refl, (done.1, (e, ap (λ (x : List Slot). slot_at x t) seen.slots ∙ gone.1, change))))
+    (Keeper (keeper_view (with_keeper g l) k), done.0, (refl, (done.1, (e, ap (λ (x : List Slot). slot_at x t) seen.slots ∙ gone.1, change))))
 
 -- References given up under the interlock
 

@@ -9,7 +9,7 @@ use Rattle.registry_values.specs.Common.{no_mark, slot_at, slot_before}
 use Rattle.protocol.proofs.slots.Cells.{cell_in_old, get_or_all}
 use Rattle.protocol.proofs.history.History.{length-after_change}
 use Rattle.protocol.proofs.slots.Occupied.{place_cases, slot_cases, in_unpublished, in_within, live_one}
-use Rattle.cpu_words.specs.Common.{KeeperView, Keeper, Spot, section_of, passive_of, count_of, head_word, live_of, next_of, record_of, total_of, word_at, keeper_own, keeper_view, KeeperShown, GivesUp}
+use Rattle.cpu_words.specs.Common.{KeeperView, Keeper, Spot, section_of, passive_of, count_of, head_word, live_of, next_of, record_of, total_of, word_at, keeper_view, KeeperShown, GivesUp}
 use Rattle.cpu_words.specs.Common.{collected_net, collected_one, Agrees, Good, did, Makes, KeeperStores, LeadsBelow, IsBefore, MayUnpublish, HasUnpublished, UnpublishTold, keeper_after_unpublish}
 use Rattle.cpu_words.specs.Common.{link_index, head_with, links_with}
 use Rattle.cpu_words.proofs.shown.Passes.{prefix_on}
@@ -134,7 +134,7 @@ gives_up_unlinked g k t e p v had may u f retired = ⊎_elim
 
 -- what the keeper's view shows after it
 pub shown_unlinked : (g : State) (k : KeeperView) (t : ℕ) (e : Entry) (p : Option ℕ) (v : ℕ) → Good g → KeeperShown g k → Unpublishes g t e p v
-    → KeeperShown (with_keeper g (unpublish_lists g t e p v)) (keeper_view (with_keeper g (unpublish_lists g t e p v)) (keeper_own k))
+    → KeeperShown (with_keeper g (unpublish_lists g t e p v)) (keeper_view (with_keeper g (unpublish_lists g t e p v)) k)
 shown_unlinked g k t e p v good had may =
     let longer : length (after_change g.history (Detach e.number)) ≡ suc (length g.history) = length-after_change g.history (Detach e.number) in
     record {
@@ -206,16 +206,16 @@ unpublish_at z k t p v may s r i at fits =
     let does = unpublishes g k t p v r.good had may in
     let l = unpublish_lists g t e p v in
     let words = link_words z s.words g t e p v r.good r.words does in
-    let done = keeper_makes z s r i k (link_index p) v l (Unpublish t) Done (keeper_own k) at (made_unpublish g t e p v does) (leaves_unlinked g t e p v does) (λ n. refl) refl
+    let done = keeper_makes z s r i k (link_index p) v l (Unpublish t) Done k at (made_unpublish g t e p v does) (leaves_unlinked g t e p v does) (λ n. refl) refl
     (shown_unlinked g k t e p v r.good had does) words in
-    let change : keeper_view (with_keeper g l) (keeper_own k) ≡ keeper_after_unpublish k t e p v = ap (λ (y : KeeperView). keeper_after_unpublish y t e p v) (sym had.is) in (
-      Keeper (keeper_view (with_keeper g l) (keeper_own k)),
+    let change : keeper_view (with_keeper g l) k ≡ keeper_after_unpublish k t e p v = ap (λ (y : KeeperView). keeper_after_unpublish y t e p v) (sym had.is) in (
+      Keeper (keeper_view (with_keeper g l) k),
       done.0,
       (
         refl,
         (
           done.1,
-          λ o same. subst (λ (x : Option ℕ). HasUnpublished k t x v (keeper_view (with_keeper g l) (keeper_own k))) (one_place p o same) (e, may.live, change),
+          λ o same. subst (λ (x : Option ℕ). HasUnpublished k t x v (keeper_view (with_keeper g l) k)) (one_place p o same) (e, may.live, change),
         ),
       ),
     )

@@ -8,7 +8,7 @@ use Rattle.atomic_table.specs.Table.{State as Table}
 use Rattle.cpu_words.specs.Types.{Entry, Settings, MOST_CPUS, Hear, Vacate, Rest, Done, Vacant, Live, Retired}
 use Rattle.protocol.specs.Common.{State, kept_at, step, after_vacate}
 use Rattle.protocol.proofs.keeps.ListKeeps.{rows_put}
-use Rattle.cpu_words.specs.Common.{KeeperView, LogItem, View, Keeper, keeper_of, keeper_own, keeper_view, KeeperShown, KeeperHasHeard, Ruled, GoesOn, did, Makes, Moves, KeeperMay, MayVacate}
+use Rattle.cpu_words.specs.Common.{KeeperView, LogItem, View, Keeper, keeper_of, keeper_view, KeeperShown, KeeperHasHeard, Ruled, GoesOn, did, Makes, Moves, KeeperMay, MayVacate}
 use Rattle.cpu_words.specs.Common.{keeper_after_vacate, VacateTold, head_word, index}
 use Rattle.cpu_words.proofs.laws.Reaching.{goes_both}
 use Rattle.cpu_words.proofs.seats.Notes.{hear_keeper_may}
@@ -22,7 +22,7 @@ abbrev emptied : State → ℕ → KeeperLists
 emptied g t = vacating g t g.totals g.keeps
 
 shown_vacated : (g : State) (k : KeeperView) (t : ℕ) (e : Entry) → KeeperShown g k → Drained g t e
-    → KeeperShown (with_keeper g (emptied g t)) (keeper_view (with_keeper g (emptied g t)) (keeper_own (keeper_after_vacate k t)))
+    → KeeperShown (with_keeper g (emptied g t)) (keeper_view (with_keeper g (emptied g t)) ((keeper_after_vacate k t)))
 shown_vacated g k t e had drained = record {
   is = refl;
   counts = vacated_counts g k t e had drained;
@@ -51,7 +51,7 @@ vacates z k t may s r i at =
     let keeps_none : kept_at g.keeps t ≡ None = ap (λ (x : List (Option ℕ)). kept_at x t) (sym (seen_by_keeper g k r.good had).keeps) ∙ may.keeps_nothing in
     let made : step g (Vacate t) ≡ Some (record { state = after_vacate g t; reply = Done }) = rw (keeps_none, drained.is) refl in
     let l : KeeperLists = emptied g t in
-    let own = keeper_own (keeper_after_vacate k t) in
+    let own = (keeper_after_vacate k t) in
     let w = keeper_view (with_keeper g l) own in
     let n = slice_index s.words 0 in
     let done = keeper_makes z s r i k 0 n l (Vacate t) Done own at made (vacated_leaves g t e g.totals g.keeps r.good drained) (λ m. refl) refl (shown_vacated g k t e had drained)

@@ -1,16 +1,15 @@
 -- What a step needs of the table's own steps, by what its seat may do.
-use Rattle.std.proofs.Common.{◌≡◌, ℕ, List, [], ◌++◌, Some, None, refl, sym, subst}
+use Rattle.std.proofs.Common.{◌≡◌, ℕ, List, [], ◌++◌, Some, None, refl, sym, ap, ◌∙◌, subst, ◌<◌, arith}
 use Rattle.std.specs.Prelude.{slice_index}
-use mathlib.Core.Option.{some}
+use mathlib.Core.Option.{none, some}
 use lib.ListN.{get_elem?}
 use Rattle.atomic_table.specs.Table.{State as Table, Me, Step, Allows, keeps}
 use Rattle.cpu_words.specs.Types.{Settings, Hear, Done}
-use Rattle.cpu_words.specs.Common.{CpuView, KeeperView, ReferenceView, LogItem, Logged, Keeper, Cpu, Reference, cpu_of, keeper_of, reference_of, did, IsShownAfter, heard_from, CpuMay, KeeperMay}
-use Rattle.cpu_words.specs.Common.{KeeperStores, ReferenceMay, the_keeper, the_cpu, another, AreBy, LoggedRuled, IsToldByCpu, IsToldByKeeper, IsToldByReference, heard_by_cpu, heard_by_keeper}
+use Rattle.cpu_words.specs.Common.{CpuView, KeeperView, LogItem, Named, Seated, words_of, Logged, Keeper, Cpu, cpu_of, keeper_of, did, IsShownAfter, heard_from, CpuMay, KeeperMay}
+use Rattle.cpu_words.specs.Common.{SeatMay, the_keeper, AreBy, LoggedRuled, IsTold, heard_by_cpu, heard_by_keeper}
 use Rattle.cpu_words.specs.Common.{hears_note, HasNone, IsStanding, ListGoesOn, Moves, View, is_hear, who}
 use Rattle.cpu_words.proofs.logs.Logs.{logged_moves, logged_hears, logged_heard}
 use Rattle.cpu_words.proofs.logs.OwnLog.{own_log, shown_after}
-use Rattle.cpu_words.proofs.logs.Quiet.{deaf}
 
 -- l once a step has changed its view, its log and its list
 abbrev moved : Logged → View → List LogItem → List (ℕ × LogItem) → Logged
@@ -27,57 +26,63 @@ allowed z l slots id i f ds tells then stands own quiet moves told s r size at f
     let word = slice_index s.words i in
     (moved l d.0 (l.log ++ ds word) d.1, keeps, tt, d.2, told s r word d.0 d.1 at d.3 d.4)
 
-told_keeper : (does : KeeperView → ℕ → List LogItem) (tells : KeeperView → ℕ → KeeperView → Type 0) (st : Step ℕ) (u : KeeperView) (l : Logged) (n : ℕ) (w : View) (list : List (ℕ × LogItem))
-    → (w ≡ Keeper (keeper_of w)) × tells u n (keeper_of w) → ListGoesOn l.list (l.log ++ does u n) list
-    → IsToldByKeeper does tells st (record l { view = Keeper u }, []) n (moved l w (l.log ++ does u n) list, [])
-told_keeper does tells st u l n w list told goes = ((λ k. (moved l (told.0 k) (l.log ++ does u n) list, [])), refl, told.1, goes)
+abbrev any_step : Step ℕ
+any_step = record { slots = 0; word = 0; first = 0; second = 0; said = none }
 
-pub allows_cpu : (z y : Settings) (x : CpuView) (slots id : ℕ) (me : Me ℕ Logged) (i : ℕ) (f : ℕ → ℕ) (does : CpuView → ℕ → List LogItem) (tells : CpuView → ℕ → CpuView → Type 0) (st : Step ℕ)
-    → z ≡ y → x ≡ cpu_of me.0.view → me ≡ (record me.0 { view = Cpu (cpu_of me.0.view) }, []) → ((n : ℕ) → AreBy (the_cpu x.id) (does x n)) → ((n : ℕ) → HasNone is_hear (does x n))
-    → CpuMay z x i f (does x) tells
-    → Allows (LoggedRuled y) slots id me i f (IsToldByCpu does tells st me)
-allows_cpu z y x slots id me i f does tells st same view is own quiet may =
-    let u = cpu_of me.0.view in
-    subst (λ (m : Me ℕ Logged). Allows (LoggedRuled y) slots id m i f (IsToldByCpu does tells st m)) (sym is)
-    (allowed y (record me.0 { view = Cpu u }) slots id i f (does u) (λ n w. (w ≡ Cpu (cpu_of w)) × tells u n (cpu_of w)) (IsToldByCpu does tells st) tt
-    (subst (λ (y : CpuView). (n : ℕ) → AreBy (the_cpu y.id) (does y n)) view own) (subst (λ (y : CpuView). (n : ℕ) → HasNone is_hear (does y n)) view quiet)
-    (subst (λ (p : Settings × CpuView). CpuMay p.0 p.1 i f (does p.1) tells) (λ k. (same k, view k)) may)
-    (λ s r n w list at told goes. ((λ k. (moved me.0 (told.0 k) (me.0.log ++ does u n) list, [])), refl, told.1, goes)))
+-- What the table's own step needs, by the words a and the seat s, which are seen as b and t. g n is the word that the step's tale is about, n being the word found; what the table's step tells, `then`,
+-- follows from the tale
+needed : {X : Type 0} (as_view : X → View) (of_view : View → X) (a b : Named) (s t : Seated X) (size slots id : ℕ) (y : Settings) (me : Me ℕ Logged) (i : ℕ) (f g : ℕ → ℕ)
+    (does : X → ℕ → List LogItem) (tells : X → ℕ → X → Type 0) (then : ℕ → Me ℕ Logged → Type 0)
+    → a ≡ b → (a.settings ≡ y) × (size ≡ words_of a.settings) × (slots ≡ 0) → s ≡ t → s.view ≡ of_view me.0.view → me ≡ (record me.0 { view = as_view (of_view me.0.view) }, [])
+    → t.table ≡ b.table → i < words_of b.settings → IsStanding (as_view t.view) → ((n : ℕ) → AreBy (who (as_view t.view)) (does t.view (g n))) → ((n : ℕ) → HasNone is_hear (does t.view (g n)))
+    → Moves b.settings (as_view t.view) i f (λ n. does t.view (g n)) (λ n w. (w ≡ as_view (of_view w)) × tells t.view (g n) (of_view w))
+    → ((r : Table ℕ Logged) → LoggedRuled y r → get_elem? r.views id ≡ some me.0 → (n : ℕ) (l : Me ℕ Logged) → IsTold as_view of_view does tells any_step me (g n) l → then n l)
+    → (s.table ≡ a.table) × (i < size) × Allows (LoggedRuled y) slots id me i f then
+needed {X} as_view of_view a b s t size slots id y me i f g does tells then words inside seat view_is is table place stands own quiet may tells_then =
+    let x = t.view in
+    let same : b.settings ≡ y = sym (ap (λ (w : Named). w.settings) words) ∙ inside.0 in
+    let view : x ≡ of_view me.0.view = sym (ap (λ (v : Seated X). v.view) seat) ∙ view_is in
+    let empty : me.1 ≡ [] = ap (λ (m : Me ℕ Logged). m.1) is in
+    let seen : as_view x ≡ me.0.view = ap as_view view ∙ sym (ap (λ (m : Me ℕ Logged). m.0.view) is) in
+    let by : (n : ℕ) → AreBy (who me.0.view) (does x (g n)) = subst (λ (v : View). (n : ℕ) → AreBy (who v) (does x (g n))) seen own in
+    let moves : Moves y me.0.view i f (λ n. does x (g n)) (λ n w. (w ≡ as_view (of_view w)) × tells x (g n) (of_view w)) =
+    subst (λ (p : Settings × View). Moves p.0 p.1 i f (λ n. does x (g n)) (λ n w. (w ≡ as_view (of_view w)) × tells x (g n) (of_view w))) (λ k. (same k, seen k)) may in
+    let bare : me ≡ (me.0, []) = λ k. (me.0, empty k) in (
+      ap (λ (v : Seated X). v.table) seat ∙ table ∙ sym (ap (λ (w : Named). w.table) words),
+      (let size_is = inside.1 in let settings = ap (λ (w : Named). words_of w.settings) words in omega (arith, place, size_is, settings)),
+      subst (λ (m : Me ℕ Logged). Allows (LoggedRuled y) slots id m i f then) (sym bare)
+          (allowed y me.0 slots id i f (λ n. does x (g n)) (λ n w. (w ≡ as_view (of_view w)) × tells x (g n) (of_view w)) (λ _. then) (subst IsStanding seen stands) by quiet moves
+          (λ r ruled n w list at told goes. tells_then r ruled at n (moved me.0 w (me.0.log ++ does x (g n)) list, []) (
+            (λ k. (moved me.0 (told.0 k) (me.0.log ++ does x (g n)) list, sym empty k)),
+            ap (λ (u : X). me.0.log ++ does u (g n)) view,
+            subst (λ (u : X). tells u (g n) (of_view w)) view told.1,
+            goes,
+          ))),
+    )
 
-pub allows_keeper : (z y : Settings) (x : KeeperView) (slots id : ℕ) (me : Me ℕ Logged) (i : ℕ) (f : ℕ → ℕ) (does : KeeperView → ℕ → List LogItem) (tells : KeeperView → ℕ → KeeperView → Type 0)
-    (st : Step ℕ)
-    → z ≡ y → x ≡ keeper_of me.0.view → me ≡ (record me.0 { view = Keeper (keeper_of me.0.view) }, []) → ((n : ℕ) → AreBy the_keeper (does x n)) → KeeperMay z x i f (does x) tells
-    → Allows (LoggedRuled y) slots id me i f (IsToldByKeeper does tells st me)
-allows_keeper z y x slots id me i f does tells st same view is own may =
-    let u = keeper_of me.0.view in
-    let by : (n : ℕ) → AreBy the_keeper (does u n) = subst (λ (y : KeeperView). (n : ℕ) → AreBy the_keeper (does y n)) view own in
-    subst (λ (m : Me ℕ Logged). Allows (LoggedRuled y) slots id m i f (IsToldByKeeper does tells st m)) (sym is)
-    (allowed y (record me.0 { view = Keeper u }) slots id i f (does u) (λ n w. (w ≡ Keeper (keeper_of w)) × tells u n (keeper_of w))
-    (IsToldByKeeper does tells st) tt by (λ n. deaf the_keeper (does u n) refl (by n))
-    (subst (λ (p : Settings × KeeperView). KeeperMay p.0 p.1 i f (does p.1) tells) (λ k. (same k, view k)) may) (λ s r n w list at. told_keeper does tells st u me.0 n w list))
+pub needs : {X : Type 0} (as_view : X → View) (of_view : View → X) (a b : Named) (s t : Seated X) (size slots id : ℕ) (y : Settings) (me : Me ℕ Logged) (i : ℕ) (f : ℕ → ℕ)
+    (does : X → ℕ → List LogItem) (tells : X → ℕ → X → Type 0)
+    → a ≡ b → (a.settings ≡ y) × (size ≡ words_of a.settings) × (slots ≡ 0) → s ≡ t → s.view ≡ of_view me.0.view → me ≡ (record me.0 { view = as_view (of_view me.0.view) }, [])
+    → t.table ≡ b.table → i < words_of b.settings → IsStanding (as_view t.view) → ((n : ℕ) → AreBy (who (as_view t.view)) (does t.view n)) → ((n : ℕ) → HasNone is_hear (does t.view n))
+    → SeatMay as_view of_view b.settings t.view i f (does t.view) tells
+    → (s.table ≡ a.table) × (i < size) × Allows (LoggedRuled y) slots id me i f (IsTold as_view of_view does tells any_step me)
+needs as_view of_view a b s t size slots id y me i f does tells words inside seat view_is is table place stands own quiet may =
+    needed as_view of_view a b s t size slots id y me i f (λ n. n) does tells (IsTold as_view of_view does tells any_step me) words inside seat view_is is table place stands own quiet may (λ r ruled at n l told. told)
 
-pub allows_store : (z y : Settings) (x : KeeperView) (slots id : ℕ) (me : Me ℕ Logged) (i n : ℕ) (does : KeeperView → ℕ → List LogItem) (tells : KeeperView → ℕ → KeeperView → Type 0) (st : Step ℕ)
-    → z ≡ y → x ≡ keeper_of me.0.view → me ≡ (record me.0 { view = Keeper (keeper_of me.0.view) }, []) → ((n : ℕ) → AreBy the_keeper (does x n)) → KeeperStores z x i n (does x) tells
-    → Allows (LoggedRuled y) slots id me i (λ _. n) (λ _ l. heard_by_keeper does tells st me n l)
-allows_store z y x slots id me i n does tells st same view is own may =
-    let u = keeper_of me.0.view in
-    let by : (n : ℕ) → AreBy the_keeper (does u n) = subst (λ (y : KeeperView). (n : ℕ) → AreBy the_keeper (does y n)) view own in
-    subst (λ (m : Me ℕ Logged). Allows (LoggedRuled y) slots id m i (λ _. n) (λ _ l. heard_by_keeper does tells st m n l)) (sym is)
-    (allowed y (record me.0 { view = Keeper u }) slots id i (λ _. n) (λ _. does u n) (λ _ w. (w ≡ Keeper (keeper_of w)) × tells u n (keeper_of w))
-    (λ m _. heard_by_keeper does tells st m n) tt (λ _. by n)
-    (λ _. deaf the_keeper (does u n) refl (by n)) (subst (λ (p : Settings × KeeperView). KeeperStores p.0 p.1 i n (does p.1) tells) (λ k. (same k, view k)) may)
-    (λ s r _ w list at told goes. (told_keeper does tells st u me.0 n w list told goes, own_log y u me.0 s r id at)))
-
-pub allows_reference : (z y : Settings) (x : ReferenceView) (slots id : ℕ) (me : Me ℕ Logged) (i : ℕ) (does : ReferenceView → ℕ → List LogItem) (tells : ReferenceView → ℕ → Type 0) (st : Step ℕ)
-    → z ≡ y → x ≡ reference_of me.0.view → me ≡ (record me.0 { view = Reference (reference_of me.0.view) }, []) → ((n : ℕ) → AreBy another (does x n)) → ReferenceMay z x i (does x) tells
-    → Allows (LoggedRuled y) slots id me i (λ n. n) (IsToldByReference does tells st me)
-allows_reference z y x slots id me i does tells st same view is own may =
-    let u = reference_of me.0.view in
-    let by : (n : ℕ) → AreBy another (does u n) = subst (λ (y : ReferenceView). (n : ℕ) → AreBy another (does y n)) view own in
-    subst (λ (m : Me ℕ Logged). Allows (LoggedRuled y) slots id m i (λ n. n) (IsToldByReference does tells st m)) (sym is)
-    (allowed y (record me.0 { view = Reference u }) slots id i (λ n. n) (does u) (λ n w. (w ≡ Reference u) × tells u n)
-    (IsToldByReference does tells st) tt by (λ n. deaf another (does u n) refl (by n)) (subst (λ (p : Settings × ReferenceView). ReferenceMay p.0 p.1 i (does p.1) tells) (λ k. (same k, view k)) may)
-    (λ s r n w list at told goes. ((λ k. (moved me.0 (told.0 k) (me.0.log ++ does u n) list, [])), refl, told.1, goes)))
+-- the same of the keeper's, which finds in its log what the note told
+pub needs_hearing : (a b : Named) (s t : Seated KeeperView) (size slots id : ℕ) (y : Settings) (me : Me ℕ Logged) (i : ℕ) (f g : ℕ → ℕ) (does : KeeperView → ℕ → List LogItem)
+    (tells : KeeperView → ℕ → KeeperView → Type 0)
+    → a ≡ b → (a.settings ≡ y) × (size ≡ words_of a.settings) × (slots ≡ 0) → s ≡ t → s.view ≡ keeper_of me.0.view → me ≡ (record me.0 { view = Keeper (keeper_of me.0.view) }, [])
+    → t.table ≡ b.table → i < words_of b.settings → ((n : ℕ) → AreBy the_keeper (does t.view (g n))) → ((n : ℕ) → HasNone is_hear (does t.view (g n)))
+    → KeeperMay b.settings t.view i f (λ n. does t.view (g n)) (λ k n. tells k (g n))
+    → (s.table ≡ a.table) × (i < size) × Allows (LoggedRuled y) slots id me i f (λ n. heard_by_keeper does tells any_step me (g n))
+needs_hearing a b s t size slots id y me i f g does tells words inside seat view_is is table place own quiet may =
+    needed Keeper keeper_of a b s t size slots id y me i f g does tells (λ n. heard_by_keeper does tells any_step me (g n)) words inside seat view_is is table place tt own quiet may
+    (λ r ruled at n l told. (
+      told,
+      own_log y (keeper_of me.0.view) me.0 r ruled id
+          (subst (λ (v : View). get_elem? r.views id ≡ some (record me.0 { view = v })) (ap (λ (m : Me ℕ Logged). m.0.view) is) at),
+    ))
 
 -- Loads that hear
 
@@ -121,15 +126,3 @@ allows_note_hearing z y x slots id me i tells st same view is may =
         let d = logged_heard y (record l { view = Keeper u }) i (λ n. n) (λ n w. (w ≡ Keeper (keeper_of w)) × tells u (keeper_of w)) tt refl may s r id at fits in
         let after = l.log ++ heard_from None l.teller in
         (moved l d.0 after d.1, keeps, tt, d.2, ((λ k. (moved l (d.3.0 k) after d.1, [])), refl, d.3.1, own_log y u l s r id at, d.4))
-
-pub allows_keeper_hearing : (z y : Settings) (x : KeeperView) (slots id : ℕ) (me : Me ℕ Logged) (i : ℕ) (f : ℕ → ℕ) (does : KeeperView → ℕ → List LogItem)
-    (tells : KeeperView → ℕ → KeeperView → Type 0) (st : Step ℕ)
-    → z ≡ y → x ≡ keeper_of me.0.view → me ≡ (record me.0 { view = Keeper (keeper_of me.0.view) }, []) → ((n : ℕ) → AreBy the_keeper (does x n)) → KeeperMay z x i f (does x) tells
-    → Allows (LoggedRuled y) slots id me i f (heard_by_keeper does tells st me)
-allows_keeper_hearing z y x slots id me i f does tells st same view is own may =
-    let u = keeper_of me.0.view in
-    let by : (n : ℕ) → AreBy the_keeper (does u n) = subst (λ (y : KeeperView). (n : ℕ) → AreBy the_keeper (does y n)) view own in
-    subst (λ (m : Me ℕ Logged). Allows (LoggedRuled y) slots id m i f (heard_by_keeper does tells st m)) (sym is)
-    (allowed y (record me.0 { view = Keeper u }) slots id i f (does u) (λ n w. (w ≡ Keeper (keeper_of w)) × tells u n (keeper_of w))
-    (heard_by_keeper does tells st) tt by (λ n. deaf the_keeper (does u n) refl (by n)) (subst (λ (p : Settings × KeeperView). KeeperMay p.0 p.1 i f (does p.1) tells) (λ k. (same k, view k)) may)
-    (λ s r n w list at told goes. (told_keeper does tells st u me.0 n w list told goes, own_log y u me.0 s r id at)))

@@ -1,9 +1,9 @@
 -- What seats know of their own sections and of the keeper's log: what is done on other seats' part, and what is no enter, exit or hear, leaves it.
-use Rattle.std.proofs.Common.{◌≡◌, ◌≢◌, ⊎_elim, ℕ, Bool, true, false, List, [], ◌∷◌, ◌++◌, Option, Some, refl, sym, ap, ◌∙◌, subst, append_assoc}
+use Rattle.std.proofs.Common.{◌≡◌, ◌≢◌, ⊎_elim, ℕ, Bool, true, false, List, [], ◌∷◌, ◌++◌, Option, refl, sym, ap, ◌∙◌, subst, append_assoc}
 use Rattle.std.proofs.lemmas.List.{append-nil}
 use mathlib.Core.List.{IsPrefix}
-use Rattle.cpu_words.specs.Types.{Event, Hear}
-use Rattle.cpu_words.specs.Common.{HasHeardAll, HasItsSections, HasNone, LogItem, Logged, Maker, Teller, has_heard_from, heard_from, is_border, is_hear, maker, part, the_cpu, AreBy}
+use Rattle.cpu_words.specs.Types.{Event}
+use Rattle.cpu_words.specs.Common.{HasHeardAll, HasItsSections, HasNone, LogItem, Logged, Teller, has_heard_from, heard_from, is_border, is_hear, part}
 use Rattle.cpu_words.proofs.logs.Loads.{no_place, part_same}
 use Rattle.cpu_words.proofs.logs.Parts.{by_seat, part_append}
 use Rattle.cpu_words.proofs.logs.Told.{no_act, same_act, same_acts, stands}
@@ -11,21 +11,6 @@ use Rattle.cpu_words.proofs.logs.Told.{no_act, same_act, same_acts, stands}
 pub none_more : (is : Event → Bool) (a b : List LogItem) → HasNone is a → HasNone is b → HasNone is (a ++ b)
 none_more is [] b first second = second
 none_more is (d ∷ a) b first second = (first.0, none_more is a b first.1 second)
-
--- Which seats' events are hears
-
-abbrev maker_is_cpu : Maker → Bool
-maker_is_cpu (the_cpu c) = true
-maker_is_cpu m = false
-
-hears_not : (e : Event) → maker_is_cpu (maker e) ≡ false → is_hear e ≡ false
-hears_not (Hear (Some c)) is = let q : true ≡ false = is in cc
-hears_not e is = refl
-
--- no one but a CPU hears so
-pub deaf : (m : Maker) (ds : List LogItem) → maker_is_cpu m ≡ false → AreBy m ds → HasNone is_hear ds
-deaf m [] is by = tt
-deaf m (d ∷ ds) is by = (hears_not d.event (ap maker_is_cpu by.0 ∙ is), deaf m ds is by.1)
 
 -- Where the items of a seat are
 

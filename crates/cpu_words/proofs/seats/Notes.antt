@@ -8,7 +8,7 @@ use Rattle.atomic_table.specs.Table.{Splits, Joins}
 use Rattle.atomic_table.proofs.Lists.{at_set}
 use Rattle.cpu_words.specs.Types.{Change, Settings, Event, Tell, Hear, Done, Rest}
 use Rattle.protocol.specs.Common.{State, seen_at, step}
-use Rattle.cpu_words.specs.Common.{CpuView, KeeperView, Logged, View, Keeper, Cpu, Note, Spent, KeeperOwn, own_of, cpu_view, keeper_own, keeper_view, depth_of, CpuShown, KeeperShown, Shown, cpu_of}
+use Rattle.cpu_words.specs.Common.{CpuView, KeeperView, Logged, View, Keeper, Cpu, Note, Spent, cpu_view, keeper_view, depth_of, CpuShown, KeeperShown, Shown, cpu_of}
 use Rattle.cpu_words.specs.Common.{keeper_of, note_of, Sits, reference_to, Good, by_number, did, log_item, log_of_events, Makes, SplitsBy, CpuMay, KeeperMay, SplitsOn, JoinsOn, the_cpu, who}
 use Rattle.cpu_words.specs.Common.{LoggedRuled, logged_after_split, known_log_of, whole_log, fresh, logged_with_note, spent_seat, tells_pass, tells_history, told_by_cpu, no_teller, IsIdle, as_before}
 use Rattle.cpu_words.specs.Common.{pass_told, history_told, with_note, keeper_with_note, beside_cpu, beside_keeper, HasHeard, KeeperHasHeard, CpuHears, section_of, head_word, index}
@@ -200,7 +200,7 @@ hear_may z x c id idle = subst (λ d. CpuMay z x (index z (section_of d)) (λ n.
     let seen = seen_of g x r.good had in
     let n = length g.history in
     let l : CpuLists = record (lists_of g) { seen = set g.seen x.id n } in
-    let y = cpu_view (with_lists g l) x.id (own_of x) in
+    let y = cpu_view (with_lists g l) x.id x in
     let sees : get_or l.seen x.id 0 ≡ n = get_or-set_same g.seen x.id n 0 seen.in_seen in
     let more : seen_at g x.id ≤ get_or l.seen x.id 0 = omega (arith, seen.within, sees) in
     let within : get_or l.seen x.id 0 ≤ n = omega (arith, sees) in
@@ -209,7 +209,7 @@ hear_may z x c id idle = subst (λ d. CpuMay z x (index z (section_of d)) (λ n.
     let leaves = same_counts g x.id l refl refl refl refl (λ d ne. refl) (λ d ne. refl) (λ d ne. refl) (λ d ne. get_or-set_other g.seen x.id d _ 0 ne) (λ d ne. refl) (λ d ne. refl) in
     let shown = shown_on g x l had refl refl refl (had.depth ∙ ap depth_of seen.begin) more within (found_on g x (get_or l.seen x.id 0) had more within) in
     let words = loads z s.words g (with_lists g l) (index z (section_of x.id)) r.words refl (λ q _. refl) in
-    let done = cpu_makes z s r i x (index z (section_of x.id)) (slice_index s.words (index z (section_of x.id))) l (Hear (Some x.id)) Done (own_of x) at made leaves (λ k. refl) refl shown words in
+    let done = cpu_makes z s r i x (index z (section_of x.id)) (slice_index s.words (index z (section_of x.id))) l (Hear (Some x.id)) Done x at made leaves (λ k. refl) refl shown words in
     let told : IsPrefix x.noted_pass y.pass = subst (IsPrefix x.noted_pass) (sym passes) had.noted_pass in
     let longer : IsPrefix x.pass y.pass = subst (λ p. IsPrefix p y.pass) (sym seen.pass) (prefix_longer g.history (seen_at g x.id) (get_or l.seen x.id 0) more within) in
     let change : y ≡ record x { pass = y.pass } = ap (λ (v : CpuView). record v { pass = y.pass }) (sym had.is) in
@@ -228,9 +228,8 @@ hear_keeper_may z k may s r i at fits =
     let seen = seen_by_keeper g k r.good had in
     let rest : g.due ≡ Rest = sym seen.due ∙ may in
     let l = keeper_lists g in
-    let own : KeeperOwn = keeper_own k in
     let made : step g (Hear None) ≡ Some (record { state = with_keeper g l; reply = Done }) = rw (rest) refl in
-    let shown : KeeperShown (with_keeper g l) (keeper_view (with_keeper g l) own) =
+    let shown : KeeperShown (with_keeper g l) (keeper_view (with_keeper g l) k) =
     record {
       is = refl;
       counts = had.counts;
@@ -243,9 +242,9 @@ hear_keeper_may z k may s r i at fits =
       honest = had.honest;
       noted_pass = had.noted_pass;
     } in
-    let done = keeper_makes z s r i k (index z head_word) (slice_index s.words (index z head_word)) l (Hear None) Done own at made (leaves_all g l refl refl refl refl (λ t d is. is))
+    let done = keeper_makes z s r i k (index z head_word) (slice_index s.words (index z head_word)) l (Hear None) Done k at made (leaves_all g l refl refl refl refl (λ t d is. is))
     (λ n. refl) refl shown (loads z s.words g (with_keeper g l) (index z head_word) r.words refl (λ q _. refl)) in
-    (Keeper (keeper_view (with_keeper g l) own), done.0, (refl, (done.1, (had.noted_pass, sym had.is))))
+    (Keeper (keeper_view (with_keeper g l) k), done.0, (refl, (done.1, (had.noted_pass, sym had.is))))
 
 -- as a note is laid beside it a view stays idle, and the load after it is the CPU's own
 

@@ -8,7 +8,7 @@ use Rattle.protocol.specs.Common.{State, begin_at, found_at, at_rest, step, Hold
 use Rattle.protocol.proofs.keeps.Keeping.{step_holds}
 use Rattle.cpu_words.specs.declared.view.InHand.TheVariants.{Empty as NoEntry}
 use Rattle.cpu_words.specs.Common.{CpuView, KeeperView, Logged, View, Keeper, Cpu, Reference, Note, Spent, Spot, section_of, passive_of, count_of, head_word, live_of, next_of, record_of, total_of, word_at}
-use Rattle.cpu_words.specs.Common.{SameHand, own_of, cpu_view, new_cpu, CpuShown, KeeperShown, Shown, cpu_of, keeper_of, Sits, ShowsViews, IsFresh, Good, did, SplitsBy, SplitsOn, MaySeat, one_seated}
+use Rattle.cpu_words.specs.Common.{SameHand, cpu_view, new_cpu, CpuShown, KeeperShown, Shown, cpu_of, keeper_of, Sits, ShowsViews, IsFresh, Good, did, SplitsBy, SplitsOn, MaySeat, one_seated}
 use Rattle.cpu_words.specs.Common.{with_cpu_seated, next_seat, the_cpu, LoggedRuled, logged_after_split, no_log, no_teller, fresh, seats_next}
 use Rattle.cpu_words.proofs.laws.Reaching.{more}
 use Rattle.cpu_words.proofs.logs.Seats.{tells_nothing, names_nobody, seat_cut}
@@ -61,7 +61,7 @@ found_none g c (Some e) holds outside is =
     cc
 
 -- the view of a CPU that has made no step
-new_is : (g : State) (c : ℕ) → Good g → g.seated ≤ c → IsFresh g c → new_cpu g.settings c ≡ cpu_view g c (own_of (new_cpu g.settings c))
+new_is : (g : State) (c : ℕ) → Good g → g.seated ≤ c → IsFresh g c → new_cpu g.settings c ≡ cpu_view g c ((new_cpu g.settings c))
 new_is g c good unseated fresh n =
     let outside = good.holds.seats.outside c unseated in record (new_cpu g.settings c) {
       section = sym fresh.section n;

@@ -8,7 +8,7 @@ ghost use Rattle.cpu_words.specs.Rule.{did};
 ghost use Rattle.cpu_words.specs.Keeping.{MayKeep, keeper_after_keep};
 
 use crate::law::Words;
-use crate::seat::{KeeperSeat, ReferenceSeat};
+use crate::seat::{KeeperSeat, MustJoin, ReferenceSeat};
 use crate::view::Logged;
 use atomic_table::Join;
 use std::marker::{Brand, PhantomData};
@@ -54,7 +54,10 @@ pub(crate) fn join<S: KeepingSlot>(
 {
     // The contract alone speaks of the slot.
     let _slot = slot;
-    let ReferenceSeat { token } = reference;
+    let ReferenceSeat {
+        token,
+        end: MustJoin,
+    } = reference;
     words
         .table
         .shared

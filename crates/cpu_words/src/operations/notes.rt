@@ -1,22 +1,19 @@
 //! How a note is cut off a seat that has seen something, and laid beside the view of a seat that is to hear it.
 
-ghost use Rattle.std.specs.Prelude.{◌≡◌, ℕ, ◌<◌, ◌++◌, Some, None};
-ghost use Rattle.cpu_words.specs.Spots.{words_of};
+ghost use Rattle.std.specs.Prelude.{◌≡◌, ◌<◌, ◌++◌, Some, None};
 ghost use Rattle.cpu_words.specs.declared.view.View.TheVariants.{Cpu};
 ghost use Rattle.cpu_words.specs.Types.{Rest};
 ghost use Rattle.cpu_words.specs.KeeperLog.{KnownLogGrows, heard_from, IsOwnLog, IsShownAfter};
 ghost use Rattle.cpu_words.specs.Acts.{ListGoesOn};
-ghost use Rattle.cpu_words.specs.Logs.{the_keeper, AreBy};
 ghost use Rattle.cpu_words.specs.Notes.{with_note, keeper_with_note, CpuHears, KeeperHears};
 ghost use Rattle.cpu_words.specs.Sections.{IsIdle};
-ghost use Rattle.cpu_words.specs.Steps.{KeeperMay, SeatGoesOn};
+ghost use Rattle.cpu_words.specs.Steps.{SeatGoesOn};
 
-use crate::law::{CpuHearing, KeeperHearing, KeeperTale, NoteHearing, Words};
+use crate::law::{CpuHearing, NoteHearing, Words};
 use crate::layout::{HEAD, section_place};
 use crate::seat::{CpuSeat, KeeperSeat, NoteSeat};
 use crate::view::Logged;
 use atomic_table::{Join, Split};
-use protocol::Event;
 
 /// A note of a CPU's pass, or to a CPU.
 pub(crate) struct CpuNote;
@@ -69,7 +66,7 @@ pub(crate) fn lay(words: &Words, seat: &mut CpuSeat, note: NoteSeat)
     ensures known_log { (seat.new.known_log ≡ seat.old.known_log) × (seat.new.noted_log ≡ note.known_log) × (seat.new.teller ≡ note.teller) }
     ensures list { seat.new.list ≡ seat.old.list }
 {
-    let NoteSeat { token } = note;
+    let NoteSeat { token, end: _ } = note;
     words
         .table
         .shared
@@ -85,7 +82,7 @@ pub(crate) fn lay_by_keeper(words: &Words, keeper: &mut KeeperSeat, note: NoteSe
     ensures known_log { (keeper.new.noted_log ≡ note.known_log) × (keeper.new.teller ≡ note.teller) }
     ensures list { keeper.new.list ≡ keeper.old.list }
 {
-    let NoteSeat { token } = note;
+    let NoteSeat { token, end: _ } = note;
     words
         .table
         .shared
@@ -122,27 +119,4 @@ pub(crate) fn hear_noted(words: &Words, keeper: &mut KeeperSeat)
         .table
         .shared
         .load::<NoteHearing>(&mut keeper.token, HEAD);
-}
-
-/// A load of the keeper's that finds in its log what the note beside its view told.
-pub(crate) fn listen_by_keeper<T: KeeperTale>(
-    words: &Words,
-    keeper: &mut KeeperSeat,
-    word: usize,
-    event: Event,
-) -> u64
-    requires table { keeper.old.table ≡ words.now.table }
-    requires place { word < words_of words.now.settings }
-    requires own { (n : ℕ) → AreBy the_keeper (T.does keeper.old.view n) }
-    requires may { KeeperMay words.now.settings keeper.old.view word (λ n. n) (T.does keeper.old.view) T.tells }
-    ensures step { SeatGoesOn (T.does keeper.old.view result) keeper.old keeper.new }
-    ensures told { T.tells keeper.old.view result keeper.new.view }
-    ensures own_log { IsOwnLog keeper.old.log keeper.old.noted_log keeper.old.view }
-{
-    // The contract alone speaks of the event.
-    let _event = event;
-    words
-        .table
-        .shared
-        .load::<KeeperHearing<T>>(&mut keeper.token, word)
 }

@@ -12,9 +12,9 @@ ghost use Rattle.cpu_words.specs.Draining.{MayPassiveLook, HasLookedPassive, May
 
 use crate::law::Words;
 use crate::layout::{count_place, passive_place, total_place};
-use crate::operations::by_keeper;
 use crate::operations::given_up::GivenUp;
-use crate::seat::{KeeperSeat, ReferenceSeat};
+use crate::operations::{by_seat, hearing};
+use crate::seat::{KeeperSeat, MustJoin, ReferenceSeat};
 use protocol::Event;
 use std::marker::Brand;
 
@@ -28,7 +28,7 @@ pub fn passive_look(words: &Words, keeper: &mut KeeperSeat, slot: u8, cpu: u8) -
     ensures step { SeatMakes Keeper (PassiveLook slot cpu) (Word result) keeper.old keeper.new }
     ensures change { HasLookedPassive keeper.old.view slot cpu result keeper.new.view }
 {
-    by_keeper::load::<Brand>(
+    by_seat::load::<_, Brand>(
         words,
         keeper,
         passive_place(words, cpu, slot),
@@ -47,7 +47,7 @@ pub fn collect(words: &Words, keeper: &mut KeeperSeat, slot: u8, cpu: u8) -> u64
     ensures step { SeatMakes Keeper (Collect slot cpu) (Word result) keeper.old keeper.new }
     ensures change { HasCollected keeper.old.view slot cpu result keeper.new.view }
 {
-    by_keeper::swap::<Brand>(
+    by_seat::swap::<_, Brand>(
         words,
         keeper,
         count_place(words, cpu, slot),
@@ -66,7 +66,7 @@ pub fn total_add(words: &Words, keeper: &mut KeeperSeat, slot: u8, total: u64)
     ensures step { SeatMakes Keeper (TotalAdd slot) Done keeper.old keeper.new }
     ensures change { HasAdded keeper.old.view slot total keeper.new.view }
 {
-    by_keeper::store::<Brand>(
+    hearing::store::<Brand>(
         words,
         keeper,
         total_place(slot),
@@ -84,7 +84,7 @@ pub fn total_sub(words: &Words, keeper: &mut KeeperSeat, slot: u8)
     ensures step { SeatMakes Keeper (TotalSub slot) Done keeper.old keeper.new }
     ensures change { HasSubtracted keeper.old.view slot keeper.new.view }
 {
-    by_keeper::subtract::<Brand>(words, keeper, total_place(slot), 1, Event::TotalSub(slot));
+    hearing::subtract::<Brand>(words, keeper, total_place(slot), 1, Event::TotalSub(slot));
 }
 
 /// Gives a local reference up by taking it in: its seat is spent, it counts as given up, by its entry's number, from here on, and it is
@@ -98,7 +98,10 @@ pub fn join_keeper(words: &Words, keeper: &mut KeeperSeat, reference: ReferenceS
     ensures event { JoinsBy JoinKeeper (Keeper keeper.old.view) (Reference reference.view) (Keeper keeper.new.view) }
     ensures change { keeper.new.view ≡ keeper_after_join keeper.old.view reference.view }
 {
-    let ReferenceSeat { token } = reference;
+    let ReferenceSeat {
+        token,
+        end: MustJoin,
+    } = reference;
     words
         .table
         .shared
@@ -117,7 +120,7 @@ pub fn kept_sub(words: &Words, keeper: &mut KeeperSeat, slot: u8, driver_slot: u
     ensures change { HasKeptSub keeper.old.view slot driver_slot keeper.new.view }
     ensures freed { (e : Entry) → slot_at keeper.old.view.slots slot ≡ Retired e → IsFreedFrom slot e.number keeper.new.log }
 {
-    by_keeper::subtract::<Brand>(
+    hearing::subtract::<Brand>(
         words,
         keeper,
         total_place(driver_slot),

@@ -8,7 +8,7 @@ ghost use Rattle.cpu_words.specs.Grace.{MayGlance, MayLook, MaySnapshot, HasLook
 
 use crate::law::Words;
 use crate::layout::section_place;
-use crate::operations::by_keeper;
+use crate::operations::by_seat;
 use crate::seat::KeeperSeat;
 use protocol::Event;
 use std::marker::Brand;
@@ -24,7 +24,7 @@ pub fn look(words: &Words, keeper: &mut KeeperSeat, slot: u8, cpu: u8) -> u64
     ensures change { HasLooked keeper.old.view (Look (Some slot) cpu) (Word result) slot cpu result keeper.new.view }
 {
     let look = Event::Look(Some(slot), cpu);
-    by_keeper::load::<Brand>(words, keeper, section_place(words, cpu), look)
+    by_seat::load::<_, Brand>(words, keeper, section_place(words, cpu), look)
 }
 
 /// Looks at the section word of CPU `cpu` for no entry: the caller compares it with what `snapshot_now` answered. It is counted as a look.
@@ -37,7 +37,7 @@ pub fn look_now(words: &Words, keeper: &mut KeeperSeat, cpu: u8) -> u64
     ensures change { keeper.new.view ≡ keeper_after_look keeper.old.view (Look None cpu) (Word result) }
 {
     let glance = Event::Look(None, cpu);
-    by_keeper::load::<Brand>(words, keeper, section_place(words, cpu), glance)
+    by_seat::load::<_, Brand>(words, keeper, section_place(words, cpu), glance)
 }
 
 /// Takes the snapshot of CPU `cpu` for the entry in `slot`, which was just unlinked: its section word now.
@@ -50,7 +50,7 @@ pub fn snapshot(words: &Words, keeper: &mut KeeperSeat, slot: u8, cpu: u8) -> u6
     ensures change { HasSnapshot keeper.old.view slot cpu result keeper.new.view }
 {
     let event = Event::Snapshot(Some(slot), cpu);
-    by_keeper::load::<Brand>(words, keeper, section_place(words, cpu), event)
+    by_seat::load::<_, Brand>(words, keeper, section_place(words, cpu), event)
 }
 
 /// Takes a snapshot of CPU `cpu` for no entry: its section word now, as `perform` keeps it. It is counted as a look.
@@ -63,5 +63,5 @@ pub fn snapshot_now(words: &Words, keeper: &mut KeeperSeat, cpu: u8) -> u64
     ensures change { keeper.new.view ≡ keeper_after_look keeper.old.view (Snapshot None cpu) (Word result) }
 {
     let snapshot = Event::Snapshot(None, cpu);
-    by_keeper::load::<Brand>(words, keeper, section_place(words, cpu), snapshot)
+    by_seat::load::<_, Brand>(words, keeper, section_place(words, cpu), snapshot)
 }

@@ -9,7 +9,7 @@ ghost use Rattle.cpu_words.specs.Storing.{HasRecordWord, HasCountWord, HasLink};
 
 use crate::law::Words;
 use crate::layout::{count_place, next_place, record_place};
-use crate::operations::by_keeper;
+use crate::operations::hearing;
 use crate::seat::KeeperSeat;
 use protocol::Event;
 use registry_values::MOST_CPUS;
@@ -26,7 +26,7 @@ pub fn store_record(words: &Words, keeper: &mut KeeperSeat, slot: u8, k: u8, val
 {
     let place = record_place(slot as usize, k);
     let event = Event::StoreSlot(slot, k, value);
-    by_keeper::store::<Brand>(words, keeper, place, value, event);
+    hearing::store::<Brand>(words, keeper, place, value, event);
 }
 
 /// Stores the count word of CPU `cpu` for `slot`. Condition: as for `store_record`.
@@ -39,7 +39,7 @@ pub fn store_count(words: &Words, keeper: &mut KeeperSeat, slot: u8, cpu: u8, va
 {
     let place = count_place(words, cpu, slot);
     let event = Event::StoreSlot(slot, 5 + cpu, value);
-    by_keeper::store::<Brand>(words, keeper, place, value, event);
+    hearing::store::<Brand>(words, keeper, place, value, event);
 }
 
 /// Stores the link of `slot`: 0 for the end, else a slot plus 1. Condition: as for `store_record`, and the link is to a slot of the table.
@@ -52,5 +52,5 @@ pub fn store_next(words: &Words, keeper: &mut KeeperSeat, slot: u8, link: u64)
     ensures change { HasLink keeper.old.view slot link keeper.new.view }
 {
     let place = next_place(slot);
-    by_keeper::store::<Brand>(words, keeper, place, link, Event::StoreNext(slot, link));
+    hearing::store::<Brand>(words, keeper, place, link, Event::StoreNext(slot, link));
 }

@@ -12,9 +12,9 @@ ghost use Rattle.cpu_words.specs.Locals.{down_reply, IsTaking, IsBack, IsNetCoun
 
 use crate::law::Words;
 use crate::layout::count_place;
-use crate::operations::by_cpu;
+use crate::operations::by_seat;
 use crate::operations::in_hand::InHandReference;
-use crate::seat::{CpuSeat, ReferenceSeat};
+use crate::seat::{CpuSeat, MustJoin, ReferenceSeat};
 use protocol::Event;
 use std::marker::Brand;
 
@@ -36,7 +36,7 @@ pub fn count_add(words: &Words, seat: &mut CpuSeat, cpu: u8, slot: u8, number: u
     // The contract alone speaks of the entry's number.
     let _number = number;
     let word = count_place(words, cpu, slot);
-    by_cpu::add::<Brand>(words, seat, word, 1, Event::CountAdd(cpu))
+    by_seat::add::<_, Brand>(words, seat, word, 1, Event::CountAdd(cpu))
 }
 
 /// The reference that CPU `cpu` has just counted leaves its hand and gets a seat of its own.
@@ -57,6 +57,7 @@ pub fn split_ref(words: &Words, seat: &mut CpuSeat, cpu: u8) -> ReferenceSeat
             .table
             .shared
             .split_seat::<InHandReference>(&mut seat.token),
+        end: MustJoin,
     }
 }
 
@@ -78,6 +79,7 @@ pub fn split_back(words: &Words, seat: &mut CpuSeat, cpu: u8) -> ReferenceSeat
             .table
             .shared
             .split_seat::<InHandReference>(&mut seat.token),
+        end: MustJoin,
     }
 }
 
@@ -92,7 +94,10 @@ pub fn join_ref(words: &Words, seat: &mut CpuSeat, cpu: u8, reference: Reference
 {
     // The contract alone speaks of the CPU's number.
     let _cpu = cpu;
-    let ReferenceSeat { token } = reference;
+    let ReferenceSeat {
+        token,
+        end: MustJoin,
+    } = reference;
     words
         .table
         .shared
@@ -125,7 +130,7 @@ pub fn count_down(
 {
     // The contract alone speaks of the entry's number.
     let _number = number;
-    by_cpu::compare_exchange::<Brand>(
+    by_seat::compare_exchange::<_, Brand>(
         words,
         seat,
         count_place(words, cpu, slot),

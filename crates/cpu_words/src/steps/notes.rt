@@ -16,7 +16,7 @@ ghost use Rattle.cpu_words.specs.Logs.{teller_of};
 use crate::law::Words;
 use crate::operations::notes;
 use crate::operations::notes::{CpuNote, KeeperNote};
-use crate::seat::{CpuSeat, KeeperSeat, NoteSeat};
+use crate::seat::{CpuSeat, KeeperSeat, MayDrop, NoteSeat};
 
 /// CPU `cpu` tells what it has seen: the note has its pass, and what it has heard of the keeper's log, and names the CPU as its teller, with
 /// how many events it has made, this one among them. Condition: the seat is that CPU's, and idle.
@@ -36,6 +36,7 @@ pub fn tell(words: &Words, seat: &mut CpuSeat, cpu: u8) -> NoteSeat
     let _cpu = cpu;
     NoteSeat {
         token: words.table.shared.split_seat::<CpuNote>(&mut seat.token),
+        end: MayDrop,
     }
 }
 
@@ -56,6 +57,7 @@ pub fn tell_keeper(words: &Words, keeper: &mut KeeperSeat) -> NoteSeat
             .table
             .shared
             .split_seat::<KeeperNote>(&mut keeper.token),
+        end: MayDrop,
     }
 }
 

@@ -9,7 +9,7 @@ ghost use Rattle.cpu_words.specs.Passives.{MayAdd, MayUse, HasAdded, HasSubtract
 
 use crate::law::Words;
 use crate::layout::{passive_place, record_place};
-use crate::operations::by_cpu;
+use crate::operations::by_seat;
 use crate::seat::CpuSeat;
 use protocol::{Event, RecordOf};
 use registry_values::MOST_SLOTS;
@@ -31,7 +31,7 @@ pub fn passive_add(words: &Words, seat: &mut CpuSeat, cpu: u8, slot: u8, number:
     ensures alone { IsAloneAt seat.old.view slot number }
 {
     let word = passive_place(words, cpu, slot);
-    by_cpu::add::<Brand>(words, seat, word, 1, Event::PassiveAdd(cpu, number))
+    by_seat::add::<_, Brand>(words, seat, word, 1, Event::PassiveAdd(cpu, number))
 }
 
 /// CPU `cpu` gives up a passive reference to the entry `number` of slot `slot`, by one subtraction from its passive word for that slot.
@@ -48,7 +48,7 @@ pub fn passive_sub(words: &Words, seat: &mut CpuSeat, cpu: u8, slot: u8, number:
     ensures alone { IsAloneAt seat.old.view slot number }
 {
     let word = passive_place(words, cpu, slot);
-    by_cpu::subtract::<Brand>(words, seat, word, 1, Event::PassiveSub(cpu, number))
+    by_seat::subtract::<_, Brand>(words, seat, word, 1, Event::PassiveSub(cpu, number))
 }
 
 /// CPU `cpu` loads word `k` of the record of the entry `number` in slot `slot` by its passive reference: 0 is the number, 1 the kind,
@@ -68,5 +68,5 @@ pub fn load_passive(words: &Words, seat: &mut CpuSeat, cpu: u8, slot: u8, number
 {
     let word = record_place(slot as usize, k);
     let event = Event::LoadRecord(RecordOf::Passive(cpu, number, k));
-    by_cpu::load::<Brand>(words, seat, word, event)
+    by_seat::load::<_, Brand>(words, seat, word, event)
 }

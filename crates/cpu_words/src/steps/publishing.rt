@@ -12,7 +12,7 @@ ghost use Rattle.cpu_words.specs.Publishing.{MayPublish, HasPublished, MayUnpubl
 
 use crate::law::Words;
 use crate::layout::{HEAD, live_place, next_place};
-use crate::operations::by_keeper;
+use crate::operations::hearing;
 use crate::seat::KeeperSeat;
 use protocol::Event;
 use std::marker::Brand;
@@ -35,7 +35,7 @@ pub fn publish(words: &Words, keeper: &mut KeeperSeat, slot: u8)
         × HasPublished keeper.old.view slot e keeper.new.view }
     ensures attached { (d : ℕ) → kept_at keeper.old.view.keeps slot ≡ Some d → IsAttachedKeeping slot (suc (length keeper.old.view.history)) d keeper.new.log }
 {
-    by_keeper::store::<Brand>(words, keeper, HEAD, slot as u64 + 1, Event::Publish(slot));
+    hearing::store::<Brand>(words, keeper, HEAD, slot as u64 + 1, Event::Publish(slot));
 }
 
 /// Unpublishes the live entry in `slot`: the one link that leads to it is stored, and leads past it. The entry is retired, its own link
@@ -50,7 +50,7 @@ pub fn unpublish(words: &Words, keeper: &mut KeeperSeat, slot: u8, before: Optio
     ensures step { SeatMakes Keeper (Unpublish slot) Done keeper.old keeper.new }
     ensures change { HasUnpublished keeper.old.view slot before link keeper.new.view }
 {
-    by_keeper::store::<Brand>(
+    hearing::store::<Brand>(
         words,
         keeper,
         link_place(before),
@@ -68,7 +68,7 @@ pub fn show(words: &Words, keeper: &mut KeeperSeat, slot: u8, number: u64)
     ensures step { SeatMakes Keeper (Show slot) Done keeper.old keeper.new }
     ensures change { keeper.new.view ≡ keeper_after_live keeper.old.view slot number }
 {
-    by_keeper::store::<Brand>(words, keeper, live_place(slot), number, Event::Show(slot));
+    hearing::store::<Brand>(words, keeper, live_place(slot), number, Event::Show(slot));
 }
 
 /// Hides the entry in `slot`: stores 0 in the slot's live word.
@@ -80,7 +80,7 @@ pub fn hide(words: &Words, keeper: &mut KeeperSeat, slot: u8)
     ensures step { SeatMakes Keeper (Hide slot) Done keeper.old keeper.new }
     ensures change { keeper.new.view ≡ keeper_after_live keeper.old.view slot 0 }
 {
-    by_keeper::store::<Brand>(words, keeper, live_place(slot), 0, Event::Hide(slot));
+    hearing::store::<Brand>(words, keeper, live_place(slot), 0, Event::Hide(slot));
 }
 
 /// The place of the link of the slot before, or of the head.

@@ -10,7 +10,7 @@ ghost use Rattle.cpu_words.specs.Steps.{Makes, SeatGoesOn};
 
 use crate::law::Words;
 use crate::layout::record_place;
-use crate::operations::by_reference;
+use crate::operations::by_seat;
 use crate::seat::ReferenceSeat;
 use protocol::{Event, RecordOf};
 use std::marker::Brand;
@@ -31,5 +31,5 @@ pub fn load_local(words: &Words, seat: &mut ReferenceSeat, slot: u8, k: u8) -> u
 {
     let place = record_place(slot as usize, k);
     let event = Event::LoadRecord(RecordOf::Local(0, k));
-    by_reference::load::<Brand>(words, seat, place, event)
+    by_seat::load::<_, Brand>(words, seat, place, event)
 }

@@ -12,7 +12,7 @@ ghost use Rattle.cpu_words.specs.Tries.{event_by};
 
 use crate::law::Words;
 use crate::layout::{HEAD, live_place};
-use crate::operations::by_cpu;
+use crate::operations::by_seat;
 use crate::seat::CpuSeat;
 use protocol::Event;
 use std::marker::Brand;
@@ -28,7 +28,7 @@ pub fn recall(words: &Words, seat: &mut CpuSeat, cpu: u8, slot: u8) -> u64
     ensures change { HasRecalled seat.old.view slot result seat.new.view }
     ensures whole { HasWholePass seat.new.view }
 {
-    by_cpu::load::<Brand>(words, seat, live_place(slot), Event::Recall(cpu, slot))
+    by_seat::load::<_, Brand>(words, seat, live_place(slot), Event::Recall(cpu, slot))
 }
 
 /// CPU `cpu` loads the head of the list. Returns it: 0, or the slot of the newest entry that is live now, plus 1. Its pass is the whole history.
@@ -41,7 +41,7 @@ pub fn recall_head(words: &Words, seat: &mut CpuSeat, cpu: u8) -> u64
     ensures change { HasRecalledHead seat.old.view result seat.new.view }
     ensures whole { HasWholePass seat.new.view }
 {
-    by_cpu::load::<Brand>(words, seat, HEAD, Event::RecallHead(cpu))
+    by_seat::load::<_, Brand>(words, seat, HEAD, Event::RecallHead(cpu))
 }
 
 /// CPU `cpu` loads the live word of `slot`, and returns it. If it is `number`, that entry is live, and is the last found one, as after a
@@ -57,7 +57,7 @@ pub fn refind(words: &Words, seat: &mut CpuSeat, cpu: u8, slot: u8, number: u64)
     ensures other { result ≢ number → Makes (Recall cpu slot) (Word result) (Cpu seat.old.view) (Cpu seat.new.view) × HasRecalled seat.old.view slot result seat.new.view }
     ensures whole { HasWholePass seat.new.view }
 {
-    by_cpu::load_either::<Brand>(
+    by_seat::load_either::<_, Brand>(
         words,
         seat,
         live_place(slot),

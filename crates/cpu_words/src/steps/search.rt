@@ -11,7 +11,7 @@ ghost use Rattle.cpu_words.specs.Searching.{MaySeek, key_with, search_for, cpu_a
 
 use crate::law::Words;
 use crate::layout::{HEAD, linked_place, record_place};
-use crate::operations::by_cpu;
+use crate::operations::by_seat;
 use crate::seat::CpuSeat;
 use protocol::{Event, RecordOf};
 use registry_values::{Kind, MOST_SLOTS, Name};
@@ -28,7 +28,7 @@ pub fn seek(words: &Words, seat: &mut CpuSeat, cpu: u8, kind: Kind, name: Name) 
     ensures event { Makes (LoadLink cpu) (link_answer result) (Cpu (cpu_after_seek (key_with kind name) seat.old.view)) (Cpu seat.new.view) }
     ensures change { HasFollowed (cpu_after_seek (key_with kind name) seat.old.view) (search_for (key_with kind name) seat.old.view) result seat.new.view }
 {
-    by_cpu::load::<Brand>(words, seat, HEAD, Event::Seek(cpu, kind, name))
+    by_seat::load::<_, Brand>(words, seat, HEAD, Event::Seek(cpu, kind, name))
 }
 
 /// The search of CPU `cpu` loads the link of the slot that `link` led to, `link - 1`. Returns a slot plus 1, or 0 if no entry has the kind
@@ -43,7 +43,7 @@ pub fn load_link(words: &Words, seat: &mut CpuSeat, cpu: u8, link: u64) -> u64
     ensures step { SeatMakes Cpu (LoadLink cpu) (link_answer result) seat.old seat.new }
     ensures change { HasLoadedLink seat.old.view result seat.new.view }
 {
-    by_cpu::load::<Brand>(words, seat, linked_place(link), Event::LoadLink(cpu))
+    by_seat::load::<_, Brand>(words, seat, linked_place(link), Event::LoadLink(cpu))
 }
 
 /// The search of CPU `cpu` loads record word `k` of `slot`: 0 the number, 1 the kind, 2 and 3 the words of the name. If these are those
@@ -57,7 +57,7 @@ pub fn load_searched(words: &Words, seat: &mut CpuSeat, cpu: u8, slot: usize, k:
     ensures step { SeatMakes Cpu (LoadRecord (OfSearch cpu)) (loaded_answer (loaded_of seat.old.view.search result)) seat.old seat.new }
     ensures change { HasLoadedWord seat.old.view result seat.new.view }
 {
-    by_cpu::load::<Brand>(
+    by_seat::load::<_, Brand>(
         words,
         seat,
         record_place(slot, k),
@@ -79,5 +79,5 @@ pub fn load_compared(words: &Words, seat: &mut CpuSeat, cpu: u8, slot: usize) ->
 {
     let word = record_place(slot, 4);
     let event = Event::LoadRecord(RecordOf::Compared(cpu));
-    by_cpu::load::<Brand>(words, seat, word, event)
+    by_seat::load::<_, Brand>(words, seat, word, event)
 }

@@ -9,7 +9,7 @@ ghost use Rattle.cpu_words.specs.Opening.{MaySeat, cpu_seat};
 
 use crate::law::Words;
 use crate::operations::seats::NextSeat;
-use crate::seat::{CpuSeat, KeeperSeat};
+use crate::seat::{CpuSeat, KeeperSeat, MayDrop};
 
 /// The lowest-numbered CPU without a seat gets its seat, split from the keeper's.
 /// Condition: the keeper is at rest, and has given out fewer seats than the table has CPUs.
@@ -23,5 +23,6 @@ pub fn seat(words: &Words, keeper: &mut KeeperSeat) -> CpuSeat
 {
     CpuSeat {
         token: words.table.shared.split_seat::<NextSeat>(&mut keeper.token),
+        end: MayDrop,
     }
 }

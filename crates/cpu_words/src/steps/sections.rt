@@ -8,7 +8,7 @@ ghost use Rattle.cpu_words.specs.Sections.{MayEnter, HasEntered, MayExit, HasExi
 
 use crate::law::Words;
 use crate::layout::section_place;
-use crate::operations::by_cpu;
+use crate::operations::by_seat;
 use crate::seat::CpuSeat;
 use protocol::Event;
 use std::marker::Brand;
@@ -22,7 +22,7 @@ pub fn enter(words: &Words, seat: &mut CpuSeat, cpu: u8)
     ensures step { SeatMakes Cpu (Enter cpu) Done seat.old seat.new }
     ensures change { HasEntered seat.old.view seat.new.view }
 {
-    by_cpu::add::<Brand>(words, seat, section_place(words, cpu), 1, Event::Enter(cpu));
+    by_seat::add::<_, Brand>(words, seat, section_place(words, cpu), 1, Event::Enter(cpu));
 }
 
 /// CPU `cpu` ends its section: its section word becomes even, and what it had found is not its own any more.
@@ -34,5 +34,5 @@ pub fn exit(words: &Words, seat: &mut CpuSeat, cpu: u8)
     ensures step { SeatMakes Cpu (Exit cpu) Done seat.old seat.new }
     ensures change { HasExited seat.old.view seat.new.view }
 {
-    by_cpu::add::<Brand>(words, seat, section_place(words, cpu), 1, Event::Exit(cpu));
+    by_seat::add::<_, Brand>(words, seat, section_place(words, cpu), 1, Event::Exit(cpu));
 }

@@ -11,7 +11,7 @@ ghost use Rattle.cpu_words.specs.Tries.{event_by, HasConfirmed, HasTakenBack, Ha
 
 use crate::law::Words;
 use crate::layout::{live_place, passive_place};
-use crate::operations::by_cpu;
+use crate::operations::by_seat;
 use crate::seat::CpuSeat;
 use protocol::Event;
 use std::marker::Brand;
@@ -28,7 +28,7 @@ pub fn begin_try(words: &Words, seat: &mut CpuSeat, cpu: u8, slot: u8, number: u
     ensures change { HasTried seat.old.view number seat.new.view }
 {
     let word = passive_place(words, cpu, slot);
-    by_cpu::add::<Brand>(words, seat, word, 1, Event::Try(cpu, slot, number))
+    by_seat::add::<_, Brand>(words, seat, word, 1, Event::Try(cpu, slot, number))
 }
 
 /// CPU `cpu` loads the live word of `slot`, and returns it. If it is `number`, what the CPU counted up is a reference to that entry, which is
@@ -43,7 +43,7 @@ pub fn end_try(words: &Words, seat: &mut CpuSeat, cpu: u8, slot: u8, number: u64
     ensures confirmed { result ≡ number → Makes (Confirm cpu) (Word result) (Cpu seat.old.view) (Cpu seat.new.view) × HasConfirmed seat.old.view seat.new.view }
     ensures late { result ≢ number → Makes (Recall cpu slot) (Word result) (Cpu seat.old.view) (Cpu seat.new.view) × HasSeenMore seat.old.view seat.new.view }
 {
-    by_cpu::load_either::<Brand>(
+    by_seat::load_either::<_, Brand>(
         words,
         seat,
         live_place(slot),
@@ -64,5 +64,5 @@ pub fn take_back(words: &Words, seat: &mut CpuSeat, cpu: u8, slot: u8) -> u64
     ensures change { HasTakenBack seat.old.view seat.new.view }
 {
     let word = passive_place(words, cpu, slot);
-    by_cpu::subtract::<Brand>(words, seat, word, 1, Event::TakeBack(cpu))
+    by_seat::subtract::<_, Brand>(words, seat, word, 1, Event::TakeBack(cpu))
 }

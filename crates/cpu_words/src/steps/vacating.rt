@@ -11,7 +11,7 @@ ghost use Rattle.cpu_words.specs.Vacating.{MayVacate, keeper_after_vacate};
 
 use crate::law::Words;
 use crate::layout::HEAD;
-use crate::operations::notes;
+use crate::operations::hearing;
 use crate::seat::KeeperSeat;
 use protocol::Event;
 use std::marker::Brand;
@@ -28,5 +28,5 @@ pub fn vacate(words: &Words, keeper: &mut KeeperSeat, slot: u8)
     ensures change { keeper.new.view ≡ keeper_after_vacate keeper.old.view slot }
     ensures freed { (e : Entry) → slot_at keeper.old.view.slots slot ≡ Retired e → IsFreedFrom slot e.number keeper.new.log }
 {
-    notes::listen_by_keeper::<Brand>(words, keeper, HEAD, Event::Vacate(slot));
+    hearing::load::<Brand>(words, keeper, HEAD, Event::Vacate(slot));
 }

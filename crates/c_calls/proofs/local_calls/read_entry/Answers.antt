@@ -1,6 +1,6 @@
 -- The slot is that of the reference's entry.
 use Rattle.std.proofs.Common.{◌<◌, ap, arith}
-use Rattle.local_count.specs.References.{OnPlainRef}
+use Rattle.passive_list.specs.Common.{OnPlainRef}
 use Rattle.c_calls.proofs.local_calls.read_entry.Goals as goal
 
 pub load_local-high-requires-clause-place : goal.load_local-high-requires-clause-place

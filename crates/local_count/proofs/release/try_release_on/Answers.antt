@@ -3,9 +3,9 @@ use Rattle.std.proofs.Common.{◌<◌, ◌∙◌, ap, sym, subst, arith}
 use Rattle.cpu_words.proofs.shown.KeepersShown.{step_is_shown}
 use Rattle.passive_list.specs.Types.{Settings}
 use Rattle.passive_list.specs.declared.place.NumberedCount.{NumberedCount}
-use Rattle.passive_list.specs.Common.{OnPlainCpu}
+use Rattle.passive_list.specs.Common.{OnPlainCpu, OnPlainRef}
 use Rattle.passive_list.proofs.Agreeing.{own_agrees, place_is}
-use Rattle.local_count.specs.References.{OnPlainRef, net_by}
+use Rattle.local_count.specs.References.{net_by}
 use Rattle.local_count.proofs.Agreeing.{same_agrees, stored_agrees}
 use Rattle.local_count.proofs.Releasing.{released_agrees, come_back}
 use Rattle.local_count.proofs.release.try_release_on.Goals as goal

@@ -10,8 +10,5 @@ subtract-requires-clause-may c = rw c.total_place.ensures.place (kept_sub_may _ 
 pub returns-clause-change : goal.returns-clause-change
 returns-clause-change c = kept_sub_change _ _ _ _ c.requires.may c.subtract.ensures.told.1
 
-pub subtract-requires-clause-own : goal.subtract-requires-clause-own
-subtract-requires-clause-own c n = (refl, tt)
-
 pub returns-clause-freed : goal.returns-clause-freed
 returns-clause-freed c e at = freed_by c.args.slot c.args.keeper.now.log _ c.args.keeper.now.view e _ _ _ c.subtract.ensures.own_log at refl c.subtract.ensures.step.log

@@ -1,9 +1,5 @@
-use Rattle.std.proofs.Common.{refl}
 use Rattle.cpu_words.proofs.by_keeper.Draining.{passive_look_may}
 use Rattle.cpu_words.proofs.steps.drain.passive_look.Goals as goal
 
 pub load-requires-clause-may : goal.load-requires-clause-may
 load-requires-clause-may c = rw c.passive_place.ensures.place (passive_look_may _ _ _ _ c.requires.may)
-
-pub load-requires-clause-own : goal.load-requires-clause-own
-load-requires-clause-own c n = (refl, tt)

@@ -1,9 +1,5 @@
-use Rattle.std.proofs.Common.{refl}
 use Rattle.cpu_words.proofs.by_keeper.Grace.{snapshot_now_may}
 use Rattle.cpu_words.proofs.steps.grace.snapshot_now.Goals as goal
 
 pub load-requires-clause-may : goal.load-requires-clause-may
 load-requires-clause-may c = rw c.section_place.ensures.place (snapshot_now_may _ _ _ c.requires.may)
-
-pub load-requires-clause-own : goal.load-requires-clause-own
-load-requires-clause-own c n = (refl, tt)

@@ -1,7 +1,5 @@
 -- `count_add`: its clauses `change`, `word`, `room` and `alone`; what `add` requires.
-use Rattle.std.proofs.Common.{refl, sym, ap}
 use Rattle.cpu_words.proofs.by_cpu.Locals.{count_add_may}
-use Rattle.cpu_words.specs.Common.{the_cpu}
 use Rattle.cpu_words.proofs.steps.locals.count_add.Goals as goal
 
 pub add-requires-clause-may : goal.add-requires-clause-may
@@ -18,9 +16,3 @@ returns-clause-room c = (c.add.ensures.told.1 _ _ c.requires.may).2
 
 pub returns-clause-alone : goal.returns-clause-alone
 returns-clause-alone c = (c.add.ensures.told.1 _ _ c.requires.may).3
-
-pub add-requires-clause-own : goal.add-requires-clause-own
-add-requires-clause-own c n = (ap the_cpu (sym c.requires.cpu), tt)
-
-pub add-requires-clause-quiet : goal.add-requires-clause-quiet
-add-requires-clause-quiet c n = (refl, tt)

@@ -1,7 +1,6 @@
 -- `count_down`: its clauses `floor`, `net`, `alone`, `counted` and `collected`; what `compare_exchange` requires.
-use Rattle.std.proofs.Common.{refl, sym, ap}
+use Rattle.std.proofs.Common.{refl}
 use Rattle.cpu_words.proofs.by_cpu.Locals.{count_down_may}
-use Rattle.cpu_words.specs.Common.{the_cpu}
 use Rattle.cpu_words.proofs.steps.locals.count_down.Goals as goal
 
 pub compare_exchange-requires-clause-may : goal.compare_exchange-requires-clause-may
@@ -21,9 +20,3 @@ returns-clause-counted c = (c.compare_exchange.ensures.told _ _ c.requires.may).
 
 pub returns-clause-collected : goal.returns-clause-collected
 returns-clause-collected c = (c.compare_exchange.ensures.told _ _ c.requires.may).4
-
-pub compare_exchange-requires-clause-own : goal.compare_exchange-requires-clause-own
-compare_exchange-requires-clause-own c n = (ap the_cpu (sym c.requires.cpu), tt)
-
-pub compare_exchange-requires-clause-quiet : goal.compare_exchange-requires-clause-quiet
-compare_exchange-requires-clause-quiet c n = (refl, tt)

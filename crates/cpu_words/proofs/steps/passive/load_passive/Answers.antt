@@ -1,7 +1,6 @@
 -- `load_passive`: what it returns; what `load` requires.
-use Rattle.std.proofs.Common.{refl, sym, ap, rules}
+use Rattle.std.proofs.Common.{refl, rules}
 use Rattle.cpu_words.proofs.by_cpu.Passives.{load_may}
-use Rattle.cpu_words.specs.Common.{the_cpu}
 use Rattle.cpu_words.proofs.steps.passive.load_passive.Goals as goal
 
 pub load-requires-clause-may : goal.load-requires-clause-may
@@ -11,9 +10,3 @@ pub returns : goal.returns
 returns c =
     let told = c.load.ensures.told.2 c.args.cpu c.args.slot c.args.number c.args.k refl c.record_place-word.ensures.place in
     record { step = search rules; same = search rules; word = told.0; alone = told.1; name = told.2 }
-
-pub load-requires-clause-own : goal.load-requires-clause-own
-load-requires-clause-own c n = (ap the_cpu (sym c.requires.cpu.1), tt)
-
-pub load-requires-clause-quiet : goal.load-requires-clause-quiet
-load-requires-clause-quiet c n = (refl, tt)

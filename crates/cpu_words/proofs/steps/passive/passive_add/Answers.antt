@@ -1,7 +1,6 @@
 -- `passive_add`: what it returns; what `add` requires.
-use Rattle.std.proofs.Common.{refl, sym, ap, rules}
+use Rattle.std.proofs.Common.{refl, rules}
 use Rattle.cpu_words.proofs.by_cpu.Passives.{add_may}
-use Rattle.cpu_words.specs.Common.{the_cpu}
 use Rattle.cpu_words.proofs.steps.passive.passive_add.Goals as goal
 
 pub add-requires-clause-may : goal.add-requires-clause-may
@@ -11,9 +10,3 @@ pub returns : goal.returns
 returns c =
     let told = c.add.ensures.told.1 c.args.cpu c.args.slot c.args.number refl c.passive_place-word.ensures.place in
     record { step = search rules; change = told.0; slot = told.1; count = told.2; alone = told.3 }
-
-pub add-requires-clause-own : goal.add-requires-clause-own
-add-requires-clause-own c n = (ap the_cpu (sym c.requires.cpu.1), tt)
-
-pub add-requires-clause-quiet : goal.add-requires-clause-quiet
-add-requires-clause-quiet c n = (refl, tt)

@@ -1,7 +1,6 @@
 -- `passive_sub`: what it returns; what `subtract` requires.
-use Rattle.std.proofs.Common.{refl, sym, ap, rules}
+use Rattle.std.proofs.Common.{refl, rules}
 use Rattle.cpu_words.proofs.by_cpu.Passives.{sub_may}
-use Rattle.cpu_words.specs.Common.{the_cpu}
 use Rattle.cpu_words.proofs.steps.passive.passive_sub.Goals as goal
 
 pub subtract-requires-clause-may : goal.subtract-requires-clause-may
@@ -11,9 +10,3 @@ pub returns : goal.returns
 returns c =
     let told = c.subtract.ensures.told.1 c.args.cpu c.args.slot c.args.number refl c.passive_place-word.ensures.place in
     record { step = search rules; change = told.0; count = told.1; alone = told.2 }
-
-pub subtract-requires-clause-own : goal.subtract-requires-clause-own
-subtract-requires-clause-own c n = (ap the_cpu (sym c.requires.cpu.1), tt)
-
-pub subtract-requires-clause-quiet : goal.subtract-requires-clause-quiet
-subtract-requires-clause-quiet c n = (refl, tt)

@@ -1,9 +1,5 @@
-use Rattle.std.proofs.Common.{refl}
 use Rattle.cpu_words.proofs.by_keeper.LiveWords.{show_may}
 use Rattle.cpu_words.proofs.steps.publishing.show.Goals as goal
 
 pub store-requires-clause-may : goal.store-requires-clause-may
 store-requires-clause-may c = rw c.live_place.ensures.place (show_may _ _ _ _ c.requires.may)
-
-pub store-requires-clause-own : goal.store-requires-clause-own
-store-requires-clause-own c n = (refl, tt)

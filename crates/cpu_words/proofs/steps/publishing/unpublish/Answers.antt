@@ -1,9 +1,5 @@
-use Rattle.std.proofs.Common.{refl}
 use Rattle.cpu_words.proofs.by_keeper.Unpublishing.{unpublish_may}
 use Rattle.cpu_words.proofs.steps.publishing.unpublish.Goals as goal
 
 pub store-requires-clause-may : goal.store-requires-clause-may
 store-requires-clause-may c = unpublish_may _ _ _ _ _ _ c.link_place.ensures.place c.requires.may
-
-pub store-requires-clause-own : goal.store-requires-clause-own
-store-requires-clause-own c n = (refl, tt)

@@ -1,17 +1,9 @@
 -- `recall`: its clause `whole`; what `load` requires.
-use Rattle.std.proofs.Common.{refl, sym, ap}
 use Rattle.cpu_words.proofs.by_cpu.Recalling.{recall_may}
-use Rattle.cpu_words.specs.Common.{the_cpu}
 use Rattle.cpu_words.proofs.steps.recalls.recall.Goals as goal
 
 pub load-requires-clause-may : goal.load-requires-clause-may
 load-requires-clause-may c = rw c.live_place.ensures.place (recall_may _ _ _ _ c.requires.cpu.1 c.requires.may)
-
-pub load-requires-clause-own : goal.load-requires-clause-own
-load-requires-clause-own c n = (ap the_cpu (sym c.requires.cpu.1), tt)
-
-pub load-requires-clause-quiet : goal.load-requires-clause-quiet
-load-requires-clause-quiet c n = (refl, tt)
 
 pub returns-clause-change : goal.returns-clause-change
 returns-clause-change c = c.load.ensures.told.1.0

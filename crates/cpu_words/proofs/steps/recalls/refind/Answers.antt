@@ -1,15 +1,9 @@
 -- `refind`: its clauses `found`, `other` and `whole`; what `load_either` requires.
-use Rattle.cpu_words.proofs.by_cpu.Recalling.{refind_may, refind_is_own, refind_is_quiet}
+use Rattle.cpu_words.proofs.by_cpu.Recalling.{refind_may}
 use Rattle.cpu_words.proofs.steps.recalls.refind.Goals as goal
 
 pub load_either-requires-clause-may : goal.load_either-requires-clause-may
 load_either-requires-clause-may c = rw c.live_place.ensures.place (refind_may _ _ _ _ _ c.requires.cpu.1 c.requires.may)
-
-pub load_either-requires-clause-own : goal.load_either-requires-clause-own
-load_either-requires-clause-own c m = (refind_is_own c.args.seat.now.view _ _ _ m c.requires.cpu.1, tt)
-
-pub load_either-requires-clause-quiet : goal.load_either-requires-clause-quiet
-load_either-requires-clause-quiet c m = (refind_is_quiet _ _ _ m, tt)
 
 pub returns-clause-found : goal.returns-clause-found
 returns-clause-found c = c.load_either.ensures.told.0

@@ -1,15 +1,9 @@
 -- `end_try`: its clauses `confirmed` and `late`; what `load_either` requires.
-use Rattle.cpu_words.proofs.by_cpu.Trying.{end_try_may, end_is_own, end_is_quiet}
+use Rattle.cpu_words.proofs.by_cpu.Trying.{end_try_may}
 use Rattle.cpu_words.proofs.steps.tries.end_try.Goals as goal
 
 pub load_either-requires-clause-may : goal.load_either-requires-clause-may
 load_either-requires-clause-may c = rw c.live_place.ensures.place (end_try_may _ _ _ _ _ c.requires.cpu.1 c.requires.may)
-
-pub load_either-requires-clause-own : goal.load_either-requires-clause-own
-load_either-requires-clause-own c m = (end_is_own c.args.seat.now.view _ _ _ m c.requires.cpu.1, tt)
-
-pub load_either-requires-clause-quiet : goal.load_either-requires-clause-quiet
-load_either-requires-clause-quiet c m = (end_is_quiet _ _ _ m, tt)
 
 pub returns-clause-confirmed : goal.returns-clause-confirmed
 returns-clause-confirmed c = c.load_either.ensures.told.0

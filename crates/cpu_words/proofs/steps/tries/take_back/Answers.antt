@@ -1,14 +1,6 @@
 -- `take_back`: what `subtract` requires.
-use Rattle.std.proofs.Common.{refl, sym, ap}
 use Rattle.cpu_words.proofs.by_cpu.Trying.{back_may}
-use Rattle.cpu_words.specs.Common.{the_cpu}
 use Rattle.cpu_words.proofs.steps.tries.take_back.Goals as goal
 
 pub subtract-requires-clause-may : goal.subtract-requires-clause-may
 subtract-requires-clause-may c = rw c.passive_place-word.ensures.place (back_may _ _ _ _ c.requires.cpu.1 c.requires.may)
-
-pub subtract-requires-clause-own : goal.subtract-requires-clause-own
-subtract-requires-clause-own c n = (ap the_cpu (sym c.requires.cpu.1), tt)
-
-pub subtract-requires-clause-quiet : goal.subtract-requires-clause-quiet
-subtract-requires-clause-quiet c n = (refl, tt)

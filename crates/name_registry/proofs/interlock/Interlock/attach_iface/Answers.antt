@@ -2,8 +2,7 @@
 use Rattle.std.proofs.Common.{◌≡◌, Ok, Err, ap, sym, subst}
 use Rattle.name_registry.specs.Types.{Attach, ReferenceView}
 use Rattle.cpu_words.specs.Common.{IsAttachedKeeping}
-use Rattle.passive_list.specs.Common.{OnCpu, OnPlainCpu}
-use Rattle.local_count.specs.References.{OnPlainRef}
+use Rattle.passive_list.specs.Common.{OnCpu, OnPlainCpu, OnPlainRef}
 use Rattle.passive_list.proofs.Rows.{keeper_is}
 use Rattle.registry_values.specs.Common.{is_iface}
 use Rattle.name_registry.specs.Common.{HasAttachedIfaceFor, attach_iface_answer, IsAttachRefusal, is_inside}
