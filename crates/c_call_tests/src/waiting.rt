@@ -9,7 +9,7 @@ ghost use Rattle.passive_list.specs.Common.{OnPlainCpu};
 ghost use Rattle.name_registry.specs.Common.{HasSeenAllOut, KeepsWords, is_inside};
 ghost use Rattle.c_calls.specs.Audits.{AreAllOf};
 ghost use Rattle.c_calls.specs.Opening.{boxed, opened_cpu, opened_down};
-ghost use Rattle.c_calls.specs.Waits.{IsWaitedFor, KnowsAllOf};
+ghost use Rattle.c_calls.specs.KeeperCalls.{IsWaitedFor, KnowsAllOf};
 ghost use Rattle.c_call_tests.specs.Waits.{IsUnderWay};
 
 use c_calls::keeper_calls::{attach, detach};

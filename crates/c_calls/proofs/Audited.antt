@@ -1,24 +1,193 @@
--- The audit: one CPU more, one slot more, and the whole.
-use Rattle.std.proofs.Common.{◌≡◌, ◌≢◌, inl, inr, ⊎_elim, ℕ, zero, suc, ◌+◌, ◌^◌, ◌<◌, ◌≤◌, ℤ, ◌+ℤ◌, pos, neg_ℤ, ◌≤ℤ◌, List, [], ◌∷◌, ◌++◌, length, get_or, map, replicate, take, drop, set, Option}
-use Rattle.std.proofs.Common.{Some, None, refl, sym, ap, ◌∙◌, subst, arith, add-one, length-append, length-set}
+-- The audit: how it lets all know the same, one CPU and one slot more, the whole, and what it answers.
+use Rattle.std.proofs.Common.{◌≡◌, ◌≢◌, ℕ, ◌+◌, ◌<◌, ◌≤◌, List, length, Option, Some, None, sym, ap, ◌∙◌, subst, arith, ⊎_elim, true, [], ◌∷◌, refl, zero, suc, get_or, set, inl, inr, ◌^◌, ℤ, ◌+ℤ◌, pos, neg_ℤ, ◌≤ℤ◌, ◌++◌, map, replicate, take, drop, add-one, length-append, length-set}
+use Rattle.std.proofs.lemmas.Bool.{cases_lt, false≢true, cases_eq}
+use Rattle.std.proofs.lemmas.List.{length-map, drop-drop, drop-set-lt, get_or-set_other, get_or-set_same, map-append, map_more, take_more_set}
+use Rattle.std.proofs.lemmas.Option.{none-some}
 use Rattle.std.specs.List.{All}
-use Rattle.std.proofs.lemmas.Bool.{cases_lt}
 use Rattle.std.proofs.lemmas.Int.{ints}
-use Rattle.std.proofs.lemmas.List.{drop-drop, drop-set-lt, get_or-set_other, get_or-set_same, length-map, map-append, map_more, take_more_set}
 use Rattle.std.proofs.lemmas.List.Elements.{All-cons, All-head, All-nil, All-push, All-same, All-tail}
 use mathlib.Core.Logic.{dite}
 use native.Mathlib.Decide.{ℕ_discrete}
-use Rattle.c_calls.specs.Types.{Entry, Settings, Slot, Vacant, Live, Retired, MOST_CPUS}
-use Rattle.registry_values.specs.Common.{Tally, less_bias, sum_of, slot_at}
+use mathlib.Core.Option.{some}
+use lib.ListN.{get_elem?}
+use Rattle.atomic_table.specs.Seated.{TableId}
+use Rattle.c_calls.specs.Types.{MissingCpu, Settings, Change, LogItem, Entry, Slot, Vacant, Live, Retired, MOST_CPUS}
+use Rattle.registry_values.specs.Common.{number_of_refusal, Tally, less_bias, sum_of, slot_at}
 use Rattle.protocol.specs.Common.{IsIn, total_at}
-use Rattle.passive_list.specs.Common.{OnCpu, OnPlainCpu, OnKeeper}
+use Rattle.cpu_words.specs.Common.{Named}
+use Rattle.passive_list.specs.Common.{OnPlainCpu, OnKeeper, OnPlainKeeper, OnCpu}
 use Rattle.name_registry.specs.Common.{AreAllCpus, AreAlike, HasListened, IsKeeperOf, IsTallied, each_at, listed_at, local_met, locals_met, places_below, tallies_met, tally_met, tally_of}
+use Rattle.name_registry.proofs.Gathered.{Gathered, gathered_learned, gathered_more, learned_none, tallies_learned}
 use Rattle.name_registry.proofs.Audits.{cpu_at, each_all, each_more, each_none, each_same, tally_is}
-use Rattle.name_registry.proofs.Gathered.{tallies_learned}
 use Rattle.name_registry.proofs.Tallies.{alike_held, alike_tally}
+use Rattle.c_handles.specs.Heap.{is_nothing}
 use Rattle.c_handles.specs.declared.values.plain.CBalance.{CBalance}
-use Rattle.c_calls.specs.Audits.{AreAllHere, AreTold, AuditWrites, HaveHeard, IsCut, WritesNext, cpu_in, cpus_in, entries_in, occupied, tally_in}
-use Rattle.c_calls.specs.Opening.{body_at}
+use Rattle.c_handles.specs.declared.values.plain.TheConstants.{DONE, NO_ROOM}
+use Rattle.c_handles.specs.values.Places.{put}
+use Rattle.c_handles.specs.declared.handle.CpuHandle.{CpuHandle}
+use Rattle.c_calls.specs.Opening.{body_at, bodies_of}
+use Rattle.c_calls.specs.Audits.{AreAllHere, AuditWrites, Audits, AuditsBodies, AuditsList, occupied, HaveHeard, PassesOn, cpu_in, cpus_in, AreTold, IsCut, WritesNext, entries_in, tally_in}
+use Rattle.c_calls.proofs.Handles.{none_past, body_is, count_bodies, others_stay}
+
+-- The CPUs of an audit, one at a time.
+
+-- the handle c has the CPU c
+abbrev pub IsHere : List (Option OnPlainCpu) → ℕ → Type 0
+IsHere cs c = (b : OnPlainCpu) × (body_at cs c ≡ Some b) × (b.cpu.view.id ≡ c)
+
+pub here_more : (cs : List (Option OnPlainCpu)) (c : ℕ) → ((k : ℕ) → k < c → IsHere cs k) → IsHere cs c → (k : ℕ) → k < c + 1 → IsHere cs k
+here_more cs c before here k lt = dite (ℕ_discrete k c)
+    (λ (same : k ≡ c). subst (IsHere cs) (sym same) here)
+    (λ (off : k ≢ c). before k (omega (arith, lt, off)))
+
+-- one more is empty
+pub none_more : (cs : List (Option OnPlainCpu)) (c : ℕ) → ((k : ℕ) → k < c → body_at cs k ≡ None) → body_at cs c ≡ None → (k : ℕ) → k < c + 1 → body_at cs k ≡ None
+none_more cs c before here k lt = dite (ℕ_discrete k c)
+    (λ (same : k ≡ c). ap (body_at cs) same ∙ here)
+    (λ (off : k ≢ c). before k (omega (arith, lt, off)))
+
+-- all are, those past the last too
+pub all_none : (cs : List (Option OnPlainCpu)) (n : ℕ) → length cs ≤ n → ((k : ℕ) → k < n → body_at cs k ≡ None) → (k : ℕ) → body_at cs k ≡ None
+all_none cs n past each k = ⊎_elim (λ (lt : k < n). each k lt) (λ (ge : n ≤ k). none_past cs k (omega (arith, past, ge))) (cases_lt k n)
+
+-- What an audit answers, by the test that it came to.
+
+module _ (z : Settings) (k : OnKeeper) (cs : List (Option OnPlainCpu)) (old new : List CBalance) (count count' : Option ℕ) where
+  pub missing_cpu : (AreAllHere z.cpus cs → ⊥) → new ≡ old → count' ≡ count → Audits z k cs (number_of_refusal MissingCpu) old new count count'
+  missing_cpu missing same left = record {
+    missing = λ _. (refl, same, left);
+    short = λ all _. absurd (missing all);
+    enough = λ all _. absurd (missing all);
+  }
+
+  pub no_room : AreAllHere z.cpus cs → length old < occupied k z.slots → new ≡ old → count' ≡ put count (occupied k z.slots) → Audits z k cs NO_ROOM old new count count'
+  no_room all short same counted = record {
+    missing = λ missing. absurd (missing all);
+    short = λ _ _. (refl, same, counted);
+    enough = λ _ room. absurd (omega (arith, short, room));
+  }
+
+  pub audited : AreAllHere z.cpus cs → occupied k z.slots ≤ length old → AuditWrites z k cs old new → count' ≡ put count (occupied k z.slots) → Audits z k cs DONE old new count count'
+  audited all room writes counted = record {
+    missing = λ missing. absurd (missing all);
+    short = λ _ short. absurd (omega (arith, short, room));
+    enough = λ _ _. (refl, writes, counted);
+  }
+
+-- at null there is no list, and what is asked for has no length
+pub without_list : (a b : OnPlainKeeper) (n : ℕ) (cs cs' : List (Option OnPlainCpu)) (room : ℕ) (list list' : Option (List CBalance)) (new : List CBalance) (count count' : Option ℕ)
+    → is_nothing list ≡ true → list' ≡ list → room ≡ 0 → length new ≡ 0
+    → AuditsBodies a b cs cs' n [] new count count' → AuditsList a b n cs cs' room list list' count count'
+without_list a b n cs cs' room (Some l) list' new count count' null same none size made = absurd (false≢true null)
+without_list a b n cs cs' room None list' (x ∷ new) count count' null same none size made = absurd (omega (arith, size))
+without_list a b n cs cs' room None list' [] count count' null same none size made = (same, λ some. absurd (some none), λ _. made)
+
+-- How an audit lets all know the same of the keeper's log, through the handles.
+
+-- behind each handle stands a CPU of the same table
+abbrev pub SameBehind : List (Option OnPlainCpu) → List (Option OnPlainCpu) → Type 0
+SameBehind cs ds = (c : ℕ) (b : OnPlainCpu) → body_at cs c ≡ Some b → (a : OnPlainCpu) × (body_at ds c ≡ Some a) × (a.words ≡ b.words)
+
+at_behind : (cs : List (Option OnPlainCpu)) (c : ℕ) (b : OnPlainCpu) → body_at cs c ≡ Some b → get_elem? (cpus_in cs) c ≡ some b.cpu
+at_behind [] c b at = absurd (none-some b at)
+at_behind (o ∷ cs) zero b at = ap (λ (x : Option OnPlainCpu). some (cpu_in x)) at
+at_behind (o ∷ cs) (suc c) b at = at_behind cs c b at
+
+cpus_set : (hs : List CpuHandle) (c : ℕ) (h : CpuHandle) (b : OnPlainCpu) → h.body ≡ Some b → cpus_in (bodies_of (set hs c h)) ≡ set (cpus_in (bodies_of hs)) c b.cpu
+cpus_set [] c h b is = refl
+cpus_set (g ∷ hs) zero h b is = λ i. cpu_in (is i) ∷ cpus_in (bodies_of hs)
+cpus_set (g ∷ hs) (suc c) h b is = let rest = cpus_set hs c h b is in λ i. cpu_in g.body ∷ rest i
+
+body_set : (hs : List CpuHandle) (c : ℕ) (h : CpuHandle) → c < length hs → body_at (bodies_of (set hs c h)) c ≡ h.body
+body_set [] c h lt = absurd (omega (arith, lt))
+body_set (g ∷ hs) zero h lt = refl
+body_set (g ∷ hs) (suc c) h lt = body_set hs c h (omega (arith, lt))
+
+-- what passes it on, for any body of the handle
+abbrev pub PassesAt : CpuHandle → CpuHandle → List Change → List LogItem → TableId → List LogItem → Type 0
+PassesAt h after note known_log table told = (b : OnPlainCpu) → h.body ≡ Some b → PassesOn b after.body note known_log table told
+
+pub behind_more : (cs : List (Option OnPlainCpu)) (hs : List CpuHandle) (n : ℕ) (d h : CpuHandle) (note : List Change) (known_log : List LogItem) (table : TableId) (told : List LogItem)
+    → n < length hs → PassesAt (get_or hs n d) h note known_log table told
+    → SameBehind cs (bodies_of hs) → SameBehind cs (bodies_of (set hs n h))
+behind_more cs hs n d h note known_log table told lt passes same c b at = ⊎_elim
+    (λ (here : c ≡ n).
+    let was = same n b (ap (body_at cs) (sym here) ∙ at) in
+    let p = passes was.0 (sym (body_is hs n d lt) ∙ was.1) in
+    (p.body, ap (body_at (bodies_of (set hs n h))) here ∙ (body_set hs n h lt ∙ p.is), p.words ∙ was.2))
+    (λ (off : c ≡ n → ⊥).
+    let was = same c b at in
+    (was.0, others_stay hs n c h off ∙ was.1, was.2))
+    (cases_eq c n)
+
+pub gathered_next : (cs : List (Option OnPlainCpu)) (hs : List CpuHandle) (n : ℕ) (log : List LogItem) (d h : CpuHandle) (b : OnPlainCpu) (note : List Change) (known_log : List LogItem)
+    (table : TableId) (told : List LogItem) → n < length hs → body_at cs n ≡ Some b
+    → PassesAt (get_or hs n d) h note known_log table told → SameBehind cs (bodies_of hs) → Gathered (cpus_in cs) (cpus_in (bodies_of hs)) n log known_log
+    → Gathered (cpus_in cs) (cpus_in (bodies_of (set hs n h))) (n + 1) log told
+gathered_next cs hs n log d h b note known_log table told lt at passes same so_far =
+    let was = same n b at in
+    let p = passes was.0 (sym (body_is hs n d lt) ∙ was.1) in
+    subst (λ ys. Gathered (cpus_in cs) ys (n + 1) log told) (sym (cpus_set hs n h p.body p.is))
+    (gathered_more (cpus_in cs) (cpus_in (bodies_of hs)) n log known_log told note was.0.cpu p.body.cpu so_far (at_behind (bodies_of hs) n was.0 was.1) p.heard p.knows p.shown p.note p.log)
+
+-- the next handle has a CPU, whose table the note is of
+pub behind_next : (cpus : ℕ) (w : Named) (cs : List (Option OnPlainCpu)) (hs : List CpuHandle) (n : ℕ) (d : CpuHandle) (table : TableId) → AreAllHere cpus cs
+    → ((c : ℕ) (b : OnPlainCpu) → body_at cs c ≡ Some b → b.words ≡ w) → n < cpus → n < length hs → table ≡ w.table → SameBehind cs (bodies_of hs)
+    → (b : OnPlainCpu) × ((get_or hs n d).body ≡ Some b) × (table ≡ b.words.table)
+behind_next cpus w cs hs n d table all named low lt is same =
+    let has = all.each n low in
+    let was = same n has.0 has.1 in
+    (was.0, sym (body_is hs n d lt) ∙ was.1, is ∙ sym (ap (λ (x : Named). x.table) (was.2 ∙ named n has.0 has.1)))
+
+pub passed_table : (cpus : ℕ) (w : Named) (cs : List (Option OnPlainCpu)) (hs : List CpuHandle) (n : ℕ) (d h : CpuHandle) (note : List Change) (known_log : List LogItem) (table : TableId)
+    (told : List LogItem) → AreAllHere cpus cs → ((c : ℕ) (b : OnPlainCpu) → body_at cs c ≡ Some b → b.words ≡ w) → n < cpus → n < length hs
+    → PassesAt (get_or hs n d) h note known_log table told → SameBehind cs (bodies_of hs) → table ≡ w.table
+passed_table cpus w cs hs n d h note known_log table told all named low lt passes same =
+    let has = all.each n low in
+    let was = same n has.0 has.1 in
+    let p = passes was.0 (sym (body_is hs n d lt) ∙ was.1) in
+    p.table ∙ ap (λ (x : Named). x.table) (was.2 ∙ named n has.0 has.1)
+
+same_size : (cs : List (Option OnPlainCpu)) (hs : List CpuHandle) → length (cpus_in (bodies_of hs)) ≡ length (cpus_in cs) → length (bodies_of hs) ≡ length cs
+same_size cs hs size = sym (length-map (bodies_of hs) cpu_in) ∙ (size ∙ length-map cs cpu_in)
+
+pub gathered_size : (cs : List (Option OnPlainCpu)) (hs : List CpuHandle) (n : ℕ) (log known_log : List LogItem) → Gathered (cpus_in cs) (cpus_in (bodies_of hs)) n log known_log
+    → length hs ≡ length cs
+gathered_size cs hs n log known_log so_far = sym (count_bodies hs) ∙ same_size cs hs so_far.size
+
+pub cpus_size : (hs : List CpuHandle) → length (cpus_in (bodies_of hs)) ≡ length hs
+cpus_size hs = length-map (bodies_of hs) cpu_in ∙ count_bodies hs
+
+-- all have heard
+pub all_heard : (cpus : ℕ) (cs : List (Option OnPlainCpu)) (hs : List CpuHandle) (n : ℕ) (log known_log : List LogItem) → AreAllHere cpus cs
+    → Gathered (cpus_in cs) (cpus_in (bodies_of hs)) n log known_log → length hs ≤ n → SameBehind cs (bodies_of hs) → HaveHeard cs (bodies_of hs)
+all_heard cpus cs hs n log known_log all so_far done same =
+    let size = same_size cs hs so_far.size in
+    record {
+      size = size;
+      same = same;
+      none = λ c at. ⊎_elim
+          (λ (low : c < cpus). let has = all.each c low in absurd (none-some has.0 (sym at ∙ has.1)))
+          (λ (past : cpus ≤ c). none_past (bodies_of hs) c (let count = all.count in omega (arith, past, size, count)))
+          (cases_lt c cpus);
+      learned = gathered_learned (cpus_in cs) (cpus_in (bodies_of hs)) n log known_log so_far (let long = cpus_size hs in omega (arith, done, long));
+    }
+
+-- none has
+pub none_heard : (cs ds : List (Option OnPlainCpu)) → ds ≡ cs → HaveHeard cs ds
+none_heard cs ds is = subst (HaveHeard cs) (sym is) (record { size = refl; same = λ c b at. (b, at, refl); none = λ c at. at; learned = learned_none (cpus_in cs) })
+
+-- all have their CPUs still
+pub here_still : (n : ℕ) (cs ds : List (Option OnPlainCpu)) → HaveHeard cs ds → AreAllHere n cs → AreAllHere n ds
+here_still n cs ds heard all = record {
+  count = heard.size ∙ all.count;
+  each = λ c lt.
+      let has = all.each c lt in
+      let was = heard.same c has.0 has.1 in
+      (was.0, was.1, ap (λ (x : OnCpu). x.view.id) (heard.learned.each c has.0.cpu was.0.cpu (at_behind cs c has.0 has.1) (at_behind ds c was.0 was.1)).0.is ∙ has.2);
+}
+
+-- The audit: one CPU more, one slot more, and the whole.
 
 -- The CPUs behind the handles
 

@@ -7,7 +7,7 @@ use Rattle.registry_values.specs.Common.{is_retired_as, slot_at}
 use Rattle.protocol.specs.Common.{mark_at}
 use Rattle.cpu_words.specs.Common.{IsFoundCollected}
 use Rattle.passive_list.specs.Common.{OnKeeper}
-use Rattle.c_calls.specs.Collected.{are_collected_for, some_collected}
+use Rattle.c_calls.specs.LocalCalls.{are_collected_for, some_collected}
 
 -- an entry that is retired as n has that number
 pub numbered : (n : ℕ) (e : Entry) → is_retired_as n (Retired e) ≡ true → e.number ≡ n

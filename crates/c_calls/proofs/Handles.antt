@@ -1,5 +1,5 @@
--- Lists of handles, by their bodies.
-use Rattle.std.proofs.Common.{◌≡◌, ◌≢◌, ℕ, zero, suc, ◌+◌, ◌-◌, ◌<◌, ◌≤◌, List, [], ◌∷◌, ◌++◌, length, get_or, set, take, drop, Option, Some, None, refl, sym, ap, ◌∙◌, arith, length-append}
+-- Handles by their bodies: each has one or none; and lists of them.
+use Rattle.std.proofs.Common.{◌≡◌, Option, Some, None, sym, ◌∙◌, ◌≢◌, ℕ, zero, suc, ◌+◌, ◌-◌, ◌<◌, ◌≤◌, List, [], ◌∷◌, ◌++◌, length, get_or, set, take, drop, refl, ap, arith, length-append}
 use Rattle.std.proofs.lemmas.List.{get_or-set_other, get_or-set_same, get_or_past, length-map, length-take-le, map-append, take-append-drop, take_at, take-take}
 use mathlib.Core.Logic.{dite}
 use mathlib.Core.Option.{some}
@@ -8,9 +8,37 @@ use lib.ListN.{get_elem?}
 use Rattle.atomic_table.proofs.Lists.{at_last}
 use Rattle.std_alloc.specs.declared.boxed.Box.{Box}
 use Rattle.std_heap.specs.declared.Global.{Global}
+use Rattle.c_calls.specs.Types.{Name}
 use Rattle.passive_list.specs.Common.{OnPlainCpu}
 use Rattle.c_handles.specs.declared.handle.CpuHandle.{CpuHandle}
 use Rattle.c_calls.specs.Opening.{AreGiven, bodies_of, body_at, boxed}
+
+-- A handle has one body, or none.
+
+same_some : {A : Type 0} (x y : A) → ◌≡◌ {A = Option A} (Some x) (Some y) → x ≡ y
+same_some x y q = cc
+
+pub one_body : {A : Type 0} (o : Option A) (x y : A) → o ≡ Some x → o ≡ Some y → x ≡ y
+one_body o x y is too = same_some x y (sym is ∙ too)
+
+not_none : {A : Type 0} (x : A) → ◌≡◌ {A = Option A} (Some x) None → ⊥
+not_none x q = cc
+
+pub no_body : {A : Type 0} (o : Option A) (x : A) → o ≡ Some x → o ≡ None → ⊥
+no_body o x is none = not_none x (sym is ∙ none)
+
+-- A name that two words have is the only one.
+
+same_name : (m n : Name) → ◌≡◌ {A = Option Name} (Some m) (Some n) → m ≡ n
+same_name m n q = cc
+
+pub one_name : (o : Option Name) (m n : Name) → o ≡ Some m → o ≡ Some n → m ≡ n
+one_name o m n is too = same_name m n (sym is ∙ too)
+
+pub no_name : (o : Option Name) (m : Name) → o ≡ Some m → o ≡ None → ⊥
+no_name o m is none = let clash : ◌≡◌ {A = Option Name} (Some m) None = sym is ∙ none in cc
+
+-- Lists of handles, by their bodies.
 
 -- a handle was written whose body is as before
 pub same_bodies : (hs : List CpuHandle) (c : ℕ) (h d : CpuHandle) → c < length hs → h.body ≡ (get_or hs c d).body → bodies_of (set hs c h) ≡ bodies_of hs

@@ -1,16 +1,7 @@
-pub mod Named
 pub mod Collected
-pub mod Acquired
-pub mod Seats
 pub mod Opened
-pub mod Gathering
 pub mod Handles
 pub mod Audited
-pub mod Here
-pub mod Opens
-pub mod AuditsAnswered
-pub mod Numbered
-pub mod Gone
 pub mod Turned
 pub mod Waits
 pub mod UsualCalls

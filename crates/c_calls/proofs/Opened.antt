@@ -1,12 +1,59 @@
--- The CPUs of a new registry, made from the last.
-use Rattle.std.proofs.Common.{◌≡◌, ℕ, zero, suc, ◌+◌, ◌-◌, ◌<◌, ◌≤◌, List, [], ◌∷◌, ◌++◌, length, Option, Some, refl, sym, ap, ◌∙◌, arith, length-append, ⊎_elim}
-use Rattle.std.proofs.lemmas.Bool.{cases_lt}
-use mathlib.Core.Option.{some, some-injective}
+-- Opening a registry: the seats of its CPUs, taken from the last, the CPUs made of them, and what is answered.
+use Rattle.std.proofs.Common.{◌≡◌, ℕ, zero, suc, ◌+◌, ◌<◌, ◌≤◌, List, [], ◌∷◌, ◌++◌, length, Option, Some, None, refl, sym, ◌∙◌, subst, arith, length-append, ◌-◌, ap, ⊎_elim, ◌≢◌, true, false}
+use Rattle.std.specs.Option.{MatchOption}
+use Rattle.std.proofs.lemmas.Bool.{cases_lt, false≢true}
+use mathlib.Core.Option.{some-injective, some}
 use lib.ListN.{get_elem?}
+use Rattle.atomic_table.specs.Seated.{TableId}
 use Rattle.atomic_table.proofs.Lists.{at_last}
-use Rattle.cpu_words.specs.Common.{Named}
-use Rattle.passive_list.specs.Common.{OnPlainCpu}
-use Rattle.c_calls.specs.Opening.{AreGiven, body_at, opened_cpu, opened_down}
+use Rattle.c_calls.specs.Types.{Settings, CpuView, BadSettings, MissingCpu}
+use Rattle.registry_values.specs.Common.{are_fit, number_of_refusal}
+use Rattle.cpu_words.specs.Common.{Seated, new_cpu, AreSeats, Named}
+use Rattle.passive_list.specs.Common.{OnPlainCpu, OnPlainKeeper}
+use Rattle.c_handles.specs.declared.values.plain.TheConstants.{FULL_HANDLE}
+use Rattle.c_handles.specs.declared.values.plain.CSettings.{CSettings}
+use Rattle.c_handles.specs.values.Texts.{settings_in}
+use Rattle.c_calls.specs.Opening.{AreGiven, body_at, opened_cpu, opened_down, AreEmpty, HasOpened, IsFull, IsSomeFull, Opens, StaysClosed}
+use Rattle.c_calls.proofs.Handles.{no_body}
+
+-- The seats of new CPUs, taken from the last.
+
+-- the seats of the first CPUs, of all or of fewer
+pub record AreLeft (table : TableId) (z : Settings) (seats : List (Seated CpuView)) : Type 0 where
+  pub few : length seats ≤ z.cpus
+  pub are : AreSeats table z (length seats) seats
+
+-- what a match says where there is no value
+pub at_none : {X A : Type 0} (B : X → Type 0) (o : Option X) → MatchOption o A B → ((x : X) → o ≡ Some x → ⊥) → A
+at_none B None told off = told
+at_none B (Some x) told off = absurd (off x refl)
+
+at_front : {A : Type 0} (xs ys : List A) (i : ℕ) → i < length xs → get_elem? (xs ++ ys) i ≡ get_elem? xs i
+at_front [] ys i lt = absurd (omega (arith, lt))
+at_front (x ∷ xs) ys zero lt = refl
+at_front (x ∷ xs) ys (suc i) lt = at_front xs ys i (omega (arith, lt))
+
+pub all_left : (table : TableId) (z : Settings) (seats : List (Seated CpuView)) → AreSeats table z z.cpus seats → AreLeft table z seats
+all_left table z seats are = record { few = omega (arith, are.count); are = subst (λ n. AreSeats table z n seats) (sym are.count) are }
+
+-- The last seat is that of the CPU whose number is how many are before it; and those are left.
+pub record LastTaken (table : TableId) (z : Settings) (seats : List (Seated CpuView)) (seat : Seated CpuView) : Type 0 where
+  pub few : length seats < z.cpus
+  pub last : seat ≡ record { table = table; view = new_cpu z (length seats); log = []; known_log = []; noted_log = []; teller = None; list = [] }
+  pub left : AreLeft table z seats
+
+pub take_last : (table : TableId) (z : Settings) (all seats : List (Seated CpuView)) (seat : Seated CpuView) → all ≡ seats ++ seat ∷ [] → AreLeft table z all → LastTaken table z seats seat
+take_last table z all seats seat is some_left =
+    let n : length (seats ++ seat ∷ []) ≡ length seats + 1 = length-append seats (seat ∷ []) in
+    let left = subst (λ (l : List (Seated CpuView)). AreLeft table z l) is some_left in
+    let few : length seats < z.cpus = omega (arith, n, left.few) in
+    record {
+      few = few;
+      last = some-injective _ _ (sym (at_last seats seat (length seats) refl) ∙ left.are.each (length seats) (omega (arith, n)));
+      left = record { few = omega (arith, few); are = record { count = refl; each = λ c lt. sym (at_front seats (seat ∷ []) c lt) ∙ left.are.each c (omega (arith, n, lt)) } };
+    }
+
+-- The CPUs of a new registry, made from the last.
 
 -- one CPU more
 pub down_more : (w : Named) (n left : ℕ) (xs : List OnPlainCpu) (x : OnPlainCpu) → left < n → xs ≡ opened_down w n (n - (left + 1)) → x ≡ opened_cpu w left → xs ++ x ∷ [] ≡ opened_down w n (n - left)
@@ -19,11 +66,6 @@ down_more w n left xs x lt so_far is =
 pub count_down : (w : Named) (n k : ℕ) → length (opened_down w n k) ≡ k
 count_down w n zero = refl
 count_down w n (suc k) = length-append (opened_down w n k) (opened_cpu w (n - suc k) ∷ []) ∙ omega (arith, count_down w n k)
-
-at_front : {A : Type 0} (xs ys : List A) (i : ℕ) → i < length xs → get_elem? (xs ++ ys) i ≡ get_elem? xs i
-at_front [] ys i lt = absurd (omega (arith, lt))
-at_front (x ∷ xs) ys zero lt = refl
-at_front (x ∷ xs) ys (suc i) lt = at_front xs ys i (omega (arith, lt))
 
 -- the one at place i from the greatest
 pub down_at : (w : Named) (n k i : ℕ) → i < k → get_elem? (opened_down w n k) i ≡ some (opened_cpu w (n - suc i))
@@ -43,3 +85,45 @@ given_open w n all cs is given c lt =
     let at : get_elem? all (n - suc c) ≡ some (opened_cpu w c) =
     ap (λ (l : List OnPlainCpu). get_elem? l (n - suc c)) is ∙ (down_at w n n (n - suc c) (omega (arith, lt)) ∙ ap (λ (j : ℕ). some (opened_cpu w j)) back) in
     had.1 ∙ ap Some (some-injective _ _ (sym had.2 ∙ at))
+
+-- What opening a registry answers, by the test that it came to.
+
+none_full : (k : Option OnPlainKeeper) (cs : List (Option OnPlainCpu)) → k ≡ None → AreEmpty cs → IsFull k cs → ⊥
+none_full k cs none empty full = ⊎_elim
+    (λ (some : (a : OnPlainKeeper) × (k ≡ Some a)). no_body k some.0 some.1 none)
+    (λ (some : IsSomeFull cs). no_body _ some.1 some.2 (empty some.0))
+    full
+
+module _ (given : CSettings) (k k' : Option OnPlainKeeper) (cs cs' : List (Option OnPlainCpu)) where
+  pub bad_settings : are_fit (settings_in given) ≡ false → StaysClosed k k' cs cs' → Opens given k k' cs cs' (number_of_refusal BadSettings)
+  bad_settings unfit stays = record {
+    bad = λ _. (refl, stays);
+    missing = λ fit _. absurd (false≢true (sym unfit ∙ fit));
+    full = λ fit _ _. absurd (false≢true (sym unfit ∙ fit));
+    made = λ fit _ _ _. absurd (false≢true (sym unfit ∙ fit));
+  }
+
+  pub missing_cpu : are_fit (settings_in given) ≡ true → length cs ≢ given.cpus → StaysClosed k k' cs cs' → Opens given k k' cs cs' (number_of_refusal MissingCpu)
+  missing_cpu fit off stays = record {
+    bad = λ unfit. absurd (false≢true (sym unfit ∙ fit));
+    missing = λ _ _. (refl, stays);
+    full = λ _ count _. absurd (off count);
+    made = λ _ count _ _. absurd (off count);
+  }
+
+  pub full_handle : are_fit (settings_in given) ≡ true → length cs ≡ given.cpus → IsFull k cs → StaysClosed k k' cs cs' → Opens given k k' cs cs' FULL_HANDLE
+  full_handle fit count full stays = record {
+    bad = λ unfit. absurd (false≢true (sym unfit ∙ fit));
+    missing = λ _ off. absurd (off count);
+    full = λ _ _ _. (refl, stays);
+    made = λ _ _ none empty. absurd (none_full k cs none empty full);
+  }
+
+  -- it came to the opening
+  pub came_to_open : (n : ℕ) → are_fit (settings_in given) ≡ true → length cs ≡ given.cpus → k ≡ None → AreEmpty cs → HasOpened (settings_in given) k k' cs cs' n → Opens given k k' cs cs' n
+  came_to_open n fit count none empty opened = record {
+    bad = λ unfit. absurd (false≢true (sym unfit ∙ fit));
+    missing = λ _ off. absurd (off count);
+    full = λ _ _ full. absurd (none_full k cs none empty full);
+    made = λ _ _ _ _. opened;
+  }

@@ -1,20 +1,120 @@
--- What the calls through the bodies answer, from what the calls beneath them say of the keeper and the CPU.
-use Rattle.std.proofs.Common.{◌≡◌, ⊎_elim, ℕ, zero, suc, ◌-◌, ◌<◌, ◌≤◌, Bool, true, false, List, [], ◌∷◌, ◌++◌, length, get_or, map, replicate, Option, Some, None, is_some, Result, IfOk, refl, sym, ap, subst, ◌∙◌, arith}
-use Rattle.std.proofs.lemmas.Bool.{cases_lt}
+-- What the keeper's calls through the bodies answer, that an entry freed is gone, and that no retired one has the number 0.
+use Rattle.std.proofs.Common.{◌≡◌, ne_eqb, Bool, if◌then◌else◌, ℕ, ◌<◌, List, [], ◌∷◌, get_or, map, Option, Some, None, refl, sym, ap, ◌∙◌, subst, arith, zero, suc, false, Ok, Err, Result, IfOk, ⊎_elim, ◌-◌, ◌≤◌, true, ◌++◌, length, replicate, is_some}
+use Rattle.std.proofs.lemmas.Option.{same_Some}
+use Rattle.std.proofs.lemmas.Bool.{false≢true, cases_lt}
 use Rattle.std.proofs.lemmas.List.{get_or_past, length-append, length-map, length-replicate}
-use Rattle.c_calls.specs.Types.{Refusal, Settings, Slot, Vacant, Stage, MOST_CPUS, MOST_SLOTS, LogItem, KeeperView, KeptSlot}
-use Rattle.registry_values.specs.Common.{retired_number, slot_at}
-use Rattle.protocol.proofs.slots.Cells.{get_or_all}
-use Rattle.passive_list.proofs.Logs.{few_slots}
-use Rattle.passive_list.specs.Common.{OnCpu, OnPlainCpu, OnKeeper, states_of, IsOurKeeper, OnPlainKeeper, HasOwnLog}
-use Rattle.name_registry.specs.Common.{HasAdvanced, HasAdvancedFor, IsStageOf, KeepsWords, Finishes, HasBegun, HasGlanced, HasPassedAll, Hold, IsTurn, SnapshotsBelow}
+use Rattle.c_calls.specs.Types.{Attach, Entry, Settings, Slot, Vacant, Live, Retired, LogItem, KeeperView, KeptSlot, Refusal, Stage, Grace, Passive, Local, Freed, NoMemory, BadSettings, NameTaken, NoSlot, HistoryFull, NotFound, Inside, SectionsSpent, NothingFound, PassiveFull, WrongCpu, NotHeld, LocalFull, NotRetired, MissingCpu, StillHeld, Waiting, TooDeep, NeedsDriver, MOST_CPUS, MOST_SLOTS}
+use Rattle.registry_values.specs.Common.{retired_number, slot_at, number_of_refusal}
+use Rattle.protocol.proofs.History.{at_within}
+use Rattle.protocol.proofs.Cells.{get_or_all}
+use Rattle.cpu_words.specs.Common.{IsShown, IsFreedFrom}
+use Rattle.cpu_words.proofs.by_keeper.KeeperSteps.{seen_by_keeper}
+use Rattle.passive_list.specs.Common.{OnKeeper, states_of, IsOurKeeper, OnCpu, OnPlainCpu, OnPlainKeeper, HasOwnLog}
+use Rattle.passive_list.proofs.Rows.{retired_in, few_slots}
+use Rattle.name_registry.specs.Common.{HasAdvancedFor, IsStageOf, IsTurn, HasAdvanced, KeepsWords, Finishes, HasBegun, HasGlanced, HasPassedAll, Hold, SnapshotsBelow}
+use Rattle.name_registry.proofs.Destroyed.{advanced_freed, met_gone}
+use Rattle.c_handles.specs.values.Texts.{none_or_number, number_or_none, stage_out, flag_of, is_set}
+use Rattle.c_handles.specs.declared.values.plain.TheConstants.{DONE}
+use Rattle.c_handles.specs.declared.values.plain.CStage.{CStage}
+use Rattle.c_handles.specs.values.Places.{put}
 use Rattle.c_handles.specs.declared.values.wait.CWait.{CWait}
 use Rattle.c_handles.specs.declared.values.wait.TheConstants.{BEGUN}
-use Rattle.c_handles.specs.values.Flags.{flag_of, is_set, none_or_number, number_or_none}
-use Rattle.c_handles.proofs.Lists.{map_by_place}
-use Rattle.c_calls.specs.KeeperCalls.{Advances, AdvancesFor, Begins, PassesHeld, Turns}
-use Rattle.c_calls.proofs.Gone.{advanced_gone, advanced_for_gone}
-use Rattle.c_calls.proofs.Numbered.{numbered}
+use Rattle.c_handles.proofs.Written.{map_by_place}
+use Rattle.c_calls.specs.KeeperCalls.{AdvancesFor, DestroyAnswers, IsGoneIfFreed, WritesDestroyed, Advances, Begins, PassesHeld, Turns}
+
+-- No entry that the keeper has as retired has the number 0, which means none in a wait.
+
+retired_some : (x : Slot) (n : ℕ) → retired_number x ≡ Some n → (e : Entry) × (x ≡ Retired e) × (e.number ≡ n)
+retired_some Vacant n is = absurd (let q : ◌≡◌ {A = Option ℕ} None (Some n) = is in cc)
+retired_some (Live e) n is = absurd (let q : ◌≡◌ {A = Option ℕ} None (Some n) = is in cc)
+retired_some (Retired e) n is = (e, refl, same_Some e.number n is)
+
+-- it was attached, so its number is that of a change
+some_number : (k : KeeperView) (t : ℕ) (e : Entry) → IsShown k → slot_at k.slots t ≡ Retired e → 0 < e.number
+some_number k t e is_shown at =
+    let seen = seen_by_keeper is_shown.g k is_shown.good is_shown.shown in
+    let there : slot_at is_shown.g.slots t ≡ Retired e = ap (λ (x : List Slot). slot_at x t) (sym seen.slots) ∙ at in
+    (at_within is_shown.g.history e.number (Attach e) (is_shown.good.holds.slots.retired t e there).0).0
+
+pub numbered : {log : List LogItem} (a : Settings) (k : KeeperView) (rows : List KeptSlot) (n : ℕ) (x : OnKeeper) (t m : ℕ) → IsOurKeeper a k rows n
+    → record { view = k; slots = states_of rows; log = log } ≡ x
+    → retired_number (slot_at x.slots t) ≡ Some m → 0 < m
+numbered a k rows n x t m our is retired =
+    let there = retired_some (slot_at (states_of rows) t) m (ap (λ (y : OnKeeper). retired_number (slot_at y.slots t)) is ∙ retired) in
+    let known = retired_in a k rows t there.0 our.rows there.1 in
+    subst (λ (j : ℕ). 0 < j) there.2 (some_number k t there.0 our.is_shown known.1)
+
+-- From C and back
+
+none_is_none : (n : ℕ) → ◌≡◌ {A = Option ℕ} None (Some n) → ⊥
+none_is_none n q = cc
+
+back : (n : ℕ) → 0 < n → none_or_number n ≡ Some n
+back n some = ap (λ (b : Bool). if b then None else Some n) (ne_eqb n 0 (λ is. omega (arith, some, is)))
+
+-- a number goes through
+pub goes_through : (numbers : List (Option ℕ)) (t n : ℕ) → get_or numbers t None ≡ Some n → 0 < n → get_or (map none_or_number (map number_or_none numbers)) t None ≡ Some n
+goes_through [] t n at some = absurd (none_is_none n at)
+goes_through (x ∷ xs) zero n at some = ap (λ (o : Option ℕ). none_or_number (number_or_none o)) at ∙ back n some
+goes_through (x ∷ xs) (suc t) n at some = goes_through xs t n at some
+
+-- Where a turn freed the slot of an entry, the entry is gone from there, by what the keeper did and what the CPU has heard of it.
+
+pub advanced_gone : (a : OnKeeper) (n : ℕ) (r : Result Stage Refusal) (b : OnKeeper) → HasAdvanced a n r b → IsGoneIfFreed n r b.log
+advanced_gone a n (Ok (Grace c)) b is = tt
+advanced_gone a n (Ok (Passive c)) b is = tt
+advanced_gone a n (Ok (Local k)) b is = tt
+advanced_gone a n (Ok (Freed t)) b is = advanced_freed a n t b is
+advanced_gone a n (Err refusal) b is = tt
+
+pub advanced_for_gone : (z : Settings) (a : OnKeeper) (x : OnCpu) (n : ℕ) (r : Result Stage Refusal) (b : OnKeeper) (y : OnCpu) → HasAdvancedFor z a x n r b y → IfOk r (λ stage. IsStageOf z stage)
+    → IsTurn z n x r y → IsGoneIfFreed n r y.known_log
+advanced_for_gone z a x n r b y is stage turn = met_gone z n x y r ((a, b, is), stage, turn)
+
+-- A destroy
+
+-- no refusal has the number of done
+pub refused_not : (f : Refusal) → DONE ≡ number_of_refusal f → ⊥
+refused_not NoMemory is = cc
+refused_not BadSettings is = cc
+refused_not NameTaken is = cc
+refused_not NoSlot is = cc
+refused_not HistoryFull is = cc
+refused_not NotFound is = cc
+refused_not Inside is = cc
+refused_not SectionsSpent is = cc
+refused_not NothingFound is = cc
+refused_not PassiveFull is = cc
+refused_not WrongCpu is = cc
+refused_not NotHeld is = cc
+refused_not LocalFull is = cc
+refused_not NotRetired is = cc
+refused_not MissingCpu is = cc
+refused_not (StillHeld stage) is = cc
+refused_not (Waiting cpu) is = cc
+refused_not TooDeep is = cc
+refused_not NeedsDriver is = cc
+
+-- what done says, by what was written
+gone_by : (number : ℕ) (r : Result Stage Refusal) (n : ℕ) (old new : Option CStage) (log : List LogItem) → IsGoneIfFreed number r log → WritesDestroyed r n old new → n ≡ DONE
+    → (slot : ℕ) × (new ≡ put old (stage_out (Freed slot))) × IsFreedFrom slot number log
+gone_by number (Ok (Grace c)) n old new log gone is done = absurd (refused_not (StillHeld (Grace c)) (sym done ∙ is.0))
+gone_by number (Ok (Passive c)) n old new log gone is done = absurd (refused_not (StillHeld (Passive c)) (sym done ∙ is.0))
+gone_by number (Ok (Local k)) n old new log gone is done = absurd (refused_not (StillHeld (Local k)) (sym done ∙ is.0))
+gone_by number (Ok (Freed t)) n old new log gone is done = (t, is.1, gone)
+gone_by number (Err f) n old new log gone is done = absurd (refused_not f (sym done ∙ is.0))
+
+-- outside a section a turn was made
+pub destroyed_by : (within : Bool) (number : ℕ) (k : OnPlainKeeper) (c : OnPlainCpu) (l : OnPlainKeeper) (d : OnPlainCpu) (r : Result Stage Refusal) (n : ℕ) (old new : Option CStage) → within ≡ false
+    → AdvancesFor number k c l d r → WritesDestroyed r n old new
+    → DestroyAnswers within number k c l d n old new
+destroyed_by within number k c l d r n old new out made writes = record {
+  inside = λ inside. absurd (false≢true (sym out ∙ inside));
+  outside = λ outside. (r, made, writes);
+  done = gone_by number r n old new d.cpu.known_log made.gone writes;
+}
+
+-- What the calls through the bodies answer, from what the calls beneath them say of the keeper and the CPU.
 
 pub advances_by : (number : ℕ) (k l : OnPlainKeeper) (r : Result Stage Refusal) → l.words ≡ k.words → HasAdvanced k.keeper number r l.keeper → IfOk r (λ stage. IsStageOf k.words.settings stage)
     → Advances number k l r

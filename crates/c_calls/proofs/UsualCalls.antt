@@ -11,8 +11,7 @@ use Rattle.registry_values.specs.Common.{kind_word, Answers}
 use Rattle.cpu_words.specs.Common.{key_with, references_to}
 use Rattle.passive_list.specs.Common.{OnCpu, OnPlainCpu, HasFoundInside, HasFoundKept, FindsInsideBy, AnswersEnter, entry_seen}
 use Rattle.passive_list.proofs.ByMemory.{anew_after, by_load}
-use Rattle.passive_ref.specs.Gets.{HasGotByMemory}
-use Rattle.passive_ref.specs.Psrefs.{HasOneLess, IsAcquired, OnPsref, why_not_acquired, why_unusable}
+use Rattle.passive_ref.specs.Psrefs.{HasGotByMemory, HasOneLess, IsAcquired, OnPsref, why_not_acquired, why_unusable}
 use Rattle.c_handles.specs.declared.values.plain.TheConstants.{DONE}
 use Rattle.c_handles.specs.declared.values.plain.CEntry.{CEntry}
 use Rattle.c_handles.specs.declared.values.plain.CName.{CName}
@@ -20,11 +19,10 @@ use Rattle.c_handles.specs.declared.values.answer.EntryAnswer.{EntryAnswer}
 use Rattle.c_handles.specs.declared.values.answer.NamedAnswer.{NamedAnswer}
 use Rattle.c_handles.specs.declared.values.given.GivenName.{GivenName}
 use Rattle.c_handles.specs.declared.values.place.EntryPlace.{EntryPlace}
-use Rattle.c_calls.specs.Calls.{Acquires, Enters, Exits, Finds, FindsNamed, Releases, TellsFound, WritesFound, own}
+use Rattle.c_calls.specs.Calls.{Acquires, Enters, Exits, Finds, FindsNamed, Releases, TellsFound, WritesFound, own, Between, EntersAndFinds, FindsAndAcquires, Gets, GetsByMemory, GetsInSection, LooksUp, LooksUpAnew, LooksUpByMemory, LooksUpInSection, RecallsByMemory, Seeks, TriedSo, Tries, TriesOnce, key_in}
 use Rattle.c_handles.specs.values.Places.{put}
-use Rattle.c_calls.specs.UsualCalls.{Between, EntersAndFinds, FindsAndAcquires, Gets, GetsByMemory, GetsInSection, LooksUp, LooksUpAnew, LooksUpByMemory, LooksUpInSection, RecallsByMemory, Seeks, TriedSo, Tries, TriesOnce, key_in}
-use Rattle.c_handles.specs.values.Values.{entry_out, kind_in, name_in, number_of}
-use Rattle.c_calls.proofs.Gone.{refused_not}
+use Rattle.c_handles.specs.values.Texts.{entry_out, kind_in, name_in, number_of}
+use Rattle.c_calls.proofs.Turned.{refused_not}
 
 -- the end of the history as the open section began
 abbrev pub begin_of : OnPlainCpu → Option ℕ

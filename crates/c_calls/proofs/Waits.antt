@@ -9,10 +9,9 @@ use Rattle.name_registry.specs.Common.{is_inside, Finishes, HasSeenAllOut, none_
 use Rattle.name_registry.proofs.Waited.{SoFar, all_seen, passed_out, so_far_begun, so_far_by, so_far_on, so_far_turn}
 use Rattle.c_handles.specs.declared.values.plain.TheConstants.{DONE}
 use Rattle.c_handles.specs.declared.values.wait.CWait.{CWait}
-use Rattle.c_handles.specs.values.Flags.{flag_of, is_begun, is_set, none_or_number, number_or_none}
-use Rattle.c_calls.specs.KeeperCalls.{Begins, PassesHeld, PerformAnswers, PerformsAt, TurnAnswers, Turns, TurnsAt, WritesTold}
-use Rattle.c_calls.specs.Waits.{IsTurnOfWait, TurnsOn, WaitsEnd, WaitsStayBegun}
-use Rattle.c_calls.proofs.Numbered.{goes_through}
+use Rattle.c_handles.specs.values.Texts.{flag_of, is_begun, is_set, none_or_number, number_or_none}
+use Rattle.c_calls.specs.KeeperCalls.{Begins, PassesHeld, PerformAnswers, PerformsAt, TurnAnswers, Turns, TurnsAt, WritesTold, IsTurnOfWait, TurnsOn, WaitsEnd, WaitsStayBegun}
+use Rattle.c_calls.proofs.Turned.{goes_through}
 
 -- What is so between two calls: of the CPU that began, of the wait, and of what the CPU knows now
 abbrev Goes : Settings → OnPlainCpu → CWait → OnCpu → Type 0

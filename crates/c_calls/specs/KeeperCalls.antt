@@ -1,11 +1,11 @@
--- What the keeper's calls answer and leave.
-use Rattle.std.specs.Prelude.{◌≡◌, ℕ, ◌<◌, slice_index_or, Bool, true, false, List, map, replicate, Option, Some, None, Result, Ok, Err, IfOk, IfErr}
+-- What the keeper's calls answer and leave, and a wait that goes from call to call.
+use Rattle.std.specs.Prelude.{◌≡◌, ℕ, ◌<◌, slice_index_or, Bool, true, false, List, map, replicate, Option, Some, None, Result, Ok, Err, IfOk, IfErr, zero, suc}
+use mathlib.Core.List.{IsPrefix}
 use Rattle.c_calls.specs.Types.{Entry, Kind, Driver, Record, Name, Refusal, Inside, Waiting, Settings, Stage, Freed, MOST_CPUS, LogItem}
 use Rattle.registry_values.specs.Common.{key_of_words, number_of_refusal, destroy_result, destroy_result_of}
-use Rattle.cpu_words.specs.Common.{IsFreedFrom}
+use Rattle.cpu_words.specs.Common.{IsFreedFrom, Named}
 use Rattle.passive_list.specs.Common.{OnCpu, OnPlainCpu, OnKeeper, OnPlainKeeper}
-use Rattle.name_registry.specs.Common.{HasAdvanced, HasAttachedFor, HasAttachedIfaceFor, attach_answer, attach_iface_answer, HasAdvancedFor, HasDetachedFor, IsDetachAnswer, IsStageOf, KeepsWords}
-use Rattle.name_registry.specs.Common.{is_inside, IsTurn, Finishes, HasBegun, HasGlanced, HasPassedAll}
+use Rattle.name_registry.specs.Common.{HasAdvanced, HasAttachedFor, HasAttachedIfaceFor, attach_answer, attach_iface_answer, HasAdvancedFor, HasDetachedFor, IsDetachAnswer, IsStageOf, KeepsWords, is_inside, IsTurn, Finishes, HasBegun, HasGlanced, HasPassedAll, HasSeenAllOut}
 use Rattle.c_handles.specs.declared.values.plain.TheConstants.{DONE, EMPTY_HANDLE, BAD_KIND, BAD_NAME, NOT_BEGUN, NULL}
 use Rattle.c_handles.specs.declared.values.plain.CEntry.{CEntry}
 use Rattle.c_handles.specs.declared.values.plain.CName.{CName}
@@ -13,10 +13,9 @@ use Rattle.c_handles.specs.declared.values.plain.CStage.{CStage}
 use Rattle.c_handles.specs.declared.values.wait.TheConstants.{BEGUN}
 use Rattle.c_handles.specs.declared.values.wait.CWait.{CWait}
 use Rattle.c_handles.specs.Bodies.{OnLocalBody}
-use Rattle.c_calls.specs.Calls.{Puts, ThroughBoth}
 use Rattle.c_handles.specs.values.Places.{put}
-use Rattle.c_handles.specs.values.Flags.{flag_of, is_begun, is_set, none_or_number, number_or_none}
-use Rattle.c_handles.specs.values.Values.{entry_out, kind_in, number_of, stage_out}
+use Rattle.c_handles.specs.values.Texts.{flag_of, is_begun, is_set, none_or_number, number_or_none, entry_out, kind_in, number_of, stage_out}
+use Rattle.c_calls.specs.Calls.{Puts, ThroughBoth}
 
 abbrev pub words_name : CName → Option Name
 words_name name = key_of_words name.high name.low
@@ -170,3 +169,51 @@ pub record KeeperCloses (old new : Option OnPlainKeeper) (n : ℕ) : Type 0 wher
   pub empty : old ≡ None → n ≡ EMPTY_HANDLE
   pub full : (k : OnPlainKeeper) → old ≡ Some k → n ≡ DONE
   pub none : new ≡ None
+
+-- A wait for open sections from C: what its caller ensures between the calls, and what `REGISTRY_DONE` says then.
+
+-- The CPU y makes a call. It knows of the keeper's log all that x knew as the call before ended: it is that CPU, after any calls, or one
+-- that has heard as much.
+abbrev pub KnowsAllOf : OnPlainCpu → OnPlainCpu → Type 0
+KnowsAllOf x y = IsPrefix x.cpu.known_log y.cpu.known_log
+
+-- One turn, by a keeper of this registry and a CPU that knows all that x knew. It found the wait `old` and left it as `new`, and left the CPU as y.
+pub record IsTurnOfWait (words : Named) (x : OnPlainCpu) (old : CWait) (answer : ℕ) (y : OnPlainCpu) (new : CWait) : Type 0 where
+  pub keeper : OnPlainKeeper
+  pub cpu : OnPlainCpu
+  pub ours : keeper.words ≡ words
+  pub knows : KnowsAllOf x cpu
+  -- what the call leaves of the keeper, and what it writes of the CPU that it tells
+  pub kept : Option OnPlainKeeper
+  pub before : Option ℕ
+  pub after : Option ℕ
+  pub call : TurnCalls (Some keeper) (Some cpu) kept (Some y) answer (Some old) (Some new) before after
+
+-- n turns, with any results: each found the wait exactly as the call before had left it
+abbrev pub TurnsOn : ℕ → Named → OnPlainCpu → CWait → OnPlainCpu → CWait → Type 0
+TurnsOn zero words x old y new = (y ≡ x) × (new ≡ old)
+TurnsOn (suc n) words x old y new = (m : OnPlainCpu) × (between : CWait) × (answer : ℕ) × TurnsOn n words x old m between × IsTurnOfWait words m between answer y new
+
+-- A call of registry_perform_begin by the CPU x began the wait. Turns went on from what it wrote, and the last of them answered done, and left its CPU as y.
+pub record IsWaitedFor (words : Named) (x y : OnPlainCpu) : Type 0 where
+  pub keeper : OnPlainKeeper
+  pub ours : keeper.words ≡ words
+  pub kept : Option OnPlainKeeper
+  pub cpu : OnPlainCpu
+  pub first : CWait
+  pub begun : CWait
+  pub begins : PerformCalls (Some keeper) (Some x) kept (Some cpu) DONE (Some first) (Some begun)
+  pub turns : ℕ
+  pub near : OnPlainCpu
+  pub left : CWait
+  pub between : TurnsOn turns words cpu begun near left
+  pub end : CWait
+  pub last : IsTurnOfWait words near left DONE y end
+
+-- Then y knows what the answer Ok of `Registry::perform` says.
+abbrev pub WaitsEnd : Type 0
+WaitsEnd = (words : Named) (x y : OnPlainCpu) → IsWaitedFor words x y → HasSeenAllOut words.settings.cpus x.cpu y.cpu
+
+-- A wait that was begun is one after any turns, a done one too: so none of them is refused as one that wasn't.
+abbrev pub WaitsStayBegun : Type 0
+WaitsStayBegun = (n : ℕ) (words : Named) (x y : OnPlainCpu) (old new : CWait) → is_begun old ≡ true → TurnsOn n words x old y new → is_begun new ≡ true

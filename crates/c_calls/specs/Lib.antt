@@ -1,10 +1,6 @@
 pub mod Types
-pub mod Collected
 pub mod Calls
-pub mod UsualCalls
 pub mod KeeperCalls
 pub mod LocalCalls
 pub mod Opening
 pub mod Audits
-pub mod Waits
-pub mod Walks

@@ -1,17 +1,30 @@
 -- What the calls of local references answer and leave.
-use Rattle.std.specs.Prelude.{◌≡◌, ◌⊎◌, ℕ, false, Option, Some, None, Result, Ok, Err, IfErr}
+use Rattle.std.specs.Prelude.{ℕ, zero, suc, Bool, false, ◌&&◌, ◌||◌, ◌≡◌, ◌⊎◌, Option, Some, None, Result, Ok, Err, IfErr}
 use Rattle.c_calls.specs.Types.{Entry, Iface, Name, Refusal, NoMemory, ReferenceView}
-use Rattle.registry_values.specs.Common.{number_of_refusal}
-use Rattle.passive_list.specs.Common.{OnPlainCpu, HasGivenUp, OnPlainKeeper}
+use Rattle.registry_values.specs.Common.{is_retired_as, slot_at, number_of_refusal}
+use Rattle.protocol.specs.Common.{mark_at}
+use Rattle.passive_list.specs.Common.{OnKeeper, OnPlainCpu, HasGivenUp, OnPlainKeeper}
 use Rattle.local_count.specs.References.{HasAcquired, HasComeBack, HasReleased, why_not_acquired_local}
 use Rattle.c_handles.specs.declared.values.plain.TheConstants.{DONE, EMPTY_HANDLE, FULL_HANDLE, BAD_NAME, COLLECTED, NOT_COLLECTED, NULL}
 use Rattle.c_handles.specs.declared.values.plain.CEntry.{CEntry}
 use Rattle.c_handles.specs.declared.values.plain.CName.{CName}
 use Rattle.c_handles.specs.Bodies.{IsReferenceOf, OnLocalBody}
-use Rattle.c_calls.specs.Collected.{are_collected_for}
-use Rattle.c_calls.specs.KeeperCalls.{AttachesIface, record_of, words_name}
 use Rattle.c_handles.specs.values.Places.{put}
-use Rattle.c_handles.specs.values.Values.{entry_out, number_of}
+use Rattle.c_handles.specs.values.Texts.{entry_out, number_of}
+use Rattle.c_calls.specs.KeeperCalls.{AttachesIface, record_of, words_name}
+
+-- Whether the keeper has collected a count of a retired entry.
+
+-- of one of the first so many CPUs, in the slot t
+abbrev pub some_collected : OnKeeper → ℕ → ℕ → Bool
+some_collected k t zero = false
+some_collected k t (suc c) = some_collected k t c || (mark_at k.view.marks t c).collected
+
+-- the entry n is retired in the slot t, and a count of it was collected
+abbrev pub are_collected_for : OnKeeper → ℕ → ℕ → ℕ → Bool
+are_collected_for k t n cpus = is_retired_as n (slot_at k.slots t) && some_collected k t cpus
+
+-- What the calls of local references answer and leave.
 
 -- what is there where the answer is no refusal
 abbrev pub some_of : {X : Type 0} → Result X Refusal → Option X

@@ -11,7 +11,7 @@ use Rattle.c_handles.specs.declared.handle.CpuHandle.{CpuHandle}
 use Rattle.c_handles.specs.declared.values.plain.TheConstants.{DONE, FULL_HANDLE, NULL}
 use Rattle.c_handles.specs.declared.values.plain.CSettings.{CSettings}
 use Rattle.c_handles.specs.values.Places.{DoesBy}
-use Rattle.c_handles.specs.values.Values.{settings_in}
+use Rattle.c_handles.specs.values.Texts.{settings_in}
 
 -- the keeper of a new registry: all slots are vacant, and there was no change; the log is of the seats that it gave the CPUs
 abbrev pub opened_keeper : Named → List LogItem → OnPlainKeeper

@@ -7,7 +7,7 @@ ghost use Rattle.protocol.specs.Common.{IsIn};
 ghost use Rattle.passive_list.specs.Common.{OnPlainCpu};
 ghost use Rattle.cpu_words.specs.Common.{AreWordsOf};
 ghost use Rattle.name_registry.specs.Common.{AreAlike, HasListened, HaveHeardAndTold, Occupies, local_met, locals_met, tally_met};
-ghost use Rattle.c_handles.specs.heap.Rows.{IsLong};
+ghost use Rattle.c_handles.specs.Heap.{IsLong};
 ghost use Rattle.c_calls.specs.Calls.{Through};
 ghost use Rattle.c_handles.specs.declared.values.plain.TheConstants.{DONE};
 ghost use Rattle.c_calls.specs.Audits.{AreAllHere, AreAllOf, AreTold, Audits, AuditsList, AuditsRows, HaveHeard, IsCut, PassesOn, WritesNext, cpus_in, entries_in, occupied, tally_in};

@@ -5,7 +5,7 @@ ghost use Rattle.c_handles.specs.declared.values.plain.TheConstants.{DONE};
 ghost use Rattle.c_handles.specs.declared.values.plain.CEntry.{CEntry};
 ghost use Rattle.cpu_words.specs.Common.{key_with};
 ghost use Rattle.passive_list.specs.Common.{entry_seen};
-ghost use Rattle.c_handles.specs.values.Values.{kind_in, name_in};
+ghost use Rattle.c_handles.specs.values.Texts.{kind_in, name_in};
 ghost use Rattle.c_calls.specs.Calls.{Acquires, Copies, Enters, Exits, Finds, FindsNamed, Reads, Releases, TellsFound, WritesFound};
 
 use c_handles::CpuBody;

@@ -3,7 +3,7 @@
 ghost use Rattle.std.specs.Prelude.{◌≡◌};
 ghost use Rattle.registry_values.specs.Common.{destroy_result};
 ghost use Rattle.name_registry.specs.Common.{is_inside};
-ghost use Rattle.c_handles.specs.values.Values.{number_of};
+ghost use Rattle.c_handles.specs.values.Texts.{number_of};
 ghost use Rattle.c_calls.specs.KeeperCalls.{AdvanceAnswers, AttachAnswers, AttachesNamed, DestroyAnswers, DetachAnswers, DetachesNamed, PerformAnswers, PerformsAt, TurnAnswers, TurnsAt};
 
 use crate::keeper_calls;

@@ -1,6 +1,6 @@
 //! The law of waits that go from call to call: a function that does nothing, whose contract is the law.
 
-ghost use Rattle.c_calls.specs.Waits.{WaitsEnd, WaitsStayBegun};
+ghost use Rattle.c_calls.specs.KeeperCalls.{WaitsEnd, WaitsStayBegun};
 
 /// Theorem, no effect at run time: what a wait from C means, whatever happens to the registry meanwhile.
 ///

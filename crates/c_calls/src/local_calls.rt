@@ -3,7 +3,7 @@
 ghost use Rattle.std.specs.Prelude.{◌≡◌, ◌<◌};
 ghost use Rattle.c_handles.specs.Bodies.{IsReferenceOf};
 ghost use Rattle.c_calls.specs.LocalCalls.{AnswersAcquireInMemory, LocalReleases};
-ghost use Rattle.c_handles.specs.values.Values.{entry_out};
+ghost use Rattle.c_handles.specs.values.Texts.{entry_out};
 
 use c_handles::values::plain::{CEntry, CName, COLLECTED, DONE};
 use c_handles::{CpuBody, LocalBody};

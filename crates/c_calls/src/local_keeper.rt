@@ -4,8 +4,7 @@ ghost use Rattle.std.specs.Prelude.{◌≡◌, ◌<◌, None};
 ghost use Rattle.cpu_words.specs.Common.{IsFoundCollected};
 ghost use Rattle.c_handles.specs.Bodies.{IsReferenceOf};
 ghost use Rattle.passive_list.specs.Common.{HasGivenUp};
-ghost use Rattle.c_calls.specs.Collected.{are_collected_for};
-ghost use Rattle.c_calls.specs.LocalCalls.{AttachIfaceAnswers, AttachesIfaceNamed, LocalGivesUp};
+ghost use Rattle.c_calls.specs.LocalCalls.{are_collected_for, AttachIfaceAnswers, AttachesIfaceNamed, LocalGivesUp};
 
 use crate::keeper_calls;
 use c_handles::values::place::EntryPlace;

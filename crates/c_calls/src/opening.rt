@@ -4,9 +4,9 @@ ghost use Rattle.std.specs.Prelude.{◌≡◌, length, true, false, IfOk, IfErr,
 ghost use Rattle.registry_values.specs.Common.{are_fit};
 ghost use Rattle.cpu_words.specs.Common.{AreSeats, keeper_with};
 ghost use Rattle.passive_list.specs.Common.{OnPlainCpu, OnPlainKeeper};
-ghost use Rattle.c_handles.specs.heap.Rows.{IsLong};
+ghost use Rattle.c_handles.specs.Heap.{IsLong};
 ghost use Rattle.c_calls.specs.Opening.{AreEmpty, AreGiven, HasOpened, IsFull, IsSomeFull, Opens, OpensBy, OpensInto, StaysClosed, bodies_of, boxed, opened_down, opened_keeper};
-ghost use Rattle.c_handles.specs.values.Values.{settings_in};
+ghost use Rattle.c_handles.specs.values.Texts.{settings_in};
 
 use c_handles::answer::OpenedAnswer;
 use c_handles::handle::{CpuHandle, KeeperHandle};

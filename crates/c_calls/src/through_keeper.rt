@@ -5,7 +5,7 @@ ghost use Rattle.name_registry.specs.Common.{is_inside, room_answer};
 ghost use Rattle.c_calls.specs.Calls.{AreOfOne, Through, ThroughBoth};
 ghost use Rattle.c_calls.specs.KeeperCalls.{AdvanceAnswers, AttachesNamed, DestroyAnswers, DetachesNamed, KeeperCloses, PerformCalls, TurnCalls};
 ghost use Rattle.c_handles.specs.values.Places.{put};
-ghost use Rattle.c_handles.specs.values.Values.{number_of, settings_out};
+ghost use Rattle.c_handles.specs.values.Texts.{number_of, settings_out};
 
 use crate::keeper_answers;
 use c_handles::handle::{CpuHandle, KeeperHandle};

@@ -4,7 +4,7 @@ ghost use Rattle.std.specs.Prelude.{◌≡◌, None};
 ghost use Rattle.c_calls.specs.Calls.{AreOfOne, IsOfCpu, IsOfKeeper, Through};
 ghost use Rattle.c_calls.specs.LocalCalls.{AttachesIfaceNamed, LocalAcquireAnswers, LocalForgets, LocalGivesUp, LocalReleases, ThroughAll, ThroughLocal};
 ghost use Rattle.c_handles.specs.values.Places.{put};
-ghost use Rattle.c_handles.specs.values.Values.{entry_out};
+ghost use Rattle.c_handles.specs.values.Texts.{entry_out};
 
 use crate::local_calls::{acquire_local, release_local};
 use crate::local_keeper;

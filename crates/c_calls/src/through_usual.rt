@@ -2,9 +2,8 @@
 
 ghost use Rattle.std.specs.Prelude.{◌≡◌, ℕ, IsTrue, Some};
 ghost use Rattle.passive_list.specs.Common.{may_begin};
-ghost use Rattle.c_calls.specs.Calls.{Through};
-ghost use Rattle.c_calls.specs.UsualCalls.{EntersAndFinds, Gets, GetsAnew, GetsByMemory, GetsInSection, LooksUp, LooksUpAnew, LooksUpByMemory, LooksUpInSection};
-ghost use Rattle.c_handles.specs.values.Values.{kind_in};
+ghost use Rattle.c_calls.specs.Calls.{Through, EntersAndFinds, Gets, GetsAnew, GetsByMemory, GetsInSection, LooksUp, LooksUpAnew, LooksUpByMemory, LooksUpInSection};
+ghost use Rattle.c_handles.specs.values.Texts.{kind_in};
 
 use crate::cpu_calls::put_seen;
 use crate::usual_calls;

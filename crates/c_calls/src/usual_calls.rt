@@ -7,9 +7,8 @@ ghost use Rattle.std.specs.Prelude.{◌≡◌, ◌≢◌, ℕ, IsTrue, Option, S
 ghost use Rattle.passive_list.specs.Common.{may_begin};
 ghost use Rattle.c_handles.specs.declared.values.plain.CEntry.{CEntry};
 ghost use Rattle.c_handles.specs.declared.values.plain.TheConstants.{DONE};
-ghost use Rattle.c_calls.specs.Calls.{Enters, TellsFound};
-ghost use Rattle.c_calls.specs.UsualCalls.{EntersAndFinds, FindsAndAcquires, GetsAnew, GetsFound, GetsInSection, LooksUpAnew, LooksUpInSection, RecallsByMemory, Seeks, TriesOnce};
-ghost use Rattle.c_handles.specs.values.Values.{kind_in};
+ghost use Rattle.c_calls.specs.Calls.{Enters, TellsFound, EntersAndFinds, FindsAndAcquires, GetsAnew, GetsFound, GetsInSection, LooksUpAnew, LooksUpInSection, RecallsByMemory, Seeks, TriesOnce};
+ghost use Rattle.c_handles.specs.values.Texts.{kind_in};
 
 use crate::cpu_calls::{enter, exit, find_named, look, put_seen, tell};
 use c_handles::CpuBody;

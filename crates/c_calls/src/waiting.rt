@@ -6,7 +6,7 @@ ghost use Rattle.registry_values.specs.Common.{retired_number, slot_at};
 ghost use Rattle.cpu_words.specs.Common.{AreWordsOf};
 ghost use Rattle.passive_list.specs.Common.{HasHeardOn, HasOwnLog, cpu_after_tell, has_heard};
 ghost use Rattle.name_registry.specs.Common.{HasGlanced, HasPassedAll, Hold, KeepsWords, PassesBelow, SnapshotsBelow, keeper_after_hear, keeper_after_tell, looking};
-ghost use Rattle.c_handles.specs.values.Flags.{flag_of, is_set, none_or_number, number_or_none};
+ghost use Rattle.c_handles.specs.values.Texts.{flag_of, is_set, none_or_number, number_or_none};
 ghost use Rattle.c_calls.specs.KeeperCalls.{Begins, Turns};
 
 use c_handles::values::wait::{BEGUN, CWait, none_or_number, number_or_none, seen_in, seen_out};

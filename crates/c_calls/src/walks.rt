@@ -5,10 +5,9 @@ ghost use Rattle.c_calls.specs.Types.{Entry};
 ghost use Rattle.cpu_words.specs.Common.{AreWordsOf};
 ghost use Rattle.passive_list.specs.Common.{HasWalked};
 ghost use Rattle.c_handles.specs.values.Places.{put};
-ghost use Rattle.c_calls.specs.Calls.{Through};
-ghost use Rattle.c_handles.specs.heap.Rows.{IsLong};
-ghost use Rattle.c_calls.specs.Walks.{Walks, WalksBy, WritesRow};
-ghost use Rattle.c_handles.specs.values.Values.{entry_out};
+ghost use Rattle.c_calls.specs.Calls.{Through, Walks, WalksBy, WritesRow};
+ghost use Rattle.c_handles.specs.Heap.{IsLong};
+ghost use Rattle.c_handles.specs.values.Texts.{entry_out};
 
 use c_handles::CpuBody;
 use c_handles::handle::CpuHandle;

@@ -2,8 +2,7 @@
 use Rattle.std.proofs.Common.{◌≡◌, List, [], ◌∷◌, ◌++◌, refl, sym, ap, ◌∙◌, subst, lit<, Option, Some, None}
 use lib.Dec.{T}
 use seplogic.Ra.Ura.{Ura}
-use mir.Syntax.{Fn, Callee, Ty, named, mut, local, value_local, ty_ptr, ty_ref, ty_bool, ty_enum, tcons, tnil, ttcons, ttnil, place, deref, field, assign, rv_opd, op2, ptr_eq, copy, int, w8, w64}
-use mir.Syntax.{aggregate, cond, skip, block, seq, return}
+use mir.Syntax.{Fn, Callee, Ty, named, mut, local, value_local, ty_ptr, ty_ref, ty_bool, ty_enum, tcons, tnil, ttcons, ttnil, place, deref, field, assign, rv_opd, op2, ptr_eq, copy, int, w8, w64, aggregate, cond, skip, block, seq, return}
 use mir.Val.{Val, vptr, vstruct, vcons, vnil, of_list, has_ty, WT}
 use base.Fraction.{full_share}
 use base.Logic.{SProp, ent, sep, emp}
@@ -12,8 +11,7 @@ use prog.Model.{Model}
 use prog.Wp.{Closed}
 use types.Logic.{Logic, sem}
 use types.SemTy.{Body}
-use types.Kit.{Step, step, Item, Goal, ‵, raw, ◌⊛◌, some, at_ret, ◌$◌, ◌∵◌, !, qed, by, move, keep, drop, use0, use1, use2, split, join, pick, rewrite, fsplit, fsplit3, fjoin, fjoin3, fpick, fpack}
-use types.Kit.{feq_i, feq_l}
+use types.Kit.{Step, step, Item, Goal, ‵, raw, ◌⊛◌, some, at_ret, ◌$◌, ◌∵◌, !, qed, by, move, keep, drop, use0, use1, use2, split, join, pick, rewrite, fsplit, fsplit3, fjoin, fjoin3, fpick, fpack, feq_i, feq_l}
 use types.Run.{stop, fld, load, look, lit, of_opd, bin, no_more, and_then, first, branches, skips, blocks, exec, returns, returns_within, enter}
 use types.ByLocal.{alloc_all, pass_all, free_all, look_at, get, through, sets, sets_last, env}
 use types.Part.{agg, sub, whole, look_in}
@@ -42,9 +40,8 @@ use Rattle.core.proofs.alloc.Shapes.{after}
 use Rattle.core.proofs.option.Made.{Some-of, none_of}
 use Rattle.std.proofs.raw_atomic.Walks.{proved, leaves}
 use Rattle.std_alloc.proofs.ResultValues.{and_tt}
-use Rattle.c_handles.specs.heap.Handles.{may_lie_at, is_null, is_testable}
-use Rattle.c_handles.proofs.Holding.{lent_tests, either}
-use Rattle.c_handles.proofs.Lent.{by_name}
+use Rattle.c_handles.specs.Heap.{may_lie_at, is_null, is_testable}
+use Rattle.c_handles.proofs.Lent.{lent_tests, either, by_name}
 use Rattle.c_handles.proofs.Turned.{Word, word, fits}
 
 module _ (P : Owning) (at : Word P.D) (R : RattleType) where

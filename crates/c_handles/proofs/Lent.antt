@@ -1,30 +1,31 @@
--- A struct of one pointer lends what lies behind it: that leaves as a `&mut`, and the struct follows it.
-use Rattle.std.proofs.Common.{◌≡◌, ℕ, List, [], ◌∷◌, ◌++◌, refl, sym, ap, ◌∙◌, subst, lit<, Option, Some, None, MutBor}
+-- What may lie behind a pointer, and a struct of one pointer that lends it: that leaves as a `&mut`, and the struct follows it.
+use Rattle.std.proofs.Common.{◌≡◌, ℕ, List, ◌∷◌, refl, Option, Some, None, [], ◌++◌, sym, ap, ◌∙◌, subst, lit<, MutBor}
+use Rattle.std.proofs.raw_atomic.Walks.{proved}
 use seplogic.Ra.Ura.{Ura}
-use mir.Syntax.{Fn, Callee, Lifetime, Ty, named, erased, mut, local, value_local, ty_ptr, ty_ref, ty_bool, ty_enum, ty_named, ty_struct, tcons, tnil, ttcons, ttnil, place, deref, field, assign}
-use mir.Syntax.{rv_opd, op2, ptr_eq, copy, int, w8, w64, aggregate, addr_of, cond, skip, block, seq, return}
+use mir.Raw.{raw as bare}
+use base.Logic.{ent, guard, via, never, fst∗, snd∗, guard_i, ex_e, SProp, sep, emp}
+use base.Fml.{Share, Fml, ftrue, fsep, Lft, GName, flft, fobs, fres}
+use types.Logic.{Logic, sem}
+use types.Kit.{Item, Goal, Seq, ‵, given, ◌$◌, drop, fpick, learn, use1, Step, step, raw, ◌⊛◌, some, later, at_ret, ◌∵◌, !, qed, by, move, keep, use0, split, join, pick, await, group, rewrite, fsplit, fsplit3, fjoin, fpack, feq_i, feq_l, suffices, frame, done}
+use contract.Monad.{fact, fact_i, fact_use}
+use denote.RattleType.{RattleType, Valss}
+use denote.Memory.{lone, mem, cell_at, part_at, part_of}
+use denote.RawPtr.{Ptr, block_ptr, null_ptr, lies_at, Testable, in_a_block, ptr_val, tests_null}
+use Rattle.std_heap.proofs.GlobalToken.{dealloc_token-Testable}
+use mir.Syntax.{Fn, Callee, Lifetime, Ty, named, erased, mut, local, value_local, ty_ptr, ty_ref, ty_bool, ty_enum, ty_named, ty_struct, tcons, tnil, ttcons, ttnil, place, deref, field, assign, rv_opd, op2, ptr_eq, copy, int, w8, w64, aggregate, addr_of, cond, skip, block, seq, return}
 use mir.Val.{Val, vptr, vstruct, vcons, vnil, of_list}
 use base.Fraction.{full_share}
-use base.Logic.{SProp, ent, sep, emp}
-use base.Fml.{Lft, GName, Share, Fml, ftrue, fsep, flft, fobs, fres}
 use prog.Model.{Model}
 use prog.Wp.{Closed}
-use types.Logic.{Logic, sem}
-use types.Kit.{Step, step, Item, Goal, ‵, raw, ◌⊛◌, some, later, at_ret, ◌$◌, ◌∵◌, !, qed, by, move, keep, drop, use0, use1, split, join, pick, await, group, rewrite, fsplit, fsplit3, fjoin, fpick}
-use types.Kit.{fpack, feq_i, feq_l, suffices, frame, done}
 use types.Run.{stop, fld, load, lit, of_opd, bin, addr, no_more, and_then, first, branches, skips, blocks, exec, returns, returns_within, enter}
 use types.ByLocal.{alloc_all, pass_all, free_all, look_at, get, through, sets, sets_last, env}
 use types.Part.{agg, sub, whole, look_in}
 use types.Match.{live}
-use contract.Monad.{fact}
 use contract.Running.{Running, MachineTables, tables}
 use denote.Exit.{no}
 use denote.Builtin.{RawPtr, RefMutOf}
 use denote.Follow.{follows, follows_if, follows_by, Part, lends_Part}
-use denote.Memory.{mem, cell_at, part_at, part_of}
 use denote.Param.{layout}
-use denote.RattleType.{RattleType, Valss}
-use denote.RawPtr.{Ptr, block_ptr, null_ptr, ptr_val, tests_null}
 use denote.Ref.{MutRef, mut_vals, mut_Tells}
 use denote.Signature.{plain, mut_ref_to}
 use denote.Steps.{nothing, opens, closes}
@@ -39,11 +40,39 @@ use Rattle.core.specs.contracts.option.Option as OP
 use Rattle.core.specs.Option.{ghost_name_of}
 use Rattle.core.proofs.alloc.Shapes.{after}
 use Rattle.core.proofs.option.Made.{Some-of, none_of}
-use Rattle.std.proofs.raw_atomic.Walks.{proved}
-use Rattle.c_handles.specs.heap.Handles.{may_lie_at, is_null}
-use Rattle.c_handles.specs.heap.Lent.{IsLent}
-use Rattle.c_handles.proofs.Holding.{Tests, either}
+use Rattle.c_handles.specs.Heap.{may_lie_at, token, is_testable, is_null, IsLent}
 use Rattle.c_handles.proofs.Turned.{Word, word, fits}
+
+-- What may lie behind a pointer, taken apart: nothing, at null, or a value, whose pointer may be compared with null.
+
+-- what is had beside the value shows that its pointer may be compared with null
+abbrev pub Tests : (Ptr → Fml) → Type 2
+Tests more = (M : Type 1) (𝓤 : Ura M) (𝓛 : Logic 𝓤) (p : Ptr) → ent 𝓤 (sem 𝓛 (more p)) (fact 𝓤 (Testable p))
+
+pub token_tests : (R : RattleType) → Tests (token (bare (lone R.mir)))
+token_tests R M 𝓤 𝓛 p = dealloc_token-Testable 𝓛 (record { memory = record { seal = tt } }) (bare (lone R.mir)) p
+
+pub lent_tests : Tests is_testable
+lent_tests M 𝓤 𝓛 p = ex_e 𝓤 (λ (t : Testable p). sem 𝓛 ftrue) (λ t. fact_i 𝓤 (Testable p) (sem 𝓛 ftrue) t)
+
+module _ (more : Ptr → Fml) (tests : Tests more) (R : RattleType) (q : Share) where
+  abbrev there : Ptr → R.Denot → Fml
+  there p x = fsep (lies_at R q p x) (more p)
+
+  module _ {M : Type 1} {𝓤 : Ura M} where
+    tested : (𝓛 : Logic 𝓤) (p : Ptr) (x : R.Denot) → ent 𝓤 (sem 𝓛 (there p x)) (guard 𝓤 (Testable p) (sem 𝓛 (there p x)))
+    tested 𝓛 p x = fact_use 𝓤 (Testable p) (via 𝓤 _ (snd∗ 𝓤 (sem 𝓛 (lies_at R q p x)) (sem 𝓛 (more p))) (tests M 𝓤 𝓛 p)) (guard_i 𝓤 (Testable p) (sem 𝓛 (there p x)))
+
+    module _ {𝓛 : Logic 𝓤} {K : Type 0} {Γ : List (Item 𝓤)} {G : Goal 𝓤 𝓛.H} where
+      pub either : K → (p : Ptr) (o : Option R.Denot) → (o ≡ None → p ≡ null_ptr → Seq K 𝓛 Γ G)
+          → ((b k : ℕ) (x : R.Denot) → o ≡ Some x → p ≡ block_ptr b k → Testable (block_ptr b k) → Seq K 𝓛 (‵ (there (block_ptr b k) x) ∷ Γ) G)
+          → Seq K 𝓛 (‵ (may_lie_at more R q p o) ∷ Γ) G
+      either t p None none full = fpick t (λ is. drop t $ none refl is)
+      either t p (Some x) none full =
+          in_a_block t p (λ p'. there p' x) (fst∗ 𝓤 (never 𝓤) (sem 𝓛 (more null_ptr))) (λ b k e.
+          use1 𝓛 (given (Testable (block_ptr b k)) (‵ (there (block_ptr b k) x))) (tested 𝓛 (block_ptr b k) x) $ learn t (λ test. full b k x refl e test))
+
+-- A struct of one pointer lends what lies behind it: that leaves as a `&mut`, and the struct follows it.
 
 -- the type of what is lent, where the type behind it is written as τ
 abbrev loan : Lifetime → Ty → Ty

@@ -2,8 +2,7 @@
 -- struct follows.
 use Rattle.std.proofs.Common.{◌≡◌, ℕ, ◌<◌, ◌^◌, List, [], ◌∷◌, ◌++◌, length, refl, sym, ap, ◌∙◌, subst, Bool, Option, Some, None, MutBor}
 use seplogic.Ra.Ura.{Ura}
-use mir.Syntax.{Fn, Callee, Ty, named, erased, mut, local, value_local, ty_ptr, ty_ref, ty_bool, ty_int, place, deref, field, assign, rv_opd, op2, ptr_eq, copy, int, w64, aggregate, block, seq}
-use mir.Syntax.{return}
+use mir.Syntax.{Fn, Callee, Ty, named, erased, mut, local, value_local, ty_ptr, ty_ref, ty_bool, ty_int, place, deref, field, assign, rv_opd, op2, ptr_eq, copy, int, w64, aggregate, block, seq, return}
 use mir.Val.{Val, vptr, vint, vbool, vstruct, vcons, vnil, of_list}
 use base.Fraction.{full_share}
 use base.Logic.{SProp, ent, sep, emp, never, fst∗}
@@ -11,8 +10,7 @@ use base.Fml.{Lft, GName, Share, Fml, ftrue, fsep, flft, fobs, fbor}
 use prog.Model.{Model}
 use prog.Wp.{Closed, WpFn}
 use types.Logic.{Logic, sem}
-use types.Kit.{Step, step, Item, Goal, Seq, ‵, raw, given, ◌⊛◌, some, later, at_ret, ◌$◌, ◌∵◌, !, qed, by, move, keep, drop, learn, use0, use1, split, join, pick, await, group, rewrite, fsplit}
-use types.Kit.{fsplit3, fjoin, fjoin3, fpick, fpack, feq_i, feq_l, suffices, frame, done}
+use types.Kit.{Step, step, Item, Goal, Seq, ‵, raw, given, ◌⊛◌, some, later, at_ret, ◌$◌, ◌∵◌, !, qed, by, move, keep, drop, learn, use0, use1, split, join, pick, await, group, rewrite, fsplit, fsplit3, fjoin, fjoin3, fpick, fpack, feq_i, feq_l, suffices, frame, done}
 use types.Run.{stop, fld, load, lit, of_opd, bin, no_more, and_then, first, blocks, exec, returns, enter}
 use types.ByLocal.{alloc_all, pass_all, free_all, look_at, get, through, sets, sets_last, env}
 use types.Part.{agg, sub, whole, look_in}
@@ -43,8 +41,7 @@ use denote.Triple.Spec.{Meets}
 use denote.Triple.Walked.{says, Stays, stay_dropped, stay_ref, walk_of, ends_at, Goes-dropped, Goes-ref, Goes-spent_ref}
 use Rattle.core.proofs.alloc.Shapes.{after}
 use Rattle.std.proofs.raw_atomic.Walks.{proved, leaves}
-use Rattle.c_handles.specs.heap.Handles.{is_null, is_testable}
-use Rattle.c_handles.specs.heap.Rows.{IsThere, is_nothing, lends_row, row_lies_at, is_roomy}
+use Rattle.c_handles.specs.Heap.{is_null, is_testable, IsThere, is_nothing, lends_row, row_lies_at, is_roomy}
 use Rattle.c_handles.proofs.Lent.{by_name}
 use Rattle.c_handles.proofs.Turned.{Word, word, fits}
 

@@ -1,13 +1,10 @@
 pub mod Answered
 pub mod Given
 pub mod HeapValues
-pub mod Holding
 pub mod Inside
 pub mod Lent
 pub mod LentRow
-pub mod Lists
 pub mod ReadByte
-pub mod Sent
 pub mod SpareSent
 pub mod Turned
 pub mod Written

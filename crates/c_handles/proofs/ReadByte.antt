@@ -34,7 +34,7 @@ use denote.Triple.Spec.{Meets}
 use denote.Triple.Walked.{Stays, stay_dropped, stay_ref, walk_of, Goes-dropped, Goes-ref}
 use Rattle.core.proofs.alloc.Shapes.{after}
 use Rattle.std.proofs.raw_atomic.Walks.{proved, leaves}
-use Rattle.c_handles.specs.heap.Rows.{IsWithin, number_at, lends_row}
+use Rattle.c_handles.specs.Heap.{IsWithin, number_at, lends_row}
 use Rattle.c_handles.proofs.Lent.{by_name}
 use Rattle.c_handles.proofs.LentRow.{either, pointing}
 use Rattle.c_handles.proofs.Turned.{Word, word}

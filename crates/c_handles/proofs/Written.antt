@@ -1,11 +1,25 @@
--- A text is written byte by byte, and a zero after it.
-use Rattle.std.proofs.Common.{◌≡◌, ◌≢◌, ⊎_elim, ℕ, zero, suc, ◌+◌, ◌-◌, ◌<◌, ◌≤◌, List, [], ◌∷◌, length, get_or, set, take, Option, Some, None, refl, sym, ap, ◌∙◌, arith, length-set}
+-- A text is written byte by byte, and a zero after it; lists by their places.
+use Rattle.std.proofs.Common.{◌≡◌, ℕ, suc, ◌<◌, List, [], ◌∷◌, length, get_or, map, refl, arith, ◌≢◌, ⊎_elim, zero, ◌+◌, ◌-◌, ◌≤◌, set, take, Option, Some, None, sym, ap, ◌∙◌, length-set}
 use Rattle.std.proofs.lemmas.Bool.{cases_lt}
 use Rattle.std.proofs.lemmas.List.{get_or-set_other, get_or-set_same}
 use mathlib.Core.Logic.{dite}
 use native.Mathlib.Decide.{ℕ_discrete}
-use Rattle.c_handles.specs.heap.Rows.{IsThere, number_at}
+use Rattle.c_handles.specs.Heap.{IsThere, number_at}
 use Rattle.c_handles.specs.values.Texts.{IsWritten}
+
+-- Lists by their places.
+
+-- what has at each place what f makes of another's is what map makes of it
+pub map_by_place : {X Y : Type 0} (f : X → Y) (xs : List X) (ys : List Y) (e : X) (d : Y) → length ys ≡ length xs → ((k : ℕ) → k < length xs → get_or ys k d ≡ f (get_or xs k e)) → ys ≡ map f xs
+map_by_place f [] [] e d same each = refl
+map_by_place f [] (y ∷ ys) e d same each = absurd (omega (arith, same))
+map_by_place f (x ∷ xs) [] e d same each = absurd (omega (arith, same))
+map_by_place f (x ∷ xs) (y ∷ ys) e d same each =
+    let rest = map_by_place f xs ys e d (omega (arith, same)) (λ k lt. each (suc k) (omega (arith, lt))) in
+    let first = each 0 (omega arith) in
+    λ i. first i ∷ rest i
+
+-- A text is written byte by byte, and a zero after it.
 
 -- the first k bytes of the text are there, and the others are as before
 pub record AreCopied (t first new : List ℕ) (k : ℕ) : Type 0 where

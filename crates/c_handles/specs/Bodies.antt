@@ -4,7 +4,7 @@ use Rattle.atomic_table.specs.Seated.{TableId}
 use Rattle.c_handles.specs.Types.{ReferenceView, MOST_SLOTS}
 use Rattle.cpu_words.specs.Common.{Named}
 use Rattle.c_handles.specs.declared.values.plain.CEntry.{CEntry}
-use Rattle.c_handles.specs.values.Values.{entry_out}
+use Rattle.c_handles.specs.values.Texts.{entry_out}
 
 -- a local reference, and its table
 pub record OnLocalBody : Type 0 where

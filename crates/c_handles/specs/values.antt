@@ -1,7 +1,3 @@
 pub mod Lent
-pub mod Given
 pub mod Places
-pub mod Types
-pub mod Values
-pub mod Flags
 pub mod Texts

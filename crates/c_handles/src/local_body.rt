@@ -2,7 +2,7 @@
 
 ghost use Rattle.std.specs.Prelude.{◌≡◌, ◌<◌, is_some};
 ghost use Rattle.c_handles.specs.Bodies.{back_word};
-ghost use Rattle.c_handles.specs.values.Values.{entry_out};
+ghost use Rattle.c_handles.specs.values.Texts.{entry_out};
 
 use crate::values::plain::CEntry;
 use cpu_words::ReferenceSeat;

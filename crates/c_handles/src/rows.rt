@@ -1,7 +1,7 @@
 //! Rows of CPUs' handles of C's own: a pointer, whose length is passed beside it. At null there is none.
 
 ghost use Rattle.std.specs.Prelude.{◌≡◌, List, Option, Some};
-ghost use Rattle.c_handles.specs.heap.Rows.{IsThere, is_nothing};
+ghost use Rattle.c_handles.specs.Heap.{IsThere, is_nothing};
 ghost use Rattle.c_handles.specs.declared.handle.CpuHandle.{CpuHandle};
 
 use crate::handle::CpuHandle;
@@ -16,7 +16,7 @@ pub struct CpusPlace {
 }
 
 impl Model for CpusPlace {
-    ghost use Rattle.c_handles.specs.Lent.{lends_cpus};
+    ghost use Rattle.c_handles.specs.Handles.{lends_cpus};
 
     ghost also_owns = { λ p. lends_cpus p.at p.value };
 }

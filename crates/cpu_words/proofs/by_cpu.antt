@@ -1,10 +1,8 @@
-pub mod Counting
 pub mod CpuSteps
 pub mod Hands
 pub mod Locals
 pub mod Passives
 pub mod Recalling
-pub mod Reading
 pub mod Searching
 pub mod Sections
 pub mod Trying

@@ -1,15 +1,7 @@
-pub mod LiveWords
-pub mod Drained
 pub mod Draining
-pub mod Grace
-pub mod KeeperSees
 pub mod KeeperSteps
 pub mod Keeping
-pub mod KeptDrivers
-pub mod Leading
-pub mod Marked
 pub mod Publishing
 pub mod Storing
 pub mod Totals
-pub mod Unpublishing
 pub mod Vacating

@@ -1,12 +1,6 @@
 pub mod Balance
 pub mod Called
 pub mod Freed
-pub mod Ended
 pub mod Fresh
-pub mod Kept
-pub mod Holders
-pub mod Honest
-pub mod Ordered
-pub mod Reaching
 pub mod Safety
 pub mod Waiting

@@ -1,10 +1,4 @@
-pub mod Apart
-pub mod Lives
-pub mod Passes
-pub mod KeepersShown
-pub mod CpusShown
 pub mod Placing
 pub mod ReferenceLists
 pub mod Seeing
 pub mod Showing
-pub mod Standing

@@ -10,11 +10,10 @@ use Rattle.cpu_words.specs.declared.view.LogItem.{LogItem}
 use Rattle.cpu_words.specs.declared.view.Logged.{Logged}
 use Rattle.cpu_words.specs.declared.view.Teller.{Teller}
 use Rattle.cpu_words.specs.declared.view.View.TheVariants.{Cpu}
-use Rattle.cpu_words.specs.Acts.{part, is_hear}
+use Rattle.cpu_words.specs.Steps.{part, is_hear}
 use Rattle.cpu_words.specs.KeeperLog.{changes_in, has_heard_from, HasHeardFrom, HasWaited}
 use Rattle.cpu_words.specs.Headline.{RunsAsLogged}
-use Rattle.cpu_words.specs.Waiting.{HasEndedSince}
-use Rattle.cpu_words.specs.Ordered.{TwoMoments}
+use Rattle.cpu_words.specs.Waiting.{HasEndedSince, TwoMoments}
 
 -- The seat j is a CPU's, and h is a teller's name that this CPU has earned after the first moment: it is of more events than it had made by then.
 pub record HasToldSince {z : Settings} {s t : Table ℕ Logged} {i j : ℕ} (m : TwoMoments z s t i j) (h : Teller) : Type 0 where

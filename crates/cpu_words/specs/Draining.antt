@@ -1,15 +1,85 @@
--- Draining by the keeper's seat (psref(9), localcount(9)): where it may make the step, and what changes in its view.
-use Rattle.std.specs.Prelude.{◌≡◌, ℕ, ◌+◌, ◌-◌, ◌⊎◌, List, [], replicate, slice_index_or, slice_set, true, false, Some, None}
-use Rattle.cpu_words.specs.Types.{MOST_CPUS, Entry, Iface, Event, PassiveLook, Collect, TotalAdd, TotalSub, KeptSub, Word, Mark, Slot, Vacant, Retired, Rest, Adding, Subtracting}
-use Rattle.registry_values.specs.Common.{bias, slot_at, slot_of, have_passed, are_clear, mark_after_passive_look, mark_after_collect}
-use Rattle.protocol.specs.Common.{with_cell, mark_at, total_at, kept_at}
+-- Draining by the keeper's seat (psref(9), localcount(9)): snapshots, looks, counts, and the slot that becomes vacant.
+use Rattle.std.specs.Prelude.{◌≡◌, ℕ, suc, ◌+◌, ◌<◌, nat_lt, if◌then◌else◌, Some, None, [], replicate, slice_index_or, slice_set, true, ◌-◌, ◌⊎◌, List, false}
+use Rattle.cpu_words.specs.Types.{Entry, Event, Look, Snapshot, Word, Reply, Retired, Due, Rest, Snapshots, Settings, MOST_CPUS, Vacate, Vacant, Iface, PassiveLook, Collect, TotalAdd, TotalSub, KeptSub, Mark, Slot, Adding, Subtracting}
+use Rattle.registry_values.specs.Common.{slot_at, mark_after_look, bias, have_passed, are_clear, are_collected, slot_of, mark_after_passive_look, mark_after_collect}
+use Rattle.protocol.specs.Common.{mark_at, with_cell, snapshot_mark, total_at, kept_at}
 use Rattle.cpu_words.specs.declared.view.KeeperView.{KeeperView}
 use Rattle.cpu_words.specs.declared.view.ReferenceView.{ReferenceView}
 use Rattle.cpu_words.specs.declared.view.View.{View}
 use Rattle.cpu_words.specs.declared.view.View.TheVariants.{Keeper}
 use Rattle.cpu_words.specs.Views.{one_more, keeper_of, reference_of}
-use Rattle.cpu_words.specs.Grace.{MayLook, keeper_after_look}
-use Rattle.cpu_words.specs.Vacating.{IsDrained}
+
+-- Grace by the keeper's seat: snapshots, looks, and what they leave in its view.
+
+-- the keeper is at rest, and the CPU is one of the table's
+pub record MayGlance (k : KeeperView) (c : ℕ) : Type 0 where
+  pub rest : k.due ≡ Rest
+  pub cpu : c < k.settings.cpus
+
+-- .. and the slot's entry is retired
+pub record MayLook (k : KeeperView) (t c : ℕ) : Type 0 where
+  pub glance : MayGlance k c
+  pub retired : (e : Entry) × (slot_at k.slots t ≡ Retired e)
+
+-- one more look, and its answer
+abbrev pub keeper_after_look : KeeperView → Event → Reply → KeeperView
+keeper_after_look k e r = record k { looks = suc k.looks; last_look = Some (record { event = e; reply = r }) }
+
+-- the CPU's mark says what its section word, which was w, tells
+abbrev pub HasLooked : KeeperView → Event → Reply → ℕ → ℕ → ℕ → KeeperView → Type 0
+HasLooked k e r t c w l = l ≡ record (keeper_after_look k e r) { marks = with_cell k.marks t c (mark_after_look (mark_at k.marks t c) w) }
+
+-- the keeper must take the snapshot of the CPU c for t next
+abbrev pub MaySnapshot : KeeperView → ℕ → ℕ → Type 0
+MaySnapshot k t c = k.due ≡ Snapshots t c
+
+-- what it must do after the snapshot of c
+abbrev pub due_next : Settings → ℕ → ℕ → Due
+due_next z t c = if nat_lt (c + 1) z.cpus then Snapshots t (c + 1) else Rest
+
+-- the snapshot of the CPU c for t is w
+abbrev pub HasSnapshot : KeeperView → ℕ → ℕ → ℕ → KeeperView → Type 0
+HasSnapshot k t c w l = l ≡ record k { marks = with_cell k.marks t c (snapshot_mark w); due = due_next k.settings t c }
+
+-- what a load of a section word tells, by its event
+abbrev pub LookTold : Event → KeeperView → ℕ → KeeperView → Type 0
+LookTold (Look (Some t) c) k w l = HasLooked k (Look (Some t) c) (Word w) t c w l
+LookTold (Look None c) k w l = l ≡ keeper_after_look k (Look None c) (Word w)
+LookTold (Snapshot (Some t) c) k w l = HasSnapshot k t c w l
+LookTold (Snapshot None c) k w l = l ≡ keeper_after_look k (Snapshot None c) (Word w)
+LookTold e k w l = ⊥
+
+-- A retired slot with all its marks is vacated, and a vacant slot may be written. Vacate changes no word: the load that tells of it is one of the head.
+
+-- all marks are set, nothing is held, and no keeper's operation is half done
+pub record IsDrained (k : KeeperView) (t : ℕ) : Type 0 where
+  pub rest : k.due ≡ Rest
+  pub retired : (e : Entry) × (slot_at k.slots t ≡ Retired e)
+  pub passed : have_passed k.settings.cpus (slice_index_or k.marks t []) ≡ true
+  pub clear : are_clear k.settings.cpus (slice_index_or k.marks t []) ≡ true
+  pub collected : are_collected k.settings.cpus (slice_index_or k.marks t []) ≡ true
+  pub total : total_at k.totals t ≡ bias
+
+pub record MayVacate (k : KeeperView) (t : ℕ) : Type 0 where
+  pub drained : IsDrained k t
+  pub keeps_nothing : kept_at k.keeps t ≡ None
+
+-- its count words are 0, as they were collected
+abbrev pub keeper_after_vacate : KeeperView → ℕ → KeeperView
+keeper_after_vacate k t = record k { slots = slice_set k.slots t Vacant; counts = slice_set k.counts t (replicate MOST_CPUS 0) }
+
+-- the keeper is at rest and has the slot as vacant: it may write into it
+pub record MayWrite (k : KeeperView) (t : ℕ) : Type 0 where
+  pub rest : k.due ≡ Rest
+  pub slot : t < k.settings.slots
+  pub vacant : slot_at k.slots t ≡ Vacant
+
+-- what the step tells, by its event
+abbrev pub VacateTold : Event → KeeperView → KeeperView → Type 0
+VacateTold (Vacate t) k l = l ≡ keeper_after_vacate k t
+VacateTold e k l = ⊥
+
+-- Draining by the keeper's seat (psref(9), localcount(9)): where it may make the step, and what changes in its view.
 
 -- the marks of all CPUs for a slot
 abbrev pub row_of : KeeperView → ℕ → List Mark

@@ -13,7 +13,7 @@ use Rattle.cpu_words.specs.declared.view.Logged.{Logged}
 use Rattle.cpu_words.specs.declared.view.Teller.{Teller}
 use Rattle.cpu_words.specs.declared.view.View.TheVariants.{Cpu}
 use Rattle.cpu_words.specs.KeeperLog.{has_heard_from}
-use Rattle.cpu_words.specs.Acts.{part}
+use Rattle.cpu_words.specs.Steps.{part}
 use Rattle.cpu_words.specs.Headline.{RunsAsLogged}
 use Rattle.cpu_words.specs.Rule.{log_item}
 use Rattle.cpu_words.specs.Waiting.{IsBeforeTelling}

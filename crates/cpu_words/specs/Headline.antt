@@ -1,13 +1,12 @@
--- The laws of the protocol on the words: of any table under the rule, a list of events leads to a state that the words and all views show,
--- and that state obeys all laws. So what a seat holds has its slot, and marks are honest.
-use Rattle.std.specs.Prelude.{◌≡◌, ◌⊎◌, ℕ, ◌<◌, List, length, Some, true, slice_index}
+-- The laws of the protocol on the words, of any table under the rule: the headline, holders, honest marks, the balance over all seats.
+use Rattle.std.specs.Prelude.{◌≡◌, ◌⊎◌, ℕ, ◌<◌, List, length, Some, true, slice_index, ◌+◌, ◌*◌, sum_by}
 use mathlib.Core.Option.{some}
 use mathlib.Core.List.{IsPrefix}
 use lib.ListN.{get_elem?}
 use Rattle.atomic_table.specs.Table.{State as Table}
-use Rattle.cpu_words.specs.Types.{Entry, Change, Mark, Settings, Retired, Event}
-use Rattle.registry_values.specs.Common.{slot_at}
-use Rattle.protocol.specs.Common.{IsAttached, MayHold, opening, mark_at, kept_at, IsIn, empty_model, IsUnheld, IsModelRun, HasConfirm, picture, after, ObeysLaws}
+use Rattle.cpu_words.specs.Types.{Entry, Change, Mark, Settings, Retired, Event, Rest}
+use Rattle.registry_values.specs.Common.{slot_at, bias}
+use Rattle.protocol.specs.Common.{IsAttached, MayHold, opening, mark_at, kept_at, IsIn, empty_model, IsUnheld, IsModelRun, HasConfirm, picture, after, ObeysLaws, one_if, one_if_used, kept_of, addition_due_at, is_adding_at, subtraction_due_at}
 use Rattle.cpu_words.specs.declared.view.InHand.{InHand}
 use Rattle.cpu_words.specs.declared.view.InHand.TheVariants.{Empty, Taking, Giving, Back, Trying}
 use Rattle.cpu_words.specs.declared.view.CpuView.{CpuView}
@@ -16,12 +15,16 @@ use Rattle.cpu_words.specs.declared.view.LogItem.{LogItem}
 use Rattle.cpu_words.specs.declared.view.Logged.{Logged}
 use Rattle.cpu_words.specs.declared.view.View.{View}
 use Rattle.cpu_words.specs.declared.view.View.TheVariants.{Keeper, Cpu, Reference, Note, Spent}
-use Rattle.cpu_words.specs.Spots.{passive_of, count_of, index}
-use Rattle.cpu_words.specs.Views.{references_to, trying_in}
-use Rattle.cpu_words.specs.Rule.{Agrees, ShowsViews, Good, Ruled, log_of_events}
-use Rattle.cpu_words.specs.Acts.{part}
+use Rattle.cpu_words.specs.Spots.{passive_of, count_of, index, total_of}
+use Rattle.cpu_words.specs.Views.{references_to, trying_in, is_to}
+use Rattle.cpu_words.specs.Rule.{Agrees, ShowsViews, Good, Ruled, log_of_events, reference_to}
+use Rattle.cpu_words.specs.Steps.{part}
 use Rattle.cpu_words.specs.Logs.{without_logs, events_of, IsStanding, AreByOwn, AreToldBefore, HasHeardAll, Knows, LoggedRuled}
-use Rattle.cpu_words.specs.Vacating.{IsDrained}
+use Rattle.cpu_words.specs.Draining.{IsDrained}
+use Rattle.cpu_words.specs.KeeperLog.{sum_below}
+
+-- The laws of the protocol on the words: of any table under the rule, a list of events leads to a state that the words and all views show,
+-- and that state obeys all laws. So what a seat holds has its slot, and marks are honest.
 
 -- The headline of the running words
 
@@ -122,3 +125,56 @@ MarksAreHonest = (z : Settings) (s : Table ℕ View) (i j t : ℕ) (k : KeeperVi
 abbrev pub FoundIsHeld : Type 0
 FoundIsHeld = (z : Settings) (s : Table ℕ View) (i j : ℕ) (k : KeeperView) (x : CpuView) (e : Entry) → Ruled z s → get_elem? s.views i ≡ some (Keeper k) → get_elem? s.views j ≡ some (Cpu x)
     → x.found ≡ Some e → SectionMayHold k.history e x
+
+-- The balance over all seats (localcount(9)): the words of a slot and the views of the seats say how many local references to its entry there are, and no state of the core does.
+
+-- the words of the slot t: the CPU c's count word, and the total
+
+abbrev pub count_word : Settings → List ℕ → ℕ → ℕ → ℕ
+count_word z words t c = slice_index words (index z (count_of c t))
+
+abbrev pub total_word : Settings → List ℕ → ℕ → ℕ
+total_word z words t = slice_index words (index z (total_of t))
+
+-- 1 where a local reference to n is in the hand
+abbrev pub in_hand_to : ℕ → InHand → ℕ
+in_hand_to n Empty = 0
+in_hand_to n (Taking e) = one_if (is_to n e)
+in_hand_to n (Giving e) = one_if (is_to n e)
+in_hand_to n (Back e) = one_if (is_to n e)
+in_hand_to n (Trying e) = 0
+
+-- 1 for the seat of a CPU that has a reference to n in its hand
+abbrev pub hand_to : ℕ → View → ℕ
+hand_to n (Keeper k) = 0
+hand_to n (Cpu x) = in_hand_to n x.hand
+hand_to n (Reference v) = 0
+hand_to n (Note h) = 0
+hand_to n Spent = 0
+
+-- the local references to n: live seats of references, hands of CPUs, and slots that keep one
+abbrev pub held_by_seats : List View → KeeperView → ℕ → ℕ
+held_by_seats views k n = sum_by (reference_to n) views + sum_by (hand_to n) views + sum_by (kept_of n) k.keeps
+
+-- the CPU c has exactly one seat
+pub record HasOneSeat (views : List View) (c : ℕ) : Type 0 where
+  pub place : ℕ
+  pub view : CpuView
+  pub at : get_elem? views place ≡ some (Cpu view)
+  pub id : view.id ≡ c
+  pub only : (j : ℕ) (x : CpuView) → get_elem? views j ≡ some (Cpu x) → x.id ≡ c → j ≡ place
+
+-- Of the entry n in the slot t: the count words of all CPUs and the total, less the bias of the total and of each count word that isn't 0, are the references held.
+pub record IsBalanced (z : Settings) (cpus : ℕ) (words : List ℕ) (views : List View) (k : KeeperView) (t n : ℕ) : Type 0 where
+  -- where the keeper is half way: a word that it has collected, and its bias, it still has to add to the total; a reference that it has joined it still has to subtract
+  pub balance : sum_below (count_word z words t) cpus + total_word z words t + addition_due_at t k.due
+      ≡ held_by_seats views k n + subtraction_due_at t k.due + bias * (1 + sum_below (λ c. one_if_used (count_word z words t c)) cpus + is_adding_at t k.due)
+  pub at_rest : k.due ≡ Rest → sum_below (count_word z words t) cpus + total_word z words t ≡ held_by_seats views k n + bias * (1 + sum_below (λ c. one_if_used (count_word z words t c)) cpus)
+  -- the hands are those of all CPUs that the keeper has seated, each once
+  pub hands : (c : ℕ) → c < k.seated → HasOneSeat views c
+  pub seated : (j : ℕ) (x : CpuView) → get_elem? views j ≡ some (Cpu x) → x.id < k.seated
+
+-- so it is of each live or retired entry of any table under the rule
+abbrev pub SeatsBalance : Type 0
+SeatsBalance = (z : Settings) (s : Table ℕ View) (i t : ℕ) (k : KeeperView) (e : Entry) → Ruled z s → get_elem? s.views i ≡ some (Keeper k) → IsIn e (slot_at k.slots t)
+    → IsBalanced z z.cpus s.words s.views k t e.number

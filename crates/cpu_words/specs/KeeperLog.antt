@@ -1,8 +1,7 @@
 -- What the keeper's log says, and each prefix of it that a seat has heard. Since a log only grows, what follows from such a prefix stays so.
 use Rattle.std.specs.Prelude.{◌≡◌, ◌⊎◌, ℕ, zero, suc, ◌+◌, ◌*◌, ◌==◌, ◌&&◌, ◌%◌, ◌<◌, ◌≤◌, Bool, true, false, if◌then◌else◌, List, [], ◌∷◌, ◌++◌, length, Option, Some, None}
 use mathlib.Core.List.{IsPrefix}
-use Rattle.cpu_words.specs.Types.{Event, Hear, Publish, Unpublish, Snapshot, Look, PassiveLook, Collect, JoinKeeper, Keep, KeptSub, Vacate, Reply, Done, Word, MOST_CPUS, Change, Entry, Mark, Slot}
-use Rattle.cpu_words.specs.Types.{Vacant, Live, Retired}
+use Rattle.cpu_words.specs.Types.{Event, Hear, Publish, Unpublish, Snapshot, Look, PassiveLook, Collect, JoinKeeper, Keep, KeptSub, Vacate, Reply, Done, Word, MOST_CPUS, Change, Entry, Mark, Slot, Vacant, Live, Retired}
 use Rattle.registry_values.specs.Common.{bias, is_retired, slot_at}
 use Rattle.protocol.specs.Common.{addition_due_at, is_adding_at, subtraction_due_at, State, count_at, kept_at, mark_at, total_at, HasMoved, destroyed_slot}
 use Rattle.cpu_words.specs.declared.view.KeeperView.{KeeperView}
@@ -10,7 +9,7 @@ use Rattle.cpu_words.specs.declared.view.View.{View}
 use Rattle.cpu_words.specs.declared.view.View.TheVariants.{Keeper}
 use Rattle.cpu_words.specs.declared.view.LogItem.{LogItem}
 use Rattle.cpu_words.specs.declared.view.Teller.{Teller}
-use Rattle.cpu_words.specs.Notes.{keeper_with_note}
+use Rattle.cpu_words.specs.Seats.{keeper_with_note}
 use Rattle.cpu_words.specs.Rule.{Good, log_item}
 use Rattle.cpu_words.specs.Views.{Shown}
 

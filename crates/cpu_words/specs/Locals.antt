@@ -1,7 +1,8 @@
--- Local references by a CPU's seat (localcount(9)): where it may make the step, and what changes in its view.
-use Rattle.std.specs.Prelude.{◌≡◌, ℕ, ◌+◌, ◌<◌, ◌==◌, if◌then◌else◌, Some, None}
-use Rattle.cpu_words.specs.Types.{Entry, Event, Reply, Word, Collected}
-use Rattle.registry_values.specs.Common.{bias}
+-- Local references by a CPU's seat (localcount(9)), and loads by a reference's own: where the step may be made, and what changes in the view.
+use Rattle.std.specs.Prelude.{◌≡◌, ℕ, ◌+◌, ◌<◌, ◌==◌, if◌then◌else◌, Some, None, IsTrue}
+use Rattle.cpu_words.specs.Types.{Entry, Event, Reply, Word, Collected, LoadRecord, Local}
+use Rattle.registry_values.specs.Common.{bias, is_key}
+use Rattle.protocol.specs.Common.{word, words_of}
 use Rattle.cpu_words.specs.declared.view.InHand.{InHand}
 use Rattle.cpu_words.specs.declared.view.InHand.TheVariants.{Empty as NoEntry, Taking as TakingEntry, Giving as GivingEntry, Back as BackEntry, Trying as TryingEntry}
 use Rattle.cpu_words.specs.declared.view.CpuView.{CpuView}
@@ -113,3 +114,15 @@ HasSplit x y v = (e : Entry) × IsTaking x e × (y ≡ with_hand x NoEntry) × (
 
 abbrev pub HasSplitBack : CpuView → CpuView → ReferenceView → Type 0
 HasSplitBack x y v = (e : Entry) × IsBack x e × (y ≡ with_hand x NoEntry) × (v ≡ record { entry = e; collected = Some x.id })
+
+-- Loads of a record's words by the seat of a local reference.
+
+-- The load as the seat knows it: of a reference to its entry
+abbrev pub loads_by : Event → ReferenceView → Event
+loads_by (LoadRecord (Local id k)) v = LoadRecord (Local v.entry.number k)
+loads_by e v = e
+
+-- What the inner step is told. Which id the core gives the reference is in no view, so the event names any.
+abbrev pub tells_local : Event → ReferenceView → ℕ → ReferenceView → Type 0
+tells_local event v m w = (w ≡ v) × ((id k : ℕ) → event ≡ LoadRecord (Local id k)
+    → ((o : ℕ) × Makes (LoadRecord (Local o k)) (Word m) (Reference v) (Reference v)) × (m ≡ word (words_of v.entry) k) × IsTrue (is_key v.entry.rec.name))

@@ -1,10 +1,61 @@
--- Publish and Unpublish by the keeper's seat: one store of a link each, which the keeper knows from the live numbers of its own view.
-use Rattle.std.specs.Prelude.{◌≡◌, ℕ, suc, ◌+◌, ◌*◌, ◌<◌, ◌≤◌, true, false, List, length, replicate, slice_index_or, slice_set, Option, Some, None}
-use Rattle.cpu_words.specs.Types.{MOST_CPUS, Entry, Attach, Detach, Event, Publish, Unpublish, Slot, Vacant, Live, Retired, Rest, Snapshots}
-use Rattle.protocol.specs.Common.{after_change, row_at, count_at, total_at, live_at, kept_at, entry_of, keeps_rightly}
+-- Publish and Unpublish by the keeper's seat, what it stores before, the driver that a slot keeps, and the live words.
+use Rattle.std.specs.Prelude.{◌≡◌, ℕ, ◌-◌, slice_set, Some, None, suc, ◌+◌, ◌*◌, ◌<◌, ◌≤◌, true, false, List, length, replicate, slice_index_or, Option}
+use Rattle.cpu_words.specs.Types.{Event, StoreSlot, StoreNext, Driver, MOST_CPUS, Entry, Attach, Detach, Publish, Unpublish, Slot, Vacant, Live, Retired, Rest, Snapshots, Show, Hide}
 use Rattle.registry_values.specs.Common.{key_of, slot_at, is_taken, live_count, bias, no_mark}
+use Rattle.protocol.specs.Common.{row_at, with_cell, with_word, kept_at, after_change, count_at, total_at, live_at, entry_of, keeps_rightly}
 use Rattle.cpu_words.specs.declared.view.KeeperView.{KeeperView}
+use Rattle.cpu_words.specs.declared.view.ReferenceView.{ReferenceView}
+use Rattle.cpu_words.specs.declared.view.View.{View}
+use Rattle.cpu_words.specs.declared.view.View.TheVariants.{Keeper}
+use Rattle.cpu_words.specs.Views.{keeper_of, reference_of}
+use Rattle.cpu_words.specs.Draining.{MayWrite}
 use Rattle.cpu_words.specs.declared.layout.TheConstants.{HEAD, NEXTS, STRIDE}
+
+-- The words of a slot that the keeper stores before it publishes an entry there.
+
+-- the slot's record word j is v
+abbrev pub HasRecordWord : KeeperView → ℕ → ℕ → ℕ → KeeperView → Type 0
+HasRecordWord k t j v l = l ≡ record k { rows = slice_set k.rows t (with_word (row_at k.rows t) j v) }
+
+-- the count word of the CPU c for it is v
+abbrev pub HasCountWord : KeeperView → ℕ → ℕ → ℕ → KeeperView → Type 0
+HasCountWord k t c v l = l ≡ record k { counts = with_cell k.counts t c v }
+
+-- its link is v
+abbrev pub HasLink : KeeperView → ℕ → ℕ → KeeperView → Type 0
+HasLink k t v l = l ≡ record k { next = slice_set k.next t v }
+
+-- what each store tells, by its event
+
+abbrev pub RecordStored : Event → KeeperView → KeeperView → Type 0
+RecordStored (StoreSlot t j v) k l = HasRecordWord k t j v l
+RecordStored e k l = ⊥
+
+abbrev pub CountStored : Event → KeeperView → KeeperView → Type 0
+CountStored (StoreSlot t j v) k l = HasCountWord k t (j - 5) v l
+CountStored e k l = ⊥
+
+abbrev pub LinkStored : Event → KeeperView → KeeperView → Type 0
+LinkStored (StoreNext t v) k l = HasLink k t v l
+LinkStored e k l = ⊥
+
+-- A slot keeps a reference to a driver: the reference's seat is joined into the keeper's.
+
+-- the keeper may write into the slot, which keeps nothing, and the reference is to a driver
+pub record MayKeep (k : KeeperView) (t : ℕ) (v : ReferenceView) : Type 0 where
+  pub write : MayWrite k t
+  pub nothing : kept_at k.keeps t ≡ None
+  pub driver : v.entry.rec.kind ≡ Driver
+
+-- the slot keeps the reference
+abbrev pub keeper_after_keep : KeeperView → ℕ → ReferenceView → KeeperView
+keeper_after_keep k t v = record k { keeps = slice_set k.keeps t (Some v.entry.number) }
+
+-- the keeper's view as a reference is joined into it, to be kept by the slot t
+abbrev pub with_kept : ℕ → View → View → View
+with_kept t v u = Keeper (keeper_after_keep (keeper_of v) t (reference_of u))
+
+-- Publish and Unpublish by the keeper's seat: one store of a link each, which the keeper knows from the live numbers of its own view.
 
 -- the link x leads to the greatest live number below n, or to the end where there is none
 pub data LeadsBelow (slots : List Slot) (n : ℕ) : ℕ → Type 0 where
@@ -89,3 +140,26 @@ HasUnpublished k t p v l = (e : Entry) × (slot_at k.slots t ≡ Live e) × (l �
 abbrev pub UnpublishTold : Event → ℕ → ℕ → KeeperView → KeeperView → Type 0
 UnpublishTold (Unpublish t) w v k l = (p : Option ℕ) → link_index p ≡ w → HasUnpublished k t p v l
 UnpublishTold e w v k l = ⊥
+
+-- The live words, by the keeper's seat: it stores the number of an entry once it is published, and 0 before it is unpublished.
+
+-- the live word of the slot t is v
+abbrev pub keeper_after_live : KeeperView → ℕ → ℕ → KeeperView
+keeper_after_live k t v = record k { lives = slice_set k.lives t v }
+
+-- n is the number of the slot's live entry
+pub record MayShow (k : KeeperView) (t n : ℕ) : Type 0 where
+  pub rest : k.due ≡ Rest
+  pub entry : Entry
+  pub live : slot_at k.slots t ≡ Live entry
+  pub number : entry.number ≡ n
+
+pub record MayHide (k : KeeperView) (t : ℕ) : Type 0 where
+  pub rest : k.due ≡ Rest
+  pub slot : t < k.settings.slots
+
+-- what the step tells that stored v, by its event
+abbrev pub LiveTold : Event → ℕ → KeeperView → KeeperView → Type 0
+LiveTold (Show t) v k l = l ≡ keeper_after_live k t v
+LiveTold (Hide t) v k l = l ≡ keeper_after_live k t v
+LiveTold e v k l = ⊥

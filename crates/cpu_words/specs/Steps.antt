@@ -1,19 +1,50 @@
--- What a step promises: by the seat that steps, on that seat's view alone, exactly one event of the core.
-use Rattle.std.specs.Prelude.{◌≡◌, ℕ, ◌+◌, ◌<◌, ◌≤◌, List, [], ◌∷◌, ◌++◌, sum_by, slice_index, slice_set, Some}
+-- What a step promises: by the seat that steps, on that seat's view alone, exactly one event of the core; and the list of all events, by who made them.
+use Rattle.std.specs.Prelude.{◌≡◌, ℕ, ◌==◌, Bool, true, false, if◌then◌else◌, List, [], ◌∷◌, Some, ◌+◌, ◌<◌, ◌≤◌, ◌++◌, sum_by, slice_index, slice_set}
+use mathlib.Core.List.{IsPrefix}
 use mathlib.Core.Option.{some}
 use lib.ListN.{get_elem?}
 use Rattle.atomic_table.specs.Table.{State as Table, keeps, stepped}
-use Rattle.cpu_words.specs.Types.{Settings, Event, Reply, Done}
+use Rattle.cpu_words.specs.Types.{Event, Enter, Exit, Hear, Settings, Reply, Done}
 use Rattle.protocol.specs.Common.{State, step, standing_of}
+use Rattle.cpu_words.specs.declared.view.LogItem.{LogItem}
 use Rattle.cpu_words.specs.declared.view.CpuView.{CpuView}
 use Rattle.cpu_words.specs.declared.view.KeeperView.{KeeperView}
 use Rattle.cpu_words.specs.declared.view.ReferenceView.{ReferenceView}
-use Rattle.cpu_words.specs.declared.view.LogItem.{LogItem}
 use Rattle.cpu_words.specs.declared.view.View.{View}
 use Rattle.cpu_words.specs.declared.view.View.TheVariants.{Keeper, Cpu, Reference}
-use Rattle.cpu_words.specs.Acts.{ListGoesOn}
 use Rattle.cpu_words.specs.Views.{Seated, Shown, cpu_of, keeper_of, reference_of}
 use Rattle.cpu_words.specs.Rule.{Good, Ruled, GoesOn, did, number_of_id, reference_to}
+
+-- The list of all events, each with the place among the seats of the one that made it: what of it is a seat's, and how a seat knows it.
+
+-- of what the seats did in order, each by its place among the seats: the part by the seat i
+abbrev pub part : ℕ → List (ℕ × LogItem) → List LogItem
+part i [] = []
+part i (a ∷ rest) = if a.0 == i then a.1 ∷ part i rest else part i rest
+
+-- the list went on as the seat stepped on a word: all that the seat did, which is `log`, is in it
+pub record ListGoesOn (old : List (ℕ × LogItem)) (log : List LogItem) (new : List (ℕ × LogItem)) : Type 0 where
+  pub grows : IsPrefix old new
+  pub seat : ℕ
+  pub own : part seat new ≡ log
+
+-- an event that begins or ends a section
+abbrev pub is_border : Event → Bool
+is_border (Enter c) = true
+is_border (Exit c) = true
+is_border e = false
+
+-- an event in which a CPU hears the keeper
+abbrev pub is_hear : Event → Bool
+is_hear (Hear (Some c)) = true
+is_hear e = false
+
+-- no event of these is so
+abbrev pub HasNone : (Event → Bool) → List LogItem → Type 0
+HasNone is [] = Unit {0}
+HasNone is (d ∷ ds) = (is d.event ≡ false) × HasNone is ds
+
+-- What a step promises: by the seat that steps, on that seat's view alone, exactly one event of the core.
 
 -- the two views are of one seat
 abbrev pub OneSeat : View → View → Type 0

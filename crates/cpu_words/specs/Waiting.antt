@@ -1,20 +1,58 @@
--- Waiting for open sections (pserialize(9)): what a seat knows of all CPUs by what it has heard of the keeper's log.
-use Rattle.std.specs.Prelude.{◌≡◌, ℕ, ◌<◌, ◌≤◌, List, ◌++◌, length, take, Some, None}
+-- Waiting for open sections (pserialize(9)), and one list that only grows: what a seat knew of it stands before all that another one has done since.
+use Rattle.std.specs.Prelude.{◌≡◌, ℕ, List, ◌∷◌, ◌++◌, ◌<◌, ◌≤◌, length, take, Some, None}
 use mathlib.Core.Option.{some}
+use mathlib.Core.List.{IsPrefix}
 use lib.ListN.{get_elem?}
 use Rattle.atomic_table.specs.Table.{State as Table}
-use Rattle.cpu_words.specs.Types.{Entry, Settings, Event}
+use Rattle.cpu_words.specs.Types.{Settings, Entry, Event}
 use Rattle.protocol.specs.Common.{EndsAt, opening, section_at, begin_at, after, HasExit}
-use Rattle.cpu_words.specs.declared.view.CpuView.{CpuView}
-use Rattle.cpu_words.specs.declared.view.KeeperView.{KeeperView}
 use Rattle.cpu_words.specs.declared.view.LogItem.{LogItem}
 use Rattle.cpu_words.specs.declared.view.Logged.{Logged}
+use Rattle.cpu_words.specs.Steps.{part}
+use Rattle.cpu_words.specs.Logs.{IsStanding, LoggedRuled, without_logs}
+use Rattle.cpu_words.specs.Headline.{RunsAsLogged, SectionMayHold}
+use Rattle.cpu_words.specs.declared.view.CpuView.{CpuView}
+use Rattle.cpu_words.specs.declared.view.KeeperView.{KeeperView}
 use Rattle.cpu_words.specs.declared.view.Teller.{Teller}
 use Rattle.cpu_words.specs.declared.view.View.TheVariants.{Keeper, Cpu}
 use Rattle.cpu_words.specs.KeeperLog.{changes_in, HasHeardFrom, HasWaited, IsSeenOut}
-use Rattle.cpu_words.specs.Acts.{part}
-use Rattle.cpu_words.specs.Logs.{without_logs, LoggedRuled}
-use Rattle.cpu_words.specs.Headline.{RunsAsLogged, SectionMayHold}
+
+-- One list that only grows: what a seat knew of it at one moment stands, at any later one, before all that any seat did since.
+
+-- A table at two moments, s and later t, and two of its seats, or one twice. By the contracts of the steps the list that a seat knows only grows, and so does its log.
+pub record TwoMoments (z : Settings) (s t : Table ℕ Logged) (i j : ℕ) : Type 0 where
+  pub earlier : LoggedRuled z s
+  pub later : LoggedRuled z t
+  -- the seat i knew the list `list` at s
+  pub knower : Logged
+  pub knew : get_elem? s.views i ≡ some knower
+  pub knows : Logged
+  pub now : get_elem? t.views i ≡ some knows
+  pub grows : IsPrefix knower.list knows.list
+  -- the seat j did `since` after s
+  pub doer : Logged
+  pub did : get_elem? s.views j ≡ some doer
+  pub stood : IsStanding doer.view
+  pub does : Logged
+  pub done : get_elem? t.views j ≡ some does
+  pub stands : IsStanding does.view
+  pub since : List LogItem
+  pub goes_on : does.log ≡ doer.log ++ since
+
+-- The item of j's is in the list past all that i knew at s.
+pub record StandsPast {z : Settings} {s t : Table ℕ Logged} {i j : ℕ} (m : TwoMoments z s t i j) (r : RunsAsLogged z t) (before : List LogItem) (d : LogItem) : Type 0 where
+  pub first : List (ℕ × LogItem)
+  pub rest : List (ℕ × LogItem)
+  pub are : r.acts ≡ first ++ (j, d) ∷ rest
+  pub own : part j first ≡ m.doer.log ++ before
+  pub past : IsPrefix m.knower.list first
+
+-- so is each item of `since`, in any list that explains the table at t
+abbrev pub OrderedInTime : Type 0
+OrderedInTime = (z : Settings) (s t : Table ℕ Logged) (i j : ℕ) (m : TwoMoments z s t i j) (r : RunsAsLogged z t) (before after : List LogItem) (d : LogItem) → m.since ≡ before ++ d ∷ after
+    → StandsPast m r before d
+
+-- Waiting for open sections (pserialize(9)): what a seat knows of all CPUs by what it has heard of the keeper's log.
 
 -- Of one CPU: the keeper took its section word in `looks`, after it had done `before`. The section that was open on this CPU at that load has ended, also one that began after `before`.
 pub record HasEndedOn (z : Settings) (s : Table ℕ Logged) (r : RunsAsLogged z s) (before looks : List LogItem) (c : ℕ) : Type 0 where

@@ -1,7 +1,7 @@
 //! The end of a table: no thread shares its words any more.
 
 ghost use Rattle.std.specs.Prelude.{◌≡◌, ◌<◌, slice_index};
-ghost use Rattle.cpu_words.specs.Ended.{HasClosed};
+ghost use Rattle.cpu_words.specs.Freed.{HasClosed};
 ghost use Rattle.cpu_words.specs.Spots.{live_of, index};
 
 use crate::law::Words;
@@ -21,7 +21,7 @@ pub struct LastWords {
 impl Model for LastWords {
     ghost use Rattle.std.specs.Prelude.{◌≡◌};
     ghost use Rattle.core.specs.Mem.Slots.{slots_items, slots_len, IsFull};
-    ghost use Rattle.cpu_words.specs.Ended.{LastView};
+    ghost use Rattle.cpu_words.specs.Freed.{LastView};
     ghost use Rattle.cpu_words.specs.Spots.{words_of};
 
     ghost Value = { LastView };

@@ -1,14 +1,10 @@
 //! The laws of the protocol, said of the running words: functions that do nothing, whose contracts are the laws.
 
-ghost use Rattle.cpu_words.specs.Headline.{DrainedIsFree, FoundIsHeld, HeldHaveSlots, MarksAreHonest, RunningHeadline};
-ghost use Rattle.cpu_words.specs.Ended.{EndedRuns};
+ghost use Rattle.cpu_words.specs.Headline.{DrainedIsFree, FoundIsHeld, HeldHaveSlots, MarksAreHonest, RunningHeadline, SeatsBalance};
+ghost use Rattle.cpu_words.specs.Freed.{EndedRuns, FreedByKeeper, FreedIsGone, AttachedKeeps};
 ghost use Rattle.cpu_words.specs.Called.{CpuHearsLater, EndsOpenSections, KeeperHearsLater};
-ghost use Rattle.cpu_words.specs.Waiting.{WaitingEnds};
-ghost use Rattle.cpu_words.specs.Freed.{FreedByKeeper, FreedIsGone};
+ghost use Rattle.cpu_words.specs.Waiting.{WaitingEnds, OrderedInTime};
 ghost use Rattle.cpu_words.specs.Fresh.{HeadsAreNewest, LookupsAreFresh, RecallsAreLive, RefindsAreLive, WholeInTheList};
-ghost use Rattle.cpu_words.specs.Kept.{AttachedKeeps};
-ghost use Rattle.cpu_words.specs.Ordered.{OrderedInTime};
-ghost use Rattle.cpu_words.specs.Balance.{SeatsBalance};
 
 /// The main theorem, no effect at run time: what holds in every table under the rule (`LoggedRuled`); see GUARANTEES.md.
 ///

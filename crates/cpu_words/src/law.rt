@@ -107,7 +107,7 @@ pub(crate) struct CpuHearing;
 
 impl Play<u8, Logged> for CpuHearing {
     ghost use Rattle.cpu_words.specs.Logs.{heard_by_cpu};
-    ghost use Rattle.cpu_words.specs.Notes.{CpuHears};
+    ghost use Rattle.cpu_words.specs.Seats.{CpuHears};
 
     ghost then = { heard_by_cpu CpuHears };
 }
@@ -117,7 +117,7 @@ pub(crate) struct NoteHearing;
 
 impl Play<u8, Logged> for NoteHearing {
     ghost use Rattle.cpu_words.specs.Logs.{hears_note};
-    ghost use Rattle.cpu_words.specs.Notes.{KeeperHears};
+    ghost use Rattle.cpu_words.specs.Seats.{KeeperHears};
 
     ghost then = { hears_note KeeperHears };
 }

@@ -3,7 +3,7 @@
 ghost use Rattle.std.specs.Prelude.{◌≡◌, ◌↔◌, ◌≤◌, [], IfOk, IfErr, IsErrOf, IsTrue, false, vec_len, vec_capacity};
 ghost use Rattle.registry_values.specs.Common.{are_fit, are_usual, IsRefusalOfNew};
 ghost use Rattle.cpu_words.specs.Views.{new_keeper};
-ghost use Rattle.cpu_words.specs.Opening.{AreOpening, AreSeats, keeper_with};
+ghost use Rattle.cpu_words.specs.Seats.{AreOpening, AreSeats, keeper_with};
 
 use crate::law::Words;
 use crate::layout::{total_place, words_of};

@@ -1,3 +1,1 @@
-pub mod Agreeing
-pub mod Acquiring
-pub mod Releasing
+pub mod References

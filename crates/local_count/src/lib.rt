@@ -7,15 +7,13 @@
 //! to be released under the interlock.
 #![tactic(auto)]
 
-mod acquire;
+mod counting;
 mod local_ref;
-mod net;
-mod release;
 
-pub use acquire::{acquire_local, acquire_local_on, why_not_acquired_local};
+pub use counting::{
+    acquire_local, acquire_local_on, net_count, try_release, try_release_on, why_not_acquired_local,
+};
 pub use local_ref::LocalRef;
-pub use net::net_count;
 pub use passive_list::{
     PlainRef, collect, collected, free_iface, publish_iface, release_under, total,
 };
-pub use release::{try_release, try_release_on};

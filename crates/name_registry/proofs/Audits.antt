@@ -1,6 +1,5 @@
 -- What the code of an audit makes, in any state of the views.
-use Rattle.std.proofs.Common.{◌≡◌, ◌≢◌, inl, inr, ⊎_elim, ℕ, zero, suc, ◌+◌, ◌*◌, ◌<◌, ◌≤◌, Bool, true, ◌&&◌, ℤ, pos, ◌+ℤ◌, List, [], ◌∷◌, ◌++◌, length, get_or, map, take, cond, false, refl, sym, ap, ◌∙◌, subst, arith}
-use Rattle.std.proofs.Common.{add-one}
+use Rattle.std.proofs.Common.{◌≡◌, ◌≢◌, inl, inr, ⊎_elim, ℕ, zero, suc, ◌+◌, ◌*◌, ◌<◌, ◌≤◌, Bool, true, ◌&&◌, ℤ, pos, ◌+ℤ◌, List, [], ◌∷◌, ◌++◌, length, get_or, map, take, cond, false, refl, sym, ap, ◌∙◌, subst, arith, add-one}
 use Rattle.std.specs.List.{All}
 use Rattle.std.proofs.lemmas.Bool.{eq-eqb, ne_eqb}
 use Rattle.std.proofs.lemmas.Int.{ints}
@@ -16,15 +15,14 @@ use Rattle.name_registry.specs.Types.{Balance, Entry, Attach, Mark, Settings, Sl
 use Rattle.registry_values.specs.Common.{Tally, is_retired, less_bias, sum_of, tally_shown, bias, slot_at}
 use Rattle.protocol.specs.Common.{IsIn, greatest_limit, mark_at, total_at}
 use Rattle.registry_values.proofs.Fit.{ranges}
-use Rattle.protocol.proofs.history.History.{at_within}
-use Rattle.protocol.proofs.slots.Occupied.{attached_in}
+use Rattle.protocol.proofs.History.{at_within}
+use Rattle.protocol.proofs.Occupied.{attached_in}
 use Rattle.cpu_words.specs.Common.{number_at}
-use Rattle.cpu_words.proofs.by_keeper.KeeperSees.{seen_by_keeper}
+use Rattle.cpu_words.proofs.by_keeper.KeeperSteps.{seen_by_keeper}
 use Rattle.passive_list.specs.Common.{Memory, NetAgree, OnCpu, place_at, IsOurKeeper, OnKeeper, OnPlainKeeper, on_keeper, row_at, states_of, total_or_bias}
-use Rattle.passive_list.proofs.Rows.{live_in, retired_in}
+use Rattle.passive_list.proofs.Rows.{live_in, retired_in, none_at_rest, total_near}
 use Rattle.local_count.specs.References.{net_by}
-use Rattle.local_count.proofs.Agreeing.{place_count}
-use Rattle.passive_list.proofs.Balanced.{none_at_rest, total_near}
+use Rattle.local_count.proofs.References.{place_count}
 use Rattle.name_registry.specs.Common.{AreAllCpus, Listed, Occupies, each_at, each_below, is_collected, local_met, locals_met, net_met, net_of, place_of, places_below, tallies_met, tally_met}
 
 -- The CPUs

@@ -1,16 +1,56 @@
--- What is counted in the ledger: the history and a CPU's share grow by the same change, and nothing else changes the history.
-use Rattle.std.proofs.Common.{◌≡◌, ◌∙◌, ⊎_elim, ℕ, zero, suc, ◌+◌, ◌≤◌, Bool, true, false, List, length, Option, Some, None, Result, Ok, Err, sym, ap, subst, arith}
-use Rattle.name_registry.specs.Types.{Change, Entry, Record, Refusal, Settings, Stage, Grace, Passive, Local, Freed, Key, MOST_CHANGES, MOST_SLOTS, KeeperView, ReferenceView, KeptSlot}
-use Rattle.registry_values.specs.Answers as answers
+-- The ledger of changes: what weighs as much as one change, how a CPU's share grows, and a CPU that has a share.
+use Rattle.std.proofs.Common.{◌≡◌, ◌*◌, ◌<◌, ◌≤◌, List, [], ◌∷◌, refl, arith, ◌∙◌, ⊎_elim, ℕ, zero, suc, ◌+◌, Bool, true, false, length, Option, Some, None, Result, Ok, Err, sym, ap, subst}
+use Rattle.std.proofs.lemmas.List.Sums.{sum_by-cons}
+use Rattle.name_registry.specs.Types.{Change, Attach, Detach, MOST_CHANGES, Entry, Record, Refusal, Settings, Stage, Grace, Passive, Local, Freed, Key, MOST_SLOTS, KeeperView, ReferenceView, KeptSlot}
 use Rattle.registry_values.specs.Common.{is_iface, is_retired_as, slot_at}
+use Rattle.registry_values.specs.Answers as answers
 use Rattle.registry_values.proofs.Answers.{attach_tells}
 use Rattle.registry_values.proofs.Fit.{ranges}
 use Rattle.passive_list.specs.Common.{OnCpu, IsOurKeeper, OnKeeper, HasHeardOn, HasFreed}
-use Rattle.name_registry.specs.Common.{HasAdvanced, HasEnded, HasWorkedFor, Meets, attach_answer, attach_iface_answer, given_entry, HasMade, number_of, weigh, weight, HasAdvancedFor, IsDetachAnswer}
-use Rattle.name_registry.specs.Common.{HasLearned, HasSeenAttach, HasSeenDetach, keeper_after_hear, is_inside, GlancesBelow, HasBegun, HasGlanced, HasPassedAll, Hold, Looking, PassesBelow, PassesIf}
-use Rattle.name_registry.specs.Common.{PassesNumber, SnapshotsBelow}
-use Rattle.name_registry.proofs.Glanced.{OnlyLooked, snapshots_look, glances_look}
+use Rattle.passive_list.proofs.Sharing.{sharing}
+use Rattle.name_registry.specs.Common.{WeightsTell, number_of, unit, weigh, weight, HasAdvanced, HasEnded, HasWorkedFor, Meets, attach_answer, attach_iface_answer, given_entry, HasMade, HasAdvancedFor, IsDetachAnswer, HasLearned, HasSeenAttach, HasSeenDetach, keeper_after_hear, is_inside, GlancesBelow, HasBegun, HasGlanced, HasPassedAll, Hold, Looking, PassesBelow, PassesIf, PassesNumber, SnapshotsBelow, HasAttachedFor, HasAttachedIfaceFor, HasDetachedFor, HasGivenUpFor}
+use Rattle.name_registry.specs.Changes.{AreAlike}
+use Rattle.name_registry.proofs.Passed.{OnlyLooked, snapshots_look, glances_look}
 use Rattle.name_registry.proofs.Attached.{given_takes}
+
+-- The law of the weights: changes that weigh as much as one are one, and like it.
+
+-- what one change weighs
+weighs : (c : Change) → unit ≤ weight c
+weighs (Attach e) = omega arith
+weighs (Detach n) = omega arith
+
+light : (c : Change) → number_of c ≤ MOST_CHANGES → weight c < 2 * unit
+light (Attach e) le = omega (arith, le)
+light (Detach n) le = omega (arith, le)
+
+alike : (d c : Change) → weight d ≡ weight c → AreAlike d c
+alike (Attach e) (Attach f) same = omega (arith, same)
+alike (Attach e) (Detach n) same = absurd (omega (arith, same))
+alike (Detach n) (Attach e) same = absurd (omega (arith, same))
+alike (Detach n) (Detach m) same = omega (arith, same)
+
+one_alone : (h : List Change) (c : Change) → number_of c ≤ MOST_CHANGES → weigh h ≡ weight c → (d : Change) × (h ≡ d ∷ []) × AreAlike d c
+one_alone [] c le same = let some = weighs c in absurd (omega (arith, same, some))
+one_alone (d ∷ []) c le same = (d, refl, alike d c (let only = sum_by-cons weight d [] in omega (arith, same, only)))
+one_alone (d ∷ (f ∷ h)) c le same =
+    let all = sum_by-cons weight d (f ∷ h) in
+    let rest = sum_by-cons weight f h in
+    let first = weighs d in
+    let second = weighs f in
+    let most = light c le in absurd (omega (arith, same, all, rest, first, second, most))
+
+none : (h : List Change) → weigh h ≡ 0 → h ≡ []
+none [] same = refl
+none (d ∷ h) same = let all = sum_by-cons weight d h in let some = weighs d in absurd (omega (arith, same, all, some))
+
+pub weights_tell : WeightsTell
+weights_tell = record {
+  one = λ x y c h has sum. one_alone h c has.number (let made = has.made in omega (arith, made, sum));
+  none = none;
+}
+
+-- What is counted in the ledger: the history and a CPU's share grow by the same change, and nothing else changes the history.
 
 -- The share
 
@@ -110,3 +150,71 @@ passes_same z numbers (suc n) a b is = passes_number_same z is.0 n _ b is.2 ∙ 
 
 pub passed_same : (z : Settings) (a : OnKeeper) (x : OnCpu) (numbers : List (Option ℕ)) (b : OnKeeper) (y : OnCpu) → HasPassedAll z a x numbers b y → Unchanged a b
 passed_same z a x numbers b y has = ap (λ (k : OnKeeper). k.view.history) has.is ∙ passes_same z numbers MOST_SLOTS (keeper_after_hear a x) has.end has.passes
+
+-- A CPU that has a share of a ledger, and the CPU without it: what is told of the one is told of the other.
+
+heard : (m : ℕ) (h : List Change) (x y : OnCpu) → HasHeardOn h x y → HasHeardOn h (sharing m x) (sharing m y)
+heard m h x y had = record { told = had.told; pass = had.pass; known_log = had.known_log; is = ap (sharing m) had.is }
+
+hold : (m : ℕ) (looks : Looking → Looking → Type 0) (a : OnKeeper) (x : OnCpu) (b : OnKeeper) (y : OnCpu) → Hold looks a x b y → Hold looks a (sharing m x) b (sharing m y)
+hold m looks a x b y had = record {
+  known = had.known;
+  seen = had.seen;
+  end = had.end;
+  made = had.made;
+  view = had.view;
+  slots = had.slots;
+  log = had.log;
+  hears = heard m _ x y had.hears;
+  told = had.told;
+  cpu_log = had.cpu_log;
+}
+
+pub begun : (m : ℕ) (z : Settings) (a : OnKeeper) (x : OnCpu) (snapshots : List ℕ) (retired : List (Option ℕ)) (b : OnKeeper) (y : OnCpu) → HasBegun z a x snapshots retired b y
+    → HasBegun z a (sharing m x) snapshots retired b (sharing m y)
+begun m z a x snapshots retired b y had = record { own = had.own; hold = hold m _ a x b y had.hold; numbers = had.numbers }
+
+pub glanced : (m : ℕ) (z : Settings) (snapshots : List ℕ) (a : OnKeeper) (x : OnCpu) (seen : List Bool) (told : Option ℕ) (after : List Bool) (b : OnKeeper) (y : OnCpu)
+    → HasGlanced z snapshots a x seen told after b y
+    → HasGlanced z snapshots a (sharing m x) seen told after b (sharing m y)
+glanced m z snapshots a x seen told after b y had = record { hold = hold m _ a x b y had.hold; least = had.least }
+
+pub passed : (m : ℕ) (z : Settings) (a : OnKeeper) (x : OnCpu) (numbers : List (Option ℕ)) (b : OnKeeper) (y : OnCpu) → HasPassedAll z a x numbers b y
+    → HasPassedAll z a (sharing m x) numbers b (sharing m y)
+passed m z a x numbers b y had = record { known = had.known; end = had.end; passes = had.passes; own = had.own; is = had.is; hears = heard m _ x y had.hears; told = had.told; cpu_log = had.cpu_log }
+
+pub attached : (m : ℕ) (a : OnKeeper) (x : OnCpu) (e : Entry) (b : OnKeeper) (y : OnCpu) → HasAttachedFor a x e b y → HasAttachedFor a (sharing m x) e b (sharing m y)
+attached m a x e b y had = record { seen = had.seen; keeper = had.keeper; log = had.log; cpu = heard m _ x y had.cpu; own = record { later = had.own.later; attached = had.own.attached; log = had.own.log } }
+
+pub iface_attached : (m : ℕ) (a : OnKeeper) (x : OnCpu) (v : ReferenceView) (e : Entry) (b : OnKeeper) (y : OnCpu) → HasAttachedIfaceFor a x v e b y
+    → HasAttachedIfaceFor a (sharing m x) v e b (sharing m y)
+iface_attached m a x v e b y had =
+    record { seen = had.seen; keeper = had.keeper; log = had.log; keeping = had.keeping; cpu = heard m _ x y had.cpu; own = record { later = had.own.later; attached = had.own.attached; log = had.own.log } }
+
+pub detached : (m : ℕ) (a : OnKeeper) (x : OnCpu) (e : Entry) (b : OnKeeper) (y : OnCpu) → HasDetachedFor a x e b y → HasDetachedFor a (sharing m x) e b (sharing m y)
+detached m a x e b y had = record {
+  seen = had.seen;
+  keeper = had.keeper;
+  log = had.log;
+  cpu = heard m _ x y had.cpu;
+  own = record { end = had.own.end; later = had.own.later; ends = had.own.ends; attached = had.own.attached; log = had.own.log };
+}
+
+pub advanced : (m : ℕ) (z : Settings) (a : OnKeeper) (x : OnCpu) (n : ℕ) (answer : Result Stage Refusal) (b : OnKeeper) (y : OnCpu) → HasAdvancedFor z a x n answer b y
+    → HasAdvancedFor z a (sharing m x) n answer b (sharing m y)
+advanced m z a x n answer b y had = record {
+  known = had.known;
+  seen = had.seen;
+  own = had.own;
+  end = had.end;
+  made = had.made;
+  own_end = had.own_end;
+  is = had.is;
+  hears = heard m _ x y had.hears;
+  told = had.told;
+  cpu_log = had.cpu_log;
+}
+
+pub given_up : (m : ℕ) (a : OnKeeper) (x : OnCpu) (v : ReferenceView) (b : OnKeeper) (y : OnCpu) → HasGivenUpFor a x v b y → HasGivenUpFor a (sharing m x) v b (sharing m y)
+given_up m a x v b y had =
+    record { known = had.known; end = had.end; given = had.given; is = had.is; hears = heard m _ x y had.hears; told = had.told; cpu_log = had.cpu_log }

@@ -1,20 +1,174 @@
--- What a caller keeps of the turns of a destroy, though nothing is known of the keeper between them.
-use Rattle.std.proofs.Common.{◌≡◌, ℕ, zero, suc, ◌<◌, ◌≤◌, Bool, true, false, inl, List, ◌∷◌, ◌++◌, length, Result, Ok, Err, IfOk, IfErr, refl, sym, ap, ◌∙◌, subst, append_assoc, arith}
+-- Destroying: what a turn tells the caller's CPU, what is kept of all turns, and the end of a registry.
+use Rattle.std.proofs.Common.{◌≡◌, ◌∙◌, ⊎_elim, ℕ, ◌<◌, ◌&&◌, Bool, true, List, [], ◌∷◌, ◌++◌, length, Some, None, Result, Ok, Err, eq-eqb, refl, sym, ap, subst, append-nil, append_assoc, arith, zero, suc, ◌≤◌, false, inl, IfOk, IfErr}
 use Rattle.std.proofs.lemmas.List.{length-append}
+use Rattle.std.proofs.lemmas.Option.{none-some, same_Some}
 use mathlib.Core.List.{IsPrefix}
-use Rattle.name_registry.specs.Types.{Refusal, Inside, NotRetired, Settings, Slot, Retired, Stage, Grace, Passive, Local, Freed, LogItem}
-use Rattle.registry_values.specs.Common.{slot_at, IsObstacle, destroy_result, destroy_result_of}
+use Rattle.name_registry.specs.Types.{Change, Entry, Refusal, Settings, Slot, Vacant, Live, Retired, Stage, Grace, Passive, Local, Freed, Mark, Hear, KeptSub, Tell, Vacate, Done, Rest, LogItem, Inside, NotRetired}
+use Rattle.registry_values.specs.Common.{is_retired, is_retired_as, retired_slot, slot_at, IsObstacle, destroy_result, destroy_result_of}
 use Rattle.registry_values.proofs.Slots.{retired_slot_tells}
-use Rattle.cpu_words.specs.Common.{IsFreedFrom}
-use Rattle.passive_list.specs.Common.{OnCpu, OnKeeper}
-use Rattle.name_registry.specs.Common.{HasAdvanced, IsGoneIfFreed, Destroys, DestroysOutside, HasDestroyed, LastMeeting, SomeAdvancedFor, TurnsMeeting, IsDestroyRefusal, IsStageOf}
-use Rattle.name_registry.specs.Common.{HasLearned, IsDestroyAnswer, IsTurn}
-use Rattle.name_registry.proofs.Heard.{prefix_short}
-use Rattle.name_registry.proofs.Owned.{learned}
-use Rattle.name_registry.proofs.Turned.{ended_freed}
-use Rattle.name_registry.proofs.Waited.{Learns, learns_none, learns_more}
+use Rattle.protocol.specs.Common.{addition_due_at, is_adding_at, subtraction_due_at, State, count_at, mark_at, total_at}
+use Rattle.protocol.proofs.keeps.Linking.{within_retired}
+use Rattle.protocol.proofs.Cells.{position_fails}
+use Rattle.cpu_words.specs.Common.{has_looked, has_looked_passive, is_drawn, occupant, occupant_of, word_if, IsFreedFrom, keeper_with_note, did, HasClosed}
+use Rattle.cpu_words.proofs.by_keeper.KeeperSteps.{seen_by_keeper}
+use Rattle.cpu_words.proofs.logs.Slots.{not_attached}
+use Rattle.cpu_words.proofs.laws.Freed.{ended_runs}
+use Rattle.passive_list.specs.Common.{OnCpu, OnKeeper, HasOwnLog, HasHeardOn, as_teller, cpu_after_tell, has_heard, HasFreed}
+use Rattle.name_registry.specs.Common.{EndsIn, HasAdvanced, HasEnded, Meets, MeetsGrace, MeetsLocal, MeetsPassive, HasAdvancedFor, hears_cpu, keeper_after_hear, keeper_after_tell, AnswersBy, HasMet, IsNotRetired, IsRetiredIn, IsTurn, MetLocals, MetReference, MetSection, IsGoneIfFreed, Destroys, DestroysOutside, HasDestroyed, LastMeeting, SomeAdvancedFor, TurnsMeeting, IsDestroyRefusal, IsStageOf, HasLearned, IsDestroyAnswer, ClosesRun}
+use Rattle.name_registry.proofs.Noted.{heard_told_again, met_again, prefix_short, learned, by_meeting_again}
 use Rattle.name_registry.proofs.Worked.{prefix_on}
-use Rattle.name_registry.proofs.Noted.{by_meeting_again}
+use Rattle.name_registry.proofs.Waited.{Learns, learns_none, learns_more}
+
+-- What a turn of a destroy tells the caller's CPU, by the keeper's log.
+
+-- What is retired, by the keeper and by its log
+
+retired_in_log : (z : Settings) (a : OnKeeper) (t n : ℕ) (e : Entry) → HasOwnLog z a → slot_at a.slots t ≡ Retired e → e.number ≡ n → IsRetiredIn t n a.log
+retired_in_log z a t n e own at same = subst (λ (m : ℕ). IsRetiredIn t m a.log) same (own.occupants t ∙ ap occupant_of at, own.slots.retired t e at)
+
+not_retired : (z : Settings) (a : OnKeeper) (n : ℕ) → HasOwnLog z a → retired_slot a.slots n ≡ None → IsNotRetired n a.log
+not_retired z a n own none t is = by (slot_at a.slots t) refl
+  where
+    by : (x : Slot) → slot_at a.slots t ≡ x → ⊥
+    by Vacant at = none-some n (sym (own.occupants t ∙ ap occupant_of at) ∙ is.0)
+    by (Live e) at = not_attached t n e.number a.log is.1 (own.slots.live t e at)
+    by (Retired e) at =
+        let same : e.number ≡ n = same_Some e.number n (sym (own.occupants t ∙ ap occupant_of at) ∙ is.0) in
+        position_fails (is_retired_as n) a.slots t Vacant none (within_retired a.slots t e at) (ap (is_retired_as n) at ∙ eq-eqb e.number n same)
+
+-- What was met
+
+-- the last item is the one that ends the log, and was made since the turn began
+ends_in : (begin old new : List LogItem) (d : LogItem) → IsPrefix begin old → EndsIn old d new → (before : List LogItem) × IsPrefix begin before × (new ≡ before ++ d ∷ [])
+ends_in begin old new d from ends = (old ++ ends.0, prefix_on _ _ _ from (ends.0, refl), ends.1)
+
+met_section : (z : Settings) (a b : OnKeeper) (t c : ℕ) (begin : List LogItem) → HasOwnLog z b → IsPrefix begin a.log → MeetsGrace a t c b → MetSection t c begin b.log
+met_section z a b t c begin own from meets =
+    let last = ends_in begin a.log b.log (has_looked t c meets.sees.word) from meets.sees.log in record {
+      word = meets.sees.word;
+      before = last.0;
+      since = last.1;
+      are = last.2;
+      odd = meets.sees.odd;
+      snapped = own.marks.snapped t c meets.sees.word meets.sees.snapshot;
+      lesser = λ d lt. own.marks.passed t d (meets.lesser d lt);
+    }
+
+met_reference : (z : Settings) (a b : OnKeeper) (t c : ℕ) (begin : List LogItem) → HasOwnLog z b → IsPrefix begin a.log → MeetsPassive a t c b → MetReference z.cpus t c begin b.log
+met_reference z a b t c begin own from meets =
+    let last = ends_in begin a.log b.log (has_looked_passive t c meets.sees.word) from meets.sees.log in record {
+      word = meets.sees.word;
+      before = last.0;
+      since = last.1;
+      are = last.2;
+      some = meets.sees.some;
+      passed = λ d lt. own.marks.passed t d (meets.passed d (subst (λ (s : Settings). d < s.cpus) (sym own.settings) lt));
+    }
+
+met_locals : (z : Settings) (a b : OnKeeper) (t n k : ℕ) (e : Entry) → HasOwnLog z b → slot_at a.slots t ≡ Retired e → e.number ≡ n → MeetsLocal a t k b → MetLocals z.cpus t n k b.log
+met_locals z a b t n k e own at same meets =
+    let s = own.counts.1 in
+    let g : State = s.g in
+    let seen = seen_by_keeper g (keeper_with_note b.view own.counts.0) s.good s.shown in
+    let occupied : occupant t b.log ≡ Some n = own.occupants t ∙ ap occupant_of (ap (λ (l : List Slot). slot_at l t) meets.leaves.slots ∙ at) ∙ ap (λ (m : ℕ). Some m) same in
+    let gone : is_retired (slot_at g.slots t) ≡ true = ap is_retired (ap (λ (l : List Slot). slot_at l t) (sym seen.slots) ∙ meets.held.retired) in
+    let due : g.due ≡ Rest = sym seen.due ∙ own.rest in
+    let adding : addition_due_at t g.due ≡ 0 = ap (addition_due_at t) due in
+    let is_adding : is_adding_at t g.due ≡ 0 = ap (is_adding_at t) due in
+    let subtracting : subtraction_due_at t g.due ≡ 0 = ap (subtraction_due_at t) due in
+    let totals : total_at b.view.totals t ≡ total_at g.totals t = ap (λ (l : List ℕ). total_at l t) seen.totals in
+    let low : (d : ℕ) → d < z.cpus → d < b.view.settings.cpus = λ d lt. subst (λ (y : Settings). d < y.cpus) (sym own.settings) lt in
+    record {
+      some = meets.some;
+      collected = λ d lt.
+          let drawn : is_drawn g t d ≡ true = let marked = ap (λ (ms : List (List Mark)). (mark_at ms t d).collected) (sym seen.marks) ∙ meets.collected d (low d lt) in λ i. gone i && marked i in
+          (count_at g.nets d t, s.counts.words t d ∙ ap (λ (y : Bool). word_if y (count_at g.nets d t)) drawn);
+      left = let total = s.totals.total t n occupied in let held = meets.total in omega (arith, total, held, totals, adding, is_adding, subtracting);
+      passed = λ d lt. own.marks.passed t d (meets.passed d (low d lt));
+    }
+
+pub ended_freed : (m : OnKeeper) (t : ℕ) (b : OnKeeper) (e : Entry) → HasEnded m t b → slot_at m.slots t ≡ Retired e → IsFreedFrom t e.number b.log
+ended_freed m t b e ended at = ⊎_elim (λ v. v.1.freed e at) (λ (f : HasFreed m t b). f.freed e at) ended
+
+has_met : (z : Settings) (a b : OnKeeper) (t n : ℕ) (e : Entry) (begin : List LogItem) (stage : Stage) → HasOwnLog z b → IsPrefix begin a.log → slot_at a.slots t ≡ Retired e → e.number ≡ n
+    → Meets a t stage b → HasMet z.cpus t n stage begin b.log
+has_met z a b t n e begin (Grace c) own from at same meets = met_section z a b t c begin own from meets
+has_met z a b t n e begin (Passive c) own from at same meets = met_reference z a b t c begin own from meets
+has_met z a b t n e begin (Local k) own from at same meets = met_locals z a b t n k e own at same meets
+has_met z a b t n e begin (Freed u) own from at same meets =
+    let m = meets.1.between in
+    (meets.0, subst (λ (j : ℕ). IsFreedFrom t j b.log) same (ended_freed m t b e meets.1.ended (ap (λ (l : List Slot). slot_at l t) meets.1.leaves.slots ∙ at)))
+
+-- The log goes on
+
+ended_on : (m : OnKeeper) (t : ℕ) (b : OnKeeper) → HasEnded m t b → IsPrefix m.log b.log
+ended_on m t b ended = ⊎_elim
+    (λ v. (did (Vacate t) Done ++ did (Hear None) Done, sym (append_assoc m.log (did (Vacate t) Done) (did (Hear None) Done)) ∙ sym v.1.log))
+    (λ (f : HasFreed m t b). (did (KeptSub t) Done, sym f.log))
+    ended
+
+meets_on : (a : OnKeeper) (t : ℕ) (stage : Stage) (b : OnKeeper) → Meets a t stage b → IsPrefix a.log b.log
+meets_on a t (Grace c) b meets = meets.leaves.worked.log
+meets_on a t (Passive c) b meets = meets.leaves.worked.log
+meets_on a t (Local n) b meets = meets.leaves.log
+meets_on a t (Freed u) b meets = prefix_on _ _ _ meets.1.leaves.log (ended_on meets.1.between t b meets.1.ended)
+
+advanced_on : (a : OnKeeper) (n : ℕ) (answer : Result Stage Refusal) (b : OnKeeper) → HasAdvanced a n answer b → IsPrefix a.log b.log
+advanced_on a n (Ok stage) b has = meets_on a has.0 stage b has.2
+advanced_on a n (Err refusal) b has = ([], append-nil a.log ∙ ap (λ (k : OnKeeper). k.log) (sym has.2))
+
+-- The turn
+
+answers_by : (z : Settings) (a h b : OnKeeper) (n : ℕ) (answer : Result Stage Refusal) → HasOwnLog z a → HasOwnLog z b → h.slots ≡ a.slots → IsPrefix a.log h.log → HasAdvanced h n answer b
+    → AnswersBy z.cpus n answer a.log b.log
+answers_by z a h b n (Ok stage) own end slots from has =
+    let told = (retired_slot_tells h.slots n has.0 has.1).1 in
+    let at : slot_at a.slots has.0 ≡ Retired told.0 = ap (λ (l : List Slot). slot_at l has.0) (sym slots) ∙ told.1 in
+    (has.0, retired_in_log z a has.0 n told.0 own at told.2, has_met z h b has.0 n told.0 a.log stage end from told.1 told.2 has.2)
+answers_by z a h b n (Err refusal) own end slots from has = (has.0, not_retired z a n own (ap (λ (l : List Slot). retired_slot l n) (sym slots) ∙ has.1))
+
+-- what the CPU hears has the keeper's log as the turn ended
+told_end : (a b : OnKeeper) (x y : OnCpu) → b ≡ keeper_after_tell (keeper_after_hear a (cpu_after_tell x)) → IsPrefix b.log y.known_log → IsPrefix a.log y.known_log
+told_end a b x y is told =
+    let hear : List LogItem = hears_cpu (cpu_after_tell x) in
+    let log : b.log ≡ a.log ++ (hear ++ did (Tell None) Done) = ap (λ (k : OnKeeper). k.log) is ∙ append_assoc a.log hear (did (Tell None) Done) in
+    prefix_on _ _ _ (hear ++ did (Tell None) Done, sym log) told
+
+pub told_turn : (z : Settings) (a : OnKeeper) (x : OnCpu) (n : ℕ) (answer : Result Stage Refusal) (b : OnKeeper) (y : OnCpu) → HasAdvancedFor z a x n answer b y → IsTurn z n x answer y
+told_turn z a x n answer b y has = record {
+  begin = a.log;
+  log = has.end.log;
+  known = has.known;
+  seen = has.seen;
+  on = prefix_on _ _ _ (hears_cpu x, refl) (advanced_on (keeper_after_hear a x) n answer has.end has.made);
+  heard = record { teller = as_teller x; cpu = refl; later = omega arith; heard = advanced_on (keeper_after_hear a x) n answer has.end has.made };
+  told = told_end has.end b x y has.is has.told;
+  answers = answers_by z a (keeper_after_hear a x) has.end n answer has.own has.own_end refl (hears_cpu x, refl) has.made;
+}
+
+-- the steps of one, put together
+pub made_turn : (z : Settings) (a h end k b : OnKeeper) (x same after y : OnCpu) (n : ℕ) (answer : Result Stage Refusal) → IsPrefix x.known_log a.log → IsPrefix x.view.pass h.view.history
+    → HasOwnLog z a → h ≡ keeper_after_hear a x → same ≡ cpu_after_tell x
+    → HasAdvanced h n answer end → HasOwnLog z end → k ≡ keeper_after_hear end same → after ≡ cpu_after_tell same → b ≡ keeper_after_tell k → HasHeardOn k.view.history after y
+    → IsPrefix b.log y.known_log → y.log ≡ after.log ++ has_heard after None → HasAdvancedFor z a x n answer b y
+made_turn z a h end k b x same after y n answer known seen own heard first made own_end again second is hears told log = record {
+  known = known;
+  seen =
+      let history : h.view.history ≡ a.view.history = ap (λ (o : OnKeeper). o.view.history) heard in
+      let long = ap (λ (l : List Change). length l) (sym seen.1) ∙ length-append x.view.pass seen.0 in
+      omega (arith, long, ap (λ (l : List Change). length l) history, own.changes);
+  own = own;
+  end = end;
+  made = subst (λ (o : OnKeeper). HasAdvanced o n answer end) heard made;
+  own_end = own_end;
+  is = is ∙ ap keeper_after_tell (again ∙ ap (keeper_after_hear end) first);
+  hears = heard_told_again end.view.history x y (subst (λ (o : OnCpu). HasHeardOn end.view.history o y) (second ∙ ap cpu_after_tell first)
+      (subst (λ (l : List Change). HasHeardOn l after y) (ap (λ (o : OnKeeper). o.view.history) again) hears));
+  told = told;
+  cpu_log = met_again x same after y first second log;
+}
+
+-- What a caller keeps of the turns of a destroy, though nothing is known of the keeper between them.
 
 unfreed : (stage : Stage) → ((t : ℕ) → stage ≡ Freed t → ⊥) → IsObstacle stage
 unfreed (Grace c) not = tt
@@ -171,3 +325,14 @@ pub destroyed_told : (z : Settings) (n turns : ℕ) (x y : OnCpu) (answer : Resu
 destroyed_told z n turns x y answer is =
     let turn = turn_since z n x is.last.0 is.met y (learns_meeting z n is.earlier x is.last.0 is.last.1) is.last.2.2 in
     subst (λ (r : Result ℕ Refusal). IsDestroyAnswer z n x r y) (sym is.told) (met_told z n x y is.met turn)
+
+-- The end of a registry: the keeper heard what the CPU knew, and then its words were closed.
+
+pub closes_run : (z : Settings) (a b : OnKeeper) (x : OnCpu) (last : List ℕ) → b ≡ keeper_after_hear a x → IsPrefix x.known_log a.log → IsPrefix x.view.pass b.view.history
+    → HasClosed z b.view b.log last → ClosesRun z x last
+closes_run z a b x last is known seen closed =
+    let run = ended_runs z b.view b.log last closed in
+    let rest : List LogItem = known.0 ++ hears_cpu x in
+    let grown : IsPrefix x.known_log b.log =
+    (rest, sym (append_assoc x.known_log known.0 (hears_cpu x)) ∙ (ap (λ (l : List LogItem). l ++ hears_cpu x) known.1 ∙ ap (λ (k : OnKeeper). k.log) (sym is))) in
+    record { keeper = b; run = run; known = grown; seen = seen; gone = λ t n freed. run.gone t n (freed_more t n x.known_log b.log grown freed) }

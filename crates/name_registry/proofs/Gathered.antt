@@ -9,14 +9,11 @@ use Rattle.atomic_table.proofs.Lists.{at_set}
 use Rattle.name_registry.specs.Types.{Balance, Change, Settings, LogItem, Teller, KeeperView, Cpu, Keeper}
 use Rattle.cpu_words.specs.Common.{changes_in, heard_from, IsShownAfter, with_note, keeper_with_note}
 use Rattle.passive_list.specs.Common.{OnCpu, OnKeeper, HasOwnLog, HasHeardOn, WasShown, HeardAndTold}
-use Rattle.name_registry.specs.Common.{HasLearned, IsNote, AreAllCpus, AreAlike, HasListened, HasToldAll, HaveHeardAndTold, HaveLearned, HavePass, IsAuditBy, IsAuditIn, IsShownOn, KnowAll}
-use Rattle.name_registry.specs.Common.{KnowTheSame, audited_below, keeper_after_tell}
-use Rattle.name_registry.specs.Common.{local_met, tallies_met}
-use Rattle.name_registry.specs.Common.{tally_by, tally_met}
+use Rattle.name_registry.specs.Common.{HasLearned, IsNote, AreAllCpus, AreAlike, HasListened, HasToldAll, HaveHeardAndTold, HaveLearned, HavePass, IsAuditBy, IsAuditIn, IsShownOn, KnowAll, KnowTheSame, audited_below, keeper_after_tell, local_met, tallies_met, tally_by, tally_met}
 use Rattle.name_registry.proofs.Audits.{each_same}
 use Rattle.name_registry.proofs.Worked.{prefix_on}
 use Rattle.name_registry.proofs.Noted.{by_passing}
-use Rattle.passive_list.proofs.Logs.{no_more}
+use Rattle.passive_list.proofs.Rows.{no_more}
 
 at_within : (l : List OnCpu) (i : ℕ) (a : OnCpu) → get_elem? l i ≡ some a → i < length l
 at_within [] i a e = absurd (some-ne-none a (sym e))

@@ -1,6 +1,5 @@
 -- What an audit says is held of an entry are the local references held to it, by the balance of its slot in the state that shows the views.
-use Rattle.std.proofs.Common.{◌≡◌, inl, inr, ⊎_elim, ℕ, zero, suc, ◌+◌, ◌*◌, ◌<◌, ◌≤◌, ◌&&◌, ℤ, pos, ◌+ℤ◌, List, [], ◌∷◌, Some, length, get_or, fold, cond, sum_by, Bool, true, false, refl, sym, ap}
-use Rattle.std.proofs.Common.{◌∙◌, subst, arith}
+use Rattle.std.proofs.Common.{◌≡◌, inl, inr, ⊎_elim, ℕ, zero, suc, ◌+◌, ◌*◌, ◌<◌, ◌≤◌, ◌&&◌, ℤ, pos, ◌+ℤ◌, List, [], ◌∷◌, Some, length, get_or, fold, cond, sum_by, Bool, true, false, refl, sym, ap, ◌∙◌, subst, arith}
 use Rattle.std.proofs.lemmas.Int.{ints}
 use Rattle.std.proofs.lemmas.List.Sums.{sum_by-cons}
 use mathlib.Core.Option.{some}
@@ -8,7 +7,7 @@ use lib.ListN.{get_elem?}
 use Rattle.name_registry.specs.Types.{Entry, Mark, Settings, Slot, Live, Retired}
 use Rattle.registry_values.specs.Common.{bias, is_retired, slot_at}
 use Rattle.protocol.specs.Common.{IsCounting, IsIn, itself, one_if_used, State, count_at, mark_at, total_at, number_in, BalancesAtRest, held_of, occupant_of}
-use Rattle.cpu_words.proofs.by_keeper.KeeperSees.{seen_by_keeper}
+use Rattle.cpu_words.proofs.by_keeper.KeeperSteps.{seen_by_keeper}
 use Rattle.passive_list.specs.Common.{OnCpu, OnKeeper}
 use Rattle.name_registry.specs.Common.{AreAllCpus, AreShown, IsKeeperOf, acquired_of, is_collected, local_of, locals_of, net_of, released_of, tally_of}
 

@@ -1,6 +1,5 @@
--- In any state that shows the views, what an audit says is held of an entry is its tally.
-use Rattle.std.proofs.Common.{◌≡◌, ◌≢◌, inl, inr, ⊎_elim, ℕ, zero, suc, ◌+◌, ◌*◌, ◌≤◌, ◌&&◌, ℤ, pos, ◌+ℤ◌, List, [], ◌∷◌, length, get_or, map, fold, cond, sum_by, Bool, true, false, Some, refl}
-use Rattle.std.proofs.Common.{sym, ap, ◌∙◌, subst, arith}
+-- What an audit says is held of an entry is its tally: by any state that shows the views, by the log, and at rest by the balance of its slot.
+use Rattle.std.proofs.Common.{◌≡◌, ◌≢◌, inl, inr, ⊎_elim, ℕ, zero, suc, ◌+◌, ◌*◌, ◌≤◌, ◌&&◌, ℤ, pos, ◌+ℤ◌, List, [], ◌∷◌, length, get_or, map, fold, cond, sum_by, Bool, true, false, Some, refl, sym, ap, ◌∙◌, subst, arith, ◌-ℤ◌, if◌then◌else◌, ◌++◌, Option}
 use Rattle.std.specs.List.{zip}
 use Rattle.std.proofs.lemmas.Bool.{eq-eqb, ne_eqb, false≢true}
 use Rattle.std.proofs.lemmas.Int.{ints}
@@ -11,19 +10,20 @@ use mathlib.Core.Option.{some}
 use native.Mathlib.Decide.{ℕ_discrete}
 use lib.ListN.{get_elem?}
 use Rattle.atomic_table.specs.Seated.{TableId}
-use Rattle.name_registry.specs.Types.{Balance, Entry, Settings, Rest, Mark, Slot, Vacant, Live, Retired, KeeperView, LogItem, Change, KeptSlot}
-use Rattle.registry_values.specs.Common.{Tally, tally_shown, bias, is_retired, slot_at, no_mark}
-use Rattle.protocol.specs.Common.{IsIn, addition_due_at, is_adding_at, subtraction_due_at, State, mark_at, count_at, total_at}
-use Rattle.protocol.proofs.slots.Occupied.{in_within}
-use Rattle.cpu_words.specs.Common.{IsPlaceCount, number_at, collected_net, collected_one, CpuShown, KeeperShown, Good, with_note, keeper_with_note, AreCountsOf, is_drawn, occupant_of, word_if}
-use Rattle.cpu_words.specs.Common.{word_in}
-use Rattle.cpu_words.proofs.by_cpu.Counting.{place_is}
-use Rattle.cpu_words.proofs.by_keeper.KeeperSees.{seen_by_keeper}
+use Rattle.name_registry.specs.Types.{Balance, Entry, Settings, Rest, Mark, Slot, Vacant, Live, Retired, KeeperView, LogItem, Change, KeptSlot, Cpu, Keeper, Due}
+use Rattle.registry_values.specs.Common.{Tally, tally_shown, bias, is_retired, slot_at, no_mark, less_bias}
+use Rattle.protocol.specs.Common.{IsIn, addition_due_at, is_adding_at, subtraction_due_at, State, mark_at, count_at, total_at, at_rest, opening, after, held_of, held_at, itself, one_if_used}
+use Rattle.protocol.proofs.Occupied.{in_within}
+use Rattle.cpu_words.specs.Common.{IsPlaceCount, number_at, collected_net, collected_one, CpuShown, KeeperShown, Good, with_note, keeper_with_note, AreCountsOf, is_drawn, occupant_of, word_if, word_in, given_up, sum_collected, words_collected, occupant, RunsLawfully}
+use Rattle.cpu_words.proofs.by_cpu.Locals.{place_is}
+use Rattle.cpu_words.proofs.by_keeper.KeeperSteps.{seen_by_keeper, SeenByKeeper}
+use Rattle.cpu_words.proofs.logs.Totalled.{given_by_log}
+use Rattle.cpu_words.proofs.laws.Safety.{runs_lawfully}
 use Rattle.passive_list.specs.Common.{OnCpu, IsOurKeeper, OnKeeper, OnPlainKeeper, on_keeper}
 use Rattle.passive_list.proofs.Rows.{slots_agree}
-use Rattle.name_registry.specs.Common.{AreAllCpus, AreAlike, AreShown, IsAuditOf, IsKeeperOf, IsTallied, acquired_of, is_collected, local_by, local_met, local_of, locals_of, net_met, net_of}
-use Rattle.name_registry.specs.Common.{released_of, tallies_met, tally, tally_by, tally_met, tally_of}
+use Rattle.name_registry.specs.Common.{AreAllCpus, AreAlike, AreShown, IsAuditOf, IsKeeperOf, IsTallied, acquired_of, is_collected, local_by, local_met, local_of, locals_of, net_met, net_of, released_of, tallies_met, tally, tally_by, tally_met, tally_of, IsAuditBy, audited, audited_at, audited_below, each_at, local_in, net_unless, tallies_below, tally_in, total_in, ExactAudit, counts_of, Balanced, FreeInterlock}
 use Rattle.name_registry.proofs.Audits.{all_met, each_same}
+use Rattle.name_registry.proofs.Held.{references_held}
 
 -- The sum over the CPUs
 
@@ -241,3 +241,122 @@ audit_right a k xs ys list known all alike met = record {
   tally = all_met (IsTallied k xs) k xs a.slots list met
       (λ t e there. ap (λ (y : Tally). y.held) (alike_tally a k xs ys known all alike t e there) ∙ alike_held a k xs ys known all alike t e there);
 }
+
+-- What an audit answers is said by the keeper's log and the CPUs alone.
+
+-- a count word adds its CPU's net count, unless it was collected
+unless_if : (b : Bool) (w : ℕ) (net : ℤ) → net_unless (word_if b w) net ≡ (if b then pos 0 else net)
+unless_if true w net = refl
+unless_if false w net = refl
+
+-- the total as plain numbers: so the limits don't change how long the arithmetic takes
+total_sum : (total add given words due sum sub seen : ℕ) → total + add + given + bias * words ≡ bias * (1 + due) + sum + sub → seen ≡ total → add ≡ 0 → due ≡ 0 → sub ≡ 0
+    → pos sum -ℤ pos (bias * words + given) ≡ less_bias seen
+total_sum total add given words due sum sub seen even same no_add no_due no_sub = omega (arith, ints, even, same, no_add, no_due, no_sub)
+
+module _ (a : Settings) (k : OnKeeper) (xs ys : List OnCpu) (known : IsKeeperOf a k) (all : AreAllCpus a.cpus xs) (alike : AreAlike k xs ys) where
+  abbrev g : State
+  g = alike.keeper.1.g
+
+  abbrev pub log : List LogItem
+  log = alike.log
+
+  seen : SeenByKeeper alike.keeper.1.g (keeper_with_note k.view alike.keeper.0)
+  seen = seen_by_keeper alike.keeper.1.g (keeper_with_note k.view alike.keeper.0) alike.keeper.1.good alike.keeper.1.shown
+
+  -- a slot of the keeper's is the state's
+  same_slot : (t : ℕ) → slot_at k.slots t ≡ slot_at g.slots t
+  same_slot t = sym (known.slots t) ∙ ap (λ (l : List Slot). slot_at l t) seen.slots
+
+  by_log : (t : ℕ) → occupant t log ≡ occupant_of (slot_at k.slots t)
+  by_log t = alike.keeper.1.counts.occupants t ∙ ap occupant_of (sym (same_slot t))
+
+  drawn : (t c : ℕ) → is_drawn g t c ≡ is_collected k t c
+  drawn t c = let slot = same_slot t in let marks = seen.marks in λ i. is_retired (sym slot i) && (mark_at (sym marks i) t c).collected
+
+  local : (t n : ℕ) (x : OnCpu) → local_in log t n x ≡ local_of k t n x
+  local t n x =
+      ap (λ (w : Option ℕ). net_unless w (net_of n x)) (alike.keeper.1.counts.words t x.view.id)
+      ∙ (unless_if (is_drawn g t x.view.id) (count_at g.nets x.view.id t) (net_of n x) ∙ ap (λ (b : Bool). if b then pos 0 else net_of n x) (drawn t x.view.id))
+
+  total : (t n : ℕ) → occupant t log ≡ Some n → total_in log t n ≡ less_bias (total_at k.view.totals t)
+  total t n is =
+      let due : g.due ≡ Rest = sym seen.due ∙ known.view.rest in
+      let adding : addition_due_at t g.due ≡ 0 = ap (addition_due_at t) due in
+      let is_adding : is_adding_at t g.due ≡ 0 = ap (is_adding_at t) due in
+      let subtracting : subtraction_due_at t g.due ≡ 0 = ap (subtraction_due_at t) due in
+      let same : total_at k.view.totals t ≡ total_at g.totals t = ap (λ (l : List ℕ). total_at l t) seen.totals in
+      total_sum (total_at g.totals t) (addition_due_at t g.due) (given_up n log) (words_collected t log) (is_adding_at t g.due) (sum_collected t log) (subtraction_due_at t g.due)
+      (total_at k.view.totals t) (alike.keeper.1.totals.total t n is) same adding is_adding subtracting
+
+  -- what is said of one entry
+  pub audited_is : (t : ℕ) (e : Entry) → IsIn e (slot_at k.slots t) → audited log xs e.number t ≡ tally_of k xs e.number t
+  audited_is t e is =
+      let has : occupant t log ≡ Some e.number = by_log t ∙ in_occupant e (slot_at k.slots t) is in
+      let given : number_at k.view.given_up e.number ≡ given_up e.number log =
+      given_by_log log g (keeper_with_note k.view alike.keeper.0) t e.number alike.keeper.1.good alike.keeper.1.shown alike.keeper.1.counts alike.keeper.1.totals
+      (sym seen.due ∙ known.view.rest) has in
+      let locals = locals_same (local_in log t e.number) (local_of k t e.number) xs (λ c x at. local t e.number x) in
+      let held : tally_in log xs e.number ≡ (tally_of k xs e.number t).held =
+      ap (λ (m : ℕ). pos (sum_by (acquired_of e.number) xs) -ℤ pos (sum_by (released_of e.number) xs + m)) (sym given) ∙ sym (alike_held a k xs ys known all alike t e is) in
+      let sum = total t e.number has in
+      λ i. record { number = e.number; slot = t; held = held i; locals = locals i; total = sum i }
+
+  at_slot : (t : ℕ) (x : Slot) → slot_at k.slots t ≡ x → audited_at log xs t (occupant t log) ≡ each_at (tally_of k xs) t x
+  at_slot t Vacant is = ap (audited_at log xs t) (by_log t ∙ ap occupant_of is)
+  at_slot t (Live e) is = ap (audited_at log xs t) (by_log t ∙ ap occupant_of is) ∙ ap (λ (b : Tally). b ∷ []) (audited_is t e (inl is))
+  at_slot t (Retired e) is = ap (audited_at log xs t) (by_log t ∙ ap occupant_of is) ∙ ap (λ (b : Tally). b ∷ []) (audited_is t e (inr is))
+
+  pub audited_all : (n : ℕ) → audited_below log xs n ≡ tallies_below k xs n
+  audited_all zero = refl
+  audited_all (suc t) = let first = audited_all t in let last = at_slot t (slot_at k.slots t) refl in λ i. first i ++ last i
+
+-- the whole list
+pub audit_known : (a : Settings) (k : OnKeeper) (xs ys : List OnCpu) (list : List Balance) → IsKeeperOf a k → AreAllCpus a.cpus xs → AreAlike k xs ys → IsAuditOf a k xs list → IsAuditBy a xs ys list
+audit_known a k xs ys list known all alike is = record { log = alike.log; known = alike.known; answer = is.answer ∙ sym (audited_all a k xs ys known all alike a.slots) }
+
+-- The exact audit: one state shows the views of all seats, those of the keeper and the CPUs among them.
+
+pub exact_law : (a : Settings) (k : OnKeeper) (xs : List OnCpu) → ExactAudit a k xs
+exact_law a k xs s ruled seated =
+    let run : RunsLawfully a s = runs_lawfully a s ruled in
+    let g : State = after (opening a) run.events in
+    let shown : AreShown g k xs = record {
+      good = run.good;
+      keeper = (run.shows.fits seated.keeper.0 (Keeper k.view) seated.keeper.1).1;
+      cpus = λ c x at. let sits = seated.cpus c x at in (run.shows.fits sits.0 (Cpu x.view) sits.1).1;
+    } in
+    record {
+      run = run;
+      shown = shown;
+      listed = λ list is. is.answer;
+      tallied = λ list is. is.tally;
+      held = λ all list is.
+          let due = sym (seen_by_keeper g k.view run.good shown.keeper).due ∙ is.keeper.view.rest in
+          let rest = run.laws.balance (ap at_rest due) in
+          all_met (λ y. y.held ≡ pos (held_of g y.number)) k xs a.slots list is.met
+          (λ t e there. ap (λ (y : Tally). y.held) (own_tally a k xs g t e is.keeper shown there) ∙ references_held a k xs g t e is.keeper all shown rest there);
+    }
+
+-- The free interlock: a keeper at rest is adding nothing, so the balance of each slot is the references held.
+
+at_rest_balanced : (g : State) → Good g → g.due ≡ Rest → Balanced g
+at_rest_balanced g good rest t e is =
+    let row = counts_of g t in
+    let held = held_at g.locals g.hands g.keeps g.due e.number t in
+    let even = subst (λ (d : Due). sum_by itself row + total_at g.totals t + addition_due_at t d ≡ held + bias * (1 + sum_by one_if_used row + is_adding_at t d)) rest
+    (good.holds.balance.balance t e is).even in
+    omega (arith, even)
+
+pub free_law : (a : Settings) (x : OnKeeper) → x.view.due ≡ Rest → FreeInterlock a x
+free_law a x rest s i ruled at =
+    let run : RunsLawfully a s = runs_lawfully a s ruled in
+    let g : State = after (opening a) run.events in
+    let shown : KeeperShown g x.view = (run.shows.fits i (Keeper x.view) at).1 in
+    let due : g.due ≡ Rest = sym (seen_by_keeper g x.view run.good shown).due ∙ rest in
+    record {
+      run = run;
+      keeper = shown;
+      balanced = at_rest_balanced g run.good due;
+      at_rest = run.laws.balance (ap at_rest due);
+    }

@@ -1,26 +1,23 @@
 -- What the caller's CPU knows once a perform is done: the keeper saw each CPU out of a section, after it had heard the caller, and what had been detached by then has passed.
-use Rattle.std.proofs.Common.{◌≡◌, ◌⊎◌, inl, inr, ⊎_elim, ℕ, zero, suc, ◌<◌, ◌≤◌, Bool, true, false, not, ◌==◌, List, [], ◌∷◌, ◌++◌, length, get_or, Option, Some, None, Result, IfOk, refl, sym, ap}
-use Rattle.std.proofs.Common.{◌∙◌, subst, append_assoc, arith}
+use Rattle.std.proofs.Common.{◌≡◌, ◌⊎◌, inl, inr, ⊎_elim, ℕ, zero, suc, ◌<◌, ◌≤◌, Bool, true, false, not, ◌==◌, List, [], ◌∷◌, ◌++◌, length, get_or, Option, Some, None, Result, IfOk, refl, sym, ap, ◌∙◌, subst, append_assoc, arith}
 use Rattle.std.proofs.lemmas.Bool.{or_cases, not-true, false≢true, eqb-true, eqb-false, cases_lt, not-false}
 use Rattle.std.proofs.lemmas.List.{append-nil}
 use mathlib.Core.List.{IsPrefix}
 use Rattle.name_registry.specs.Types.{Tell, Done, Refusal, Settings, MOST_CPUS, MOST_SLOTS, LogItem, Teller}
 use Rattle.protocol.specs.Common.{HasMoved}
-use Rattle.protocol.proofs.slots.Cells.{get_or_all}
+use Rattle.protocol.proofs.Cells.{get_or_all}
 use Rattle.registry_values.specs.Common.{wait_answer, is_even, is_out}
-use Rattle.registry_values.proofs.Least.{least_none}
+use Rattle.registry_values.proofs.Slots.{least_none}
 use Rattle.cpu_words.specs.Common.{changes_in, has_taken, has_found, has_heard_from, heard_from, HasHeardFrom, HasPassedOn, HasWaited, IsDetachedFrom, IsSeenOut, IsSnapped, KeepsSlot, did}
-use Rattle.cpu_words.proofs.logs.Growing.{passed_on, snapped_on}
-use Rattle.cpu_words.proofs.logs.Standings.{changes_last, kept_entry, kept_parts, standing_last}
+use Rattle.cpu_words.proofs.logs.Marks.{passed_on, snapped_on}
+use Rattle.cpu_words.proofs.logs.Slots.{changes_last, kept_entry, kept_parts, standing_last}
 use Rattle.passive_list.specs.Common.{OnCpu, as_teller, cpu_after_tell, OnKeeper, GoesOnBy}
 use Rattle.passive_list.proofs.Walking.{prefix_trans}
-use Rattle.name_registry.specs.Common.{HasLearned, IsNote, hears_cpu, keeper_after_hear, Finishes, GlancesBelow, GlancesOnce, HasPerformed, HasSeenAllOut, Hold, Looking, SnapshotsBelow, SomeBegan}
-use Rattle.name_registry.specs.Common.{SomeGlanced, SomePassed, TurnsWaiting, is_seen, none_seen, word_of}
-use Rattle.name_registry.proofs.Owned.{learned}
+use Rattle.name_registry.specs.Common.{HasLearned, IsNote, hears_cpu, keeper_after_hear, Finishes, GlancesBelow, GlancesOnce, HasPerformed, HasSeenAllOut, Hold, Looking, SnapshotsBelow, SomeBegan, SomeGlanced, SomePassed, TurnsWaiting, is_seen, none_seen, word_of}
+use Rattle.name_registry.proofs.Noted.{learned, by_meeting, by_meeting_again}
 use Rattle.name_registry.proofs.Passed.{IsReady, Passing, onward_below, passed_end, ready}
 use Rattle.name_registry.proofs.Worked.{prefix_on}
-use Rattle.name_registry.proofs.Noted.{by_meeting, by_meeting_again}
-use Rattle.passive_list.proofs.Logs.{goes_on, no_more}
+use Rattle.passive_list.proofs.Rows.{goes_on, no_more}
 
 -- What is in a log
 

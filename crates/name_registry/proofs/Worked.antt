@@ -1,19 +1,64 @@
--- What looks and collections for a retired entry ask of the keeper, and what they leave.
-use Rattle.std.proofs.Common.{◌≡◌, ◌∙◌, inr, ℕ, zero, suc, ◌+◌, ◌<◌, Bool, true, false, List, [], ◌++◌, append-nil, append_assoc, get_or, Option, Some, None, refl, sym, ap, subst, arith}
-use Rattle.std.proofs.lemmas.Bool.{or_left}
+-- Looks and collections for a retired entry: its place, what they ask of the keeper, what they leave, and what one that wasn't passed tells.
+use Rattle.std.proofs.Common.{◌≡◌, ℕ, suc, ◌+◌, ◌<◌, ◌≤◌, Bool, not, cond, List, [], ◌∷◌, length, map, take, Option, position, refl, sym, ap, ◌∙◌, arith, inr, zero, true, false, ◌++◌, append-nil, append_assoc, get_or, Some, None, subst, ◌%◌, ◌||◌, ◌==◌}
+use Rattle.std.specs.List.{prefix_len, zip}
+use Rattle.std.proofs.lemmas.List.{length-map}
+use Rattle.std.proofs.lemmas.Bool.{or_left, or_parts, eqb-true, eqb-false}
 use mathlib.Core.List.{IsPrefix}
 use Rattle.atomic_table.specs.Seated.{TableId}
-use Rattle.name_registry.specs.Types.{Entry, Kind, Iface, Driver, Event, Collect, TotalAdd, Reply, Done, Word, Settings, Mark, Slot, Retired, KeeperView, LogItem, Keeper, KeptSlot}
-use Rattle.registry_values.specs.Common.{stage_of, Grows, mark_after_look, mark_after_passive_look, mark_after_collect, have_passed, are_clear, are_collected, bias, slot_at}
-use Rattle.protocol.specs.Common.{keeps_rightly, DriversKept, State, opening, mark_at, total_at, kept_at, with_cell}
-use Rattle.protocol.proofs.slots.MarkRows.{mark_grows, mark_there, marks_grow_none, marks_grow_more, passed_from, clear_from, collected_from}
-use Rattle.protocol.proofs.slots.Cells.{total_other}
-use Rattle.cpu_words.specs.Common.{IsShown, did, Makes}
-use Rattle.cpu_words.proofs.by_keeper.KeeperSees.{seen_by_keeper}
-use Rattle.passive_list.specs.Common.{OnKeeper, OnPlainKeeper, on_keeper, states_of, IsOurKeeper, IsDrainedOn, AreHeld, HasCollectedInto}
+use Rattle.name_registry.specs.Types.{Settings, Key, Slot, KeeperView, LogItem, KeptSlot, Entry, Kind, Iface, Driver, Event, Collect, TotalAdd, Reply, Done, Word, Mark, Retired, Keeper, Look, PassiveLook, Stage, Grace, Passive, Local, Freed}
+use Rattle.registry_values.specs.Common.{is_available, is_live_as, stage_of, Grows, mark_after_look, mark_after_passive_look, mark_after_collect, have_passed, are_clear, are_collected, bias, slot_at, is_retired_as, retired_slot, is_even, has_changed, is_retired}
+use Rattle.registry_values.proofs.Fit.{ranges}
+use Rattle.registry_values.proofs.Slots.{retired_slot_tells}
+use Rattle.protocol.specs.Common.{kept_at, keeps_rightly, DriversKept, State, opening, mark_at, total_at, with_cell, at_rest}
+use Rattle.protocol.proofs.Cells.{mark_grows, mark_there, marks_grow_none, marks_grow_more, passed_from, clear_from, collected_from, total_other, snapshot_stands}
+use Rattle.cpu_words.specs.Common.{IsShown, did, Makes, has_looked, has_looked_passive, HasLookedPassive, HasLooked}
+use Rattle.cpu_words.proofs.by_keeper.KeeperSteps.{seen_by_keeper}
+use Rattle.passive_list.specs.Common.{OnKeeper, row_at, state_of, states_of, IsOurKeeper, OnPlainKeeper, on_keeper, IsDrainedOn, AreHeld, HasCollectedInto, GoesOnBy}
 use Rattle.passive_list.proofs.Marks.{marked}
-use Rattle.passive_list.proofs.Rows.{retired_in}
-use Rattle.name_registry.specs.Common.{MayWork, HasEnded, HasWorkedFor, HasLookedFor, PassedBelow, ClearBelow, CollectedBelow, Settles}
+use Rattle.passive_list.proofs.Rows.{retired_in, goes_on, no_more, one_more, keeper_is}
+use Rattle.name_registry.specs.Common.{first_fit, is_live_row, is_available_row, MayWork, HasEnded, HasWorkedFor, HasLookedFor, PassedBelow, ClearBelow, CollectedBelow, Settles, IsLook, LooksBelow, LooksUnless, is_retired_row, HasLookedLast, EndsIn, SeesSection, SeesPassive, Meets, MeetsGrace, MeetsLocal, MeetsPassive}
+
+-- Tests over the keeper's rows are tests over what a contract sees of the keeper.
+
+prefix_map : {X Y : Type 0} (p : Y → Bool) (f : X → Y) (xs : List X) → prefix_len p (map f xs) ≡ prefix_len (λ x. p (f x)) xs
+prefix_map p f [] = refl
+prefix_map p f (x ∷ xs) = ap (λ n. cond (p (f x)) (1 + n) 0) (prefix_map p f xs)
+
+pub position_map : {X Y : Type 0} (p : Y → Bool) (f : X → Y) (xs : List X) → position p (map f xs) ≡ position (λ x. p (f x)) xs
+position_map p f xs = rw (prefix_map (λ y. not (p y)) f xs, length-map xs f) refl
+
+-- the live entry of a kind and name
+
+pub live_in_rows : (key : Key) (rows : List KeptSlot) → position (is_live_as key) (states_of rows) ≡ position (is_live_row key) rows
+live_in_rows key rows = position_map (is_live_as key) state_of rows
+
+-- the first-fit slot
+
+abbrev pair_of : KeptSlot → Slot × Option ℕ
+pair_of r = (r.state, r.keeps)
+
+pairs : (rows : List KeptSlot) (keeps : List (Option ℕ)) → length keeps ≤ length rows → ((t : ℕ) → t < length keeps → (row_at rows t).keeps ≡ kept_at keeps t)
+    → zip (states_of rows) keeps ≡ map pair_of (take (length keeps) rows)
+pairs [] [] le each = refl
+pairs [] (x ∷ keeps) le each = absurd (omega (arith, le))
+pairs (r ∷ rows) [] le each = refl
+pairs (r ∷ rows) (x ∷ keeps) le each =
+    let first : r.keeps ≡ x = each 0 (omega arith) in
+    let rest = pairs rows keeps (omega (arith, le)) (λ t lt. each (suc t) (omega (arith, lt))) in
+    rw (rest, first) refl
+
+pub first_fit_in_rows : {log : List LogItem} (a : Settings) (k : KeeperView) (rows : List KeptSlot) (n : ℕ) (x : OnKeeper) → IsOurKeeper a k rows n
+    → record { view = k; slots = states_of rows; log = log } ≡ x → position is_available_row (take a.slots rows) ≡ first_fit x
+first_fit_in_rows a k rows n x our is =
+    let size : length k.keeps ≡ a.slots = our.view.sized.keeps in
+    let most = (ranges a our.view.fit).slots in
+    let long = our.rows.size in
+    ap (λ m. position is_available_row (take m rows)) (sym size)
+    ∙ (sym (position_map is_available pair_of (take (length k.keeps) rows))
+    ∙ (ap (position is_available) (sym (pairs rows k.keeps (omega (arith, size, most, long)) (λ t lt. (our.rows.each t (omega (arith, size, lt))).keeps)))
+    ∙ ap first_fit is))
+
+-- What looks and collections for a retired entry ask of the keeper, and what they leave.
 
 -- Where there is work
 
@@ -172,3 +217,174 @@ settled_held m b t (suc k) some are total same = (some, are, total, same)
 -- where none is the drained slot comes to its end
 pub settled_free : (m b : OnKeeper) (t held : ℕ) → held ≡ 0 → IsDrainedOn m t → HasEnded m t b → Settles m t (stage_of t None None held) b
 settled_free m b t held none drained ended = subst (λ (k : ℕ). Settles m t (stage_of t None None k) b) (sym none) (refl, drained, ended)
+
+-- Looks for a retired entry, CPU by CPU, are in the keeper's log.
+
+pub look_goes_on : (passed : Bool) (a : OnKeeper) (t c : ℕ) (b : OnKeeper) → LooksUnless passed a t c b → GoesOnBy (IsLook t) a.log b.log
+look_goes_on true a t c b is = no_more (IsLook t) a.log b.log (ap (λ (x : OnKeeper). x.log) is)
+look_goes_on false a t c b is = one_more (IsLook t) (has_looked t c is.0) a.log b.log (c, is.0, refl) is.1.log
+
+pub looks_go_on : (n : ℕ) (a : OnKeeper) (t : ℕ) (b : OnKeeper) → LooksBelow n a t b → GoesOnBy (IsLook t) a.log b.log
+looks_go_on zero a t b is = no_more (IsLook t) a.log b.log (ap (λ (x : OnKeeper). x.log) is)
+looks_go_on (suc n) a t b is = goes_on (IsLook t) a.log is.0.log b.log (looks_go_on n a t is.0 is.1) (look_goes_on (mark_at is.0.view.marks t n).passed is.0 t n b is.2)
+
+-- one CPU more
+pub looks_more : (n : ℕ) (a : OnKeeper) (t : ℕ) (m b : OnKeeper) → LooksBelow n a t m → LooksUnless (mark_at m.view.marks t n).passed m t n b → LooksBelow (n + 1) a t b
+looks_more n a t m b is once = subst (λ (j : ℕ). LooksBelow j a t b) (let e : suc n ≡ n + 1 = omega arith in e) (m, is, once)
+
+-- The place of a retired entry, by the keeper's rows.
+
+-- a search over the rows is one over what a contract sees of the keeper
+pub retired_in_rows : {log : List LogItem} (n : ℕ) (rows : List KeptSlot) (k : KeeperView) (x : OnKeeper) → record { view = k; slots = states_of rows; log = log } ≡ x
+    → position (is_retired_row n) rows ≡ retired_slot x.slots n
+retired_in_rows n rows k x is = sym (position_map (is_retired_as n) state_of rows) ∙ ap (λ (y : OnKeeper). retired_slot y.slots n) is
+
+-- the entry found is one to work on
+pub place_works : {table : TableId} {log : List LogItem} (a : Settings) (k : KeeperView) (rows : List KeptSlot) (n : ℕ) (x : OnPlainKeeper) (number t : ℕ) → IsOurKeeper a k rows n
+    → on_keeper table a k rows log ≡ x
+    → position (is_retired_row number) rows ≡ Some t → MayWork x.words.settings x.keeper t
+place_works a k rows n x number t our is found =
+    let e = (retired_slot_tells x.keeper.slots number t (sym (retired_in_rows number rows k x.keeper (keeper_is is)) ∙ found)).1 in
+    may_work a k rows n x t e.0 our is e.1
+
+-- What a look tells that wasn't passed: the word that the keeper saw.
+
+odd_if : (w : ℕ) → is_even w ≡ false → w % 2 ≡ 1
+odd_if w is = let off = eqb-false (w % 2) 0 is in omega (arith, off)
+
+unchanged : (s : Option ℕ) (x w : ℕ) → s ≡ Some x → has_changed s w ≡ false → s ≡ Some w
+unchanged None x w some same = absurd (let q : ◌≡◌ {A = Option ℕ} None (Some x) = some in cc)
+unchanged (Some y) x w some same = ap (λ (n : ℕ). Some n) (eqb-true y w (not_not (y == w) same))
+  where
+    not_not : (b : Bool) → not b ≡ false → b ≡ true
+    not_not true is = refl
+    not_not false is = absurd (let q : ◌≡◌ {A = Bool} true false = is in cc)
+
+-- a mark that a look at the word w doesn't pass
+looked_tells : (m : Mark) (x w : ℕ) → m.snapshot ≡ Some x → (mark_after_look m w).passed ≡ false → (w % 2 ≡ 1) × (m.snapshot ≡ Some w)
+looked_tells m x w some unset =
+    let word = or_parts (is_even w) (has_changed m.snapshot w) (or_parts m.passed (is_even w || has_changed m.snapshot w) unset).1 in
+    (odd_if w word.0, unchanged m.snapshot x w some word.1)
+
+-- the snapshot of a retired entry stands
+snapshot_at : (z : Settings) (a : OnKeeper) (l : KeeperView) (t c w : ℕ) → MayWork z a t → c < z.cpus → Makes (Look (Some t) c) (Word w) (Keeper a.view) (Keeper l)
+    → (x : ℕ) × ((mark_at a.view.marks t c).snapshot ≡ Some x)
+snapshot_at z a l t c w may cpu made =
+    let seen = seen_by_keeper made.g a.view made.good made.before in
+    let rest : at_rest made.g.due ≡ true = ap at_rest (sym seen.due ∙ may.rest) in
+    let gone : is_retired (slot_at made.g.slots t) ≡ true = ap is_retired (ap (λ (xs : List Slot). slot_at xs t) (sym seen.slots) ∙ may.known) in
+    let lt = subst (λ (s : Settings). c < s.cpus) (sym may.settings ∙ seen.settings) cpu in
+    let x = snapshot_stands made.g t c made.good.holds rest gone lt in
+    (x.0, ap (λ (ms : List (List Mark)). (mark_at ms t c).snapshot) seen.marks ∙ x.1)
+
+pub sees_section : (z : Settings) (a b : OnKeeper) (t c w : ℕ) → MayWork z a t → c < z.cpus → HasLooked a.view (Look (Some t) c) (Word w) t c w b.view
+    → Makes (Look (Some t) c) (Word w) (Keeper a.view) (Keeper b.view)
+    → b.log ≡ a.log ++ did (Look (Some t) c) (Word w) → (mark_at b.view.marks t c).passed ≡ false → SeesSection a t c b
+sees_section z a b t c w may cpu change made log unset =
+    let m = mark_at a.view.marks t c in
+    let there : mark_at b.view.marks t c ≡ mark_after_look m w = ap (λ (l : KeeperView). mark_at l.marks t c) change ∙ mark_put _ _ z a b.view t c (mark_after_look m w) may cpu made in
+    let x = snapshot_at z a b.view t c w may cpu made in
+    let tells = looked_tells m x.0 w x.1 (sym (ap (λ (n : Mark). n.passed) there) ∙ unset) in
+    record {
+      word = w;
+      look = record { more = let looks = ap (λ (l : KeeperView). l.looks) change in omega (arith, looks); last = ap (λ (l : KeeperView). l.last_look) change };
+      log = ([], log ∙ ap (λ (ds : List LogItem). ds ++ did (Look (Some t) c) (Word w)) (sym (append-nil a.log)));
+      odd = tells.0;
+      snapshot = ap (λ (n : Mark). n.snapshot) there ∙ tells.1;
+      unpassed = unset;
+    }
+
+pub sees_passive : (z : Settings) (a b : OnKeeper) (t c w : ℕ) → MayWork z a t → c < z.cpus → HasLookedPassive a.view t c w b.view → Makes (PassiveLook t c) (Word w) (Keeper a.view) (Keeper b.view)
+    → b.log ≡ a.log ++ did (PassiveLook t c) (Word w) → (mark_at b.view.marks t c).clear ≡ false → SeesPassive a t c b
+sees_passive z a b t c w may cpu change made log unset =
+    let m = mark_at a.view.marks t c in
+    let there : mark_at b.view.marks t c ≡ mark_after_passive_look m w = ap (λ (l : KeeperView). mark_at l.marks t c) change ∙ mark_put _ _ z a b.view t c (mark_after_passive_look m w) may cpu made in
+    record {
+      word = w;
+      look = record { more = let looks = ap (λ (l : KeeperView). l.looks) change in omega (arith, looks); last = ap (λ (l : KeeperView). l.last_look) change };
+      log = ([], log ∙ ap (λ (ds : List LogItem). ds ++ did (PassiveLook t c) (Word w)) (sym (append-nil a.log)));
+      some = eqb-false w 0 (or_parts m.clear (w == 0) (sym (ap (λ (n : Mark). n.clear) there) ∙ unset)).1;
+      unclear = unset;
+    }
+
+-- what was seen since b was seen since a, which was before
+
+looked_since : (a b d : OnKeeper) (t w : ℕ) (ev : Event) → HasWorkedFor a t b → HasLookedLast b.view d.view ev w → HasLookedLast a.view d.view ev w
+looked_since a b d t w ev worked last = record { more = let first = worked.looks in let then = last.more in omega (arith, first, then); last = last.last }
+
+ends_since : (old log new : List LogItem) (d : LogItem) → IsPrefix old log → EndsIn log d new → EndsIn old d new
+ends_since old log new d on ends = (
+  on.0 ++ ends.0,
+  ends.1 ∙ ap (λ (ds : List LogItem). ds ++ ends.0 ++ d ∷ []) (sym on.1) ∙ ap (λ (ds : List LogItem). ds ++ d ∷ []) (append_assoc old on.0 ends.0),
+)
+
+section_since : (a b d : OnKeeper) (t c : ℕ) → HasWorkedFor a t b → SeesSection b t c d → SeesSection a t c d
+section_since a b d t c worked sees = record {
+  word = sees.word;
+  look = looked_since a b d t sees.word _ worked sees.look;
+  log = ends_since a.log b.log d.log (has_looked t c sees.word) worked.log sees.log;
+  odd = sees.odd;
+  snapshot = sees.snapshot;
+  unpassed = sees.unpassed;
+}
+
+passive_since : (a b d : OnKeeper) (t c : ℕ) → HasWorkedFor a t b → SeesPassive b t c d → SeesPassive a t c d
+passive_since a b d t c worked sees = record {
+  word = sees.word;
+  look = looked_since a b d t sees.word _ worked sees.look;
+  log = ends_since a.log b.log d.log (has_looked_passive t c sees.word) worked.log sees.log;
+  some = sees.some;
+  unclear = sees.unclear;
+}
+
+-- The first CPU of all that a look stops at
+
+pub grace_met : (z : Settings) (a b d : OnKeeper) (t c : ℕ) → MayWork z a t → c < z.cpus → HasLookedFor a t b → PassedBelow b.view t c → HasLookedFor b t d → SeesSection b t c d → MeetsGrace a t c d
+grace_met z a b d t c may cpu before passed looked_ sees = record {
+  cpu = subst (λ (s : Settings). c < s.cpus) (sym may.settings) cpu;
+  sees = section_since a b d t c before.worked sees;
+  lesser = still_passed b d t c looked_.worked passed;
+  leaves = looked_more a b d t before looked_;
+}
+
+pub passive_met : (z : Settings) (a b d : OnKeeper) (t c : ℕ) → MayWork z a t → c < z.cpus → PassedBelow a.view t z.cpus → HasLookedFor a t b → ClearBelow b.view t c → HasLookedFor b t d
+    → SeesPassive b t c d → MeetsPassive a t c d
+passive_met z a b d t c may cpu passed before clear looked_ sees =
+    let leaves = looked_more a b d t before looked_ in
+    let settings : d.view.settings ≡ z = ap (λ (k : KeeperView). k.settings) leaves.worked.only ∙ may.settings in
+    record {
+      cpu = subst (λ (s : Settings). c < s.cpus) (sym may.settings) cpu;
+      sees = passive_since a b d t c before.worked sees;
+      passed = subst (λ (s : Settings). PassedBelow d.view t s.cpus) (sym settings) (still_passed a d t z.cpus leaves.worked passed);
+      lesser = still_clear b d t c looked_.worked clear;
+      leaves = leaves;
+    }
+
+-- looks for sections before it change nothing of that
+pub passive_after : (a b d : OnKeeper) (t c : ℕ) → HasLookedFor a t b → MeetsPassive b t c d → MeetsPassive a t c d
+passive_after a b d t c before meets = record {
+  cpu = subst (λ (s : Settings). c < s.cpus) (ap (λ (k : KeeperView). k.settings) before.worked.only) meets.cpu;
+  sees = passive_since a b d t c before.worked meets.sees;
+  passed = meets.passed;
+  lesser = meets.lesser;
+  leaves = looked_more a b d t before meets.leaves;
+}
+
+-- The end of the work, at a slot with all marks
+
+pub settles_after : (z : Settings) (a m d : OnKeeper) (t : ℕ) (stage : Stage) → MayWork z a t → HasWorkedFor a t m → PassedBelow m.view t z.cpus → ClearBelow m.view t z.cpus
+    → CollectedBelow m.view t z.cpus → Settles m t stage d → Meets a t stage d
+settles_after z a m d t (Grace c) may worked passed clear collected ends = absurd ends
+settles_after z a m d t (Passive c) may worked passed clear collected ends = absurd ends
+settles_after z a m d t (Local n) may worked passed clear collected ends =
+    let settings : m.view.settings ≡ z = ap (λ (k : KeeperView). k.settings) worked.only ∙ may.settings in
+    subst (λ (x : OnKeeper). MeetsLocal a t n x) (sym ends.3) (record {
+      some = ends.0;
+      held = ends.1;
+      total = ends.2;
+      passed = subst (λ (s : Settings). PassedBelow m.view t s.cpus) (sym settings) passed;
+      clear = subst (λ (s : Settings). ClearBelow m.view t s.cpus) (sym settings) clear;
+      collected = subst (λ (s : Settings). CollectedBelow m.view t s.cpus) (sym settings) collected;
+      leaves = worked;
+    })
+settles_after z a m d t (Freed u) may worked passed clear collected ends = (ends.0, record { between = m; leaves = worked; drained = ends.1; ended = ends.2 })

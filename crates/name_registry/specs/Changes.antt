@@ -1,7 +1,15 @@
+-- Attaching and detaching behind the interlock: which entry, why a call is refused, what is left, and what changes weigh in the ledger.
+use Rattle.std.specs.Prelude.{◌≡◌, ℕ, ◌+◌, ◌*◌, ◌≤◌, List, [], ◌∷◌, sum_by, ◌++◌, length, Option, Some, None, Result, Ok, Err, if◌then◌else◌, true, false}
+use mathlib.Core.List.{IsPrefix}
+use Rattle.name_registry.specs.Types.{Change, Attach, Detach, MOST_CHANGES, Room, Entry, Keep, Tell, Done, LogItem, Record, Refusal, NoSlot, HistoryFull, Settings, ReferenceView, Inside, NotFound, Key, Live}
+use Rattle.registry_values.specs.Common.{key_of_record, is_iface, is_taken, live_count, slot_at}
+use Rattle.registry_values.specs.Answers as answers
+use Rattle.protocol.specs.Common.{IsLookup}
+use Rattle.cpu_words.specs.Common.{IsAttachedKeeping, did}
+use Rattle.passive_list.specs.Common.{OnCpu, OnKeeper, HasHeardOn, HasAttached, HasAttachedKeeping, LogsAttach, HasDetached, LogsDetach}
+use Rattle.name_registry.specs.Locking.{is_inside, keeper_after_hear, HasSeenAttach, HasSeenDetach}
+
 -- What changes weigh in the ledger: a sum that a CPU carries out of the lock, and that is one change's only where it is of that change alone.
-use Rattle.std.specs.Prelude.{◌≡◌, ℕ, ◌+◌, ◌*◌, ◌≤◌, List, [], ◌∷◌, sum_by}
-use Rattle.name_registry.specs.Types.{Change, Attach, Detach, MOST_CHANGES}
-use Rattle.passive_list.specs.Common.{OnCpu}
 
 -- more than twice the greatest number of an entry, so that two changes weigh more than any one
 abbrev pub unit : ℕ
@@ -37,3 +45,85 @@ AreAlike c d = ⊥
 pub record WeightsTell : Type 0 where
   pub one : (x y : OnCpu) (c : Change) (h : List Change) → HasMade x c y → y.made ≡ x.made + weigh h → (d : Change) × (h ≡ d ∷ []) × AreAlike d c
   pub none : (h : List Change) → weigh h ≡ 0 → h ≡ []
+
+-- Attaching behind the interlock: which entry is given, why a call is refused, and what is left.
+
+abbrev pub first_fit : OnKeeper → Option ℕ
+first_fit k = answers.first_fit k.slots k.view.keeps
+
+-- what an attach asks of the history
+abbrev pub room_of : Settings → OnKeeper → Room
+room_of a k = record { changes = length k.view.history; live = live_count k.slots; limit = a.change_limit }
+
+-- the entry that an attach of the record makes
+abbrev pub given_entry : Settings → OnKeeper → Record → Result Entry Refusal
+given_entry a k rec = answers.given_entry (is_taken (key_of_record rec) k.slots) (first_fit k) (room_of a k) rec
+
+-- why an attach has no room, in this slot or none
+abbrev pub fit_answer : Option ℕ → Room → Result (Unit {0}) Refusal
+fit_answer None room = Err NoSlot
+fit_answer (Some t) room = if answers.has_room room then Ok tt else Err HistoryFull
+
+-- whether an attach has room, if its kind and name aren't taken
+abbrev pub room_answer : Settings → OnKeeper → Result (Unit {0}) Refusal
+room_answer a k = fit_answer (first_fit k) (room_of a k)
+
+-- The results of the two calls: the record of an interface is unfit for the one, a reference to an interface for the other.
+
+abbrev pub attach_answer : Settings → OnKeeper → OnCpu → Record → Result Entry Refusal
+attach_answer a k x rec = answers.attach_answer (is_inside x) (is_iface rec.kind) (given_entry a k rec)
+
+abbrev pub attach_iface_answer : Settings → OnKeeper → OnCpu → Record → ReferenceView → Result Entry Refusal
+attach_iface_answer a k x rec v = answers.attach_answer (is_inside x) (is_iface v.entry.rec.kind) (given_entry a k rec)
+
+-- What they leave: the keeper has heard the CPU's pass, e is published, and the CPU has heard the history with it.
+
+-- the keeper's log goes on from `old` by the events of the attach, and a Tell
+abbrev pub LogsAttachFor : OnKeeper → Entry → List LogItem → OnKeeper → Type 0
+LogsAttachFor a e old b = (end : List LogItem) × LogsAttach a.view e old end × (b.log ≡ end ++ did (Tell None) Done)
+
+pub record HasAttachedFor (a : OnKeeper) (x : OnCpu) (e : Entry) (b : OnKeeper) (y : OnCpu) : Type 0 where
+  pub seen : IsPrefix x.view.pass a.view.history
+  pub keeper : HasAttached (keeper_after_hear a x) e b
+  pub log : LogsAttachFor a e (keeper_after_hear a x).log b
+  pub cpu : HasHeardOn b.view.history x y
+  pub own : HasSeenAttach x y e
+
+pub record HasAttachedIfaceFor (a : OnKeeper) (x : OnCpu) (v : ReferenceView) (e : Entry) (b : OnKeeper) (y : OnCpu) : Type 0 where
+  pub seen : IsPrefix x.view.pass a.view.history
+  pub keeper : HasAttachedKeeping (keeper_after_hear a x) v e b
+  pub log : LogsAttachFor a e ((keeper_after_hear a x).log ++ did (Keep e.slot v.entry.number) Done) b
+  -- of the driver, by what the CPU knows
+  pub keeping : IsAttachedKeeping e.slot e.number v.entry.number y.known_log
+  pub cpu : HasHeardOn b.view.history x y
+  pub own : HasSeenAttach x y e
+
+-- Detaching behind the interlock: the entry that a lookup of the history gives now is retired.
+
+-- the result of a lookup now
+abbrev pub IsLookupNow : OnKeeper → Key → Option Entry → Type 0
+IsLookupNow k key answer = IsLookup k.view.history (length k.view.history) key answer
+
+-- the slot of the entry that it gives, where it gives one
+abbrev pub IsLivePlace : OnKeeper → Key → Option ℕ → Type 0
+IsLivePlace k key None = IsLookupNow k key None
+IsLivePlace k key (Some t) = (e : Entry) × (slot_at k.slots t ≡ Live e) × (e.slot ≡ t) × IsLookupNow k key (Some e)
+
+abbrev pub IsDetachRefusal : OnKeeper → OnCpu → Key → Refusal → Type 0
+IsDetachRefusal k x key Inside = is_inside x ≡ true
+IsDetachRefusal k x key NotFound = (is_inside x ≡ false) × IsLookupNow k key None
+IsDetachRefusal k x key _ = ⊥
+
+-- The entry that a lookup of the key gives now. Refused inside a section, and where there is none, in this order.
+abbrev pub IsDetachAnswer : OnKeeper → OnCpu → Key → Result Entry Refusal → Type 0
+IsDetachAnswer k x key (Ok e) = (is_inside x ≡ false) × IsLookupNow k key (Some e) × (slot_at k.slots e.slot ≡ Live e)
+IsDetachAnswer k x key (Err refusal) = IsDetachRefusal k x key refusal
+
+-- the keeper has heard the CPU's pass, e is retired, and the CPU has heard the history with its detach
+pub record HasDetachedFor (a : OnKeeper) (x : OnCpu) (e : Entry) (b : OnKeeper) (y : OnCpu) : Type 0 where
+  pub seen : IsPrefix x.view.pass a.view.history
+  pub keeper : HasDetached (keeper_after_hear a x) e.slot e b
+  -- the keeper's log goes on by the events of the detach, and a Tell
+  pub log : (end : List LogItem) × LogsDetach a.view.settings.cpus e.slot (keeper_after_hear a x).log end × (b.log ≡ end ++ did (Tell None) Done)
+  pub cpu : HasHeardOn b.view.history x y
+  pub own : HasSeenDetach x y e

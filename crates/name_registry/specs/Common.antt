@@ -1,26 +1,18 @@
 -- The definitions of this crate that proofs and the crates above cite, and for its own proofs its types, passed on from one place. Declares nothing.
-pub use Rattle.name_registry.specs.Advancing.{ClearBelow, CollectedBelow, EndsIn, HasAdvanced, HasEnded, HasLookedFor, HasLookedLast, HasWorkedFor, IsGoneIfFreed, IsLook, LooksBelow, LooksUnless}
-pub use Rattle.name_registry.specs.Advancing.{MayWork, Meets}
-pub use Rattle.name_registry.specs.Advancing.{MeetsGrace, MeetsLocal, MeetsPassive, PassedBelow, SeesPassive, SeesSection, Settles, is_retired_row}
-pub use Rattle.name_registry.specs.Attaching.{HasAttachedFor, HasAttachedIfaceFor, attach_answer, attach_iface_answer, first_fit, given_entry, room_answer, room_of}
-pub use Rattle.name_registry.specs.Auditing.{AreAlike, AreAllCpus, AreShown, HasListened, HasToldAll, HaveHeardAndTold, HaveLearned, HavePass, IsAuditBy, IsAuditIn, IsAuditOf, IsKeeperOf}
-pub use Rattle.name_registry.specs.Auditing.{IsShownOn, IsTallied}
-pub use Rattle.name_registry.specs.Auditing.{KnowAll, KnowTheSame, Listed, Occupies}
-pub use Rattle.name_registry.specs.Auditing.{acquired_of, audited, audited_at, audited_below, each_at, each_below, is_collected, listed_at, local_by, local_in, local_met, local_of, locals_met}
-pub use Rattle.name_registry.specs.Auditing.{locals_of, net_met, net_of, net_unless, place_of, places_below, released_of, tallies_below, tallies_met, tally, tally_by, tally_in, tally_met, tally_of}
-pub use Rattle.name_registry.specs.Auditing.{total_in}
-pub use Rattle.name_registry.specs.Changes.{HasMade, WeightsTell, number_of, unit, weigh, weight}
-pub use Rattle.name_registry.specs.Closing.{ClosesRun}
-pub use Rattle.name_registry.specs.Destroying.{Destroys, DestroysOutside, HasAdvancedFor, HasDestroyed, LastMeeting, SomeAdvancedFor, TurnsMeeting}
-pub use Rattle.name_registry.specs.Detaching.{HasDetachedFor, IsDetachAnswer, IsDetachRefusal, IsLivePlace, IsLookupNow}
-pub use Rattle.name_registry.specs.Law.{Balanced, ExactAudit, FreeInterlock, counts_of}
-pub use Rattle.name_registry.specs.Locking.{IsAttachRefusal, IsDestroyRefusal, IsDetachRefusedTo, IsPerformRefusal, IsStageOf, MayAttach}
-pub use Rattle.name_registry.specs.Exchange.{HasLearned, HasSeenAttach, HasSeenDetach, IsNote, KeepsWords, hears_cpu, is_inside, keeper_after_hear, keeper_after_tell, tells_and_hears}
-pub use Rattle.name_registry.specs.Exchange.{tells_twice_and_hears}
-pub use Rattle.name_registry.specs.Obstacles.{AnswersBy, HasMet, IsDestroyAnswer, IsNotRetired, IsRetiredIn, IsTurn, MetLocals, MetReference, MetSection}
-pub use Rattle.name_registry.specs.Opening.{AreNewCpus, AreOpened, IsBlankOf, boxed, new_on, opened_cpu}
+pub use Rattle.name_registry.specs.Destroying.{ClearBelow, CollectedBelow, EndsIn, HasAdvanced, HasEnded, HasLookedFor, HasLookedLast, HasWorkedFor, IsGoneIfFreed, IsLook, LooksBelow, LooksUnless}
+pub use Rattle.name_registry.specs.Destroying.{MayWork, Meets, MeetsGrace, MeetsLocal, MeetsPassive, PassedBelow, SeesPassive, SeesSection, Settles, is_retired_row, Destroys, DestroysOutside}
+pub use Rattle.name_registry.specs.Destroying.{HasAdvancedFor, HasDestroyed, LastMeeting, SomeAdvancedFor, TurnsMeeting, AnswersBy, HasMet, IsDestroyAnswer, IsNotRetired, IsRetiredIn, IsTurn}
+pub use Rattle.name_registry.specs.Destroying.{MetLocals, MetReference, MetSection}
+pub use Rattle.name_registry.specs.Changes.{HasAttachedFor, HasAttachedIfaceFor, attach_answer, attach_iface_answer, first_fit, given_entry, room_answer, room_of, HasMade, WeightsTell, number_of}
+pub use Rattle.name_registry.specs.Changes.{unit, weigh, weight, HasDetachedFor, IsDetachAnswer, IsDetachRefusal, IsLivePlace, IsLookupNow}
+pub use Rattle.name_registry.specs.Auditing.{AreAlike, AreAllCpus, AreShown, HasListened, HasToldAll, HaveHeardAndTold, HaveLearned, HavePass, IsAuditBy, IsAuditIn, IsAuditOf, IsKeeperOf, IsShownOn}
+pub use Rattle.name_registry.specs.Auditing.{IsTallied, KnowAll, KnowTheSame, Listed, Occupies, acquired_of, audited, audited_at, audited_below, each_at, each_below, is_collected, listed_at, local_by}
+pub use Rattle.name_registry.specs.Auditing.{local_in, local_met, local_of, locals_met, locals_of, net_met, net_of, net_unless, place_of, places_below, released_of, tallies_below, tallies_met, tally}
+pub use Rattle.name_registry.specs.Auditing.{tally_by, tally_in, tally_met, tally_of, total_in, Balanced, ExactAudit, FreeInterlock, counts_of}
+pub use Rattle.name_registry.specs.Opening.{ClosesRun, AreNewCpus, AreOpened, IsBlankOf, boxed, new_on, opened_cpu}
+pub use Rattle.name_registry.specs.Locking.{IsAttachRefusal, IsDestroyRefusal, IsDetachRefusedTo, IsPerformRefusal, IsStageOf, MayAttach, HasLearned, HasSeenAttach, HasSeenDetach, IsNote, KeepsWords}
+pub use Rattle.name_registry.specs.Locking.{hears_cpu, is_inside, keeper_after_hear, keeper_after_tell, tells_and_hears, tells_twice_and_hears, HasGivenUpFor, IsLetGo, IsLetGoAndHeard, KnowsGivenUp}
+pub use Rattle.name_registry.specs.Locking.{gives_up, is_available_row, is_live_row}
 pub use Rattle.name_registry.specs.Performing.{Finishes, GlancesBelow, GlancesOnce, HasBegun, HasGlanced, HasPassedAll, HasPassedFor, HasPerformed, HasSeenAllOut, Hold, LastTurn, Looking, LooksOnce}
 pub use Rattle.name_registry.specs.Performing.{PassesBelow, PassesIf, PassesNumber, PerformsOutside, SnapshotsBelow, SomeBegan, SomeGlanced, SomePassed, TurnsWaiting, is_seen, looking, none_seen}
 pub use Rattle.name_registry.specs.Performing.{word_of}
-pub use Rattle.name_registry.specs.Releasing.{HasGivenUpFor, IsLetGo, IsLetGoAndHeard, KnowsGivenUp, gives_up}
-pub use Rattle.name_registry.specs.Rows.{is_available_row, is_live_row}

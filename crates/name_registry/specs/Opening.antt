@@ -1,13 +1,15 @@
--- A registry before it is named, and its CPUs as it is opened.
+-- A registry before it is named, its CPUs as it is opened, and its end.
 use Rattle.std.specs.Prelude.{◌≡◌, ℕ, ◌<◌, List, [], length, map, IsTrue}
+use Rattle.std.specs.Global.{Box}
 use mathlib.Core.Option.{some}
 use lib.ListN.{get_elem?}
-use Rattle.std.specs.Global.{Box}
 use Rattle.atomic_table.specs.Seated.{TableId}
+use mathlib.Core.List.{IsPrefix}
 use Rattle.name_registry.specs.Types.{Settings, MOST_CPUS, KeeperView}
 use Rattle.registry_values.specs.Common.{are_fit}
-use Rattle.cpu_words.specs.Common.{Named, Seated, new_cpu, keeper_with}
-use Rattle.passive_list.specs.Common.{OnCpu, OnPlainCpu, no_memory}
+use Rattle.protocol.specs.Common.{opening, after}
+use Rattle.cpu_words.specs.Common.{Named, Seated, new_cpu, keeper_with, EndsRun, IsFreedFrom, IsGoneFrom}
+use Rattle.passive_list.specs.Common.{OnCpu, OnPlainCpu, no_memory, OnKeeper}
 
 -- the CPU c of a new table: outside, with nothing found and nothing held, and nothing was made
 abbrev pub new_on : Settings → ℕ → OnCpu
@@ -47,3 +49,13 @@ IsBlankOf b table settings name parts = (b.table ≡ table) × (b.settings ≡ s
 pub record AreNewCpus (z : Settings) (n : ℕ) (xs : List OnCpu) : Type 0 where
   pub count : length xs ≡ n
   pub each : (c : ℕ) → c < n → get_elem? xs c ≡ some (new_on z c)
+
+-- The end of a registry: what the last words are to whoever ends it with a CPU.
+
+-- a list of events leads from the opening to these words; it has what the CPU knows, and what was freed by that is gone
+pub record ClosesRun (z : Settings) (x : OnCpu) (last : List ℕ) : Type 0 where
+  pub keeper : OnKeeper
+  pub run : EndsRun z keeper.view keeper.log last
+  pub known : IsPrefix x.known_log keeper.log
+  pub seen : IsPrefix x.view.pass keeper.view.history
+  pub gone : (t n : ℕ) → IsFreedFrom t n x.known_log → IsGoneFrom z (after (opening z) run.events) last n

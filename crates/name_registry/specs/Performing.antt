@@ -5,8 +5,8 @@ use Rattle.name_registry.specs.Types.{Event, Look, Snapshot, Tell, Done, Word, R
 use Rattle.registry_values.specs.Common.{wait_answer, is_out, least_below, is_retired_as, retired_number, slot_at}
 use Rattle.cpu_words.specs.Common.{changes_in, HasHeardFrom, HasPassedOn, HasWaited, IsDetachedFrom, KeepsSlot, keeper_after_look, keeper_with_note, did, Makes}
 use Rattle.passive_list.specs.Common.{OnCpu, OnKeeper, HasOwnLog, HasHeardOn, as_teller, cpu_after_tell, GoesOnBy}
-use Rattle.name_registry.specs.Advancing.{IsLook, HasLookedFor, MeetsGrace, PassedBelow}
-use Rattle.name_registry.specs.Exchange.{hears_cpu, keeper_after_hear, keeper_after_tell, tells_and_hears, tells_twice_and_hears}
+use Rattle.name_registry.specs.Destroying.{IsLook, HasLookedFor, MeetsGrace, PassedBelow}
+use Rattle.name_registry.specs.Locking.{hears_cpu, keeper_after_hear, keeper_after_tell, tells_and_hears, tells_twice_and_hears}
 
 -- The keeper's looks for no entry
 

@@ -6,7 +6,7 @@ ghost use Rattle.registry_values.specs.Common.{retired_slot, slot_at};
 ghost use Rattle.protocol.specs.Common.{mark_at};
 ghost use Rattle.cpu_words.specs.Common.{AreWordsOf};
 ghost use Rattle.passive_list.specs.Common.{IsDrainedOn, GoesOnBy};
-ghost use Rattle.name_registry.specs.Advancing.{HasAdvanced, IsGoneIfFreed, Meets, MeetsGrace, MeetsPassive, HasLookedFor, HasWorkedFor, IsLook, LooksBelow, LooksUnless, MayWork, SeesSection, SeesPassive, Settles, HasEnded, PassedBelow, ClearBelow, CollectedBelow, is_retired_row, looked_at};
+ghost use Rattle.name_registry.specs.Destroying.{HasAdvanced, IsGoneIfFreed, Meets, MeetsGrace, MeetsPassive, HasLookedFor, HasWorkedFor, IsLook, LooksBelow, LooksUnless, MayWork, SeesSection, SeesPassive, Settles, HasEnded, PassedBelow, ClearBelow, CollectedBelow, is_retired_row, looked_at};
 ghost use Rattle.name_registry.specs.Locking.{IsStageOf};
 
 use cpu_words::Words;

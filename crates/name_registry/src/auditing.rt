@@ -6,7 +6,7 @@ ghost use mathlib.Core.List.{IsPrefix};
 ghost use Rattle.cpu_words.specs.Common.{AreWordsOf};
 ghost use Rattle.passive_list.specs.Common.{HasHeardOn, WasShown, has_heard, has_told, place_at};
 ghost use Rattle.name_registry.specs.Auditing.{AreAllCpus, AreAlike, HasListened, HasToldAll, HaveHeardAndTold, HaveLearned, IsAuditBy, IsAuditIn, IsAuditOf, IsOccupied, Occupies, is_collected, local_met, locals_met, place_of, places_below, tallies_met, tally_met};
-ghost use Rattle.name_registry.specs.Exchange.{keeper_after_tell};
+ghost use Rattle.name_registry.specs.Locking.{keeper_after_tell};
 
 use cpu_words::{Domain, NoteSeat, Words};
 use local_count::net_count;

@@ -1,7 +1,7 @@
 //! The end of a registry.
 
 ghost use Rattle.std.specs.Prelude.{◌≡◌};
-ghost use Rattle.name_registry.specs.Closing.{ClosesRun};
+ghost use Rattle.name_registry.specs.Opening.{ClosesRun};
 
 use crate::exchange::hear_cpu;
 use crate::interlock::Interlock;

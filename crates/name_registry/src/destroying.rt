@@ -2,10 +2,8 @@
 
 ghost use Rattle.std.specs.Prelude.{◌≡◌, ◌<◌, ◌≤◌, IfOk, IfErr, false};
 ghost use Rattle.cpu_words.specs.Common.{IsFreedFrom, AreWordsOf};
-ghost use Rattle.name_registry.specs.Destroying.{Destroys, DestroysOutside, HasAdvancedFor};
-ghost use Rattle.name_registry.specs.Locking.{IsDestroyRefusal, IsStageOf};
-ghost use Rattle.name_registry.specs.Obstacles.{IsDestroyAnswer, IsTurn};
-ghost use Rattle.name_registry.specs.Exchange.{KeepsWords, is_inside, HasLearned};
+ghost use Rattle.name_registry.specs.Destroying.{Destroys, DestroysOutside, HasAdvancedFor, IsDestroyAnswer, IsTurn};
+ghost use Rattle.name_registry.specs.Locking.{IsDestroyRefusal, IsStageOf, KeepsWords, is_inside, HasLearned};
 
 use crate::advancing::advance_in;
 use crate::exchange::{hear_cpu, show_cpu};

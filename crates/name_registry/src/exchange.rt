@@ -4,7 +4,7 @@ ghost use Rattle.std.specs.Prelude.{◌≡◌, ◌++◌, None};
 ghost use mathlib.Core.List.{IsPrefix};
 ghost use Rattle.cpu_words.specs.Common.{AreWordsOf};
 ghost use Rattle.passive_list.specs.Common.{HasOwnLog, HasHeardOn, cpu_after_tell, has_heard};
-ghost use Rattle.name_registry.specs.Exchange.{KeepsWords, keeper_after_hear, keeper_after_tell};
+ghost use Rattle.name_registry.specs.Locking.{KeepsWords, keeper_after_hear, keeper_after_tell};
 
 use cpu_words::Words;
 use passive_list::{Keeper, PlainCpu, hear_keeper, hear_on, tell_keeper, tell_on};

@@ -4,8 +4,8 @@ ghost use Rattle.std.specs.Prelude.{◌≡◌, ◌<◌, ◌≤◌, IfOk, IfSome,
 ghost use Rattle.std.specs.List.{list_any};
 ghost use Rattle.registry_values.specs.Common.{key_of_record, is_taken, live_count};
 ghost use Rattle.passive_list.specs.Common.{states_of};
-ghost use Rattle.name_registry.specs.Attaching.{given_entry, first_fit, room_answer, room_of};
-ghost use Rattle.name_registry.specs.Rows.{is_live_row, is_available_row};
+ghost use Rattle.name_registry.specs.Changes.{given_entry, first_fit, room_answer, room_of};
+ghost use Rattle.name_registry.specs.Locking.{is_live_row, is_available_row};
 
 use passive_list::{Keeper, KeptSlot};
 use registry_values::{

@@ -5,7 +5,7 @@ ghost use Rattle.std.specs.Prelude.{◌≡◌, ◌<◌, ◌≤◌, ℕ, None, sl
 ghost use Rattle.registry_values.specs.Common.{retired_number, slot_at};
 ghost use Rattle.cpu_words.specs.Common.{AreWordsOf};
 ghost use Rattle.name_registry.specs.Performing.{GlancesBelow, GlancesOnce, HasBegun, HasGlanced, HasPassedAll, PassesBelow, PassesEntry, SnapshotsBelow, looking};
-ghost use Rattle.name_registry.specs.Exchange.{KeepsWords};
+ghost use Rattle.name_registry.specs.Locking.{KeepsWords};
 
 use crate::advancing::look_at_all;
 use crate::exchange::{hear_cpu, show_cpu};

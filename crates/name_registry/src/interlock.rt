@@ -5,12 +5,9 @@ ghost use Rattle.registry_values.specs.Common.{is_key, is_iface};
 ghost use Rattle.name_registry.specs.Types.{Attach, Detach, Iface};
 ghost use Rattle.cpu_words.specs.Common.{IsAttachedKeeping, AreWordsOf};
 ghost use Rattle.name_registry.specs.Changes.{HasMade, weigh, weight};
-ghost use Rattle.name_registry.specs.Locking.{MayAttach, IsAttachRefusal, IsDetachRefusedTo};
-ghost use Rattle.name_registry.specs.Exchange.{is_inside, tells_and_hears, HasLearned, HasSeenAttach, HasSeenDetach};
-ghost use Rattle.name_registry.specs.Releasing.{KnowsGivenUp};
+ghost use Rattle.name_registry.specs.Locking.{MayAttach, IsAttachRefusal, IsDetachRefusedTo, is_inside, tells_and_hears, HasLearned, HasSeenAttach, HasSeenDetach, KnowsGivenUp};
 
-use crate::attaching::{attach_iface_in, attach_in};
-use crate::detaching::detach_in;
+use crate::attaching::{attach_iface_in, attach_in, detach_in};
 use crate::releasing::release_for;
 use cpu_words::{Domain, Words};
 use local_count::LocalRef;

@@ -1,7 +1,7 @@
 //! The laws of the free interlock, of the exact audit, and of what changes weigh.
 
 ghost use Rattle.name_registry.specs.Changes.{WeightsTell};
-ghost use Rattle.name_registry.specs.Law.{ExactAudit, FreeInterlock};
+ghost use Rattle.name_registry.specs.Auditing.{ExactAudit, FreeInterlock};
 
 use cpu_words::Domain;
 use passive_list::{Cpu, Keeper};
@@ -43,7 +43,7 @@ pub fn exact_audit<D: Domain>(keeper: &Keeper, cpus: &[Cpu<D>]) -> u64
 ///
 /// If the share has grown by the weight of one change, the calls made one change, of that kind and number. No other changes weigh as much
 /// together. The result says nothing.
-#[tactic(auto, using(crate::proofs::Weights::weights_tell))]
+#[tactic(auto, using(crate::proofs::Counted::weights_tell))]
 pub fn weights_law() -> u64
     ensures law { WeightsTell }
 {

@@ -1,8 +1,7 @@
 //! Waiting until each section that was open has ended.
 
 ghost use Rattle.std.specs.Prelude.{◌≡◌, ◌≤◌, IfOk, IfErr, false};
-ghost use Rattle.name_registry.specs.Locking.{IsPerformRefusal};
-ghost use Rattle.name_registry.specs.Exchange.{is_inside, HasLearned};
+ghost use Rattle.name_registry.specs.Locking.{IsPerformRefusal, is_inside, HasLearned};
 ghost use Rattle.name_registry.specs.Performing.{HasSeenAllOut, Performs, PerformsOutside, WaitsFor, none_seen};
 
 use crate::glancing::{begin, glance_at_all, pass_all};

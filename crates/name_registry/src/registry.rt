@@ -7,8 +7,7 @@ ghost use Rattle.cpu_words.specs.Common.{IsAttachedKeeping, AreWordsOf};
 ghost use Rattle.name_registry.specs.Auditing.{AreAllCpus, HaveHeardAndTold, HaveLearned, IsAuditBy, KnowTheSame};
 ghost use Rattle.name_registry.specs.Changes.{HasMade};
 ghost use Rattle.name_registry.specs.Destroying.{SomeAdvanced};
-ghost use Rattle.name_registry.specs.Locking.{MayAttach, IsAttachRefusal, IsDetachRefusedTo, IsStageOf};
-ghost use Rattle.name_registry.specs.Exchange.{is_inside, HasLearned, HasSeenAttach, HasSeenDetach};
+ghost use Rattle.name_registry.specs.Locking.{MayAttach, IsAttachRefusal, IsDetachRefusedTo, IsStageOf, is_inside, HasLearned, HasSeenAttach, HasSeenDetach};
 
 use crate::advancing::advance_in;
 use crate::auditing::audit_in;

@@ -2,8 +2,7 @@
 
 ghost use Rattle.std.specs.Prelude.{◌≡◌, ◌<◌};
 ghost use Rattle.cpu_words.specs.Common.{AreWordsOf, IsFoundCollected};
-ghost use Rattle.name_registry.specs.Exchange.{KeepsWords};
-ghost use Rattle.name_registry.specs.Releasing.{HasGivenUpFor, IsLetGo, IsLetGoAndHeard, KnowsGivenUp};
+ghost use Rattle.name_registry.specs.Locking.{KeepsWords, HasGivenUpFor, IsLetGo, IsLetGoAndHeard, KnowsGivenUp};
 
 use crate::exchange::{hear_cpu, show_cpu};
 use crate::registry::Registry;

@@ -1,28 +1,21 @@
 -- What looks, collections and the end of a slot's use tell and leave.
-use Rattle.std.proofs.Common.{◌≡◌, ℕ, zero, suc, ◌+◌, ◌-◌, ◌%◌, ◌<◌, ◌⊎◌, inl, inr, List, [], length, get_or, set, Option, Some, None, Bool, true, false, not, ◌&&◌, ◌||◌, ◌==◌, Result, Ok, refl, sym, ap, subst}
-use Rattle.std.proofs.Common.{◌∙◌, arith, nat_lt, get_or-set_same, get_or-set_other, add-zero, IsSome}
+use Rattle.std.proofs.Common.{◌≡◌, ℕ, zero, suc, ◌+◌, ◌-◌, ◌%◌, ◌<◌, ◌⊎◌, inl, inr, List, [], length, get_or, set, Option, Some, None, Bool, true, false, not, ◌&&◌, ◌||◌, ◌==◌, Result, Ok, refl, sym, ap, subst, ◌∙◌, arith, nat_lt, get_or-set_same, get_or-set_other, add-zero, IsSome}
 use Rattle.std.specs.Prelude.{is_some, is_none}
 use Rattle.std.proofs.lemmas.Bool.{cases_lt, cases_eq, eqb-true, eq-eqb, lt-ltb, ne_eqb, cases_Bool, and_from}
 use Rattle.std.proofs.lemmas.Option.{none-some, same_Some}
 use Rattle.passive_core.specs.Types.{Entry, Look, PassiveLook, Collect, TotalAdd, KeptSub, Reply, Done, Mark, Slot, Retired, Refusal, Stage, Grace, Passive, Local, Freed}
-use Rattle.passive_core.specs.Common.{AdvanceLeaves, Settles, Empties, Gathers, HoldersAreOpen, LeavesMarks, MarksPass, Passes, ClearBelow, Clears, MarksClear, SameBut, StageMarks, AdvanceMarks, StageLeaves}
-use Rattle.passive_core.specs.Common.{advance_answer, count_given_up, has_passive, is_open_since, is_snapshot, first_obstacle, stage_in, may_act}
-use Rattle.protocol.specs.Common.{AllClear, AllCollected, AllPassed, MarksGrow, Outcome, guard, some_outcome, narrow_step, after_look, after_look_passive, after_collect, after_total, after_kept_sub}
-use Rattle.protocol.specs.Common.{after_vacate, may_collect, may_examine, may_look_passive, may_vacate, is_drainable, is_drained, is_iface_slot, keeps_rightly, Holds, one_if, held_at, at_rest, State}
-use Rattle.protocol.specs.Common.{section_at, begin_at, count_at, kept_at, mark_at, passive_at, total_at, with_cell}
-use Rattle.registry_values.specs.Common.{no_mark, least_below, or_next, mark_after_look, mark_after_passive_look, mark_after_collect, are_collected, has_changed, have_passed, is_even, stage_of, retired_slot}
-use Rattle.registry_values.specs.Common.{has_number, is_retired, slot_of, slot_at, bias}
-use Rattle.protocol.proofs.slots.Occupied.{at_rest_tells, in_within, is_retired_tells, number_in, has_it, one_number, slot_found}
-use Rattle.protocol.proofs.counts.Bounds.{driver_positive}
-use Rattle.protocol.proofs.counts.CountBounds.{all_collected}
+use Rattle.passive_core.specs.Common.{AdvanceLeaves, Settles, Empties, Gathers, HoldersAreOpen, LeavesMarks, MarksPass, Passes, ClearBelow, Clears, MarksClear, SameBut, StageMarks, AdvanceMarks, StageLeaves, advance_answer, count_given_up, has_passive, is_open_since, is_snapshot, first_obstacle, stage_in, may_act}
+use Rattle.protocol.specs.Common.{AllClear, AllCollected, AllPassed, MarksGrow, Outcome, guard, some_outcome, narrow_step, after_look, after_look_passive, after_collect, after_total, after_kept_sub, after_vacate, may_collect, may_examine, may_look_passive, may_vacate, is_drainable, is_drained, is_iface_slot, keeps_rightly, Holds, one_if, held_at, at_rest, State, section_at, begin_at, count_at, kept_at, mark_at, passive_at, total_at, with_cell}
+use Rattle.registry_values.specs.Common.{no_mark, least_below, or_next, mark_after_look, mark_after_passive_look, mark_after_collect, are_collected, has_changed, have_passed, is_even, stage_of, retired_slot, has_number, is_retired, slot_of, slot_at, bias}
+use Rattle.protocol.proofs.Occupied.{at_rest_tells, in_within, is_retired_tells, number_in, has_it, one_number, slot_found}
+use Rattle.protocol.proofs.counts.Bounds.{driver_positive, all_collected}
 use Rattle.protocol.proofs.keeps.Drivers.{kept_found}
 use Rattle.protocol.proofs.keeps.MarkKeeps.{is_drained_tells}
-use Rattle.protocol.proofs.slots.Cells.{cell_other}
+use Rattle.protocol.proofs.Cells.{cell_other, clear_from, collected_from, mark_grows, mark_there, mark_written, marks_grow_more, marks_grow_none, passed_from, row_elsewhere, snapshot_stands}
 use Rattle.protocol.proofs.keeps.Searching.{within_some}
 use Rattle.std.proofs.lemmas.List.{set-get_or}
-use Rattle.registry_values.proofs.Least.{least_agrees, least_is, none_below}
-use Rattle.passive_core.proofs.Acting.{made_is}
-use Rattle.protocol.proofs.slots.MarkRows.{clear_from, collected_from, mark_grows, mark_there, mark_written, marks_grow_more, marks_grow_none, passed_from, row_elsewhere, snapshot_stands}
+use Rattle.registry_values.proofs.Slots.{least_agrees, least_is, none_below}
+use Rattle.passive_core.proofs.Entering.{made_is}
 use Rattle.protocol.proofs.Either.{either}
 
 -- an event whose test passes is allowed

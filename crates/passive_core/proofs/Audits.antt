@@ -1,6 +1,5 @@
 -- What an audit rests on.
-use Rattle.std.proofs.Common.{◌≡◌, ℕ, zero, suc, ◌+◌, ◌*◌, ◌^◌, ◌<◌, ◌≤◌, ◌⊎◌, inl, inr, ⊎_elim, ℤ, pos, ◌+ℤ◌, ◌≤ℤ◌, neg_ℤ, List, [], ◌∷◌, ◌++◌, length, get_or, map, take, fold, refl, sym, ap, subst}
-use Rattle.std.proofs.Common.{◌∙◌, add-one, arith, sum_by, Bool, true, ne_eqb}
+use Rattle.std.proofs.Common.{◌≡◌, ℕ, zero, suc, ◌+◌, ◌*◌, ◌^◌, ◌<◌, ◌≤◌, ◌⊎◌, inl, inr, ⊎_elim, ℤ, pos, ◌+ℤ◌, ◌≤ℤ◌, neg_ℤ, List, [], ◌∷◌, ◌++◌, length, get_or, map, take, fold, refl, sym, ap, subst, ◌∙◌, add-one, arith, sum_by, Bool, true, ne_eqb}
 use Rattle.std.specs.Prelude.{if◌then◌else◌}
 use Rattle.std.specs.List.{All}
 use Rattle.std.proofs.lemmas.Int.{ints}
@@ -11,11 +10,11 @@ use Rattle.passive_core.specs.Types.{MOST_CPUS, Balance, Entry, Slot, Vacant, Li
 use Rattle.protocol.specs.Common.{State, count_at, mark_at, total_at, at_rest, Holds, IsCounting, IsIn, addition_due_at, greatest_limit, is_adding_at, itself, one_if_used}
 use Rattle.registry_values.specs.Common.{bias, Tally, less_bias, local_of, sum_of, tally_shown, slot_at}
 use Rattle.passive_core.specs.Common.{IsHeldRightly, audit_of, locals_at, tallies_at, tallies_below, tally_of}
-use Rattle.protocol.proofs.counts.CountBounds.{total_at_rest, word_ceiling, word_floor}
+use Rattle.protocol.proofs.counts.Bounds.{total_at_rest, word_ceiling, word_floor}
 use Rattle.protocol.proofs.keeps.CountKeeps.{fit_of}
 use Rattle.protocol.proofs.counts.Counts.{counting_cases}
 use Rattle.registry_values.proofs.Fit.{ranges}
-use Rattle.protocol.proofs.slots.Occupied.{at_rest_tells, in_within}
+use Rattle.protocol.proofs.Occupied.{at_rest_tells, in_within}
 
 -- The sum of what the words say.
 

@@ -1,12 +1,8 @@
-pub mod Acting
 pub mod Advancing
 pub mod Attaching
 pub mod Audits
-pub mod Detaching
 pub mod Entering
-pub mod Finding
 pub mod Locals
 pub mod Making
 pub mod Passives
 pub mod Performing
-pub mod Plain

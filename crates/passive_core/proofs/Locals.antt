@@ -1,6 +1,5 @@
 -- What the commands on local references rest on.
-use Rattle.std.proofs.Common.{◌≡◌, ℕ, zero, suc, ◌+◌, ◌-◌, ◌<◌, ◌⊎◌, inl, inr, List, [], ◌∷◌, ◌++◌, length, length-set, get_or, set, cond, position, Option, Some, None, IsSome, Result, Ok, Err, OnOk}
-use Rattle.std.proofs.Common.{OnErr, Bool, true, false, ◌&&◌, nat_lt, nat_eq, refl, sym, ap, subst, ◌∙◌, arith, sum_by, get_or-set_same, ne_eqb}
+use Rattle.std.proofs.Common.{◌≡◌, ℕ, zero, suc, ◌+◌, ◌-◌, ◌<◌, ◌⊎◌, inl, inr, List, [], ◌∷◌, ◌++◌, length, length-set, get_or, set, cond, position, Option, Some, None, IsSome, Result, Ok, Err, OnOk, OnErr, Bool, true, false, ◌&&◌, nat_lt, nat_eq, refl, sym, ap, subst, ◌∙◌, arith, sum_by, get_or-set_same, ne_eqb}
 use Rattle.std.specs.Prelude.{if◌then◌else◌, is_none}
 use Rattle.std.specs.List.{position_or_len}
 use Rattle.std.proofs.lemmas.List.{get_or_append_left, get_or_past, get_or_push, length_push, set-get_or}
@@ -8,21 +7,17 @@ use Rattle.std.proofs.lemmas.List.Sums.{position_or_len_is, sum_by_push}
 use Rattle.std.proofs.lemmas.List.Quantifiers.{position-Some}
 use Rattle.std.proofs.lemmas.List.Folds.{position_or_len_push}
 use Rattle.std.proofs.lemmas.Bool.{and_parts, cases_eq, cases_lt, eq-eqb, lt-ltb, le-ltb}
-use Rattle.passive_core.specs.Types.{Entry, CountAdd, SplitRef, JoinRef, CountDown, SplitBack, JoinKeeper, TotalSub, Reply, Done, Word, Ref, Collected, Hand, Empty, Taking, Giving, Back, LocalPlace}
-use Rattle.passive_core.specs.Types.{Free, Standing, Lifted}
-use Rattle.protocol.specs.Common.{State, count_at, found_at, hand_at, local_at, mark_at, row_at, search_at, total_at, at_rest, is_empty, Outcome, after_collected, after_count, after_count_add}
-use Rattle.protocol.specs.Common.{after_count_down, after_hand, after_join_keeper, after_split, after_total, id_if, is_free, is_idle, least_id, load_local, may_join_keeper, split_ref, number_standing}
-use Rattle.protocol.specs.Common.{state_after, narrow_step, some_outcome, with_local, word, words_of, Holds, standing_of}
+use Rattle.passive_core.specs.Types.{Entry, CountAdd, SplitRef, JoinRef, CountDown, SplitBack, JoinKeeper, TotalSub, Reply, Done, Word, Ref, Collected, Hand, Empty, Taking, Giving, Back, LocalPlace, Free, Standing, Lifted}
+use Rattle.protocol.specs.Common.{State, count_at, found_at, hand_at, local_at, mark_at, row_at, search_at, total_at, at_rest, is_empty, Outcome, after_collected, after_count, after_count_add, after_count_down, after_hand, after_join_keeper, after_split, after_total, id_if, is_free, is_idle, least_id, load_local, may_join_keeper, split_ref, number_standing, state_after, narrow_step, some_outcome, with_local, word, words_of, Holds, standing_of}
 use Rattle.registry_values.specs.Common.{bias, no_mark, is_collected, is_some_collected, slot_at, is_retired, slot_of}
 use Rattle.passive_core.specs.Common.{all_seated, may_act, count_in, free_added, is_counting, local_slot, slot_if, with_count_less, with_count_more, with_room}
 use Rattle.protocol.proofs.keeps.SectionKeeps.{empty_from}
 use Rattle.protocol.proofs.counts.Counts.{counting_cases, held_stays}
 use Rattle.registry_values.proofs.Fit.{ranges}
-use Rattle.protocol.proofs.slots.Numbers.{entry_attached, occupied_slot, position_fails}
-use Rattle.protocol.proofs.slots.Occupied.{slot_has}
+use Rattle.protocol.proofs.Cells.{entry_attached, occupied_slot, position_fails, any_within}
+use Rattle.protocol.proofs.Occupied.{slot_has}
 use Rattle.passive_core.proofs.Passives.{ShowsRecord, both, found_slot, is_some, made, may_still}
 use Rattle.protocol.proofs.keeps.References.{references_places, standing_tells}
-use Rattle.protocol.proofs.slots.MarkRows.{any_within}
 use Rattle.protocol.proofs.Either.{either}
 
 -- Lists.

@@ -1,22 +1,16 @@
 -- Lists of events, one after the other.
-use Rattle.std.proofs.Common.{get_or, get_or-set_same, replicate, ◌≡◌, ℕ, zero, suc, ◌+◌, ◌-◌, ◌<◌, ◌≤◌, inl, inr, List, [], ◌∷◌, ◌++◌, Option, Some, None, Bool, true, false, ◌&&◌, nat_lt, Ok, refl}
-use Rattle.std.proofs.Common.{sym, ap, subst, ◌∙◌, arith, lt-ltb}
+use Rattle.std.proofs.Common.{get_or, get_or-set_same, replicate, ◌≡◌, ℕ, zero, suc, ◌+◌, ◌-◌, ◌<◌, ◌≤◌, inl, inr, List, [], ◌∷◌, ◌++◌, Option, Some, None, Bool, true, false, ◌&&◌, nat_lt, Ok, refl, sym, ap, subst, ◌∙◌, arith, lt-ltb}
 use Rattle.std.specs.Prelude.{All, is_none, if◌then◌else◌}
 use Rattle.std.proofs.lemmas.Option.{same_Some}
 use Rattle.std.proofs.lemmas.Bool.{and_parts, eq-eqb}
 use Rattle.std.proofs.lemmas.List.Elements.{All-append, All-cons, All-nil, All-push, All-weaker}
-use Rattle.passive_core.specs.Types.{Slot, Stage, Grace, Passive, Local, Freed, Event, Seat, Seek, LoadRecord, Publish, Unpublish, Tell, Hear, CountAdd, SplitRef, JoinRef, CountDown, SplitBack}
-use Rattle.passive_core.specs.Types.{RecordOf, Reply, Done, Ref, Word, Entry, Settings, MOST_CPUS, Live, Snapshots, Hand, Empty, Taking, Key}
+use Rattle.passive_core.specs.Types.{Slot, Stage, Grace, Passive, Local, Freed, Event, Seat, Seek, LoadRecord, Publish, Unpublish, Tell, Hear, CountAdd, SplitRef, JoinRef, CountDown, SplitBack, RecordOf, Reply, Done, Ref, Word, Entry, Settings, MOST_CPUS, Live, Snapshots, Hand, Empty, Taking, Key}
 use Rattle.registry_values.specs.Common.{retired_slot, bias, no_mark, slot_at, slot_before, slot_of}
-use Rattle.protocol.specs.Common.{after_count_add, after_count_store, after_publish, after_snapshot, after_split, after_unpublish, is_idle, least_id, load_record, may_write, some_outcome, narrow_step, Holds}
-use Rattle.protocol.specs.Common.{IsLoadOf, State, at_rest, count_at, found_at, hand_at, is_empty, search_at, section_at}
+use Rattle.protocol.specs.Common.{after_count_add, after_count_store, after_publish, after_snapshot, after_split, after_unpublish, is_idle, least_id, load_record, may_write, some_outcome, narrow_step, Holds, IsLoadOf, State, at_rest, count_at, found_at, hand_at, is_empty, search_at, section_at}
 use Rattle.protocol.proofs.keeps.SectionKeeps.{empty_from}
 use Rattle.registry_values.proofs.Fit.{ranges}
-use Rattle.passive_core.proofs.Attaching.{count_places, count_store_allowed, counts_first, counts_next, with_counts}
-use Rattle.passive_core.specs.Common.{with_all_snapshots, all_seated, AdvanceLeaves, Settles, is_counting, local_slot, count_in, release_events, under_events, with_count_more, AdvanceMakes, IsWork}
-use Rattle.passive_core.specs.Common.{count_stores_from, detach_events, linking_events, prepare_events, snapshots_from, FindMakes, IsCollectionFor, IsLookFor, IsPassiveLookFor, IsSeat, IsWaiting}
-use Rattle.passive_core.specs.Common.{Makes, MakesOnly, seats_and, seats_from}
-use Rattle.passive_core.proofs.Detaching.{due_is, due_within, settings_by, snap_more, snapping, snapping_ends, snapping_starts}
+use Rattle.passive_core.proofs.Attaching.{count_places, count_store_allowed, counts_first, counts_next, with_counts, due_is, due_within, settings_by, snap_more, snapping, snapping_ends, snapping_starts}
+use Rattle.passive_core.specs.Common.{with_all_snapshots, all_seated, AdvanceLeaves, Settles, is_counting, local_slot, count_in, release_events, under_events, with_count_more, AdvanceMakes, IsWork, count_stores_from, detach_events, linking_events, prepare_events, snapshots_from, FindMakes, IsCollectionFor, IsLookFor, IsPassiveLookFor, IsSeat, IsWaiting, Makes, MakesOnly, seats_and, seats_from}
 use Rattle.passive_core.proofs.Locals.{set_back}
 use Rattle.passive_core.proofs.Advancing.{is_freed, slots_again}
 use Rattle.protocol.proofs.Either.{either}

@@ -2,15 +2,14 @@
 use Rattle.std.proofs.Common.{◌≡◌, ℕ, ◌+◌, ◌-◌, ◌<◌, Option, Some, None, IsSome, Bool, true, false, not, ◌&&◌, ◌||◌, nat_lt, refl, sym, ap, subst, ◌∙◌, arith}
 use Rattle.std.proofs.lemmas.Bool.{or_cases, or_right, cases_lt, le-ltb}
 use Rattle.passive_core.specs.Types.{Entry, PassiveAdd, PassiveSub, Reply, Word}
-use Rattle.protocol.specs.Common.{State, found_at, passive_at, row_at, with_cell, IsAttached, Outcome, is_idle, is_number, after_add, after_sub, load_passive, state_after, narrow_step, some_outcome, word}
-use Rattle.protocol.specs.Common.{words_of, Holds, passive_in, trying_at}
+use Rattle.protocol.specs.Common.{State, found_at, passive_at, row_at, with_cell, IsAttached, Outcome, is_idle, is_number, after_add, after_sub, load_passive, state_after, narrow_step, some_outcome, word, words_of, Holds, passive_in, trying_at}
 use Rattle.registry_values.specs.Common.{slot_of}
 use Rattle.passive_core.specs.Common.{all_seated, may_act, IsOneLess, IsOneMore, passive_of, with_one_more, with_one_less}
-use Rattle.protocol.proofs.slots.Numbers.{entry_attached, occupied_slot}
-use Rattle.protocol.proofs.keeps.Passive.{found_number}
+use Rattle.protocol.proofs.Cells.{entry_attached, occupied_slot}
+use Rattle.protocol.proofs.keeps.Marking.{found_number}
 use Rattle.protocol.proofs.model.RefiningReferences.{passive_put}
-use Rattle.protocol.proofs.slots.Occupied.{slot_has}
-use Rattle.passive_core.proofs.Acting.{acting_idle, idle_untried}
+use Rattle.protocol.proofs.Occupied.{slot_has}
+use Rattle.passive_core.proofs.Entering.{acting_idle, idle_untried}
 use Rattle.protocol.proofs.Either.{either}
 
 -- A CPU that may act is idle once all have their seats.

@@ -1,15 +1,7 @@
 pub mod Advancing
 pub mod Attaching
-pub mod Audits
 pub mod Commands
 pub mod Common
-pub mod Detaching
-pub mod Entering
-pub mod Finding
-pub mod Locals
 pub mod Making
-pub mod Passives
-pub mod Performing
-pub mod Sameness
-pub mod Shown
+pub mod References
 pub mod Types

@@ -2,7 +2,6 @@
 
 mod commands;
 mod drain;
-mod grace;
 mod list;
 mod local;
 mod passive;
@@ -67,7 +66,7 @@ impl Model for Core {
 
     ghost Value = { State };
 
-    ghost use Rattle.passive_core.specs.Shown.{state_shown};
+    ghost use Rattle.passive_core.specs.Commands.{state_shown};
     ghost use Rattle.protocol.specs.Common.{Holds};
 
     ghost view = { state_shown };

@@ -1,25 +1,26 @@
--- A CPU's plain data agree with its view on: as it is made, and over its sections.
-use Rattle.std.proofs.Common.{◌≡◌, ◌≢◌, ◌⊎◌, inl, ℕ, ◌+◌, ◌*◌, ◌<◌, ◌≤◌, List, [], length, replicate, IsTrue, Option, Some, None, refl, sym, ap, ◌∙◌, subst, arith}
+-- A CPU's plain data agree with its view on: as it is made, over its sections, and over a lookup from outside.
+use Rattle.std.proofs.Common.{◌≡◌, ◌≢◌, ◌⊎◌, inl, ℕ, ◌+◌, ◌*◌, ◌<◌, ◌≤◌, List, [], length, replicate, IsTrue, Option, Some, None, refl, sym, ap, ◌∙◌, subst, arith, ◌++◌, nat_lt}
 use Rattle.std.specs.Prelude.{slice_index_or}
 use Rattle.std.proofs.lemmas.List.{append-nil, get_or_default, length-replicate}
 use Rattle.std.proofs.lemmas.Option.{none-some}
 use Rattle.std.specs.List.{Contains}
+use Rattle.std.proofs.lemmas.Bool.{ltb-true}
 use mathlib.Core.List.{IsPrefix}
 use Rattle.atomic_table.specs.Seated.{TableId}
-use Rattle.passive_list.specs.Types.{Entry, Change, Attach, Settings, CpuView, Key, MOST_SLOTS, Search}
+use Rattle.passive_list.specs.Types.{Entry, Change, Attach, Settings, CpuView, Key, MOST_SLOTS, Search, Enter, Done, Cpu, Exit}
 use Rattle.registry_values.specs.Common.{are_fit, bias}
-use Rattle.protocol.specs.Common.{IsAttached}
 use Rattle.registry_values.proofs.Fit.{ranges}
-use Rattle.protocol.proofs.slots.Cells.{get_or_all}
-use Rattle.protocol.proofs.slots.Occupied.{in_within}
-use Rattle.protocol.proofs.history.History.{at_within}
-use Rattle.cpu_words.specs.Common.{IsShownCpu, number_at, references_to, depth_of, new_cpu, HasEntered, HasExited}
-use Rattle.cpu_words.proofs.shown.CpusShown.{found_is_in, new_cpu_is_shown}
-use Rattle.cpu_words.proofs.shown.Passes.{attached_prefix}
-use Rattle.cpu_words.proofs.shown.Seeing.{seen_of}
+use Rattle.registry_values.proofs.Answers.{same_test}
+use Rattle.protocol.specs.Common.{IsAttached}
+use Rattle.protocol.proofs.Cells.{get_or_all}
+use Rattle.protocol.proofs.Occupied.{in_within}
+use Rattle.protocol.proofs.History.{at_within}
+use Rattle.cpu_words.specs.Common.{IsShownCpu, number_at, references_to, depth_of, new_cpu, HasEntered, HasExited, did, SeatMakes, Seated, Makes, MaySeek, IsIdle, MayExit}
+use Rattle.cpu_words.proofs.seats.Seating.{found_is_in, new_cpu_is_shown, entered_whole, step_is_shown}
+use Rattle.cpu_words.proofs.shown.Seeing.{attached_prefix, seen_of}
 use Rattle.cpu_words.proofs.by_cpu.Passives.{known_of}
+use Rattle.passive_list.specs.Common.{Memory, Found, NumberedCount, HasLookedUp, no_place, no_found, no_memory, place_at, PassiveAgree, NetAgree, DepthAgrees, SectionAgrees, IsKept, HoldsFound, IsOurCpu, Remembers, OnCpu, HasEnteredOn, may_begin, HasFoundFromOutside, SearchesOnce}
 use Rattle.passive_list.proofs.Memories.{none_remembered, stays}
-use Rattle.passive_list.specs.Common.{Memory, Found, NumberedCount, HasLookedUp, no_place, no_found, no_memory, place_at, PassiveAgree, NetAgree, DepthAgrees, SectionAgrees, IsKept, HoldsFound, IsOurCpu, Remembers}
 
 -- each place of a new CPU is of no entry
 blank_number : (z t : ℕ) → (place_at (replicate z no_place) t).number ≡ 0
@@ -263,3 +264,146 @@ none_outside x shown outside = by_cases x.found refl
 
 pub holds_found : (x : CpuView) → IsShownCpu x → HoldsFound x
 holds_found x shown = record { is_shown = shown; held = λ e is. (found_is_in x e shown is).0; slot = λ e is. (found_is_in x e shown is).1 }
+
+-- How a section begins: whether a CPU has begun as many as it may, by those that it has ended, and what its outermost enter leaves.
+
+few : (b : Option ℕ) → depth_of b ≤ 1
+few None = omega arith
+few (Some b) = omega arith
+
+-- the CPU may begin a section exactly where it has ended fewer than that
+pub may_begin_is : (z : TableId) (a : Settings) (t : TableId) (x : CpuView) (c w d : ℕ) (e : Found) (ps ns : List NumberedCount) (ms : Memory) (limit : ℕ) → IsOurCpu z a t x c w d e ps ns ms → limit ≡ a.section_limit
+    → nat_lt w limit ≡ may_begin x
+may_begin_is z a t x c w d e ps ns ms limit our is =
+    let word = our.section.word in
+    let most : x.settings.section_limit ≡ a.section_limit = ap (λ (s : Settings). s.section_limit) our.settings in
+    let at = few x.begin in
+    same_test w limit x.section (2 * x.settings.section_limit) (λ lt. omega (arith, lt, word, is, most, at)) (λ ge. omega (arith, ge, word, is, most))
+
+-- so it has then
+pub unspent : (z : TableId) (a : Settings) (t : TableId) (x : CpuView) (c w d : ℕ) (e : Found) (ps ns : List NumberedCount) (ms : Memory) → IsOurCpu z a t x c w d e ps ns ms → IsTrue (may_begin x)
+    → w < a.section_limit
+unspent z a t x c w d e ps ns ms our may = ltb-true w a.section_limit (may_begin_is z a t x c w d e ps ns ms a.section_limit our refl ∙ may)
+
+-- a CPU that names its own table, to a contract, by its seat
+abbrev pub cpu_at : Seated CpuView → ℕ → Memory → OnCpu
+cpu_at s depth m = record { view = s.view; depth = depth; made = 0; memory = m; known_log = s.known_log; log = s.log }
+
+began : (x y : CpuView) → HasEntered x y → y.begin ≢ None
+began x y had none = let clash : ◌≡◌ {A = Option ℕ} (Some (length y.pass)) None = sym (ap (λ (v : CpuView). v.begin) had.1) ∙ none in cc
+
+-- a section begins by the step
+pub entered_on : (a : OnCpu) (s t : Seated CpuView) (c d n : ℕ) (m : Memory) → cpu_at s d m ≡ a → s.view.id ≡ c → d ≡ 0 → n ≡ d + 1 → SeatMakes Cpu (Enter c) Done s t → HasEntered s.view t.view
+    → HasEnteredOn a (cpu_at t n m)
+entered_on a s t c d n m at id shallow one made entered =
+    let had : HasEnteredOn (cpu_at s d m) (cpu_at t n m) = record {
+      begun = λ _. entered;
+      whole = λ _. entered_whole c s.view t.view id made.event;
+      inner = λ off. absurd (off shallow);
+      inside = began s.view t.view entered;
+      depth = one;
+      made = refl;
+      memory = refl;
+      known_log = made.known_log;
+      event = λ _. made.log ∙ ap (λ (i : ℕ). s.log ++ did (Enter i) Done) (sym id);
+      none = λ off. absurd (off shallow);
+    } in
+    subst (λ (b : OnCpu). HasEnteredOn b (cpu_at t n m)) at had
+
+-- A lookup from outside: the steps that its section allows, how the data agree with the view as it is over, and what it is to a contract.
+
+-- The steps
+
+pub may_seek : (x y : CpuView) → IsIdle x → HasEntered x y → MaySeek y
+may_seek x y idle had = record {
+  idle = record { search = ap (λ (v : CpuView). v.search) had.1 ∙ idle.search; hand = ap (λ (v : CpuView). v.hand) had.1 ∙ idle.hand };
+  inside = (length y.pass, ap (λ (v : CpuView). v.begin) had.1);
+}
+
+pub may_exit : (key : Key) (y v : CpuView) (f : Option Entry) → MaySeek y → HasLookedUp key y v f → MayExit v
+may_exit key y v f may had = record {
+  idle = record { search = ap (λ (i : CpuView). i.search) had.is; hand = ap (λ (i : CpuView). i.hand) had.is ∙ may.idle.hand };
+  inside = (may.inside.0, ap (λ (i : CpuView). i.begin) had.is ∙ may.inside.1);
+}
+
+pub entered_id : (x y : CpuView) → HasEntered x y → y.id ≡ x.id
+entered_id x y had = ap (λ (v : CpuView). v.id) had.1
+
+pub looked_up_id : (key : Key) (y v : CpuView) (f : Option Entry) → HasLookedUp key y v f → v.id ≡ y.id
+looked_up_id key y v f had = ap (λ (i : CpuView). i.id) had.is
+
+-- The data
+
+-- what a find would keep of its answer
+abbrev kept_of : Option Entry → Found
+kept_of None = no_found
+kept_of (Some e) = record { number = e.number; slot = e.slot; kind = e.rec.kind }
+
+are_kept : (f : Option Entry) → IsKept (kept_of f) f
+are_kept None = refl
+are_kept (Some e) = (refl, refl, refl)
+
+-- outside and with nothing found again, as before, and one section more is ended
+pub from_outside_agrees : (z : TableId) (a : Settings) (t u : TableId) (x y v w : CpuView) (c n m d : ℕ) (e : Found) (f : Option Entry) (ps ns : List NumberedCount) (ms : Memory) (key : Key)
+    → IsOurCpu z a t x c n d e ps ns ms → u ≡ t → d ≡ 0 → IsTrue (may_begin x) → Makes (Enter c) Done (Cpu x) (Cpu y) → HasEntered x y → IsShownCpu v → HasLookedUp key y v f → IsShownCpu w
+    → HasExited v w → m ≡ n + 1 → IsOurCpu u w.settings u w c m d e ps ns ms
+from_outside_agrees z a t u x y v w c n m d e f ps ns ms key our same shallow unended made entered looked_shown looked exited_shown exited one_more =
+    let room : n < a.section_limit = unspent z a t x c n d e ps ns ms our unended in
+    let inside = entered_agrees z a t u x y c n d e ps ns ms our (step_is_shown made) same shallow room entered in
+    let sought = looked_up_agrees z a u u y v c n 1 e (kept_of f) f ps ns ms key inside looked_shown refl (are_kept f) looked in
+    let over = exited_agrees z a u u v w c n 1 (kept_of f) ps ns ms sought exited_shown refl refl exited in
+    let none : w.found ≡ None = ap (λ (i : CpuView). i.found) exited in
+    let was : IsKept e None = subst (λ (g : Option Entry). IsKept e g) (none_outside x our.is_shown (our.depth.outside.1 shallow)) our.found in
+    let there : IsOurCpu z a u w c (n + 1) d e ps ns ms = record {
+      table = over.table;
+      settings = over.settings;
+      fit = over.fit;
+      id = over.id;
+      few = over.few;
+      section = over.section;
+      idle = over.idle;
+      depth = subst (λ (k : ℕ). DepthAgrees w.begin k) (sym shallow) over.depth;
+      found = subst (λ (g : Option Entry). IsKept e g) (sym none) was;
+      passive = over.passive;
+      net = over.net;
+      memory = over.memory;
+      is_shown = over.is_shown;
+    } in
+    own_agrees z a u w c m d e ps ns ms (subst (λ (k : ℕ). IsOurCpu z a u w c k d e ps ns ms) (sym one_more) there)
+
+-- To a contract
+
+pub found_from_outside : (key : Key) (a : OnCpu) (x y v w : Seated CpuView) (c d : ℕ) (m : Memory) (f : Option Entry)
+    → cpu_at x d m ≡ a → IsIdle x.view → x.view.id ≡ c → d ≡ 0 → SeatMakes Cpu (Enter c) Done x y → HasEntered x.view y.view → HasLookedUp key y.view v.view f → v.known_log ≡ y.known_log
+    → SearchesOnce c y.view.settings.slots key f y.log v.log
+    → SeatMakes Cpu (Exit c) Done v w → HasExited v.view w.view → HasFoundFromOutside key a (cpu_at w d m) f
+found_from_outside key a x y v w c d m f at idle id shallow enters entered looked known log exits exited =
+    let one : d + 1 ≡ 1 = omega (arith, shallow) in
+    let same : y.view.search ≡ None = ap (λ (i : CpuView). i.search) entered.1 ∙ idle.search in
+    let is : v.view ≡ record y.view { pass = v.view.pass; found = f } = looked.is ∙ ap (λ (s : Option Search). record y.view { pass = v.view.pass; search = s; found = f }) (sym same) in
+    let y_id : y.view.id ≡ c = entered_id x.view y.view entered ∙ id in
+    let v_id : v.view.id ≡ c = looked_up_id key y.view v.view f looked ∙ y_id in
+    let had : HasFoundFromOutside key (cpu_at x d m) (cpu_at w d m) f = record {
+      first = cpu_at y (d + 1) m;
+      last = cpu_at v (d + 1) m;
+      enters = entered_on (cpu_at x d m) x y c d (d + 1) m refl id shallow refl enters entered;
+      finds = record {
+        pass = looked.pass;
+        is = λ i. record { view = is i; depth = d + 1; made = 0; memory = m; known_log = known i; log = v.log };
+        legal = looked.tells.legal;
+        lawful = looked.lawful;
+        seen = λ e is_e. (looked.seen e is_e).2;
+        log = subst (λ (i : ℕ). SearchesOnce i y.view.settings.slots key f y.log v.log) (sym y_id) log;
+      };
+      exits = record {
+        ended = λ _. exited;
+        inner = λ off. absurd (off one);
+        depth = refl;
+        made = refl;
+        memory = refl;
+        known_log = exits.known_log;
+        event = λ _. exits.log ∙ ap (λ (i : ℕ). v.log ++ did (Exit i) Done) (sym v_id);
+        none = λ off. absurd (off one);
+      };
+    } in
+    subst (λ (b : OnCpu). HasFoundFromOutside key b (cpu_at w d m) f) at had

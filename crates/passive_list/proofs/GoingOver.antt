@@ -1,6 +1,5 @@
 -- A walk: its search goes by each slot on the list, and a link leads past none that has been live since. So the row has each entry that is live throughout.
-use Rattle.std.proofs.Common.{◌≡◌, ◌≢◌, ◌⊎◌, inl, inr, ⊎_elim, ℕ, zero, suc, ◌+◌, ◌-◌, ◌≤◌, ◌<◌, Bool, true, false, ◌&&◌, ◌==◌, List, [], ◌∷◌, ◌++◌, map, length, get_or, set, take, drop, Option, Some, None, refl}
-use Rattle.std.proofs.Common.{sym, ap, ◌∙◌, subst, arith, length-append, true≢false, eqb, eqb-true, drop-set-lt, drop-drop}
+use Rattle.std.proofs.Common.{◌≡◌, ◌≢◌, ◌⊎◌, inl, inr, ⊎_elim, ℕ, zero, suc, ◌+◌, ◌-◌, ◌≤◌, ◌<◌, Bool, true, false, ◌&&◌, ◌==◌, List, [], ◌∷◌, ◌++◌, map, length, get_or, set, take, drop, Option, Some, None, refl, sym, ap, ◌∙◌, subst, arith, length-append, true≢false, eqb, eqb-true, drop-set-lt, drop-drop}
 use Rattle.std.proofs.lemmas.List.{length-map, map-append, map-id, get_or-map, take_all, take-append-le, take_more_set, set_past}
 use Rattle.std.proofs.lemmas.List.Elements.{Contains-get_or, Contains-push, Contains-push_cases, Contains-append_left}
 use Rattle.std.proofs.lemmas.List.Quantifiers.{all_pairs_push}
@@ -15,13 +14,10 @@ use Rattle.passive_list.specs.Types.{Entry, Kind, Iface, Name, Change, MOST_SLOT
 use Rattle.registry_values.specs.Names.{are_key_words}
 use Rattle.registry_values.specs.Common.{are_words_of, kind_word}
 use Rattle.protocol.specs.Common.{StandsOn, loaded_at}
-use Rattle.protocol.proofs.history.History.{one_entry}
-use Rattle.cpu_words.specs.Common.{MayLoadLink, PassTells, SkipsNone, Descends, LinkHolds, every_word, HasLoadedLink, HasLoadedWord, HasFollowed, IsValueThere, cpu_after_seek, cpu_after_link}
-use Rattle.cpu_words.specs.Common.{search_for}
-use Rattle.passive_list.specs.Common.{OnCpu, search_at, IsUnderWay, cpu_with_search_at, after_visit, nobody, AreStoodOn, MayGoBy, HasGoneByFrom, HasGoneByOne, view_at_link, IsLiveSince}
-use Rattle.passive_list.specs.Common.{GoesOnAt, IsGoingOver, HasGoneOver, HasGoneOverBy, HasWalked, IsWritten}
-use Rattle.passive_list.proofs.Walking.{prefix_trans, on_word, judged_at, may_follow}
-use Rattle.passive_list.proofs.Standing.{prefix_length, stands_later, live_before, stood_was_live}
+use Rattle.protocol.proofs.History.{one_entry}
+use Rattle.cpu_words.specs.Common.{MayLoadLink, PassTells, SkipsNone, Descends, LinkHolds, every_word, HasLoadedLink, HasLoadedWord, HasFollowed, IsValueThere, cpu_after_seek, cpu_after_link, search_for}
+use Rattle.passive_list.specs.Common.{OnCpu, search_at, IsUnderWay, cpu_with_search_at, after_visit, nobody, AreStoodOn, MayGoBy, HasGoneByFrom, HasGoneByOne, view_at_link, IsLiveSince, GoesOnAt, IsGoingOver, HasGoneOver, HasGoneOverBy, HasWalked, IsWritten}
+use Rattle.passive_list.proofs.Walking.{prefix_trans, on_word, judged_at, may_follow, prefix_length, stands_later, live_before, stood_was_live}
 
 -- One slot
 

@@ -5,7 +5,7 @@ use Rattle.std.proofs.lemmas.List.{length-map}
 use Rattle.std.proofs.Math.Numerals.{add-one}
 use Rattle.passive_list.specs.Types.{Entry, Slot, Vacant, Live, Retired}
 use Rattle.registry_values.specs.Common.{slot_at}
-use Rattle.protocol.proofs.slots.Occupied.{in_within}
+use Rattle.protocol.proofs.Occupied.{in_within}
 use Rattle.cpu_words.specs.Common.{LeadsBelow, IsBefore, IsLinkPlace, To_end, To_slot}
 use Rattle.passive_list.specs.Common.{KeptSlot, At, row_at, state_of, states_of, newer_of, older_of, link_to, place_of}
 use Rattle.passive_list.proofs.Rows.{state_at}

@@ -10,9 +10,9 @@ use mathlib.Core.List.{IsPrefix}
 use Rattle.passive_list.specs.Types.{Change, Detach, Entry, Key, Name, MOST_SLOTS}
 use Rattle.protocol.specs.Common.{EndsAt, IsAttached, IsLiveAt, entry_with}
 use Rattle.protocol.specs.History.{change_at}
-use Rattle.protocol.proofs.history.History.{at_prefix, at_within}
-use Rattle.protocol.proofs.slots.Cells.{get_or_all}
-use Rattle.cpu_words.proofs.shown.Passes.{attached_prefix}
+use Rattle.protocol.proofs.History.{at_prefix, at_within}
+use Rattle.protocol.proofs.Cells.{get_or_all}
+use Rattle.cpu_words.proofs.shown.Seeing.{attached_prefix}
 use Rattle.passive_list.specs.declared.memory.Hint.{Hint}
 use Rattle.passive_list.specs.declared.memory.Memo.{Memo}
 use Rattle.passive_list.specs.declared.memory.Miss.{Miss}

@@ -7,7 +7,7 @@ use Rattle.std.proofs.Math.Numerals.{add-one}
 use Rattle.passive_list.specs.Types.{Entry, Settings, RecordWords, MOST_CPUS, KeeperView}
 use Rattle.protocol.specs.Common.{with_biases, no_words, row_at, count_at, with_cell, with_word, words_of}
 use Rattle.registry_values.specs.Common.{bias}
-use Rattle.protocol.proofs.slots.Cells.{cell_in_new}
+use Rattle.protocol.proofs.Cells.{cell_in_new}
 use Rattle.cpu_words.specs.Common.{HasRecordWord, HasCountWord, HasLink, MayWrite}
 use Rattle.passive_list.specs.Common.{AreSized, with_row, with_counts, keeper_after_stores}
 

@@ -9,8 +9,7 @@ use Rattle.passive_list.specs.Types.{Entry, Change, Key, MOST_SLOTS, Found, Sear
 use Rattle.protocol.specs.Common.{StandsOn, entry_with}
 use Rattle.cpu_words.specs.Common.{HasLoadedLink, PassTells, loaded_of, loaded_answer}
 use Rattle.passive_list.specs.Common.{search_at, HasVisitedFrom, HasVisited, HasMissed, IsOn, AreStoodOn}
-use Rattle.passive_list.proofs.Walking.{on_way}
-use Rattle.passive_list.proofs.Standing.{prefix_length, stands_later}
+use Rattle.passive_list.proofs.Walking.{on_way, prefix_length, stands_later}
 use Rattle.passive_list.proofs.GoingOver.{few_stood_on}
 
 -- the search begun in the view x has visited so many entries, the newest first, as the pass p tells; the number `last` is above none of theirs

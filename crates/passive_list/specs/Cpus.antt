@@ -1,11 +1,13 @@
--- A CPU: how its plain data agree with what its seat knows.
-use Rattle.std.specs.Prelude.{◌≡◌, ◌≢◌, ◌↔◌, ℕ, ◌+◌, ◌*◌, ◌<◌, ◌≤◌, List, length, replicate, slice_index_or, Option, Some, None, IsTrue}
+-- A CPU: how its plain data agree with what its seat knows, its read sections, and notes of what it has seen.
+use Rattle.std.specs.Prelude.{◌≡◌, ◌≢◌, ◌↔◌, ℕ, ◌+◌, ◌*◌, ◌<◌, ◌≤◌, List, length, replicate, slice_index_or, Option, Some, None, IsTrue, ◌==◌, ◌++◌, nat_lt, Bool, Result, IfErr}
 use Rattle.std.specs.List.{Contains}
+use Rattle.std.specs.Result.{result_err}
 use Rattle.atomic_table.specs.Seated.{TableId}
-use Rattle.passive_list.specs.Types.{Entry, Change, Driver, Settings, MOST_DEPTH, CpuView, LogItem}
-use Rattle.registry_values.specs.Common.{are_fit, bias, slot_at}
+use mathlib.Core.List.{IsPrefix}
+use Rattle.passive_list.specs.Types.{Entry, Change, Driver, Settings, MOST_DEPTH, CpuView, LogItem, Refusal, Enter, Exit, Done, Tell, Cpu, Teller}
+use Rattle.registry_values.specs.Common.{are_fit, bias, slot_at, enter_answer, Answers}
 use Rattle.protocol.specs.Common.{IsAttached, IsIn, greatest_limit}
-use Rattle.cpu_words.specs.Common.{Named, number_at, references_to, depth_of, SectionMayHold, IsShownCpu, IsIdle}
+use Rattle.cpu_words.specs.Common.{Named, number_at, references_to, depth_of, SectionMayHold, IsShownCpu, IsIdle, did, HasEntered, HasExited, HasWholePass, heard_from, IsShownAfter, teller_of, with_note}
 use Rattle.passive_list.specs.declared.place.Found.{Found}
 use Rattle.passive_list.specs.declared.place.NumberedCount.{NumberedCount}
 use Rattle.passive_list.specs.Memories.{Memory, Remembers, no_memory}
@@ -97,3 +99,84 @@ pub record IsOurCpu (z : TableId) (a : Settings) (t : TableId) (x : CpuView) (c 
   pub net : NetAgree x nets
   pub memory : Remembers x.settings.slots x.pass kept
   pub is_shown : IsShownCpu x
+
+-- Read sections of a CPU, nested: what enter and exit answer and leave.
+
+-- The outermost enter begins a section by one event; an inner one is counted, and nothing else. The CPU is inside then.
+pub record HasEnteredOn (a b : OnCpu) : Type 0 where
+  pub begun : a.depth ≡ 0 → HasEntered a.view b.view
+  -- as it begins, some state shows the CPU whose whole history the pass is
+  pub whole : a.depth ≡ 0 → HasWholePass b.view
+  pub inner : a.depth ≢ 0 → b.view ≡ a.view
+  pub inside : b.view.begin ≢ None
+  pub depth : b.depth ≡ a.depth + 1
+  pub made : b.made ≡ a.made
+  pub memory : b.memory ≡ a.memory
+  pub known_log : b.known_log ≡ a.known_log
+  pub event : a.depth ≡ 0 → b.log ≡ a.log ++ did (Enter a.view.id) Done
+  pub none : a.depth ≢ 0 → b.log ≡ a.log
+
+-- the CPU has begun fewer sections than it may
+abbrev pub may_begin : CpuView → Bool
+may_begin x = nat_lt x.section (2 * x.settings.section_limit)
+
+-- why an enter is refused: nothing where it isn't
+abbrev pub why_not_entered : OnCpu → Option Refusal
+why_not_entered a = result_err (enter_answer a.depth (a.depth == 0) (may_begin a.view))
+
+-- what an enter answers; a refused one changes nothing
+pub record AnswersEnter (a b : OnCpu) (r : Result (Unit {0}) Refusal) : Type 0 where
+  pub answer : Answers (why_not_entered a) (λ _. HasEnteredOn a b) r
+  pub refused : IfErr r (λ _. b ≡ a)
+
+-- the outermost exit ends the section by one event; an inner one is counted, and nothing else
+pub record HasExitedOn (a b : OnCpu) : Type 0 where
+  pub ended : a.depth ≡ 1 → HasExited a.view b.view
+  pub inner : a.depth ≢ 1 → b.view ≡ a.view
+  pub depth : b.depth + 1 ≡ a.depth
+  pub made : b.made ≡ a.made
+  pub memory : b.memory ≡ a.memory
+  pub known_log : b.known_log ≡ a.known_log
+  pub event : a.depth ≡ 1 → b.log ≡ a.log ++ did (Exit a.view.id) Done
+  pub none : a.depth ≢ 1 → b.log ≡ a.log
+
+-- Notes: what one CPU has seen reaches another, or the keeper.
+
+-- a note, to a contract: a prefix of the history, what its teller had heard that the keeper did, and which CPU told it, if it isn't the keeper's
+pub record OnNote : Type 0 where
+  pub pass : List Change
+  pub known_log : List LogItem
+  pub teller : Option Teller
+
+-- a CPU as the teller of a note, that has made one event more by that
+abbrev pub as_teller : OnCpu → Teller
+as_teller a = teller_of a.view a.log
+
+-- the pass is a longer prefix of the history, with what the note tells in it, and the known log goes on; nothing else changes but the pass noted beside the view, and the CPU's own log: how that goes
+-- on each call says
+pub record HasHeardOn (note : List Change) (a b : OnCpu) : Type 0 where
+  pub told : IsPrefix note b.view.pass
+  pub pass : IsPrefix a.view.pass b.view.pass
+  pub known_log : IsPrefix a.known_log b.known_log
+  pub is : b ≡ record a { view = record a.view { pass = b.view.pass; noted_pass = note }; known_log = b.known_log; log = b.log }
+
+-- as the CPU heard the note, some state showed it, in which the keeper had done just what the CPU knows of it then
+abbrev pub WasShown : List Change → OnCpu → OnCpu → Type 0
+WasShown note a b = IsShownAfter b.known_log (Cpu (with_note a.view note))
+
+-- The CPU's own log: to tell and to hear is an event each.
+
+abbrev pub has_told : OnCpu → List LogItem
+has_told a = did (Tell (Some a.view.id)) Done
+
+-- a note of the teller's, or of the keeper's where that is none
+abbrev pub has_heard : OnCpu → Option Teller → List LogItem
+has_heard a h = heard_from (Some a.view.id) h
+
+-- the CPU as it has told what it has seen
+abbrev pub cpu_after_tell : OnCpu → OnCpu
+cpu_after_tell a = record a { log = a.log ++ has_told a }
+
+-- it heard one note, and told one
+abbrev pub HeardAndTold : OnCpu → OnCpu → Type 0
+HeardAndTold a b = (h : Option Teller) × (b.log ≡ a.log ++ has_heard a h ++ has_told a)

@@ -1,10 +1,11 @@
--- The keeper: how its plain data agree with what its seat knows.
-use Rattle.std.specs.Prelude.{◌≡◌, ℕ, ◌+◌, ◌*◌, ◌<◌, ◌≤◌, List, length, map, replicate, slice_index_or, None, IsTrue, unwrap_or}
+-- The keeper: how its plain data agree with what its seat knows, and what its log says of it.
+use Rattle.std.specs.Prelude.{◌≡◌, ℕ, ◌+◌, ◌*◌, ◌<◌, ◌≤◌, List, length, map, replicate, slice_index_or, None, IsTrue, unwrap_or, ◌++◌}
+use Rattle.std.specs.List.{All}
 use Rattle.atomic_table.specs.Seated.{TableId}
-use Rattle.passive_list.specs.Types.{Mark, Settings, Slot, Vacant, Rest, KeeperView, LogItem}
-use Rattle.protocol.specs.Common.{AreRows, mark_at, total_at, kept_at}
+use Rattle.passive_list.specs.Types.{Mark, Settings, Slot, Vacant, Rest, KeeperView, LogItem, Change, Entry, Retired, Keeper}
 use Rattle.registry_values.specs.Common.{are_fit, live_count, no_mark, slot_at, bias}
-use Rattle.cpu_words.specs.Common.{Named, IsShown}
+use Rattle.protocol.specs.Common.{AreRows, mark_at, total_at, kept_at}
+use Rattle.cpu_words.specs.Common.{Named, IsShown, changes_in, occupant, occupant_of, IsSnapped, AreMarksOf, AreSlotsOf, IsShownAfter, WordsGrow, keeper_with_note}
 use Rattle.passive_list.specs.declared.keeper.KeeperRows.{KeeperRows}
 use Rattle.passive_list.specs.declared.keeper.KeptSlot.{KeptSlot}
 
@@ -93,3 +94,26 @@ on_keeper table a k rows log = record { words = record { table = table; settings
 pub record HasRows (x : OnPlainKeeper) (rows : List KeptSlot) : Type 0 where
   pub are : on_keeper x.words.table x.words.settings x.keeper.view rows x.keeper.log ≡ x
   pub agree : IsOurKeeper x.words.settings x.keeper.view rows (length x.keeper.view.history)
+
+-- How a seat's log goes on, and what the keeper's log says of the keeper, as it is told whenever the keeper hears.
+
+-- the log went on, and so is each item since
+pub record GoesOnBy (P : LogItem → Type 0) (old new : List LogItem) : Type 0 where
+  pub since : List LogItem
+  pub are : new ≡ old ++ since
+  pub only : All P since
+
+-- The keeper is at rest. The history is as long as the log says. The marks, the slots and their entries, as the keeper has them, are in the
+-- log. Each retired entry was snapped on each CPU, and the words that were found grow.
+pub record HasOwnLog (z : Settings) (a : OnKeeper) : Type 0 where
+  pub settings : a.view.settings ≡ z
+  pub rest : a.view.due ≡ Rest
+  pub size : length a.slots ≡ z.slots
+  pub changes : length a.view.history ≡ changes_in a.log
+  pub marks : AreMarksOf a.log a.view.marks
+  pub slots : AreSlotsOf z.cpus a.log a.slots
+  pub occupants : (t : ℕ) → occupant t a.log ≡ occupant_of (slot_at a.slots t)
+  pub snapped : (t c : ℕ) (e : Entry) → slot_at a.slots t ≡ Retired e → c < z.cpus → (w : ℕ) × IsSnapped t c w a.log
+  pub grow : WordsGrow a.log
+  -- with another note beside it, some state shows the view, and in it the keeper had done exactly this
+  pub counts : (h : List Change) × IsShownAfter a.log (Keeper (keeper_with_note a.view h))

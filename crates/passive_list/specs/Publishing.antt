@@ -1,11 +1,45 @@
--- An entry is published: what changes of the keeper.
-use Rattle.std.specs.Prelude.{◌≡◌, ℕ, zero, suc, ◌+◌, ◌<◌, ◌≤◌, List, [], ◌++◌, length, slice_index_or, slice_set, IsTrue, false}
-use Rattle.passive_list.specs.Types.{Entry, Attach, StoreSlot, StoreNext, Publish, Show, Done, Settings, RecordWords, Vacant, Live, KeeperView, Keeper, LogItem}
-use Rattle.protocol.specs.Common.{with_biases, kept_at, keeps_rightly, words_of, after_change}
-use Rattle.registry_values.specs.Common.{bias, key_of, is_taken, live_count, slot_at, is_key}
-use Rattle.cpu_words.specs.Common.{LeadsBelow, Makes, did, keeper_after_live}
+-- An entry is published or retired: what changes of the keeper, and which live entries stand beside it.
+use Rattle.std.specs.Prelude.{ℕ, ◌+◌, Bool, true, ◌&&◌, nat_lt, if◌then◌else◌, Option, Some, None, ◌≡◌, zero, suc, ◌<◌, ◌≤◌, List, [], ◌++◌, length, slice_index_or, slice_set, IsTrue, false, ◌⊎◌, replicate}
+use Rattle.passive_list.specs.Types.{Slot, Vacant, Live, Retired, Entry, Attach, StoreSlot, StoreNext, Publish, Show, Done, Settings, RecordWords, KeeperView, Keeper, LogItem, Hide, Unpublish, Snapshot, Word, Mark, Rest, MOST_CPUS}
+use Rattle.registry_values.specs.Common.{bias, key_of, is_taken, live_count, slot_at, is_key, no_mark}
+use Rattle.protocol.specs.Common.{with_biases, kept_at, keeps_rightly, words_of, after_change, snapshot_mark}
+use Rattle.cpu_words.specs.Common.{LeadsBelow, Makes, did, keeper_after_live, IsBefore, keeper_after_unpublish}
+use Rattle.passive_list.specs.declared.links.At.{At}
 use Rattle.passive_list.specs.declared.keeper.KeptSlot.{KeptSlot}
 use Rattle.passive_list.specs.Keepers.{OnKeeper, IsAtRest, RowsAgree, states_of}
+
+-- The live entries by number, slot by slot: the newest below a number, and the oldest above it.
+
+abbrev pub is_newer : ℕ → Option At → Bool
+is_newer n None = true
+is_newer n (Some at) = nat_lt at.number n
+
+-- the newest below the number n, as the slot t shows x
+abbrev pub newer_of : ℕ → ℕ → Option At → Slot → Option At
+newer_of n t best Vacant = best
+newer_of n t best (Live e) = if nat_lt e.number n && is_newer e.number best then Some (record { slot = t; number = e.number }) else best
+newer_of n t best (Retired e) = best
+
+abbrev pub is_older : ℕ → Option At → Bool
+is_older n None = true
+is_older n (Some at) = nat_lt n at.number
+
+-- the oldest above the number n, as the slot t shows x
+abbrev pub older_of : ℕ → ℕ → Option At → Slot → Option At
+older_of n t best Vacant = best
+older_of n t best (Live e) = if nat_lt n e.number && is_older e.number best then Some (record { slot = t; number = e.number }) else best
+older_of n t best (Retired e) = best
+
+-- 0 for the end, else the slot plus 1
+abbrev pub link_to : Option At → ℕ
+link_to None = 0
+link_to (Some at) = at.slot + 1
+
+abbrev pub place_of : Option At → Option ℕ
+place_of None = None
+place_of (Some at) = Some at.slot
+
+-- An entry is published: what changes of the keeper.
 
 -- Publish
 
@@ -77,3 +111,47 @@ pub record LogsAttach (k : KeeperView) (e : Entry) (old new : List LogItem) : Ty
   pub link : ℕ
   pub leads : LeadsBelow k.slots e.number link
   pub log : new ≡ (logged_stores k.settings.cpus e link old ++ did (Publish e.slot) Done) ++ did (Show e.slot) Done
+
+-- An entry is retired: what changes of the keeper.
+
+-- the slot's marks are none, and it has a place for them
+pub record AreFresh (k : KeeperView) (t : ℕ) : Type 0 where
+  pub place : t < length k.marks
+  pub marks : slice_index_or k.marks t [] ≡ replicate MOST_CPUS no_mark
+
+-- the marks of the first n CPUs are their snapshots
+pub record AreSnapshots (n : ℕ) (marks : List Mark) : Type 0 where
+  pub size : length marks ≡ MOST_CPUS
+  pub each : (c : ℕ) → c < n → (w : ℕ) × (slice_index_or marks c no_mark ≡ snapshot_mark w)
+
+-- of a list of marks, the n from a place on are the first n of the row, and all others are as they were
+pub record AreWritten (from n : ℕ) (row old new : List Mark) : Type 0 where
+  pub size : length new ≡ length old
+  pub here : (c : ℕ) → c < n → slice_index_or new (from + c) no_mark ≡ slice_index_or row c no_mark
+  pub others : (p : ℕ) → (p < from) ⊎ (from + n ≤ p) → slice_index_or new p no_mark ≡ slice_index_or old p no_mark
+
+-- the slot t has these marks, and the keeper is at rest
+abbrev pub with_snapshots : KeeperView → ℕ → List Mark → KeeperView
+with_snapshots k t marks = record k { marks = slice_set k.marks t marks; due = Rest }
+
+-- the entry e of the slot t is hidden, then unlinked and retired, and its marks are the snapshots that were taken
+pub record HasDetached (a : OnKeeper) (t : ℕ) (e : Entry) (b : OnKeeper) : Type 0 where
+  pub before : Option ℕ
+  pub is_before : IsBefore a.view.slots e.number before
+  pub link : ℕ
+  pub leads : LeadsBelow a.view.slots e.number link
+  pub hidden : Makes (Hide t) Done (Keeper a.view) (Keeper (keeper_after_live a.view t 0))
+  pub made : Makes (Unpublish t) Done (Keeper (keeper_after_live a.view t 0)) (Keeper (keeper_after_unpublish (keeper_after_live a.view t 0) t e before link))
+  pub marks : List Mark
+  pub snapshots : AreSnapshots a.view.settings.cpus marks
+  pub view : b.view ≡ with_snapshots (keeper_after_unpublish (keeper_after_live a.view t 0) t e before link) t marks
+  pub slots : b.slots ≡ slice_set a.slots t (Retired e)
+
+-- The keeper's log: the section words of the first c CPUs were taken for the slot t. What they were the marks have, by `AreMarksOf`.
+abbrev pub LogsSnapshots : ℕ → ℕ → List LogItem → List LogItem → Type 0
+LogsSnapshots t zero old new = new ≡ old
+LogsSnapshots t (suc c) old new = (log : List LogItem) × (w : ℕ) × LogsSnapshots t c old log × (new ≡ log ++ did (Snapshot (Some t) c) (Word w))
+
+-- these are all events of a detach from the slot t, in this order
+abbrev pub LogsDetach : ℕ → ℕ → List LogItem → List LogItem → Type 0
+LogsDetach cpus t old new = LogsSnapshots t cpus ((old ++ did (Hide t) Done) ++ did (Unpublish t) Done) new

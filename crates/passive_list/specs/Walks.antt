@@ -1,11 +1,12 @@
--- A walk in a section: the row that it writes, and what it leaves of the CPU.
-use Rattle.std.specs.Prelude.{◌≡◌, ℕ, ◌<◌, ◌≤◌, List, length, map, take, drop, Some, None}
+-- A walk in a section: the row that it writes, what it leaves of the CPU, and its one search, which goes by each entry on the list.
+use Rattle.std.specs.Prelude.{◌≡◌, ℕ, ◌<◌, ◌≤◌, List, length, map, take, drop, Some, None, ◌⊎◌, zero, suc}
 use Rattle.std.specs.List.{AllPairs, Contains}
 use mathlib.Core.List.{IsPrefix}
-use Rattle.passive_list.specs.Types.{Entry, Change}
-use Rattle.protocol.specs.Common.{IsLiveAt, MayHold}
+use Rattle.passive_list.specs.Types.{Entry, Change, MOST_SLOTS, AtNext, AtNumber, CpuView}
+use Rattle.protocol.specs.Common.{IsLiveAt, MayHold, StandsOn}
+use Rattle.cpu_words.specs.Common.{PassTells}
 use Rattle.passive_list.specs.Cpus.{OnCpu}
-use Rattle.passive_list.specs.Searches.{HasGoneOverBy}
+use Rattle.passive_list.specs.Lookups.{HasGoneOverBy, search_at, IsUnderWay, cpu_with_search_at, nobody}
 
 -- e is live at each point from `from` up to `to`: it is at both, and an entry ends once
 abbrev pub IsLiveThroughout : List Change → ℕ → ℕ → Entry → Type 0
@@ -40,3 +41,57 @@ pub record HasWalked (a b : OnCpu) (row : List Entry) : Type 0 where
 pub record IsWritten {P : Type 0} (written : Entry → P) (met : List Entry) (old new : List P) : Type 0 where
   pub first : take (length met) new ≡ take (length old) (map written met)
   pub rest : drop (length met) new ≡ drop (length met) old
+
+-- A walk: one search for what no entry is named goes by each entry on the list, and the walk loads all words of each.
+
+-- a search that started at `from` may be at each of these, as the pass h tells, in a table of so many slots
+pub record AreStoodOn (h : List Change) (from slots : ℕ) (es : List Entry) : Type 0 where
+  pub stands : (e : Entry) → Contains es e → StandsOn h from (length h) e.slot e
+  pub slot : (e : Entry) → Contains es e → (e.slot < slots) × (e.slot < MOST_SLOTS)
+  pub newest_first : AreNewestFirst es
+
+-- the search for nobody, begun where the pass had `from` changes, is to go by the entry of the slot t
+pub record MayGoBy (x : CpuView) (t : ℕ) : Type 0 where
+  pub from : ℕ
+  pub under_way : IsUnderWay x nobody from (AtNumber t)
+  pub tells : PassTells x.begin from x.pass
+
+-- all words of the slot t were loaded: they are those of e, on which the search may stand, and the search is to load the link there
+pub record HasGoneByFrom (x : CpuView) (from t : ℕ) (e : Entry) (y : CpuView) : Type 0 where
+  pub is : y ≡ cpu_with_search_at x nobody from (AtNext t)
+  pub stands : StandsOn x.pass from (length x.pass) t e
+
+abbrev pub HasGoneByOne : CpuView → ℕ → Entry → CpuView → Type 0
+HasGoneByOne x t e y = (from : ℕ) → IsUnderWay x nobody from (AtNumber t) → PassTells x.begin from x.pass → HasGoneByFrom x from t e y
+
+-- the view of a CPU whose search, begun in the view x, has loaded a link
+abbrev pub view_at_link : CpuView → ℕ → List Change → CpuView
+view_at_link x zero p = record x { pass = p; search = None; found = None }
+view_at_link x (suc t) p = record x { pass = p; search = Some (search_at nobody (length x.pass) (AtNumber t)) }
+
+-- f has been live since `from`, as the pass h tells
+abbrev pub IsLiveSince : List Change → ℕ → Entry → Type 0
+IsLiveSince h from f = IsLiveAt h from f × IsLiveAt h (length h) f
+
+-- what a link leads to, after es: each entry that has been live since is among them or not yet gone past
+abbrev pub GoesOnAt : List Change → ℕ → ℕ → List Entry → ℕ → Type 0
+GoesOnAt h from slots es zero = (f : Entry) → IsLiveSince h from f → Contains es f
+GoesOnAt h from slots es (suc t) = ((t < slots) × (t < MOST_SLOTS)) × ((e : Entry) → StandsOn h from (length h) t e
+    → ((f : Entry) → Contains es f → e.number < f.number) × ((f : Entry) → IsLiveSince h from f → (f.number ≤ e.number) ⊎ Contains es f))
+
+-- the search begun in the view x has gone by es, and has loaded the link
+pub record IsGoingOver (x : CpuView) (es : List Entry) (link : ℕ) (y : CpuView) : Type 0 where
+  pub pass : IsPrefix x.pass y.pass
+  pub is : y ≡ view_at_link x link y.pass
+  pub tells : PassTells x.begin (length x.pass) y.pass
+  pub over : AreStoodOn y.pass (length x.pass) x.settings.slots es
+  pub goes_on : GoesOnAt y.pass (length x.pass) x.settings.slots es link
+
+-- the whole walk by a CPU's seat
+pub record HasGoneOver (x y : CpuView) (row : List Entry) : Type 0 where
+  pub pass : IsPrefix x.pass y.pass
+  pub is : y ≡ record x { pass = y.pass; search = None; found = None }
+  pub since : (b : ℕ) → x.begin ≡ Some b → b ≤ length x.pass
+  pub all : (e : Entry) → IsLiveSince y.pass (length x.pass) e → Contains row e
+  pub each : (e : Entry) → Contains row e → WasLive y.pass (length x.pass) (length y.pass) e
+  pub newest_first : AreNewestFirst row

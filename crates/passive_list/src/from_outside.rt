@@ -3,9 +3,8 @@
 ghost use Rattle.std.specs.Prelude.{◌≡◌, ◌<◌, ◌+◌, ◌^◌, IfSome, IsTrue};
 ghost use Rattle.passive_list.specs.Types.{Exit, Done, Cpu};
 ghost use Rattle.cpu_words.specs.Common.{AreWordsOf, key_with, SeatMakes, MayExit, HasExited};
-ghost use Rattle.passive_list.specs.Lookups.{HasFoundFromOutside};
-ghost use Rattle.passive_list.specs.Sections.{may_begin};
-ghost use Rattle.passive_list.specs.Walking.{entry_seen};
+ghost use Rattle.passive_list.specs.Lookups.{HasFoundFromOutside, entry_seen};
+ghost use Rattle.passive_list.specs.Cpus.{may_begin};
 
 use crate::lookup::{Seen, look_up};
 use crate::plain_cpu::PlainCpu;

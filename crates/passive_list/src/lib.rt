@@ -10,24 +10,19 @@
 
 mod collecting;
 mod cpu;
-mod freeing;
 mod from_outside;
 mod giving_up;
 mod grace;
 mod keeper;
-mod keeper_notes;
 mod keeping;
 mod links;
-mod looking;
 mod lookup;
-mod marked;
 mod memory;
 mod notes;
 mod place;
 mod plain_cpu;
 mod plain_ref;
 mod publishing;
-mod recalling;
 mod remembering;
 mod retiring;
 mod sections;
@@ -37,27 +32,23 @@ mod walks;
 
 pub use collecting::{collect, collected, total};
 pub use cpu::Cpu;
-pub use freeing::free_iface;
 pub use from_outside::find_from_outside;
 pub use giving_up::release_under;
-pub use grace::{glance, look, snapshot};
+pub use grace::{glance, look, look_passive, snapshot};
 pub use keeper::{Keeper, KeeperRows, KeptSlot, SlotState};
-pub use keeper_notes::{hear_keeper, tell_keeper};
 pub use keeping::publish_iface;
-pub use looking::look_passive;
 pub use lookup::{Seen, entry_of, find, find_on};
 pub use memory::{Hint, Memo, Memory};
-pub use notes::{Note, hear, hear_on, tell, tell_on};
+pub use notes::{Note, hear, hear_keeper, hear_on, tell, tell_keeper, tell_on};
 pub use place::{Found, NumberedCount};
 pub use plain_cpu::{CpuRows, PlainCpu};
 pub use plain_ref::PlainRef;
 pub use publishing::publish;
-pub use recalling::{recall_head_on, recall_on, refind_on};
 pub use remembering::{
-    find_anew, find_by_memory, find_inside, find_inside_on, find_remembered, recall_remembered,
-    remembered,
+    find_anew, find_by_memory, find_inside, find_inside_on, find_remembered, recall_head_on,
+    recall_on, recall_remembered, refind_on, remembered,
 };
 pub use retiring::retire;
 pub use sections::{enter, enter_on, exit, exit_on, may_begin_on};
-pub use vacating::vacate;
+pub use vacating::{free_iface, vacate};
 pub use walks::{WritesEntry, walk, walk_on};

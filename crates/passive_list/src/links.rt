@@ -3,7 +3,7 @@
 ghost use Rattle.std.specs.Prelude.{◌≡◌, length};
 ghost use Rattle.cpu_words.specs.Common.{LeadsBelow, IsBefore, IsLinkPlace};
 ghost use Rattle.passive_list.specs.Keepers.{states_of};
-ghost use Rattle.passive_list.specs.Links.{is_newer, newer_of, is_older, older_of, link_to, place_of};
+ghost use Rattle.passive_list.specs.Publishing.{is_newer, newer_of, is_older, older_of, link_to, place_of};
 
 use crate::keeper::{KeptSlot, SlotState};
 

@@ -3,9 +3,7 @@
 ghost use Rattle.std.specs.Prelude.{◌≡◌, ◌≢◌, ◌<◌, None, IfSome};
 ghost use Rattle.cpu_words.specs.Common.{AreWordsOf, IsShownCpu, MaySeek, key_with};
 ghost use Rattle.passive_list.specs.Cpus.{IsKept};
-ghost use Rattle.passive_list.specs.Lookups.{HasFound};
-ghost use Rattle.passive_list.specs.Searches.{SearchesOnce, GoesOnByLoads};
-ghost use Rattle.passive_list.specs.Walking.{MayVisit, HasVisited, HasLookedUp, entry_seen};
+ghost use Rattle.passive_list.specs.Lookups.{HasFound, SearchesOnce, GoesOnByLoads, MayVisit, HasVisited, HasLookedUp, entry_seen};
 
 use crate::cpu::Cpu;
 use crate::place::Found;

@@ -1,22 +1,70 @@
 //! Lookups by memory, from outside: by one load, where the CPU remembers an entry with this kind and name that is live; by two, where it
-//! remembers that none had them, and the newest live entry is the same.
+//! remembers that none had them, and the newest live entry is the same. Beneath it the recall of an entry that a CPU has seen: by one load, in
+//! a section or outside, whatever the length of the list; and no word is written.
 
-ghost use Rattle.std.specs.Prelude.{◌≡◌, ◌≢◌, ◌↔◌, ◌<◌, IfSome, IsTrue, None, true};
+ghost use Rattle.std.specs.Prelude.{◌≡◌, ◌≢◌, ◌<◌, ◌≤◌, None, ◌↔◌, IfSome, IsTrue, true};
 ghost use Rattle.cpu_words.specs.Common.{AreWordsOf, key_with};
+ghost use Rattle.passive_list.specs.Remembering.{HasRecalledHeadOn, HasRecalledOn, HasRefoundOn, HasSeen, FindsInside, FindsWhatStays, HasFoundAnew, HasFoundByMemory, HasFoundInSection, HasFoundInside, HasFoundKept, HasFoundRemembered, HasRecalledByMemory, RecallsSeen, RefindsSeen, RemembersAnswer};
 ghost use Rattle.passive_list.specs.Memories.{HasNumbered, IsMiss, IsTrueMiss, Recalls, WasAbsent, miss_of, with_miss};
-ghost use Rattle.passive_list.specs.Recalling.{HasRecalledOn};
-ghost use Rattle.passive_list.specs.Remembering.{FindsInside, FindsWhatStays, HasFoundAnew, HasFoundByMemory, HasFoundInSection, HasFoundInside, HasFoundKept, HasFoundRemembered, HasRecalledByMemory, HasSeen, RecallsSeen, RefindsSeen, RemembersAnswer};
-ghost use Rattle.passive_list.specs.Sections.{may_begin};
-ghost use Rattle.passive_list.specs.Walking.{entry_seen};
+ghost use Rattle.passive_list.specs.Cpus.{may_begin};
+ghost use Rattle.passive_list.specs.Lookups.{entry_seen};
 
 use crate::cpu::Cpu;
 use crate::from_outside::find_from_outside;
-use crate::lookup::{Seen, entry_of, find_seen};
+use crate::lookup::{Seen, entry_of, find_seen, keep};
 use crate::memory::Miss;
 use crate::plain_cpu::PlainCpu;
-use crate::recalling::{recall_head_on, recall_on, refind_on};
 use cpu_words::{Domain, Words, steps};
 use registry_values::{Entry, Kind, MOST_SLOTS, Name};
+
+/// Whether the entry with `number`, which this CPU has seen in `slot`, is live: by one load of the slot's live word. If so, it is the
+/// registry's answer at that very point of the history, where this CPU's pass is the whole of it. Else the load tells nothing: the caller looks
+/// up in a section.
+/// Conditions: the words are the CPU's table's; the slot is one of the table's.
+#[inline(always)]
+pub fn recall_on(words: &Words, cpu: &mut PlainCpu, slot: u8, number: u64) -> bool
+    requires words { AreWordsOf words.now cpu.old.words.table cpu.old.words.settings }
+    requires slot { (slot < MOST_SLOTS) × (slot < cpu.old.words.settings.slots) }
+    ensures recalled { HasRecalledOn slot number cpu.old.cpu cpu.new.cpu result }
+    ensures words { cpu.new.words ≡ cpu.old.words }
+{
+    let live = steps::recall(words, &mut cpu.seat, cpu.id, slot);
+    live == number
+}
+
+/// The slot of the newest live entry plus 1, or 0 where no entry is live: by one load of the head. So it is at that very point of the history,
+/// where this CPU's pass is the whole of it.
+/// Condition: the words are the CPU's table's.
+#[inline(always)]
+pub fn recall_head_on(words: &Words, cpu: &mut PlainCpu) -> u64
+    requires words { AreWordsOf words.now cpu.old.words.table cpu.old.words.settings }
+    ensures recalled { HasRecalledHeadOn cpu.old.cpu cpu.new.cpu result }
+    ensures few { (result ≤ MOST_SLOTS) × (result ≤ cpu.old.words.settings.slots) }
+    ensures words { cpu.new.words ≡ cpu.old.words }
+{
+    steps::recall_head(words, &mut cpu.seat, cpu.id)
+}
+
+/// Whether the entry `seen`, which this CPU has seen, is live: by one load of its slot's live word. If so, it is the last found entry, as after
+/// `find_on`, and the registry's answer at that very point of the history, where this CPU's pass is the whole of it. Else the load is a
+/// recall, and tells nothing.
+/// Conditions: the words are the CPU's table's; inside.
+#[inline(always)]
+pub fn refind_on(words: &Words, cpu: &mut PlainCpu, kind: Kind, name: Name, seen: Seen) -> bool
+    requires words { AreWordsOf words.now cpu.old.words.table cpu.old.words.settings }
+    requires inside { cpu.old.cpu.view.begin ≢ None }
+    requires seen { HasSeen cpu.old (key_with kind name) seen }
+    ensures found { HasRefoundOn (key_with kind name) seen cpu.old.cpu cpu.new.cpu result }
+    ensures words { cpu.new.words ≡ cpu.old.words }
+{
+    let live = steps::refind(words, &mut cpu.seat, cpu.id, seen.slot as u8, seen.number);
+    let found = live == seen.number;
+    if found {
+        keep(&mut cpu.found, Some(seen), kind, name);
+        return true;
+    }
+    false
+}
 
 /// Looks an entry up by memory: by one load, if the CPU remembers an entry with this kind and name, and that is live. The answer is the
 /// registry's at the very point of that load. Else it loads the head and the newest live entry's word. There is no such entry at the head's

@@ -4,7 +4,7 @@ ghost use Rattle.std.specs.Prelude.{◌≡◌, ◌≤◌, ◌+◌, ◌*◌, List
 ghost use Rattle.passive_list.specs.Types.{Entry, Live, Mark, Snapshots};
 ghost use Rattle.registry_values.specs.Common.{slot_at};
 ghost use Rattle.cpu_words.specs.Common.{AreWordsOf, IsShown};
-ghost use Rattle.passive_list.specs.Retiring.{HasDetached, LogsDetach, LogsSnapshots, with_snapshots, AreSnapshots, AreFresh, AreWritten};
+ghost use Rattle.passive_list.specs.Publishing.{HasDetached, LogsDetach, LogsSnapshots, with_snapshots, AreSnapshots, AreFresh, AreWritten};
 
 use crate::keeper::{Keeper, SlotState, mark_place};
 use crate::links::{link_below, slot_above};

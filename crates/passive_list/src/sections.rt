@@ -2,7 +2,7 @@
 
 ghost use Rattle.std.specs.Prelude.{◌≡◌, ◌≢◌, ◌↔◌, IsTrue, None};
 ghost use Rattle.cpu_words.specs.Common.{AreWordsOf, HasEntered};
-ghost use Rattle.passive_list.specs.Sections.{AnswersEnter, HasEnteredOn, HasExitedOn, may_begin};
+ghost use Rattle.passive_list.specs.Cpus.{AnswersEnter, HasEnteredOn, HasExitedOn, may_begin};
 
 use crate::cpu::Cpu;
 use crate::plain_cpu::PlainCpu;

@@ -7,9 +7,8 @@ ghost use Rattle.std.specs.Prelude.{◌≡◌, ◌≢◌, ◌<◌, ◌≤◌, Li
 ghost use Rattle.passive_list.specs.Types.{Entry, Kind};
 ghost use Rattle.registry_values.specs.Common.{kind_word};
 ghost use Rattle.cpu_words.specs.Common.{AreWordsOf, IsShownCpu, MaySeek};
-ghost use Rattle.passive_list.specs.Searches.{IsWalkLoad, GoesOnBySoMany, HasGoneOverBy};
-ghost use Rattle.passive_list.specs.GoingOver.{MayGoBy, HasGoneByOne, HasGoneOver};
-ghost use Rattle.passive_list.specs.Walks.{HasWalked, IsWritten};
+ghost use Rattle.passive_list.specs.Lookups.{IsWalkLoad, GoesOnBySoMany, HasGoneOverBy};
+ghost use Rattle.passive_list.specs.Walks.{MayGoBy, HasGoneByOne, HasGoneOver, HasWalked, IsWritten};
 
 use crate::cpu::Cpu;
 use crate::plain_cpu::PlainCpu;

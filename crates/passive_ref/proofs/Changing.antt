@@ -1,20 +1,103 @@
--- A CPU's plain data agree with its view as one reference is added, or taken away.
-use Rattle.std.proofs.Common.{◌≡◌, ◌≢◌, ⊎_elim, ℕ, ◌+◌, ◌-◌, ◌<◌, List, ◌∷◌, length, set, get_or-set_same, get_or-set_other, refl, sym, ap, ◌∙◌, subst, arith}
-use Rattle.std.proofs.lemmas.Bool.{cases_eq}
-use Rattle.std.proofs.lemmas.List.{length-set}
+-- A CPU's passive references: what its places say of them, and how they agree with its view as one is added, copied or taken away.
+use Rattle.std.proofs.Common.{◌≡◌, ◌≢◌, ◌⊎◌, ⊎_elim, ℕ, ◌<◌, List, true, false, Some, None, nat_lt, ◌==◌, refl, sym, ap, ◌∙◌, subst, arith, ◌+◌, ◌-◌, ◌∷◌, length, set, get_or-set_same, get_or-set_other, Option, ◌++◌}
+use Rattle.std.proofs.lemmas.Bool.{eq-eqb, eqb-true, lt-ltb, ltb-true, ltb-false, cases_Bool, and_parts, cases_eq}
+use Rattle.std.proofs.lemmas.Option.{none-some}
+use Rattle.std.proofs.lemmas.List.Quantifiers.{position-Some}
+use Rattle.std.specs.Prelude.{position, Result, Ok, Err}
 use Rattle.std.specs.List.{Contains}
+use Rattle.std.proofs.lemmas.List.{length-set}
 use Rattle.atomic_table.specs.Seated.{TableId}
-use Rattle.passive_list.specs.Types.{Entry, Settings, CpuView}
-use Rattle.protocol.specs.Common.{IsAttached}
-use Rattle.protocol.proofs.history.History.{at_within}
-use Rattle.cpu_words.specs.Common.{references_to, without, IsShownCpu, IsAt, IsAloneAt, HasSubtracted}
+use Rattle.passive_list.specs.Types.{Entry, Settings, CpuView, Refusal, NothingFound, LoadRecord, Passive, Word}
+use Rattle.registry_values.specs.Common.{Answers}
+use Rattle.protocol.specs.Common.{IsAttached, word, words_of}
+use Rattle.protocol.proofs.History.{one_entry, at_within}
+use Rattle.protocol.proofs.Cells.{position_passes}
+use Rattle.cpu_words.specs.Common.{references_to, IsAt, IsShownCpu, without, IsAloneAt, HasSubtracted, IsWordOf, did}
 use Rattle.cpu_words.specs.Passives.{HasAdded}
-use Rattle.cpu_words.proofs.shown.ReferenceLists.{to_same, to_other, in_cons, counts, one_less, others_stay, was_in}
-use Rattle.passive_list.specs.declared.place.Found.{Found}
+use Rattle.cpu_words.proofs.shown.ReferenceLists.{counts, some_of, to_same, to_other, in_cons, one_less, others_stay, was_in}
+use Rattle.passive_list.specs.Common.{no_place, place_at, PassiveAgree, Memory, IsPlaceOf, IsOurCpu, OnCpu}
 use Rattle.passive_list.specs.declared.place.NumberedCount.{NumberedCount}
-use Rattle.passive_list.specs.Common.{Memory, no_place, place_at, IsPlaceOf, PassiveAgree, IsOurCpu}
-use Rattle.passive_list.proofs.Agreeing.{net_same}
-use Rattle.passive_ref.proofs.Places.{place_of}
+use Rattle.passive_list.specs.declared.place.Found.{Found}
+use Rattle.passive_list.proofs.Agreeing.{slot_within, net_same, IsFoundAs}
+use Rattle.passive_ref.specs.Psrefs.{IsHeldAt, counts_for, OnPsref, IsAdded, IsNew, IsAcquired, why_full, why_not_acquired, HasLoaded, has_loaded}
+
+-- What a CPU's places say of its references: where the entry of a number is, and how many references are to it.
+
+-- an entry of the pass with the number of a place was attached in its slot
+pub place_of : (x : CpuView) (ps : List NumberedCount) (t : ℕ) (e : Entry) → PassiveAgree x ps → IsAttached x.pass e → (place_at ps t).number ≡ e.number → e.slot ≡ t
+place_of x ps t e agree attached same =
+    let above = (at_within x.pass e.number _ attached).0 in
+    let here = agree.placed t (λ (none : (place_at ps t).number ≡ 0). absurd (omega (arith, same, none, above))) in
+    let one : e ≡ here.entry = one_entry x.pass e here.entry attached here.attached (sym same ∙ sym here.number) in
+    ap (λ (f : Entry). f.slot) one ∙ here.slot
+
+-- a place that counts for n is the slot of an entry that the CPU refers to
+pub held_at : (x : CpuView) (ps : List NumberedCount) (n t : ℕ) → PassiveAgree x ps → t < x.settings.slots → (place_at ps t).number ≡ n → 0 < (place_at ps t).count → IsHeldAt x t n
+held_at x ps n t agree few number some =
+    let count = agree.counts t ∙ ap (λ k. references_to k x.references) number in
+    let one = some_of n x.references (omega (arith, some, count)) in
+    let attached = (agree.each one.entry one.among).1 in
+    record { entry = one.entry; at = record { slot = place_of x ps t one.entry agree attached (number ∙ sym one.number); number = one.number }; held = one.among; attached = attached; few = few }
+
+-- it counts some
+pub held_counts : (x : CpuView) (ps : List NumberedCount) (n t : ℕ) → PassiveAgree x ps → IsHeldAt x t n → 0 < (place_at ps t).count
+held_counts x ps n t agree held =
+    let number : (place_at ps t).number ≡ n = ap (λ u. (place_at ps u).number) (sym held.at.slot) ∙ (agree.each held.entry held.held).2 ∙ held.at.number in
+    let count = agree.counts t ∙ ap (λ k. references_to k x.references) number in
+    let some = counts x.references held.entry n held.held held.at.number in
+    omega (arith, count, some)
+
+-- the first place that counts for n
+pub held_here : (x : CpuView) (ps : List NumberedCount) (n t : ℕ) → PassiveAgree x ps → position (counts_for n) ps ≡ Some t → IsHeldAt x t n
+held_here x ps n t agree is =
+    let at = position-Some (counts_for n) ps t no_place is in
+    let both = and_parts ((place_at ps t).number == n) (nat_lt 0 (place_at ps t).count) at.1 in
+    let size = agree.size in
+    held_at x ps n t agree (omega (arith, at.0, size))
+    (eqb-true (place_at ps t).number n both.0)
+    (ltb-true 0 (place_at ps t).count both.1)
+
+-- where no place counts for n, the CPU has no reference to it
+pub none_here : (x : CpuView) (ps : List NumberedCount) (n : ℕ) → PassiveAgree x ps → position (counts_for n) ps ≡ None → references_to n x.references ≡ 0
+none_here x ps n agree is = ⊎_elim
+    (λ (some : nat_lt 0 (references_to n x.references) ≡ true).
+    let one = some_of n x.references (ltb-true 0 (references_to n x.references) some) in
+    let its = agree.each one.entry one.among in
+    let t = one.entry.slot in
+    let size = agree.size in
+    let number : (place_at ps t).number ≡ n = its.2 ∙ one.number in
+    let more : 0 < references_to n x.references = ltb-true 0 (references_to n x.references) some in
+    let count = agree.counts t ∙ ap (λ k. references_to k x.references) number in
+    let counted : 0 < (place_at ps t).count = omega (arith, count, more) in
+    let test : counts_for n (place_at ps t) ≡ true = rw (eq-eqb (place_at ps t).number n number, lt-ltb 0 (place_at ps t).count counted) refl in
+    let found = position_passes (counts_for n) ps t no_place (omega (arith, its.0, size)) test in
+    absurd (none-some found.0 (sym is ∙ found.1)))
+    (λ (none : nat_lt 0 (references_to n x.references) ≡ false). let few = ltb-false 0 (references_to n x.references) none in omega (arith, few))
+    (cases_Bool (nat_lt 0 (references_to n x.references)))
+
+-- an entry that the CPU found last or refers to is in the pass
+pub known_attached : (x : CpuView) (ps : List NumberedCount) (e : Entry) → PassiveAgree x ps → ((f : Entry) → x.found ≡ Some f → IsAttached x.pass f) → (x.found ≡ Some e) ⊎ Contains x.references e
+    → IsAttached x.pass e
+known_attached x ps e agree seen known = ⊎_elim (λ (found : x.found ≡ Some e). seen e found) (λ (among : Contains x.references e). (agree.each e among).1) known
+
+-- an entry that the CPU found last or refers to is in a slot of its table
+pub within : (x : CpuView) (z : Settings) (t n : ℕ) (e : Entry) → IsShownCpu x → x.settings ≡ z → IsAt e t n → (x.found ≡ Some e) ⊎ Contains x.references e → t < z.slots
+within x z t n e shown same at has = subst (λ (y : Settings). t < y.slots) same (subst (λ (u : ℕ). u < x.settings.slots) at.slot (slot_within x e shown has))
+
+-- where the place of an entry's slot is of another number, the CPU has no reference to that entry
+pub uncounted_here : (x : CpuView) (ps : List NumberedCount) (t n : ℕ) (e : Entry) → PassiveAgree x ps → IsAt e t n → IsAttached x.pass e → (place_at ps t).number ≢ n
+    → references_to n x.references ≡ 0
+uncounted_here x ps t n e agree at attached off = ⊎_elim
+    (λ (some : nat_lt 0 (references_to n x.references) ≡ true).
+    let one = some_of n x.references (ltb-true 0 (references_to n x.references) some) in
+    let its = agree.each one.entry one.among in
+    let same : one.entry ≡ e = one_entry x.pass one.entry e its.1 attached (one.number ∙ sym at.number) in
+    let slot : one.entry.slot ≡ t = ap (λ (f : Entry). f.slot) same ∙ at.slot in
+    absurd (off (sym (ap (λ u. (place_at ps u).number) slot) ∙ its.2 ∙ one.number)))
+    (λ (none : nat_lt 0 (references_to n x.references) ≡ false). let few = ltb-false 0 (references_to n x.references) none in omega (arith, few))
+    (cases_Bool (nat_lt 0 (references_to n x.references)))
+
+-- A CPU's plain data agree with its view as one reference is added, or taken away.
 
 -- the places of a CPU with p at t
 place_here : (ps : List NumberedCount) (t z : ℕ) (p : NumberedCount) → length ps ≡ z → t < z → place_at (set ps t p) t ≡ p
@@ -168,3 +251,42 @@ pub less_agrees : (z : TableId) (a : Settings) (t u : TableId) (x y : CpuView) (
 less_agrees z a t u x y c w d o ps ns ms e s n our same is_shown at among had =
     subst (λ (v : CpuView). IsOurCpu z a u v c w d o (set ps s (record { number = (place_at ps s).number; count = (place_at ps s).count - 1 })) ns ms) (sym had)
     (with_references z a t u x c w d o ps _ ns ms (without n x.references) our same (subst IsShownCpu had is_shown) (less_passive x ps e s n our.passive at among))
+
+-- A reference that was added is to the entry that was known.
+
+-- it is a new reference to that entry
+new_of : (n t : ℕ) (e : Entry) (a b : OnCpu) (p : OnPsref) → IsAttached a.view.pass e → e.number ≡ n → IsAdded t n a b p → IsNew e a b p
+new_of n t e a b p attached number added =
+    let one : added.0 ≡ e = one_entry a.view.pass added.0 e added.2 attached (added.1.number ∙ sym number) in
+    subst (λ (f : Entry). IsNew f a b p) one added.3
+
+-- of the last found entry, by what is kept of it
+pub acquired : (k : Found) (a b : OnCpu) (r : Result OnPsref Refusal) → IsFoundAs a.view k → Answers (why_full a.view k.number) (IsAdded k.slot k.number a b) r
+    → Answers (why_not_acquired a.view a.view.found) (IsAcquired a b) r
+acquired k a b r kept answer = subst (λ (o : Option Entry). Answers (why_not_acquired a.view o) (IsAcquired a b) r) (sym kept.found)
+    (subst (λ n. Answers (why_full a.view n) (IsAcquired a b) r) kept.number (with_answer r answer))
+  where
+    with_answer : (s : Result OnPsref Refusal) → Answers (why_full a.view k.number) (IsAdded k.slot k.number a b) s → Answers (why_full a.view k.number) (IsAcquired a b) s
+    with_answer (Ok p) had = (had.0, (kept.entry, kept.found, new_of k.number k.slot kept.entry a b p kept.attached (sym kept.number) had.1))
+    with_answer (Err f) had = had
+
+pub not_acquired : (a b : OnCpu) → a.view.found ≡ None → Answers (why_not_acquired a.view a.view.found) (IsAcquired a b) (Err NothingFound)
+not_acquired a b none = subst (λ (o : Option Entry). Answers (why_not_acquired a.view o) (IsAcquired a b) (Err NothingFound)) (sym none) refl
+
+-- The words of a record, loaded while the CPU's view stays as it was.
+
+-- a word that was loaded is the entry's
+pub word_is : (x y : CpuView) (t n k m : ℕ) (held : IsHeldAt x t n) → y ≡ x → IsWordOf y t n k m → m ≡ word (words_of held.entry) k
+word_is x y t n k m held same loaded = subst (λ (v : CpuView). IsWordOf v t n k m) same loaded held.entry held.at held.held
+
+-- the CPU as it has loaded the word k of e
+abbrev pub after_load : Entry → ℕ → OnCpu → OnCpu
+after_load e k a = record a { log = a.log ++ has_loaded a.view.id e k }
+
+-- the word m that was loaded by the number n is the entry's
+pub after_word : (a b : OnCpu) (e : Entry) (n k m : ℕ) → b ≡ record a { log = a.log ++ did (LoadRecord (Passive a.view.id n k)) (Word m) } → e.number ≡ n → m ≡ word (words_of e) k
+    → b ≡ after_load e k a
+after_word a b e n k m is number same = is ∙ (λ i. record a { log = a.log ++ did (LoadRecord (Passive a.view.id (sym number i) k)) (Word (same i)) })
+
+pub all_loaded : (a b0 b1 b2 b3 : OnCpu) (e : Entry) → b0 ≡ after_load e 1 a → b1 ≡ after_load e 2 b0 → b2 ≡ after_load e 3 b1 → b3 ≡ after_load e 4 b2 → HasLoaded e a b3
+all_loaded a b0 b1 b2 b3 e first second third fourth = fourth ∙ ap (after_load e 4) (third ∙ ap (after_load e 3) (second ∙ ap (after_load e 2) first))

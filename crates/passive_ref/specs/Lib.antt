@@ -1,2 +1,1 @@
 pub mod Psrefs
-pub mod Gets

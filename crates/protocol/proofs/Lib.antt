@@ -1,8 +1,9 @@
 pub mod Either
 pub mod Made
 pub mod counts
-pub mod history
 pub mod keeps
 pub mod model
 pub mod runs
-pub mod slots
+pub mod Occupied
+pub mod History
+pub mod Cells

@@ -2,14 +2,10 @@ pub mod CountKeeps
 pub mod Drivers
 pub mod Keeping
 pub mod ListKeeps
-pub mod Loading
 pub mod MarkKeeps
 pub mod Marking
-pub mod Passive
-pub mod Publishing
+pub mod Linking
 pub mod References
 pub mod SearchKeeps
 pub mod Searching
 pub mod SectionKeeps
-pub mod Sections
-pub mod Unlinking

@@ -1,4 +1,3 @@
-pub mod Picturing
 pub mod Refining
 pub mod RefiningEntries
 pub mod RefiningReferences

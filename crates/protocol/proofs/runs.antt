@@ -1,13 +1,7 @@
 pub mod Answers
-pub mod Balance
-pub mod Drivers
 pub mod Fresh
-pub mod Grace
 pub mod Headline
 pub mod Narrow
 pub mod Reuse
-pub mod Rows
-pub mod Runs
-pub mod State
 pub mod Steps
 pub mod Untried

@@ -21,31 +21,28 @@ pub use Rattle.protocol.specs.declared.state.SearchPlace.{SearchPlace}
 pub use Rattle.protocol.specs.declared.state.SearchPlace.TheVariants.{AtHead, AtHigh, AtKind, AtLow, AtNext, AtNumber, AtValue}
 pub use Rattle.protocol.specs.Events.{Outcome, after_add, after_collect, after_collected, after_count, after_count_add, after_count_down, after_count_store, after_enter, after_exit, after_hand}
 pub use Rattle.protocol.specs.Events.{after_join_keeper, after_keep, after_kept_sub, after_link_store, after_look, after_look_passive, after_publish, after_row_store, after_seat, after_seeing}
-pub use Rattle.protocol.specs.Events.{after_seek, after_snapshot, after_split, after_sub, after_total, after_unpublish, after_vacate, are_unused, due_after, entry_if, entry_of, exchange}
-pub use Rattle.protocol.specs.Events.{grows, guard, has_room, id_if, is_bias, is_drainable, is_drained, is_driver_slot, is_free, is_idle, is_iface_slot, is_inside, is_number, is_outside}
-pub use Rattle.protocol.specs.Events.{is_prepared, is_snapshot_due, keeps_rightly, kind_of, least_id, link_at, link_loaded, load_link, load_local, load_passive, load_record, load_searched}
-pub use Rattle.protocol.specs.Events.{may_add, may_collect, may_count, may_enter, may_examine, may_exit, may_glance, may_join, may_join_keeper, may_keep, may_look_passive, may_publish, may_seat}
-pub use Rattle.protocol.specs.Events.{may_seek, may_sub, may_vacate, may_write, number_standing, outcome_of, room_of, search_over, snapshot_mark, some_outcome, split_back, split_ref}
-pub use Rattle.protocol.specs.Events.{names_lawfully, narrow_step, state_after, step, total_add, total_sub, unpublish, with_link_past, with_local, with_retired, with_search_at, with_some, with_word, word}
-pub use Rattle.protocol.specs.Events.{after_confirm, after_live_store, after_take_back, after_taking, after_tried, after_try, compared_slot, confirm, is_honest, has_live, may_confirm, may_hide, may_recall, may_try}
+pub use Rattle.protocol.specs.Events.{after_seek, after_snapshot, after_split, after_sub, after_total, after_unpublish, after_vacate, are_unused, due_after, entry_if, entry_of, exchange, grows, guard}
+pub use Rattle.protocol.specs.Events.{has_room, id_if, is_bias, is_drainable, is_drained, is_driver_slot, is_free, is_idle, is_iface_slot, is_inside, is_number, is_outside, is_prepared}
+pub use Rattle.protocol.specs.Events.{is_snapshot_due, keeps_rightly, kind_of, least_id, link_at, link_loaded, load_link, load_local, load_passive, load_record, load_searched, may_add, may_collect}
+pub use Rattle.protocol.specs.Events.{may_count, may_enter, may_examine, may_exit, may_glance, may_join, may_join_keeper, may_keep, may_look_passive, may_publish, may_seat, may_seek, may_sub}
+pub use Rattle.protocol.specs.Events.{may_vacate, may_write, number_standing, outcome_of, room_of, search_over, snapshot_mark, some_outcome, split_back, split_ref, names_lawfully, narrow_step}
+pub use Rattle.protocol.specs.Events.{state_after, step, total_add, total_sub, unpublish, with_link_past, with_local, with_retired, with_search_at, with_some, with_word, word, after_confirm}
+pub use Rattle.protocol.specs.Events.{after_live_store, after_take_back, after_taking, after_tried, after_try, compared_slot, confirm, is_honest, has_live, may_confirm, may_hide, may_recall, may_try}
 pub use Rattle.protocol.specs.Events.{after_refind, may_recall_head, may_refind, refind, take_back, words_of}
 pub use Rattle.protocol.specs.History.{EndsAt, IsAttached, IsLawful, IsLegal, IsLiveAt, IsLookup, IsNewestAt, MayHold, after_change}
 pub use Rattle.protocol.specs.Invariant.{AllBelow, AreRows, Balances, CountsHold, DriversKept, DueHolds, FoundHold, HandHolds, HasShape, HeldStay, Holds, IsCounting, IsIn, IsSnapshotDue, Leads}
 pub use Rattle.protocol.specs.Invariant.{LinksStay, ListShows, MarksHold, Occupies, PassiveShow, PlaceHolds, ReferencesHold, RowsShow, SearchHolds, SearchesHold, SeatsShow, SectionsShow, SlotsShow}
-pub use Rattle.protocol.specs.Invariant.{IsSeenInHand, SnapshotsStand, StandsOn, To_end, To_entry, addition_due_at, greatest_limit, held_at, in_hand, is_adding_at, itself, kept_of, one_if, one_if_used, standing_of, TriesSeen}
-pub use Rattle.protocol.specs.Invariant.{subtraction_due_at}
+pub use Rattle.protocol.specs.Invariant.{IsSeenInHand, SnapshotsStand, StandsOn, To_end, To_entry, addition_due_at, greatest_limit, held_at, in_hand, is_adding_at, itself, kept_of, one_if}
+pub use Rattle.protocol.specs.Invariant.{one_if_used, standing_of, TriesSeen, subtraction_due_at, Keeps, Steps, WantsMemory}
 pub use Rattle.protocol.specs.Laws.{AnswersLawfully, BalanceAtRest, BalancesAtRest, DriversOutlive, EndsByExit, EveryRunKeeps, GraceLaw, HasBegun, HasExit, HasMoved, Headline, InvariantSuffices}
 pub use Rattle.protocol.specs.Laws.{IsAllowed, IsAnswered, IsBalanced, IsLoadOf, IsSafe, LawfulAnswers, ObeysLaws, OutliveInterfaces, ReusesSafely, SafeReuse, after, after_event, answer_of}
-pub use Rattle.protocol.specs.Laws.{AreNamedLawfully, NarrowEvents, NarrowNames, NarrowRuns, NewestRecalls, RecallsNewest}
-pub use Rattle.protocol.specs.Laws.{AnswersFreshly, FreshAnswers, HasTry, IsFreshAnswer, IsNoSeek, IsTry, SeeksNone, SeesAll, RecallsLive, LiveRecalls, UntriedRuns, WholePasses, destroyed_slot, given_slot, held_of, occupant_of, seek_for}
-pub use Rattle.protocol.specs.Loaded.{SlotWithin, entry_with, loaded_at, loaded_of_name, row_of_place}
-pub use Rattle.protocol.specs.Marking.{AllClear, AllCollected, AllPassed, MarksGrow, SameElsewhere}
+pub use Rattle.protocol.specs.Laws.{AreNamedLawfully, NarrowEvents, NarrowNames, NarrowRuns, NewestRecalls, RecallsNewest, AnswersFreshly, FreshAnswers, HasTry, IsFreshAnswer, IsNoSeek, IsTry}
+pub use Rattle.protocol.specs.Laws.{SeeksNone, SeesAll, RecallsLive, LiveRecalls, UntriedRuns, WholePasses, destroyed_slot, given_slot, held_of, occupant_of, seek_for}
+pub use Rattle.protocol.specs.State.{SlotWithin, entry_with, loaded_at, loaded_of_name, row_of_place, AllClear, AllCollected, AllPassed, MarksGrow, SameElsewhere, State, at_rest, begin_at, cell}
+pub use Rattle.protocol.specs.State.{count_at, depth_at, found_at, hand_at, is_empty, kept_at, live_at, local_at, mark_at, no_words, opening, passive_at, row_at, search_at, section_at, seen_at}
+pub use Rattle.protocol.specs.State.{total_at, trying_at, trying_of, with_biases, with_cell}
 pub use Rattle.protocol.specs.Model.{Acquires, Answers, Attaches, Copies, Counts, Detaches, Enters, Exits, Gives_up, Goes_on, IsDriverHere, IsModelRun, IsModelStep, IsUnheld, Lookup, Model, Releases}
-pub use Rattle.protocol.specs.Model.{Seeks, Sees, Stays, Takes, TakesNone, Uncounts, Vacates, empty_model, put, with_locals, with_passive}
-pub use Rattle.protocol.specs.Picture.{Confirms, EveryRunIsModelRun, HasConfirm, locals_of, lookup_of, number_in, passive_in, picture, subtractions_due}
-pub use Rattle.protocol.specs.Rows.{CollectRace, TryRace, FrozenLink, Gives, all_three, attaches, detaches, done_replies, first, has_found, loads, search_begins, search_case, search_goes_on, try_replies}
-pub use Rattle.protocol.specs.Rows.{two_cpus, unlinked_case, wm0, wm1, wm2}
-pub use Rattle.protocol.specs.Run.{Run, empty_run, narrow_run_of_events, run_of_events, run_with_event, with_lawful_names}
-pub use Rattle.protocol.specs.State.{State, at_rest, begin_at, cell, count_at, depth_at, found_at, hand_at, is_empty, kept_at, live_at, local_at, mark_at, no_words, opening, passive_at, row_at, search_at}
-pub use Rattle.protocol.specs.State.{section_at, seen_at, total_at, trying_at, trying_of, with_biases, with_cell}
-pub use Rattle.protocol.specs.Taken.{Keeps, Steps, WantsMemory}
+pub use Rattle.protocol.specs.Model.{Seeks, Sees, Stays, Takes, TakesNone, Uncounts, Vacates, empty_model, put, with_locals, with_passive, Confirms, EveryRunIsModelRun, HasConfirm, locals_of}
+pub use Rattle.protocol.specs.Model.{lookup_of, number_in, passive_in, picture, subtractions_due, Run, empty_run, narrow_run_of_events, run_of_events, run_with_event, with_lawful_names}
+pub use Rattle.protocol.specs.Rows.{CollectRace, TryRace, FrozenLink, Gives, all_three, attaches, detaches, done_replies, first, has_found, loads, search_begins, search_case, search_goes_on}
+pub use Rattle.protocol.specs.Rows.{try_replies, two_cpus, unlinked_case, wm0, wm1, wm2}

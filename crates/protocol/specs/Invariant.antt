@@ -1,7 +1,9 @@
 -- The core invariant: what is true in every state that events reach. Each clause takes only the lists that it is about, so an event passes
--- on what it leaves alone.
-use Rattle.std.specs.Prelude.{◌≡◌, ℕ, zero, suc, ◌+◌, ◌*◌, ◌<◌, ◌≤◌, ◌%◌, ◌⊎◌, List, [], length, sum_by, Option, Some, None, Bool, true, false, IsTrue, ◌==◌, if◌then◌else◌, slice_index_or}
+-- on what it leaves alone. Also what a call of the pure machine does that makes one event.
+use Rattle.std.specs.Prelude.{◌≡◌, ℕ, zero, suc, ◌+◌, ◌*◌, ◌<◌, ◌≤◌, ◌%◌, ◌⊎◌, List, [], length, sum_by, Option, Some, None, Bool, true, false, IsTrue, ◌==◌, if◌then◌else◌, slice_index_or, IsSome, Result, Ok, Err}
 use Rattle.protocol.specs.Types.{Driver, Entry, Change, Settings, MOST_COUNT, MOST_CPUS, MOST_DEPTH, Key, Slot, Vacant, Live, Retired, Mark}
+use Rattle.registry_values.specs.Common.{are_fit, key_of, slot_at, kind_word, live_count, bias}
+use Rattle.registry_values.specs.Names.{are_key_words}
 use Rattle.protocol.specs.declared.state.RecordWords.{RecordWords}
 use Rattle.protocol.specs.declared.state.SearchPlace.{SearchPlace}
 use Rattle.protocol.specs.declared.state.SearchPlace.TheVariants.{AtHead, AtNext, AtNumber, AtKind, AtHigh, AtLow, AtValue}
@@ -12,11 +14,13 @@ use Rattle.protocol.specs.declared.state.LocalPlace.{LocalPlace}
 use Rattle.protocol.specs.declared.state.LocalPlace.TheVariants.{Free, Standing, Lifted}
 use Rattle.protocol.specs.declared.state.Due.{Due}
 use Rattle.protocol.specs.declared.state.Due.TheVariants.{Rest, Snapshots, Adding, Subtracting}
-use Rattle.registry_values.specs.Common.{are_fit, key_of, slot_at, kind_word, live_count, bias}
-use Rattle.registry_values.specs.Names.{are_key_words}
 use Rattle.protocol.specs.History.{IsAttached, EndsAt, IsLiveAt, IsLegal, MayHold}
 use Rattle.protocol.specs.State.{State, row_at, mark_at, passive_at, trying_at, count_at, total_at, kept_at, local_at}
-use Rattle.protocol.specs.Events.{words_of, keeps_rightly}
+use Rattle.protocol.specs.Events.{words_of, keeps_rightly, Outcome, narrow_step, grows}
+use Rattle.protocol.specs.declared.event.Event.{Event}
+use Rattle.protocol.specs.declared.event.Reply.{Reply}
+use Rattle.protocol.specs.declared.event.StepFault.{StepFault}
+use Rattle.protocol.specs.declared.event.StepFault.TheVariants.{NotAllowed, NoMemory}
 
 -- e is live or retired here
 abbrev pub IsIn : Entry → Slot → Type 0
@@ -293,3 +297,20 @@ pub record Holds (s : State) : Type 0 where
   pub tries : TriesSeen s.seen s.hands
   pub references : ReferencesHold s.settings.cpus s.slots s.hands s.due s.locals
   pub kept_drivers : DriversKept s.slots s.keeps
+
+-- What a call of the pure machine that makes one event does.
+
+-- The reply and the state after are those of the definition; both faults change nothing, and memory is refused only where a list has to grow.
+abbrev pub Steps : State → State → Event → Result Reply StepFault → Type 0
+Steps old new event (Ok reply) = narrow_step old event ≡ Some (record { state = new; reply = reply })
+Steps old new event (Err NotAllowed) = (narrow_step old event ≡ None) × (new ≡ old)
+Steps old new event (Err NoMemory) = IsTrue (grows event) × IsSome (narrow_step old event) × (new ≡ old)
+
+-- the event is allowed here, and a list has to grow for it
+abbrev pub WantsMemory : State → Event → Type 0
+WantsMemory s event = IsTrue (grows event) × IsSome (narrow_step s event)
+
+-- the invariant holds after an event, if it was allowed
+abbrev pub Keeps : Option Outcome → Type 0
+Keeps None = Unit {0}
+Keeps (Some o) = Holds o.state

@@ -14,9 +14,7 @@ use Rattle.protocol.specs.History.{IsAttached, EndsAt, IsLiveAt, IsLawful, IsNew
 use Rattle.protocol.specs.State.{State, opening, section_at, begin_at, seen_at, search_at, found_at, hand_at, count_at, total_at, live_at, kept_at, trying_at, at_rest}
 use Rattle.protocol.specs.Events.{Outcome, narrow_step, step, state_after}
 use Rattle.protocol.specs.Invariant.{Holds, IsIn, IsCounting, kept_of, held_at, one_if_used, itself}
-use Rattle.protocol.specs.Run.{Run, narrow_run_of_events, run_of_events, empty_run, with_lawful_names}
-use Rattle.protocol.specs.Model.{IsUnheld, IsModelRun}
-use Rattle.protocol.specs.Picture.{HasConfirm, number_in, picture}
+use Rattle.protocol.specs.Model.{Run, narrow_run_of_events, run_of_events, empty_run, with_lawful_names, IsUnheld, IsModelRun, HasConfirm, number_in, picture}
 
 -- the state after a list of events; those that aren't allowed are left out
 abbrev pub after : State → List Event → State

@@ -3,12 +3,7 @@ pub mod Events
 pub mod History
 pub mod Invariant
 pub mod Laws
-pub mod Loaded
-pub mod Marking
 pub mod Model
-pub mod Picture
 pub mod Rows
-pub mod Run
 pub mod State
-pub mod Taken
 pub mod Types

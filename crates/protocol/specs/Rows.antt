@@ -3,8 +3,7 @@
 use Rattle.std.specs.Prelude.{◌≡◌, ℕ, ◌-◌, List, ◌∷◌, [], ◌++◌, replicate, Option, Some, None}
 use Rattle.protocol.specs.Types.{Driver, Entry, Name, Settings, MOST_CPUS, Attach, Detach, Vacant, Live, Retired, Mark}
 use Rattle.protocol.specs.declared.event.Event.{Event}
-use Rattle.protocol.specs.declared.event.Event.TheVariants.{Seat, Enter, Exit, Seek, LoadLink, LoadRecord, StoreSlot, StoreNext, Publish, Unpublish, Tell, Hear, Snapshot, Look, PassiveLook, CountAdd}
-use Rattle.protocol.specs.declared.event.Event.TheVariants.{SplitRef, JoinRef, CountDown, SplitBack, Collect, TotalAdd, JoinKeeper, TotalSub, Vacate, PassiveAdd, PassiveSub, Show, Hide, Recall, RecallHead, Refind, Try, Confirm, TakeBack}
+use Rattle.protocol.specs.declared.event.Event.TheVariants.{Seat, Enter, Exit, Seek, LoadLink, LoadRecord, StoreSlot, StoreNext, Publish, Unpublish, Tell, Hear, Snapshot, Look, PassiveLook, CountAdd, SplitRef, JoinRef, CountDown, SplitBack, Collect, TotalAdd, JoinKeeper, TotalSub, Vacate, PassiveAdd, PassiveSub, Show, Hide, Recall, RecallHead, Refind, Try, Confirm, TakeBack}
 use Rattle.protocol.specs.declared.event.RecordOf.TheVariants.{Search as OfSearch}
 use Rattle.protocol.specs.declared.event.Reply.{Reply}
 use Rattle.protocol.specs.declared.event.Reply.TheVariants.{Done, Word, Found, Ref, Collected}
@@ -12,8 +11,7 @@ use Rattle.protocol.specs.declared.state.SearchPlace.TheVariants.{AtHigh}
 use Rattle.registry_values.specs.Common.{key_of, kind_word, bias, no_mark}
 use Rattle.protocol.specs.State.{State, opening}
 use Rattle.protocol.specs.Events.{Outcome, step, state_after, words_of, snapshot_mark}
-use Rattle.protocol.specs.Run.{run_of_events, empty_run}
-use Rattle.protocol.specs.Picture.{picture}
+use Rattle.protocol.specs.Model.{run_of_events, empty_run, picture}
 use Rattle.protocol.specs.Laws.{after}
 
 abbrev pub reply_of : Option Outcome → Option Reply

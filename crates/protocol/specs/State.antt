@@ -1,6 +1,7 @@
--- The state of the core: its words, and the plain state of each CPU and of the keeper.
-use Rattle.std.specs.Prelude.{ℕ, ◌==◌, if◌then◌else◌, List, [], false, Option, None, replicate, slice_index_or, slice_set, Bool, true, ◌++◌, drop}
-use Rattle.protocol.specs.Types.{Entry, Change, Settings, MOST_CPUS, Slot, Vacant, Mark}
+-- The state of the core: its words, the plain state of each CPU and of the keeper, what a row of marks says, and what a search has loaded.
+use Rattle.std.specs.Prelude.{ℕ, ◌==◌, if◌then◌else◌, List, [], false, Option, None, replicate, slice_index_or, slice_set, Bool, true, ◌++◌, drop, ◌≡◌, ◌<◌, Some}
+use Rattle.protocol.specs.Types.{Entry, Change, Settings, MOST_CPUS, Slot, Vacant, Mark, Key}
+use Rattle.registry_values.specs.Common.{bias, no_mark, Grows, are_words_of}
 use Rattle.protocol.specs.declared.state.RecordWords.{RecordWords}
 use Rattle.protocol.specs.declared.state.Search.{Search}
 use Rattle.protocol.specs.declared.state.Hand.{Hand}
@@ -9,7 +10,10 @@ use Rattle.protocol.specs.declared.state.LocalPlace.{LocalPlace}
 use Rattle.protocol.specs.declared.state.LocalPlace.TheVariants.{Free}
 use Rattle.protocol.specs.declared.state.Due.{Due}
 use Rattle.protocol.specs.declared.state.Due.TheVariants.{Rest, Snapshots, Adding, Subtracting}
-use Rattle.registry_values.specs.Common.{bias, no_mark}
+use Rattle.protocol.specs.declared.state.SearchPlace.{SearchPlace}
+use Rattle.protocol.specs.declared.state.SearchPlace.TheVariants.{AtHead, AtNext, AtNumber, AtKind, AtHigh, AtLow, AtValue}
+use Rattle.protocol.specs.declared.state.Loaded.{Loaded}
+use Rattle.protocol.specs.declared.state.Loaded.TheVariants.{On, Over}
 
 pub record State : Type 0 where
   pub settings : Settings
@@ -152,3 +156,62 @@ at_rest (Subtracting t) = false
 -- the count words of the first CPUs count no reference
 abbrev pub with_biases : ℕ → List ℕ → List ℕ
 with_biases cpus row = replicate cpus bias ++ drop cpus row
+
+-- What a row of marks has come to say, and what it says of all CPUs.
+
+-- what is so of the marks of all CPUs for the slot t
+abbrev pub AllPassed : State → ℕ → Type 0
+AllPassed s t = (c : ℕ) → c < s.settings.cpus → (mark_at s.marks t c).passed ≡ true
+
+abbrev pub AllClear : State → ℕ → Type 0
+AllClear s t = (c : ℕ) → c < s.settings.cpus → (mark_at s.marks t c).clear ≡ true
+
+abbrev pub AllCollected : State → ℕ → Type 0
+AllCollected s t = (c : ℕ) → c < s.settings.cpus → (mark_at s.marks t c).collected ≡ true
+
+-- the rows of other slots are as they were
+abbrev pub SameElsewhere : {X : Type 0} → List (List X) → List (List X) → ℕ → Type 0
+SameElsewhere old new t = (u : ℕ) → (u ≡ t → ⊥) → slice_index_or new u [] ≡ slice_index_or old u []
+
+pub record MarksGrow (old new : List (List Mark)) (t : ℕ) : Type 0 where
+  pub elsewhere : SameElsewhere old new t
+  pub here : (c : ℕ) → Grows (mark_at old t c) (mark_at new t c)
+
+-- What a search does with the record words of its slot, apart from the core's state.
+
+abbrev pub entry_with : Key → ℕ → ℕ → ℕ → Entry
+entry_with key t n value = record { number = n; slot = t; rec = record { kind = key.kind; name = key.name; value = value } }
+
+-- the last word of the name was loaded
+abbrev pub loaded_of_name : ℕ → ℕ → ℕ → Bool → Loaded
+loaded_of_name t n l true = On (AtValue t n) l
+loaded_of_name t n l false = On (AtNext t) l
+
+abbrev pub loaded_at : Search → SearchPlace → RecordWords → Option Loaded
+loaded_at q AtHead r = None
+loaded_at q (AtNext t) r = None
+loaded_at q (AtNumber t) r = Some (On (AtKind t r.number) r.number)
+loaded_at q (AtKind t n) r = Some (On (AtHigh t n r.kind) r.kind)
+loaded_at q (AtHigh t n k) r = Some (On (AtLow t n k r.high) r.high)
+loaded_at q (AtLow t n k h) r = Some (loaded_of_name t n r.low (are_words_of q.key k h r.low))
+loaded_at q (AtValue t n) r = Some (Over (entry_with q.key t n r.value))
+
+-- the slot that a place is at is below a bound
+abbrev pub SlotWithin : SearchPlace → ℕ → Type 0
+SlotWithin AtHead size = Unit {0}
+SlotWithin (AtNext t) size = t < size
+SlotWithin (AtNumber t) size = t < size
+SlotWithin (AtKind t n) size = t < size
+SlotWithin (AtHigh t n k) size = t < size
+SlotWithin (AtLow t n k h) size = t < size
+SlotWithin (AtValue t n) size = t < size
+
+-- the record words of the slot that a place is at
+abbrev pub row_of_place : List RecordWords → SearchPlace → RecordWords
+row_of_place rows AtHead = no_words
+row_of_place rows (AtNext t) = row_at rows t
+row_of_place rows (AtNumber t) = row_at rows t
+row_of_place rows (AtKind t n) = row_at rows t
+row_of_place rows (AtHigh t n k) = row_at rows t
+row_of_place rows (AtLow t n k h) = row_at rows t
+row_of_place rows (AtValue t n) = row_at rows t

@@ -2,7 +2,7 @@
 //! the laws.
 
 ghost use Rattle.protocol.specs.Laws.{BalanceAtRest, DriversOutlive, EveryRunKeeps, FreshAnswers, GraceLaw, Headline, InvariantSuffices, LawfulAnswers, LiveRecalls, NarrowEvents, NarrowNames, NarrowRuns, NewestRecalls, SafeReuse, UntriedRuns, WholePasses};
-ghost use Rattle.protocol.specs.Picture.{EveryRunIsModelRun};
+ghost use Rattle.protocol.specs.Model.{EveryRunIsModelRun};
 ghost use Rattle.protocol.specs.Rows.{CollectRace, FrozenLink, TryRace};
 
 /// Theorem, no effect at run time: the headline for the core. After every list of events from the opening:

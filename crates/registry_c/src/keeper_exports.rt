@@ -6,7 +6,7 @@ ghost use Rattle.c_calls.specs.Calls.{AreOfOne, Through, ThroughBoth};
 ghost use Rattle.c_calls.specs.KeeperCalls.{AdvanceAnswers, AttachesNamed, DestroyAnswers, DetachesNamed, KeeperCloses, PerformCalls, TurnCalls};
 ghost use Rattle.c_handles.specs.declared.values.plain.TheConstants.{DONE};
 ghost use Rattle.c_handles.specs.values.Places.{put};
-ghost use Rattle.c_handles.specs.values.Values.{number_of, settings_out};
+ghost use Rattle.c_handles.specs.values.Texts.{number_of, settings_out};
 
 use c_calls::through_keeper;
 use c_handles::handle::{CpuHandle, KeeperHandle};

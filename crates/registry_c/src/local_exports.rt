@@ -5,7 +5,7 @@ ghost use Rattle.c_calls.specs.Calls.{AreOfOne, IsOfCpu, IsOfKeeper, Through};
 ghost use Rattle.c_calls.specs.LocalCalls.{AttachesIfaceNamed, LocalAcquireAnswers, LocalForgets, LocalGivesUp, LocalReleases, ThroughAll, ThroughLocal};
 ghost use Rattle.c_handles.specs.declared.values.plain.TheConstants.{DONE};
 ghost use Rattle.c_handles.specs.values.Places.{put};
-ghost use Rattle.c_handles.specs.values.Values.{entry_out};
+ghost use Rattle.c_handles.specs.values.Texts.{entry_out};
 
 use c_calls::through_local;
 use c_handles::handle::{CpuHandle, KeeperHandle, LocalHandle};

@@ -1,10 +1,9 @@
 //! The calls that take a row of C's with its length beside it.
 
 ghost use Rattle.std.specs.Prelude.{◌≡◌};
-ghost use Rattle.c_handles.specs.heap.Rows.{IsLong};
+ghost use Rattle.c_handles.specs.Heap.{IsLong};
 ghost use Rattle.c_calls.specs.Opening.{OpensInto, bodies_of};
-ghost use Rattle.c_calls.specs.Calls.{Through};
-ghost use Rattle.c_calls.specs.Walks.{WalksBy};
+ghost use Rattle.c_calls.specs.Calls.{Through, WalksBy};
 ghost use Rattle.c_calls.specs.Audits.{AreAllOf, AuditsRows};
 ghost use Rattle.c_handles.specs.values.Places.{row_in};
 

@@ -1,11 +1,10 @@
 //! The calls that need no handle.
 
 ghost use Rattle.std.specs.Prelude.{◌≡◌};
-ghost use Rattle.c_handles.specs.heap.Rows.{IsLong};
-ghost use Rattle.registry_values.specs.Ids.{name_of_id};
+ghost use Rattle.c_handles.specs.Heap.{IsLong};
+ghost use Rattle.registry_values.specs.Names.{name_of_id};
 ghost use Rattle.c_handles.specs.values.Places.{put};
-ghost use Rattle.c_handles.specs.values.Texts.{ParsesGiven, TellsBy, TellsId};
-ghost use Rattle.c_handles.specs.values.Values.{name_out};
+ghost use Rattle.c_handles.specs.values.Texts.{ParsesGiven, TellsBy, TellsId, name_out};
 ghost use Rattle.c_handles.specs.declared.values.plain.TheConstants.{DONE};
 
 use c_handles::values::answer::{BytesAnswer, IdAnswer, NameAnswer, TextAnswer};

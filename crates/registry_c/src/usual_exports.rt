@@ -1,8 +1,7 @@
 //! The calls of the usual path.
 
 ghost use Rattle.std.specs.Prelude.{◌≡◌};
-ghost use Rattle.c_calls.specs.Calls.{Through};
-ghost use Rattle.c_calls.specs.UsualCalls.{EntersAndFinds, Gets, LooksUp};
+ghost use Rattle.c_calls.specs.Calls.{Through, EntersAndFinds, Gets, LooksUp};
 
 use c_calls::through_usual;
 use c_handles::handle::CpuHandle;

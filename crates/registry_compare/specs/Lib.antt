@@ -1,3 +1,1 @@
 pub mod Comparing
-pub mod Outcomes
-pub mod Verdicts

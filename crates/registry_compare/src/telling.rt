@@ -2,9 +2,7 @@
 
 ghost use Rattle.std.specs.Prelude.{◌≡◌, IfOk};
 ghost use Rattle.std.specs.Process.{exit_status};
-ghost use Rattle.registry_compare.specs.Comparing.{Says};
-ghost use Rattle.registry_compare.specs.Outcomes.{WereApart};
-ghost use Rattle.registry_compare.specs.Verdicts.{status_of};
+ghost use Rattle.registry_compare.specs.Comparing.{Says, WereApart, status_of};
 
 use super::comparing::{Scripts, SeedRange, first_difference};
 use super::cutting::shortest;

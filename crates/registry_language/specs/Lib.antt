@@ -1,4 +1,3 @@
 pub mod Grammar
-pub mod Parsing
 pub mod Program
 pub mod Words

@@ -1,14 +1,19 @@
--- What a script says, and the lines of it so far.
-use Rattle.std.specs.Prelude.{◌≡◌, ℕ, nat_lt, Bool, true, false, ◌&&◌, ◌||◌, List, [], ◌∷◌, ◌++◌, Option, Some, None, IsTrue}
+-- What a script says, the lines of it so far, and what a parser returned.
+use Rattle.std.specs.Prelude.{◌≡◌, ℕ, nat_lt, Bool, true, false, ◌&&◌, ◌||◌, List, [], ◌∷◌, ◌++◌, Option, Some, None, IsTrue, Result, Ok, Err}
 use Rattle.std.specs.List.{list_all}
-use Rattle.registry_values.specs.declared.settings.Settings.{Settings}
 use Rattle.registry_values.specs.Common.{are_usual, is_within, is_lawful, is_iface}
+use Rattle.registry_values.specs.declared.settings.Settings.{Settings}
 use Rattle.registry_language.specs.declared.label.Label.{Label}
 use Rattle.registry_language.specs.declared.position.Position.{Position}
 use Rattle.registry_language.specs.declared.position.Position.TheVariants.{First, Second, Later}
 use Rattle.registry_language.specs.declared.command.Command.{Command}
-use Rattle.registry_language.specs.declared.command.Command.TheVariants.{Domain, Limits, Attach, Plug, Detach, Enter, Exit, Find, Reference, Copy, Held, Read, Release, Count, Peek, Uncount, Advance}
-use Rattle.registry_language.specs.declared.command.Command.TheVariants.{Destroy, Perform, Audit}
+use Rattle.registry_language.specs.declared.command.Command.TheVariants.{Domain, Limits, Attach, Plug, Detach, Enter, Exit, Find, Reference, Copy, Held, Read, Release, Count, Peek, Uncount, Advance, Destroy, Perform, Audit}
+use Rattle.registry_language.specs.declared.fault.Cause.{Cause}
+use Rattle.registry_language.specs.declared.fault.LineFault.{LineFault}
+use Rattle.registry_language.specs.declared.fault.LineFault.TheVariants as line
+use Rattle.registry_language.specs.declared.fault.ParseFault.{ParseFault}
+use Rattle.registry_language.specs.declared.fault.ParseFault.TheVariants as parse
+use Rattle.registry_language.specs.declared.fault.ScriptFault.{ScriptFault}
 
 pub record Program : Type 0 where
   pub settings : Settings
@@ -115,3 +120,22 @@ AreBefore (Later s) commands = IsProgram (record { settings = s; commands = comm
 
 abbrev pub IsDraft : ProgramDraft → Type 0
 IsDraft p = AreBefore p.place p.commands
+
+-- What a parser returned, against what the grammar says.
+
+-- unless memory ran out, the result is what is said
+abbrev pub LineGives : {X : Type 0} → Result X LineFault → Result X Cause → Type 0
+LineGives (Ok x) read = read ≡ Ok x
+LineGives (Err (line.Cause cause)) read = read ≡ Err cause
+LineGives (Err line.Memory) read = Unit {0}
+
+abbrev pub ParseGives : {X : Type 0} → Result X ParseFault → Result X ScriptFault → Type 0
+ParseGives (Ok x) read = read ≡ Ok x
+ParseGives (Err (parse.Script fault)) read = read ≡ Err fault
+ParseGives (Err parse.Memory) read = Unit {0}
+
+-- a draft that took a line
+abbrev pub LineTakes : ProgramDraft → Result (Unit {0}) LineFault → Result (Option Command) Cause → ProgramDraft → Type 0
+LineTakes new (Ok u) read old = (said : Option Command) × (read ≡ Ok said) × (new ≡ with_command old said)
+LineTakes new (Err (line.Cause cause)) read old = read ≡ Err cause
+LineTakes new (Err line.Memory) read old = Unit {0}

@@ -3,9 +3,8 @@
 ghost use Rattle.std.specs.Prelude.{◌≡◌, ◌+◌, ◌<◌, ◌≤◌, ◌^◌, IfOk, IfSome, IfErr, OnErr, IsTrue, Some, None, Ok, length, map};
 ghost use Rattle.std.specs.List.{list_all};
 ghost use Rattle.registry_values.specs.Common.{are_usual};
-ghost use Rattle.registry_language.specs.Program.{Program, ProgramDraft, empty_draft, suits, may_follow, with_command};
+ghost use Rattle.registry_language.specs.Program.{Program, ProgramDraft, empty_draft, suits, may_follow, with_command, LineTakes, LineGives, ParseGives};
 ghost use Rattle.registry_language.specs.Grammar.{line_of, draft_of_lines, program_of_draft, program_of_bytes};
-ghost use Rattle.registry_language.specs.Parsing.{LineTakes, LineGives, ParseGives};
 
 use super::command::Command;
 use super::fault::{Cause, LineFault, ParseFault, ScriptFault};

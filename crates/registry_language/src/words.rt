@@ -51,7 +51,7 @@ fn with_digit(n: u64, digit: u8) -> Option<u64>
 
 /// The number that a word of a script says: 1 to 20 decimal digits of a value below 2^64. None where the word is
 /// anything else.
-#[tactic(auto, using(crate::proofs::Numbers::spent))]
+#[tactic(auto, using(crate::proofs::Parsing::spent))]
 pub fn number(word: &[u8]) -> Option<u64>
     ensures { result ≡ number_of word.now }
 {

@@ -1,21 +1,147 @@
--- The local references that are given back, counted by entry: by CPU 0's own count, or by what it knows of the keeper's log.
-use Rattle.std.proofs.Common.{◌≡◌, ◌≢◌, ⊎_elim, ℕ, ◌+◌, ◌<◌, ◌≤◌, ◌==◌, cond, List, [], ◌∷◌, ◌++◌, set, Option, Some, None, refl, sym, ap, ◌∙◌, subst, append-nil, append_assoc, arith, inl, inr}
+-- The end of a session: CPUs release their passive references, and CPU 0 gives the local ones back, counted by entry.
+use Rattle.std.proofs.Common.{◌≡◌, ◌≢◌, ⊎_elim, ℕ, zero, suc, ◌<◌, All, List, [], ◌∷◌, ◌++◌, length, get_or, set, Option, refl, sym, ap, ◌∙◌, subst, append_assoc, arith, take, Some, None, inl, inr, ◌+◌, ◌≤◌, ◌==◌, cond}
+use Rattle.std.proofs.lemmas.List.{append-nil, length-set}
+use Rattle.std.proofs.lemmas.List.Elements.{All-append, All-cons}
+use Rattle.std.specs.Prelude.{IfErr, Result, Ok, Err}
+use Rattle.std.proofs.Math.Seq.{take-length}
 use Rattle.std.proofs.lemmas.Bool.{cases_eq, eq-eqb, ne_eqb}
 use Rattle.std.proofs.lemmas.List.Sums.{sum_by-cons}
-use mathlib.Core.List.{IsPrefix}
 use mathlib.Core.Option.{some, some-injective, some-ne-none}
 use lib.ListN.{get_elem?}
+use Rattle.atomic_table.proofs.Lists.{at_set}
+use mathlib.Core.List.{IsPrefix}
+use Rattle.name_registry.specs.Types.{Entry, Refusal, PassiveSub, Word, LogItem, ReferenceView}
 use Rattle.protocol.specs.Common.{one_if}
-use Rattle.name_registry.specs.Types.{LogItem, ReferenceView}
-use Rattle.cpu_words.specs.Common.{given_up, number_at}
+use Rattle.cpu_words.specs.Common.{did, references_to, given_up, number_at}
 use Rattle.cpu_words.proofs.by_keeper.Totals.{one_more_at}
 use Rattle.cpu_words.proofs.logs.Totalled.{given_more}
 use Rattle.passive_list.specs.Common.{OnCpu}
-use Rattle.name_registry.specs.Common.{IsLetGoAndHeard, KnowsGivenUp}
+use Rattle.passive_ref.specs.Psrefs.{GivesBack, HasOneLess, OnPsref}
+use Rattle.name_registry.specs.Common.{AreAllCpus, IsLetGoAndHeard, KnowsGivenUp}
+use Rattle.name_registry.proofs.Audits.{cpu_at}
 use Rattle.name_registry.proofs.Worked.{prefix_on}
-use Rattle.registry_live.specs.Calls.{LetGo}
-use Rattle.registry_live.specs.Ended.{EndedOnFirst, HaveEnded, is_local_to, locals_to}
-use Rattle.registry_live.specs.Releases.{AllOnlyRelease}
+use Rattle.registry_live.specs.Sessions.{AllOnlyRelease, IsRelease, OnlyReleases, LetGo, LetsGo, HoldTheSame, StayInside, inside_of, EndedOnFirst, HaveEnded, is_local_to, locals_to}
+use Rattle.registry_live.proofs.Labelled.{goes_on_same, same_here, same_on, stays_inside}
+use Rattle.registry_live.proofs.LiveCpus.{let_go_stays, on_one}
+
+-- CPUs that only release passive references, one after the other.
+
+-- One CPU
+
+-- y is x, except these references and its log
+abbrev with_releases : OnCpu → List Entry → List LogItem → OnCpu
+with_releases x es log = record x { view = record x.view { references = es }; log = log }
+
+no_releases : (c : ℕ) → All (IsRelease c) []
+no_releases c = λ k d lt. absurd (omega (arith, lt))
+
+is_same : (x y : OnCpu) → y ≡ x → OnlyReleases x y
+is_same x y is = record {
+  since = [];
+  is = is ∙ ap (with_releases x x.view.references) (sym (append-nil x.log)) ∙ ap (λ (u : OnCpu). with_releases x u.view.references (x.log ++ [])) (sym is);
+  only = no_releases x.view.id;
+}
+
+is_one_less : (x y : OnCpu) (n : ℕ) → HasOneLess n x y → OnlyReleases x y
+is_one_less x y n less =
+    let new : List LogItem = did (PassiveSub x.view.id n) (Word (references_to n x.view.references)) in
+    record {
+      since = new;
+      is = less ∙ ap (λ (u : OnCpu). with_releases x u.view.references (x.log ++ new)) (sym less);
+      only = All-cons (IsRelease x.view.id) _ [] (n, refl) (no_releases x.view.id);
+    }
+
+then_too : (x y z : OnCpu) → OnlyReleases x y → OnlyReleases y z → OnlyReleases x z
+then_too x y z first next = record {
+  since = first.since ++ next.since;
+  is = next.is ∙ ap (λ (u : OnCpu). with_releases u z.view.references (u.log ++ next.since)) first.is ∙ ap (with_releases x z.view.references) (append_assoc x.log first.since next.since);
+  only = All-append (IsRelease x.view.id) first.since next.since first.only (subst (λ (c : ℕ). All (IsRelease c) next.since) (ap (λ (u : OnCpu). u.view.id) first.is) next.only);
+}
+
+-- All of them
+
+there : (xs : List OnCpu) (c : ℕ) (d : OnCpu) → c < length xs → get_elem? xs c ≡ some (get_or xs c d)
+there [] c d lt = absurd (omega (arith, lt))
+there (x ∷ xs) zero d lt = refl
+there (x ∷ xs) (suc c) d lt = there xs c d (omega (arith, lt))
+
+pub all_same : (xs : List OnCpu) → AllOnlyRelease xs xs
+all_same xs = record { size = refl; each = λ c x y was now. is_same x y (some-injective y x (sym now ∙ was)) }
+
+-- one has changed
+one_set : (xs : List OnCpu) (c : ℕ) (d y : OnCpu) → OnlyReleases (get_or xs c d) y → AllOnlyRelease xs (set xs c y)
+one_set xs c d y one = record { size = length-set xs c y; each = each }
+  where
+    each : (k : ℕ) (a b : OnCpu) → get_elem? xs k ≡ some a → get_elem? (set xs c y) k ≡ some b → OnlyReleases a b
+    each k a b was now = ⊎_elim
+        (λ (here : (k ≡ c) × (y ≡ b)).
+        let old : get_or xs c d ≡ a = (cpu_at xs c a d (subst (λ (i : ℕ). get_elem? xs i ≡ some a) here.0 was)).1 in
+        subst (λ (u : OnCpu). OnlyReleases u b) old (subst (λ (u : OnCpu). OnlyReleases (get_or xs c d) u) here.1 one))
+        (λ (off : (k ≢ c) × (get_elem? xs k ≡ some b)). is_same a b (some-injective b a (sym off.1 ∙ was)))
+        (at_set xs c k y b now)
+
+-- the CPU was asked to release the reference
+pub asked : {X : Type 0} (xs : List OnCpu) (c : ℕ) (d y : OnCpu) (p : OnPsref) (why : Option Refusal) (answer : Result X (Refusal × OnPsref))
+    → GivesBack why p (λ done. HasOneLess p.number (get_or xs c d) y) answer → IfErr answer (λ f. y ≡ get_or xs c d)
+    → AllOnlyRelease xs (set xs c y)
+asked xs c d y p why (Ok done) is refused = one_set xs c d y (is_one_less (get_or xs c d) y p.number is.1)
+asked xs c d y p why (Err f) is refused = one_set xs c d y (is_same (get_or xs c d) y refused)
+
+pub all_then : (xs ys zs : List OnCpu) → AllOnlyRelease xs ys → AllOnlyRelease ys zs → AllOnlyRelease xs zs
+all_then xs ys zs first next = record { size = next.size ∙ first.size; each = each }
+  where
+    each : (c : ℕ) (x z : OnCpu) → get_elem? xs c ≡ some x → get_elem? zs c ≡ some z → OnlyReleases x z
+    each c x z was now =
+        let few : c < length xs = (cpu_at xs c x x was).0 in
+        let at : get_elem? ys c ≡ some (get_or ys c x) = there ys c x (omega (arith, few, first.size)) in
+        then_too x (get_or ys c x) z (first.each c x (get_or ys c x) was at) (next.each c (get_or ys c x) z at now)
+
+-- The local references that are given back, one after the other, by CPU 0.
+
+-- CPU 0 has released the reference in the place
+pub lets_go : (n : ℕ) (xs : List OnCpu) (x y : OnCpu) (v : ReferenceView) (place : Option ReferenceView) → place ≡ Some v → AreAllCpus n xs → 0 < n → x ≡ get_or xs 0 x
+    → IsLetGoAndHeard (get_or xs 0 x) v y → LetsGo xs place (set xs 0 y)
+lets_go n xs x y v place here all any is let_go =
+    subst (λ (o : Option ReferenceView). LetsGo xs o (set xs 0 y)) (sym here) (on_one n xs 0 x y (λ (a b : OnCpu). IsLetGoAndHeard a v b) all any is let_go)
+
+pub none_gone : (xs : List OnCpu) (ps : List (Option ReferenceView)) → LetGo xs (take 0 ps) xs
+none_gone xs ps = refl
+
+-- the first k places and then the next one
+pub gone_next : (xs ys zs : List OnCpu) (ps : List (Option ReferenceView)) (k : ℕ) (place : Option ReferenceView) → k < length ps → LetGo xs (take k ps) ys → LetsGo ys place zs
+    → place ≡ get_or ps k place → LetGo xs (take (suc k) ps) zs
+gone_next xs ys zs [] k place lt first next is = absurd (omega (arith, lt))
+gone_next xs ys zs (p ∷ ps) zero place lt first next is = (zs, subst (λ (l : List OnCpu). LetsGo l p zs) first (subst (λ (o : Option ReferenceView). LetsGo ys o zs) is next), refl)
+gone_next xs ys zs (p ∷ ps) (suc k) place lt first next is = (first.0, first.1, gone_next first.0 ys zs ps k place (omega (arith, lt)) first.2 next is)
+
+pub all_gone : (xs ys : List OnCpu) (ps : List (Option ReferenceView)) → length ps ≡ 26 → LetGo xs (take 26 ps) ys → LetGo xs ps ys
+all_gone xs ys ps size first = subst (λ (l : List (Option ReferenceView)). LetGo xs l ys) (take-length ps) (subst (λ (n : ℕ). LetGo xs (take n ps) ys) (sym size) first)
+
+-- The passive references that CPUs hold stay, and sections stay open.
+
+inside_still : (x y : OnCpu) (v : ReferenceView) → IsLetGoAndHeard x v y → inside_of y ≡ inside_of x
+inside_still x y v (inl is) = ap inside_of is
+inside_still x y v (inr heard) = ap inside_of heard.learned.is ∙ ap inside_of heard.came_back.cpu
+
+one_still : (xs ys : List OnCpu) (place : Option ReferenceView) → LetsGo xs place ys → HoldTheSame xs ys × StayInside xs ys
+one_still xs ys None is = subst (λ (l : List OnCpu). HoldTheSame xs l × StayInside xs l) (sym is) (same_here xs, refl)
+one_still xs ys (Some v) one =
+    let x = one.0 in
+    let y = one.1 in
+    let here : get_or xs 0 x ≡ x = (cpu_at xs 0 x x one.2).1 in
+    subst (λ (l : List OnCpu). HoldTheSame xs l × StayInside xs l) (sym one.4) (
+      goes_on_same xs 0 x y ((let_go_stays x y v one.3).references ∙ ap (λ (u : OnCpu). u.view.references) (sym here)),
+      stays_inside xs 0 x y (inside_still x y v one.3 ∙ ap inside_of (sym here)),
+    )
+
+pub still : (xs ys : List OnCpu) (ps : List (Option ReferenceView)) → LetGo xs ps ys → HoldTheSame xs ys × StayInside xs ys
+still xs ys [] is = subst (λ (l : List OnCpu). HoldTheSame xs l × StayInside xs l) (sym is) (same_here xs, refl)
+still xs ys (p ∷ ps) gone =
+    let first = one_still xs gone.0 p gone.1 in
+    let rest = still gone.0 ys ps gone.2 in
+    (same_on xs gone.0 ys first.0 rest.0, rest.1 ∙ first.1)
+
+-- The local references that are given back, counted by entry: by CPU 0's own count, or by what it knows of the keeper's log.
 
 -- One place more
 

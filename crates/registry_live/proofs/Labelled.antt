@@ -1,6 +1,5 @@
 -- What becomes of the references that CPUs hold and of those that labels name, call by call.
-use Rattle.std.proofs.Common.{◌≡◌, ◌≢◌, ⊎_elim, ℕ, zero, suc, ◌+◌, ◌-◌, ◌<◌, ◌≤◌, ◌==◌, ◌&&◌, Bool, true, false, cond, List, [], ◌∷◌, length, map, get_or, take, set, replicate, Option, Some}
-use Rattle.std.proofs.Common.{None, refl, sym, ap, ◌∙◌, subst, nat_lt, ℤ, pos, ◌-ℤ◌, arith}
+use Rattle.std.proofs.Common.{◌≡◌, ◌≢◌, ⊎_elim, ℕ, zero, suc, ◌+◌, ◌-◌, ◌<◌, ◌≤◌, ◌==◌, ◌&&◌, Bool, true, false, cond, List, [], ◌∷◌, length, map, get_or, take, set, replicate, Option, Some, None, refl, sym, ap, ◌∙◌, subst, nat_lt, ℤ, pos, ◌-ℤ◌, arith}
 use mathlib.Core.Path.{subst₂}
 use Rattle.std.proofs.Math.Path.{fun_ext}
 use Rattle.std.proofs.lemmas.Bool.{cases_eq, cases_Bool, eq-eqb, ne_eqb, eqb-true, ltb-true, ltb-false, and_parts, false≢true}
@@ -19,8 +18,7 @@ use Rattle.passive_list.specs.Common.{OnCpu}
 use Rattle.name_registry.specs.Common.{AreAllCpus, HaveLearned}
 use Rattle.passive_ref.specs.Psrefs.{GivesBack, HasOneLess, IsAcquired, IsNew, OnPsref, why_unusable}
 use Rattle.registry_report.specs.declared.hitch.Hitch.{Hitch}
-use Rattle.registry_live.specs.Calls.{Decides, Has, hitch_of, unless_free, unless_taken}
-use Rattle.registry_live.specs.Labels.{HaveReleased, HoldTheSame, Lent, StayInside, inside_of, is_label_to, labels_to, references_at, unlabelled}
+use Rattle.registry_live.specs.Sessions.{Decides, Has, hitch_of, unless_free, unless_taken, HaveReleased, HoldTheSame, Lent, StayInside, inside_of, is_label_to, labels_to, references_at, unlabelled}
 
 -- from the CPUs xs and the places ps to ys and qs: each CPU holds what it held beside what labels name
 abbrev pub Keeps : List OnCpu → List (Option OnPsref) → List OnCpu → List (Option OnPsref) → Type 0

@@ -1,17 +1,30 @@
--- All CPUs of a registry stay all CPUs, where one of them has changed and keeps its number.
-use Rattle.std.proofs.Common.{◌≡◌, ◌≢◌, ⊎_elim, inl, inr, ℕ, ◌<◌, Bool, List, get_or, set, Option, Some, refl, sym, ap, ◌∙◌, subst, arith}
+-- All CPUs of a registry: as it was opened, and where one of them has changed and keeps its number.
+use Rattle.std.proofs.Common.{◌<◌, List, [], sym, ap, ◌∙◌, arith, ◌≡◌, ◌≢◌, ⊎_elim, inl, inr, ℕ, Bool, get_or, set, Option, Some, refl, subst}
 use Rattle.std.proofs.lemmas.Bool.{cases_eq, false≢true}
 use Rattle.std.proofs.lemmas.List.{length-set}
 use Rattle.std.specs.Prelude.{IfErr, IfOk, IfSome, Result, Ok, Err, is_some}
-use mathlib.Core.Option.{some}
+use mathlib.Core.Option.{some-injective, some}
 use lib.ListN.{get_elem?}
 use Rattle.atomic_table.proofs.Lists.{at_index, at_set}
-use Rattle.name_registry.specs.Types.{Entry, Kind, Record, Name, Refusal, CpuView, ReferenceView}
-use Rattle.passive_list.specs.Common.{OnCpu, AnswersEnter, HasEnteredOn}
+use Rattle.name_registry.specs.Types.{Settings, Entry, Kind, Record, Name, Refusal, CpuView, ReferenceView}
+use Rattle.cpu_words.specs.Common.{new_cpu}
+use Rattle.passive_list.specs.Common.{OnCpu, no_memory, AnswersEnter, HasEnteredOn}
 use Rattle.passive_ref.specs.Psrefs.{GivesBack, HasOneLess, OnPsref, why_unusable}
-use Rattle.name_registry.specs.Common.{AreAllCpus, IsAttachRefusal, IsDetachRefusedTo, HasLearned, HasSeenAttach, HasSeenDetach, IsLetGoAndHeard}
+use Rattle.name_registry.specs.Common.{AreAllCpus, AreNewCpus, IsAttachRefusal, IsDetachRefusedTo, HasLearned, HasSeenAttach, HasSeenDetach, IsLetGoAndHeard}
 use Rattle.name_registry.proofs.Audits.{cpu_at}
-use Rattle.registry_live.specs.Calls.{IsGivenBack, OnOne}
+use Rattle.registry_live.specs.Sessions.{IsGivenBack, OnOne}
+
+-- The CPUs of a registry that was just opened are all of them.
+
+pub new_are_all : (z : Settings) (xs : List OnCpu) → AreNewCpus z z.cpus xs → AreAllCpus z.cpus xs
+new_are_all z xs new = record {
+  count = new.count;
+  each = λ c x at.
+      let below : c < z.cpus = omega (arith, (cpu_at xs c x x at).0, new.count) in
+      ap (λ (y : OnCpu). y.view.id) (some-injective x (record { view = new_cpu z c; depth = 0; made = 0; memory = no_memory z.slots; known_log = []; log = [] }) (sym at ∙ new.each c below));
+}
+
+-- All CPUs of a registry stay all CPUs, where one of them has changed and keeps its number.
 
 -- the CPU that a command names
 pub named : (n : ℕ) (xs : List OnCpu) (c : ℕ) (x : OnCpu) → AreAllCpus n xs → c < n → x ≡ get_or xs c x → get_elem? xs c ≡ some x

@@ -3,10 +3,7 @@
 ghost use Rattle.std.specs.Prelude.{◌≡◌, ◌<◌, ◌∷◌, [], IfSome, List, None, replicate};
 ghost use Rattle.passive_list.specs.Common.{OnCpu};
 ghost use Rattle.name_registry.specs.Common.{AreAllCpus};
-ghost use Rattle.registry_live.specs.Calls.{IsGivenBack, LetGo, LetsGo};
-ghost use Rattle.registry_live.specs.Ended.{EndedOnFirst};
-ghost use Rattle.registry_live.specs.Labels.{HaveReleased};
-ghost use Rattle.registry_live.specs.Releases.{AllOnlyRelease};
+ghost use Rattle.registry_live.specs.Sessions.{IsGivenBack, LetGo, LetsGo, EndedOnFirst, HaveReleased, AllOnlyRelease};
 
 use crate::calls::{
     copied, count_one, fill, holds, leave, let_go, look_up, peek_at, plug_in, read_by, refer,
@@ -180,8 +177,7 @@ fn release_passive<D: Domain>(registry: &Registry<D>, cpus: &mut [Cpu<D>], place
 }
 
 impl<'a, D: Domain, R: Wait> Session for LiveSession<'a, D, R> {
-    ghost use Rattle.registry_live.specs.Calls.{DestroysBy, OnOne, PerformsBy};
-    ghost use Rattle.registry_live.specs.Labels.{Lent, unlabelled};
+    ghost use Rattle.registry_live.specs.Sessions.{DestroysBy, OnOne, PerformsBy, Lent, unlabelled};
 
     // which slice of CPUs the session has, and what each CPU holds that no label names
     ghost Kept = { Lent };

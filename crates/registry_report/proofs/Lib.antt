@@ -1,6 +1,5 @@
-pub mod Below
 pub mod Lookups
 pub mod calls
 pub mod shows
 pub mod sound
-pub mod written
+pub mod Written

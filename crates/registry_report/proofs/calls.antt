@@ -1,8 +1,6 @@
 -- What each call of a session over the core gives and leaves.
 pub mod Changed
 pub mod Done
-pub mod DoneReferences
-pub mod Giving
 pub mod Hitches
 pub mod Sessions
 pub mod Walked

@@ -1,15 +1,8 @@
-pub mod Answers
-pub mod Changes
 pub mod Common
-pub mod Given
-pub mod Laws
 pub mod Lines
 pub mod Printed
 pub mod Registry
 pub mod Report
 pub mod Session
-pub mod Shows
-pub mod Sound
 pub mod Turns
 pub mod Types
-pub mod Written

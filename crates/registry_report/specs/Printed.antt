@@ -1,18 +1,35 @@
--- What each command may print, on any registry: its line, with some values, or why it has no answer.
-use Rattle.std.specs.Prelude.{◌≡◌, ℕ, List, [], ◌∷◌, ◌++◌, Option, true, ◌⊎◌, Result, IfErr}
+-- What each command may print, on any registry, and what a run has written.
+use Rattle.std.specs.Prelude.{◌≡◌, ℕ, List, ◌++◌, Option, [], ◌∷◌, true, ◌⊎◌, Result, IfErr}
 use Rattle.std.specs.Io.KnownBytes.{Appends}
+use Rattle.registry_report.specs.Types.{RunFault, Refusal, NoMemory, NameTaken, NoSlot, HistoryFull, NotFound, Inside, SectionsSpent, NothingFound, PassiveFull, WrongCpu, NotHeld, LocalFull, NotRetired, StillHeld, Waiting, TooDeep, NeedsDriver, Command, Domain, Limits, Plug, Enter, Exit, Find, Reference, Copy, Held, Read, Release, Count, Peek, Uncount, Advance, Destroy, Perform, Audit}
 use Rattle.registry_values.specs.Common.{Tally, IsObstacle}
-use Rattle.registry_report.specs.Types.{Refusal, NoMemory, NameTaken, NoSlot, HistoryFull, NotFound, Inside, SectionsSpent, NothingFound, PassiveFull, WrongCpu, NotHeld, LocalFull, NotRetired}
-use Rattle.registry_report.specs.Types.{StillHeld, Waiting, TooDeep, NeedsDriver, Command, Domain, Limits, Plug, Enter, Exit, Find, Reference, Copy, Held, Read, Release, Count, Peek, Uncount, Advance}
-use Rattle.registry_report.specs.Types.{Destroy, Perform, Audit}
+use Rattle.registry_language.specs.declared.fault.RunFault.TheVariants as run
+use Rattle.registry_language.specs.declared.command.Command.TheVariants.{Attach, Detach}
 use Rattle.registry_report.specs.declared.hitch.Hitch.{Hitch}
 use Rattle.registry_report.specs.declared.hitch.Hitch.TheVariants.{NoLabel, LabelTaken, NotInside, Refused}
 use Rattle.registry_report.specs.declared.session.Reading.{Reading}
-use Rattle.registry_language.specs.declared.command.Command.TheVariants.{Attach, Detach}
-use Rattle.registry_report.specs.Lines.{domain_line, limits_line, attached_line, retired_line, section_line, found_line, reference_line, held_line, read_line, released_line, counted_line, peek_line}
-use Rattle.registry_report.specs.Lines.{uncounted_line, stage_line, destroyed_line, performed_line, audit_text}
+use Rattle.registry_report.specs.Lines.{domain_line, limits_line, attached_line, retired_line, section_line, found_line, reference_line, held_line, read_line, released_line, counted_line, peek_line, uncounted_line, stage_line, destroyed_line, performed_line, audit_text}
 use Rattle.registry_report.specs.Report.{answer_line}
-use Rattle.registry_report.specs.Written.{AppendsPrefix}
+
+-- What was written, and the faults of a run whose script has none.
+
+-- a front of the whole was written, and the rest is left
+pub record Written (old new : Option (List ℕ)) (whole rest : List ℕ) : Type 0 where
+  pub done : List ℕ
+  pub split : whole ≡ done ++ rest
+  pub written : Appends old new done
+
+-- a front of the text was written, and nothing else
+abbrev pub AppendsPrefix : Option (List ℕ) → Option (List ℕ) → List ℕ → Type 0
+AppendsPrefix old new text = (rest : List ℕ) × Written old new text rest
+
+-- the faults of a run whose script has none
+abbrev pub IsWhileRunning : RunFault → Type 0
+IsWhileRunning run.Write = Unit {0}
+IsWhileRunning run.Memory = Unit {0}
+IsWhileRunning _ = ⊥
+
+-- What each command may print, on any registry: its line, with some values, or why it has no answer.
 
 -- The refusals of the calls, except out of memory, which has no line
 

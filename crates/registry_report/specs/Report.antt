@@ -1,16 +1,14 @@
--- The report of a script: the lines of its commands, over the registry that they go through.
-use Rattle.std.specs.Prelude.{ℕ, List, [], ◌∷◌, ◌++◌, true, Result, Ok, Err}
-use Rattle.registry_report.specs.declared.hitch.Hitch.{Hitch}
-use Rattle.registry_report.specs.Types.{Command, Domain, Limits, Plug, Enter, Exit, Find, Reference, Copy, Held, Read, Release, Count, Peek, Uncount, Advance, Destroy, Perform, Audit}
+-- The report of a script over the registry that its commands go through, and the laws of this definition.
+use Rattle.std.specs.Prelude.{ℕ, List, [], ◌∷◌, ◌++◌, true, Result, Ok, Err, ◌≡◌, ◌<◌, ◌≤◌, length, Option, Some, None, ◌↔◌, Bool, false}
+use Rattle.registry_report.specs.Types.{Command, Domain, Limits, Plug, Enter, Exit, Find, Reference, Copy, Held, Read, Release, Count, Peek, Uncount, Advance, Destroy, Perform, Audit, Entry, Change, Settings, Key}
+use Rattle.registry_values.specs.Common.{least_below}
+use Rattle.protocol.specs.Common.{IsAttached, IsLegal, IsLiveAt, MayHold, Model, IsModelRun, TakesNone, EndsAt, IsLookup, empty_model}
 use Rattle.registry_language.specs.declared.command.Command.TheVariants.{Attach, Detach}
-use Rattle.registry_report.specs.Lines.{domain_line, limits_line, attached_line, retired_line, section_line, found_line, reference_line, held_line, read_line, released_line, counted_line, peek_line}
-use Rattle.registry_report.specs.Lines.{uncounted_line, stage_line, destroyed_line, performed_line, audit_text, hitch_line}
-use Rattle.registry_language.specs.Program.{Program}
-use Rattle.registry_report.specs.Registry.{Registry, opening_registry}
-use Rattle.registry_report.specs.Answers.{command_answer, attach_answer, plug_answer, detach_answer, enter_answer, exit_answer, find_answer, reference_answer, copy_answer, held_answer, read_answer}
-use Rattle.registry_report.specs.Answers.{release_answer, count_answer, peek_answer, uncount_answer, advance_answer, destroy_answer, perform_answer, audit_answer}
-use Rattle.registry_report.specs.Turns.{on_ok, with_attached, after_plug, with_detached, with_section_entered, with_section_exited, with_found, with_reference, without_reference, with_one_counted}
-use Rattle.registry_report.specs.Turns.{with_one_uncounted, after_advance, after_destroy}
+use Rattle.registry_language.specs.Program.{Program, IsProgram}
+use Rattle.registry_report.specs.declared.hitch.Hitch.{Hitch}
+use Rattle.registry_report.specs.Lines.{domain_line, limits_line, attached_line, retired_line, section_line, found_line, reference_line, held_line, read_line, released_line, counted_line, peek_line, uncounted_line, stage_line, destroyed_line, performed_line, audit_text, hitch_line}
+use Rattle.registry_report.specs.Registry.{Registry, opening_registry, end_of, lookup}
+use Rattle.registry_report.specs.Turns.{command_answer, attach_answer, plug_answer, detach_answer, enter_answer, exit_answer, find_answer, reference_answer, copy_answer, held_answer, read_answer, release_answer, count_answer, peek_answer, uncount_answer, advance_answer, destroy_answer, perform_answer, audit_answer, on_ok, with_attached, after_plug, with_detached, with_section_entered, with_section_exited, with_found, with_reference, without_reference, with_one_counted, with_one_uncounted, after_advance, after_destroy, count_below, is_this}
 
 -- the line of an answer, or of why there is none
 abbrev pub answer_line : {X : Type 0} → (X → List ℕ) → Result X Hitch → List ℕ
@@ -71,3 +69,64 @@ report_from r (command ∷ commands) = text_of r command ++ report_from (after r
 -- the report of a script
 abbrev pub report : Program → List ℕ
 report program = report_from (opening_registry program.settings) program.commands
+
+-- What lets each turn of a registry be a run of lawful steps of its model: by the history, who holds what, and the labels.
+
+-- the entry with the number n was attached, and is in its slot
+pub record HasSlot (h : List Change) (occupants : ℕ → Option ℕ) (n : ℕ) : Type 0 where
+  pub entry : Entry
+  pub attached : IsAttached h entry
+  pub numbered : entry.number ≡ n
+  pub occupant : occupants entry.slot ≡ Some n
+
+-- how many of the first k labels name n
+abbrev pub labels_for : (ℕ → Option ℕ) → ℕ → ℕ → ℕ
+labels_for labels n k = count_below (λ x. is_this n (labels x)) k
+
+-- of the settings, the model and the local labels alone: what else a turn changes leaves it as it is
+pub record IsSoundModel (z : Settings) (m : Model) (labels : ℕ → Option ℕ) : Type 0 where
+  pub legal : IsLegal m.history
+  -- an entry that is live, or that an open section may hold, is in its slot
+  pub live : (e : Entry) → IsLiveAt m.history (length m.history) e → m.occupants e.slot ≡ Some e.number
+  pub held : (c b : ℕ) (e : Entry) → m.sections c ≡ Some b → MayHold m.history b e → m.occupants e.slot ≡ Some e.number
+  pub begun : (c b : ℕ) → m.sections c ≡ Some b → (c < z.cpus) × (b ≤ length m.history)
+  pub seen : (c : ℕ) → m.passes c ≤ length m.history
+  -- no lookup is under way between two turns, and the last found entry is one that the open section may hold
+  pub unsearching : (c : ℕ) → m.lookups c ≡ None
+  pub last_found : (c : ℕ) (e : Entry) → m.found c ≡ Some e → (b : ℕ) × (m.sections c ≡ Some b) × MayHold m.history b e
+  -- only CPUs refer, and only slots keep
+  pub referring : (c n : ℕ) → 0 < m.passive c n → c < z.cpus
+  pub keeping : (t d : ℕ) → m.keeps t ≡ Some d → t < z.slots
+  -- what a label names has its slot, and is counted for each of its labels
+  pub labelled : (x n : ℕ) → labels x ≡ Some n → HasSlot m.history m.occupants n
+  pub counted : (n k : ℕ) → labels_for labels n k ≤ m.locals n
+
+abbrev pub IsSound : Registry → Type 0
+IsSound r = IsSoundModel r.settings r.model r.local_labels
+
+-- a turn from r to q keeps that and the settings, and is a run of lawful steps
+abbrev pub IsLawfulTurn : Registry → Registry → Type 0
+IsLawfulTurn r q = IsSound q × IsModelRun TakesNone r.model q.model × (q.settings ≡ r.settings)
+
+-- the registry after commands, one after the other
+abbrev pub after_each : {C : Type 0} → (Registry → C → Registry) → Registry → List C → Registry
+after_each after r [] = r
+after_each after r (x ∷ xs) = after_each after (after r x) xs
+
+-- The laws of the report's definition, in the words of histories and model runs.
+
+-- Over the commands of every script the registry's model is reached by a run of lawful steps, from the one in which nothing has happened. It takes no reference without a section.
+abbrev pub ReportIsModelRun : Type 0
+ReportIsModelRun = (p : Program) → IsProgram p → IsModelRun TakesNone empty_model (after_each after (opening_registry p.settings) p.commands).model
+
+-- What is computed change by change is the lookup of the history at each point.
+abbrev pub LookupIsExact : Type 0
+LookupIsExact = (h : List Change) → IsLegal h → (key : Key) (k : ℕ) → IsLookup h k key (lookup h key k)
+
+-- The end that is computed is where the entry is detached.
+abbrev pub EndIsExact : Type 0
+EndIsExact = (h : List Change) → IsLegal h → (n p : ℕ) → (end_of h n ≡ Some p) ↔ EndsAt h n p
+
+-- The least number below a bound passes, and none below it does: the first-fit slot and the first obstacle are least.
+abbrev pub LeastIsLeast : Type 0
+LeastIsLeast = (p : ℕ → Bool) (n c : ℕ) → (least_below p n ≡ Some c) ↔ ((c < n) × (p c ≡ true) × ((d : ℕ) → d < c → p d ≡ false))

@@ -64,7 +64,7 @@ impl CoreSession {
 
 impl Session for CoreSession {
     ghost use Rattle.registry_report.specs.Types.{Settings};
-    ghost use Rattle.registry_report.specs.Shows.{Shows};
+    ghost use Rattle.registry_report.specs.Session.{Shows};
 
     ghost Kept = { Settings };
 

@@ -2,7 +2,7 @@
 
 ghost use Rattle.std.specs.Prelude.{◌≡◌};
 ghost use Rattle.registry_report.specs.declared.hitch.Hitch.TheVariants as hitch;
-ghost use Rattle.registry_report.specs.Answers.{command_answer};
+ghost use Rattle.registry_report.specs.Turns.{command_answer};
 
 use registry_values::Refusal;
 

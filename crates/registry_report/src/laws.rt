@@ -1,6 +1,6 @@
 //! The laws of the report's definition: a function that does nothing, whose contract they are.
 
-ghost use Rattle.registry_report.specs.Laws.{EndIsExact, LeastIsLeast, LookupIsExact, ReportIsModelRun};
+ghost use Rattle.registry_report.specs.Report.{EndIsExact, LeastIsLeast, LookupIsExact, ReportIsModelRun};
 
 /// Theorem, no effect at run time: the report of a script follows the model.
 ///

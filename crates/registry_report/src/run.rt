@@ -4,12 +4,11 @@ ghost use Rattle.std.specs.Prelude.{◌≡◌, IfErr, IfOk, IsTrue, OnErr, OnOk}
 ghost use Rattle.std.specs.Io.KnownBytes.{Appends};
 ghost use Rattle.std.specs.List.{list_all};
 ghost use Rattle.protocol.specs.Common.{opening};
-ghost use Rattle.registry_report.specs.Printed.{WritesFront, WritesRun};
+ghost use Rattle.registry_report.specs.Printed.{WritesFront, WritesRun, AppendsPrefix, IsWhileRunning};
 ghost use Rattle.registry_language.specs.Program.{suits};
 ghost use Rattle.registry_report.specs.Registry.{Registry};
 ghost use Rattle.registry_report.specs.Report.{report, report_from};
 ghost use Rattle.registry_report.specs.Session.{without_labels};
-ghost use Rattle.registry_report.specs.Written.{AppendsPrefix, IsWhileRunning};
 
 use crate::carry::carry_out;
 use crate::core_session::CoreSession;

@@ -5,8 +5,8 @@ ghost use Rattle.registry_values.specs.declared.refusal.Refusal.TheVariants as r
 ghost use Rattle.registry_values.specs.Common.{tally_shown, is_lawful, is_iface};
 ghost use Rattle.registry_report.specs.declared.hitch.Hitch.TheVariants as hitch;
 ghost use Rattle.registry_language.specs.declared.command.Command.TheVariants as command;
-ghost use Rattle.registry_report.specs.Answers.{advance_answer, attach_answer, audit_answer, copy_answer, count_answer, destroy_answer, detach_answer, enter_answer, exit_answer, find_answer, held_answer, command_answer, peek_answer, perform_answer, plug_answer, read_answer, reference_answer, release_answer, uncount_answer};
-ghost use Rattle.registry_report.specs.Given.{AnswersFor, LeavesFor};
+ghost use Rattle.registry_report.specs.Turns.{advance_answer, attach_answer, audit_answer, copy_answer, count_answer, destroy_answer, detach_answer, enter_answer, exit_answer, find_answer, held_answer, command_answer, peek_answer, perform_answer, plug_answer, read_answer, reference_answer, release_answer, uncount_answer};
+ghost use Rattle.registry_report.specs.Session.{AnswersFor, LeavesFor};
 ghost use Rattle.registry_report.specs.Printed.{MayHitch};
 ghost use Rattle.registry_report.specs.Registry.{Registry};
 ghost use Rattle.registry_report.specs.Report.{after};

@@ -2,7 +2,7 @@
 
 ghost use Rattle.std.specs.Prelude.{◌≡◌, IfErr, OnOk, OnErr};
 ghost use Rattle.std.specs.Io.KnownBytes.{Appends};
-ghost use Rattle.registry_report.specs.Written.{AppendsPrefix};
+ghost use Rattle.registry_report.specs.Printed.{AppendsPrefix};
 
 use registry_language::RunFault;
 use std::io::Write;

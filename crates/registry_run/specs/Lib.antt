@@ -1,3 +1,1 @@
-pub mod Asking
-pub mod Doing
-pub mod Ends
+pub mod Program

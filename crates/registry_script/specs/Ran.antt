@@ -1,14 +1,29 @@
--- What a run did: from what the reader has left before and after, and what the writer holds before and after, to how it ended.
-use Rattle.std.specs.Prelude.{◌≡◌, ℕ, List, Option, Result, Ok, Err, ◌⊎◌}
-use Rattle.std.specs.Io.KnownBytes.{Appends, Keeps}
-use Rattle.registry_script.specs.declared.engine.Engine.{Engine}
-use Rattle.registry_script.specs.declared.engine.Engine.TheVariants.{Core, Live}
+-- What was read of a script, and what a run of it did.
+use Rattle.std.specs.Prelude.{ℕ, ◌≤◌, List, length, Option, ◌≡◌, Result, Ok, Err, ◌⊎◌}
+use Rattle.std.specs.Io.KnownBytes.{Consumes, IsAtEnd, Appends, Keeps}
 use Rattle.registry_language.specs.declared.fault.RunFault.{RunFault}
 use Rattle.registry_language.specs.declared.fault.RunFault.TheVariants as run
 use Rattle.registry_language.specs.Grammar.{program_of_bytes}
-use Rattle.registry_report.specs.Common.{WritesFront, WritesRun, report, AppendsPrefix}
 use Rattle.registry_language.specs.Program.{Program}
-use Rattle.registry_script.specs.Reads.{WasRead}
+use Rattle.registry_report.specs.Common.{WritesFront, WritesRun, report, AppendsPrefix}
+use Rattle.registry_script.specs.declared.engine.Engine.{Engine}
+use Rattle.registry_script.specs.declared.engine.Engine.TheVariants.{Core, Live}
+
+-- What was read, and the faults of a reading.
+
+-- the reader gave these bytes: all there were, or more than a script may have
+pub record WasRead (old new : Option (List ℕ)) (text : List ℕ) : Type 0 where
+  pub given : Consumes old new text
+  pub bound : length text ≤ 65537
+  pub whole : length text ≤ 65536 → IsAtEnd new
+
+-- the faults of a reading that has no text
+abbrev pub IsWhileReading : RunFault → Type 0
+IsWhileReading run.Read = Unit {0}
+IsWhileReading run.Memory = Unit {0}
+IsWhileReading _ = ⊥
+
+-- What a run did: from what the reader has left before and after, and what the writer holds before and after, to how it ended.
 
 -- what the engine writes of a script, and nothing else: over the core its report, over a registry that is running a line for each command
 abbrev pub WritesWhole : Engine → Option (List ℕ) → Option (List ℕ) → Program → Type 0

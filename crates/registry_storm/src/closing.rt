@@ -2,8 +2,7 @@
 
 ghost use Rattle.std.specs.Prelude.{◌≡◌, IfErr, IfOk};
 ghost use Rattle.name_registry.specs.Common.{AreAllCpus, IsAuditBy};
-ghost use Rattle.registry_storm.specs.Judging.{GoesOn, IsDriverAlone, IsHeld, IsJudged};
-ghost use Rattle.registry_storm.specs.Sums.{held_first};
+ghost use Rattle.registry_storm.specs.Storms.{GoesOn, IsDriverAlone, IsHeld, IsJudged, held_first};
 
 use crate::calls::detach;
 use crate::churn::{Churn, destroy_one};

@@ -2,7 +2,7 @@
 //! in `Plan`.
 
 ghost use Rattle.std.specs.Prelude.{◌≡◌, ◌↔◌, IsTrue, Ok};
-ghost use Rattle.registry_storm.specs.Judging.{IsAttachOf, IsDriverAlone, IsTurnOf};
+ghost use Rattle.registry_storm.specs.Storms.{IsAttachOf, IsDriverAlone, IsTurnOf};
 
 use registry_values::{Balance, Entry, Refusal, Stage};
 

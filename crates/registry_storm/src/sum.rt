@@ -1,8 +1,7 @@
 //! What a storm counts.
 
 ghost use Rattle.std.specs.Prelude.{◌≡◌, ◌+◌, ◌<◌, ◌≤◌, ◌^◌, IsTrue};
-ghost use Rattle.registry_storm.specs.Judging.{IsJudged};
-ghost use Rattle.registry_storm.specs.Sums.{AreAdded, AreDeedsAdded, IsAdded};
+ghost use Rattle.registry_storm.specs.Storms.{IsJudged, AreAdded, AreDeedsAdded, IsAdded};
 
 /// What all workers of a storm did together.
 #[derive(Clone, Copy, Debug, PartialEq, Eq)]

@@ -1,7 +1,7 @@
 //! A worker: its turns on its own CPU.
 
 ghost use Rattle.std.specs.Prelude.{◌≡◌, ◌≢◌, ◌+◌, ◌*◌, ◌<◌, ◌≤◌, ◌^◌, None};
-ghost use Rattle.registry_storm.specs.Judging.{GoesOn};
+ghost use Rattle.registry_storm.specs.Storms.{GoesOn};
 
 use crate::baskets::{Baskets, Laid, give_back};
 use crate::calls::{

@@ -1,10 +1,5 @@
 pub mod Answers
-pub mod Balances
 pub mod Common
-pub mod Ids
 pub mod Limits
-pub mod Marks
 pub mod Names
-pub mod Refusals
 pub mod Slots
-pub mod Stages

@@ -1,7 +1,7 @@
 //! What an audit says of an entry, and what its count words say.
 
 ghost use Rattle.std.specs.Prelude.{◌≡◌, ◌<◌, ◌≤◌, ◌*◌, ◌^◌, ◌≤ℤ◌, ℕ, neg_ℤ, pos, length, slice_index_or};
-ghost use Rattle.registry_values.specs.Balances.{less_bias, local_of, sum_of};
+ghost use Rattle.registry_values.specs.Answers.{less_bias, local_of, sum_of};
 
 use crate::limits::{BIAS, MOST_CPUS};
 

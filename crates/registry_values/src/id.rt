@@ -1,8 +1,7 @@
 //! Ids as names: any number of 64 bits, such as an index, an address or a hash, has a name of 13 bytes.
 
 ghost use Rattle.std.specs.Prelude.{◌≡◌, ◌%◌, ◌≤◌, IsTrue, length};
-ghost use Rattle.registry_values.specs.Names.{is_lawful, is_key};
-ghost use Rattle.registry_values.specs.Ids.{digit_byte, digit_value, id_bytes, id_of_bytes, value_of, said_by, name_of_id, id_of_name, IdsComeBack, NamesComeBack};
+ghost use Rattle.registry_values.specs.Names.{is_lawful, is_key, digit_byte, digit_value, id_bytes, id_of_bytes, value_of, said_by, name_of_id, id_of_name, IdsComeBack, NamesComeBack};
 
 use crate::name::{Name, bytes_of};
 
@@ -16,7 +15,7 @@ pub fn name_of_id(id: u64) -> Name
 }
 
 /// The id that has this name; `None` if none has.
-#[tactic(auto, unfolding(crate::specs::Ids::id_of_name))]
+#[tactic(auto, unfolding(crate::specs::Names::id_of_name))]
 pub fn id_of_name(name: Name) -> Option<u64>
     ensures { result ≡ id_of_name name }
 {

@@ -2,7 +2,7 @@
 //! out of a section, for a wait that is for no entry.
 
 ghost use Rattle.std.specs.Prelude.{◌≡◌, ◌≤◌, false, not, slice_index_or};
-ghost use Rattle.registry_values.specs.Marks.{least_below, mark_after_look, mark_after_passive_look, mark_after_collect, is_out, has_changed, have_passed, are_clear, are_collected, is_some_collected};
+ghost use Rattle.registry_values.specs.Slots.{least_below, mark_after_look, mark_after_passive_look, mark_after_collect, is_out, has_changed, have_passed, are_clear, are_collected, is_some_collected};
 
 use crate::limits::MOST_CPUS;
 

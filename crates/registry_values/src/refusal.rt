@@ -1,7 +1,7 @@
 //! Why a call was refused.
 
 ghost use Rattle.std.specs.Prelude.{◌≡◌};
-ghost use Rattle.registry_values.specs.Refusals.{number_of_refusal};
+ghost use Rattle.registry_values.specs.Answers.{number_of_refusal};
 
 use crate::stage::Stage;
 use thiserror::Error;

@@ -1,7 +1,7 @@
 //! How far the destruction of a retired entry has come.
 
 ghost use Rattle.std.specs.Prelude.{◌≡◌, None};
-ghost use Rattle.registry_values.specs.Stages.{destroy_result, stage_of};
+ghost use Rattle.registry_values.specs.Answers.{destroy_result, stage_of};
 
 use crate::refusal::Refusal;
 

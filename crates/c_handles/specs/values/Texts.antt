@@ -1,12 +1,75 @@
--- Names from bytes, and what an answer says.
-use Rattle.std.specs.Prelude.{◌≡◌, ◌≢◌, ◌⊎◌, ℕ, suc, ◌-◌, ◌<◌, ◌≤◌, List, [], length, get_or, Option, Some, None, Result, Ok, Err}
-use Rattle.c_handles.specs.values.Types.{Name, NameFault, Empty, TooLong, BadByte}
-use Rattle.registry_values.specs.Common.{name_of_bytes}
-use Rattle.registry_values.specs.Ids.{id_of_name}
-use Rattle.c_handles.specs.declared.values.plain.TheConstants.{BAD_NAME, DONE, NAME_EMPTY, NAME_TOO_LONG, NAME_BAD_BYTE, NULL}
+-- What crosses to C by the registry's own values: entries, settings, the numbers of a wait, names from bytes, and what an answer says.
+use Rattle.std.specs.Prelude.{ℕ, ◌==◌, if◌then◌else◌, Option, Some, None, Result, Ok, Err, Bool, not, ◌≡◌, ◌≢◌, ◌⊎◌, suc, ◌-◌, ◌<◌, ◌≤◌, List, [], length, get_or}
+use Rattle.c_handles.specs.Types.{Entry, Kind, Iface, Driver, Name, NameFault, Empty, TooLong, BadByte, Refusal, Settings, Stage, Grace, Passive, Local, Freed}
+use Rattle.registry_values.specs.Common.{number_of_refusal, kind_word, name_of_bytes}
+use Rattle.registry_values.specs.Names.{id_of_name}
+use Rattle.c_handles.specs.declared.values.plain.TheConstants.{DONE, NAME_EMPTY, NAME_TOO_LONG, NAME_BAD_BYTE, BAD_NAME, NULL}
+use Rattle.c_handles.specs.declared.values.plain.CEntry.{CEntry}
 use Rattle.c_handles.specs.declared.values.plain.CName.{CName}
+use Rattle.c_handles.specs.declared.values.plain.CSettings.{CSettings}
+use Rattle.c_handles.specs.declared.values.plain.CStage.{CStage}
+use Rattle.c_handles.specs.declared.values.wait.TheConstants.{BEGUN}
+use Rattle.c_handles.specs.declared.values.wait.CWait.{CWait}
 use Rattle.c_handles.specs.values.Places.{put}
-use Rattle.c_handles.specs.values.Values.{name_in, name_out}
+
+-- the number of an answer
+abbrev pub number_of : {X : Type 0} → Result X Refusal → ℕ
+number_of (Ok x) = DONE
+number_of (Err refusal) = number_of_refusal refusal
+
+-- the number of a fault
+abbrev pub fault_of : NameFault → ℕ
+fault_of Empty = NAME_EMPTY
+fault_of TooLong = NAME_TOO_LONG
+fault_of (BadByte place) = NAME_BAD_BYTE
+
+-- the kind of a word
+abbrev pub kind_in : ℕ → Option Kind
+kind_in word = if word == 1 then Some Iface else (if word == 2 then Some Driver else None)
+
+-- From C, and to C
+
+abbrev pub name_in : CName → Name
+name_in n = record { high = n.high; low = n.low }
+
+abbrev pub name_out : Name → CName
+name_out n = record { high = n.high; low = n.low }
+
+abbrev pub settings_in : CSettings → Settings
+settings_in z = record { cpus = z.cpus; slots = z.slots; change_limit = z.change_limit; section_limit = z.section_limit; passive_limit = z.passive_limit; count_limit = z.count_limit }
+
+abbrev pub settings_out : Settings → CSettings
+settings_out z = record { cpus = z.cpus; slots = z.slots; change_limit = z.change_limit; section_limit = z.section_limit; passive_limit = z.passive_limit; count_limit = z.count_limit }
+
+abbrev pub entry_out : Entry → CEntry
+entry_out e = record { number = e.number; slot = e.slot; kind = kind_word e.rec.kind; name = name_out e.rec.name; value = e.rec.value }
+
+abbrev pub stage_out : Stage → CStage
+stage_out (Grace cpu) = record { stage = 0; what = cpu }
+stage_out (Passive cpu) = record { stage = 1; what = cpu }
+stage_out (Local held) = record { stage = 2; what = held }
+stage_out (Freed slot) = record { stage = 3; what = slot }
+
+-- The numbers in which a wait keeps entries and CPUs, and the one that says that it was begun.
+
+-- an entry's number, or 0 for none
+abbrev pub number_or_none : Option ℕ → ℕ
+number_or_none None = 0
+number_or_none (Some n) = n
+
+abbrev pub none_or_number : ℕ → Option ℕ
+none_or_number n = if n == 0 then None else Some n
+
+abbrev pub flag_of : Bool → ℕ
+flag_of seen = if seen then 1 else 0
+
+abbrev pub is_set : ℕ → Bool
+is_set n = not (n == 0)
+
+abbrev pub is_begun : CWait → Bool
+is_begun wait = wait.begun == BEGUN
+
+-- Names from bytes, and what an answer says.
 
 -- what is answered and written of a name, or of the first fault
 abbrev pub WritesName : Result Name NameFault → ℕ → Option CName → Option CName → Option ℕ → Option ℕ → Type 0

@@ -3,7 +3,7 @@
 ghost use Rattle.std.specs.Prelude.{◌≡◌, Option, Some, None, true, false};
 ghost use Rattle.std.specs.Option.{MatchOption};
 ghost use Rattle.std.specs.Borrow.{LendsIf, sem};
-ghost use Rattle.c_handles.specs.heap.Lent.{IsLent};
+ghost use Rattle.c_handles.specs.Heap.{IsLent};
 
 use crate::heap::Held;
 use std::alloc::Global;
@@ -18,7 +18,7 @@ pub struct Handle<T> {
 }
 
 impl<T> Model for Handle<T> {
-    ghost use Rattle.c_handles.specs.heap.Handles.{holds};
+    ghost use Rattle.c_handles.specs.Heap.{holds};
 
     ghost also_owns = { λ h. holds T.row h.at h.body };
 }

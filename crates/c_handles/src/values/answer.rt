@@ -86,8 +86,7 @@ pub struct IdAnswer {
 
 impl Model for IdAnswer {
     ghost use base.Fml.{fsep};
-    ghost use Rattle.c_handles.specs.values.Given.{gives_name};
-    ghost use Rattle.c_handles.specs.values.Lent.{lends_number};
+    ghost use Rattle.c_handles.specs.values.Lent.{gives_name, lends_number};
 
     ghost also_owns = { λ a. fsep (lends_number a.place.at a.place.value) (gives_name a.name.share a.name.at a.name.name) };
 }
@@ -102,8 +101,7 @@ pub struct NamedAnswer {
 
 impl Model for NamedAnswer {
     ghost use base.Fml.{fsep};
-    ghost use Rattle.c_handles.specs.values.Given.{gives_name};
-    ghost use Rattle.c_handles.specs.values.Lent.{lends_entry};
+    ghost use Rattle.c_handles.specs.values.Lent.{gives_name, lends_entry};
 
     ghost also_owns = { λ a. fsep (lends_entry a.place.at a.place.value) (gives_name a.name.share a.name.at a.name.name) };
 }
@@ -160,8 +158,7 @@ pub struct BytesAnswer {
 
 impl Model for BytesAnswer {
     ghost use base.Fml.{fsep};
-    ghost use Rattle.c_handles.specs.values.Given.{gives_bytes};
-    ghost use Rattle.c_handles.specs.values.Lent.{lends_name, lends_number};
+    ghost use Rattle.c_handles.specs.values.Lent.{gives_bytes, lends_name, lends_number};
 
     ghost also_owns = { λ a. fsep (fsep (lends_number a.place.at a.place.value) (lends_name a.name.at a.name.value)) (gives_bytes a.bytes.share a.bytes.at a.bytes.bytes) };
 }
@@ -202,7 +199,7 @@ pub struct OpenAnswer {
 }
 
 impl Model for OpenAnswer {
-    ghost use Rattle.c_handles.specs.values.Given.{gives_settings};
+    ghost use Rattle.c_handles.specs.values.Lent.{gives_settings};
 
     ghost also_owns = { λ a. gives_settings a.settings.share a.settings.at a.settings.settings };
 }

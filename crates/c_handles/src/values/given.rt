@@ -19,7 +19,7 @@ pub struct GivenName {
 }
 
 impl Model for GivenName {
-    ghost use Rattle.c_handles.specs.values.Given.{gives_name};
+    ghost use Rattle.c_handles.specs.values.Lent.{gives_name};
 
     ghost also_owns = { λ g. gives_name g.share g.at g.name };
 }
@@ -47,13 +47,13 @@ pub struct GivenBytes {
 }
 
 impl Model for GivenBytes {
-    ghost use Rattle.c_handles.specs.values.Given.{gives_bytes};
+    ghost use Rattle.c_handles.specs.values.Lent.{gives_bytes};
 
     ghost also_owns = { λ g. gives_bytes g.share g.at g.bytes };
 }
 
 impl GivenBytes {
-    ghost use Rattle.c_handles.specs.heap.Rows.{IsWithin, is_nothing, number_at};
+    ghost use Rattle.c_handles.specs.Heap.{IsWithin, is_nothing, number_at};
 
     /// Whether there are none.
     pub fn is_null(&mut self) -> bool
@@ -82,7 +82,7 @@ pub struct GivenSettings {
 }
 
 impl Model for GivenSettings {
-    ghost use Rattle.c_handles.specs.values.Given.{gives_settings};
+    ghost use Rattle.c_handles.specs.values.Lent.{gives_settings};
 
     ghost also_owns = { λ g. gives_settings g.share g.at g.settings };
 }

@@ -29,7 +29,7 @@ impl Model for FlagPlace {
 
 impl FlagPlace {
     ghost use Rattle.std.specs.Borrow.{LendsIf, bool, sem};
-    ghost use Rattle.c_handles.specs.heap.Lent.{IsLent};
+    ghost use Rattle.c_handles.specs.Heap.{IsLent};
     ghost use Rattle.c_handles.specs.values.Places.{filled_flag, flag_place, put};
 
     fn value_mut(&mut self) -> Option<&mut bool>
@@ -77,7 +77,7 @@ impl Model for NumberPlace {
 
 impl NumberPlace {
     ghost use Rattle.std.specs.Borrow.{LendsIf, sem, u64};
-    ghost use Rattle.c_handles.specs.heap.Lent.{IsLent};
+    ghost use Rattle.c_handles.specs.Heap.{IsLent};
     ghost use Rattle.c_handles.specs.values.Places.{filled_number, number_place, put};
 
     fn value_mut(&mut self) -> Option<&mut u64>
@@ -125,7 +125,7 @@ impl Model for EntryPlace {
 
 impl EntryPlace {
     ghost use Rattle.std.specs.Borrow.{LendsIf, sem};
-    ghost use Rattle.c_handles.specs.heap.Lent.{IsLent};
+    ghost use Rattle.c_handles.specs.Heap.{IsLent};
     ghost use Rattle.c_handles.specs.values.Places.{entry_place, entry_row, filled_entry, put};
 
     fn value_mut(&mut self) -> Option<&mut CEntry>
@@ -173,7 +173,7 @@ impl Model for SettingsPlace {
 
 impl SettingsPlace {
     ghost use Rattle.std.specs.Borrow.{LendsIf, sem};
-    ghost use Rattle.c_handles.specs.heap.Lent.{IsLent};
+    ghost use Rattle.c_handles.specs.Heap.{IsLent};
     ghost use Rattle.c_handles.specs.values.Places.{filled_settings, settings_place, settings_row, put};
 
     fn value_mut(&mut self) -> Option<&mut CSettings>
@@ -221,7 +221,7 @@ impl Model for StagePlace {
 
 impl StagePlace {
     ghost use Rattle.std.specs.Borrow.{LendsIf, sem};
-    ghost use Rattle.c_handles.specs.heap.Lent.{IsLent};
+    ghost use Rattle.c_handles.specs.Heap.{IsLent};
     ghost use Rattle.c_handles.specs.values.Places.{filled_stage, stage_place, stage_row, put};
 
     fn value_mut(&mut self) -> Option<&mut CStage>
@@ -269,7 +269,7 @@ impl Model for NamePlace {
 
 impl NamePlace {
     ghost use Rattle.std.specs.Borrow.{LendsIf, sem};
-    ghost use Rattle.c_handles.specs.heap.Lent.{IsLent};
+    ghost use Rattle.c_handles.specs.Heap.{IsLent};
     ghost use Rattle.c_handles.specs.values.Places.{filled_name, name_place, name_row, put};
 
     fn value_mut(&mut self) -> Option<&mut CName>
@@ -316,7 +316,7 @@ impl Model for WaitPlace {
 
 impl WaitPlace {
     ghost use Rattle.std.specs.Borrow.{LendsIf, sem};
-    ghost use Rattle.c_handles.specs.heap.Lent.{IsLent};
+    ghost use Rattle.c_handles.specs.Heap.{IsLent};
     ghost use Rattle.c_handles.specs.values.Places.{filled_wait, wait_place, wait_row};
 
     /// The wait, if there is one, in its place: a call works on it there.

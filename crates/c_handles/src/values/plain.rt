@@ -2,7 +2,7 @@
 
 ghost use Rattle.std.specs.Prelude.{◌≡◌, IfOk, IfErr, false};
 ghost use Rattle.registry_values.specs.Common.{are_fit, number_of_refusal};
-ghost use Rattle.c_handles.specs.values.Values.{entry_out, fault_of, kind_in, name_in, name_out, number_of, settings_in, settings_out, stage_out};
+ghost use Rattle.c_handles.specs.values.Texts.{entry_out, fault_of, kind_in, name_in, name_out, number_of, settings_in, settings_out, stage_out};
 
 use registry_values::{
     Entry, Kind, MOST_CPUS, MOST_SLOTS, Name, NameFault, Refusal, Settings, Stage, kind_word,

@@ -1,7 +1,7 @@
 //! Rows of C's own that a call writes to: a pointer, whose length is passed beside it. At null there is none.
 
 ghost use Rattle.std.specs.Prelude.{◌≡◌, List, Option, Some, ℕ};
-ghost use Rattle.c_handles.specs.heap.Rows.{IsThere, is_nothing};
+ghost use Rattle.c_handles.specs.Heap.{IsThere, is_nothing};
 ghost use Rattle.c_handles.specs.declared.values.plain.CBalance.{CBalance};
 ghost use Rattle.c_handles.specs.declared.values.plain.CEntry.{CEntry};
 

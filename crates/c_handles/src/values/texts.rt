@@ -1,11 +1,10 @@
 //! Names from bytes and from ids, and what an answer says: calls that need no handle.
 
 ghost use Rattle.std.specs.Prelude.{◌≡◌, ◌-◌, ◌<◌, ◌≤◌, length, take, Some};
-ghost use Rattle.c_handles.specs.heap.Rows.{IsLong, IsThere};
-ghost use Rattle.registry_values.specs.Ids.{name_of_id};
+ghost use Rattle.c_handles.specs.Heap.{IsLong, IsThere};
+ghost use Rattle.registry_values.specs.Names.{name_of_id};
 ghost use Rattle.c_handles.specs.values.Places.{put};
-ghost use Rattle.c_handles.specs.values.Texts.{IsAnswer, IsWritten, Parses, ParsesGiven, TellsBy, TellsId};
-ghost use Rattle.c_handles.specs.values.Values.{name_out};
+ghost use Rattle.c_handles.specs.values.Texts.{IsAnswer, IsWritten, Parses, ParsesGiven, TellsBy, TellsId, name_out};
 
 use crate::values::answer::{BytesAnswer, IdAnswer, NameAnswer, TextAnswer};
 use crate::values::given::{GivenBytes, GivenName};

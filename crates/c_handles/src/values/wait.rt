@@ -1,7 +1,7 @@
 //! A wait for open sections, as C keeps it between two turns.
 
 ghost use Rattle.std.specs.Prelude.{◌≡◌, map};
-ghost use Rattle.c_handles.specs.values.Flags.{flag_of, is_begun, is_set, none_or_number, number_or_none};
+ghost use Rattle.c_handles.specs.values.Texts.{flag_of, is_begun, is_set, none_or_number, number_or_none};
 
 use registry_values::{MOST_CPUS, MOST_SLOTS};
 

@@ -9,16 +9,10 @@ use Rattle.protocol.specs.Common.{IsAttached, State, hand_at, local_at, step, nu
 use Rattle.protocol.proofs.counts.Bounds.{back_within}
 use Rattle.protocol.proofs.keeps.References.{back_holds}
 use Rattle.protocol.proofs.counts.Sums.{one_at, local_changed, local_added, standing_within}
-use Rattle.cpu_words.proofs.laws.Reaching.{more}
-use Rattle.cpu_words.proofs.logs.Seats.{tells_nothing, names_nobody, seat_cut, seat_join}
-use Rattle.cpu_words.proofs.shown.Standing.{standing_place}
-use Rattle.cpu_words.specs.Common.{InHand, CpuView, ReferenceView, LogItem, Logged, View, Cpu, Reference, Spent, Spot, section_of, passive_of, count_of, head_word, live_of, next_of, record_of, total_of}
-use Rattle.cpu_words.specs.Common.{word_at, is_to, SameHand, HandFits, IsCollectedFor, CpuShown, ReferenceShown, cpu_of, reference_of, reference_to, Good, number_or_none, number_of_id, by_number, did}
-use Rattle.cpu_words.specs.Common.{log_of_events, the_cpu, maker, LoggedRuled, logged_after_split, no_log, no_teller, fresh, joined_seat, spent_seat, leaves_hand, cuts_off, takes_in, SplitsBy}
-use Rattle.cpu_words.specs.Common.{JoinsBy, SplitsOn, JoinsOn, IsIdle, with_hand, reference_in, with_empty_hand, reference_of_hand, with_reference_in_hand, IsTaking, IsBack, IsTrying, trying_in}
-use Rattle.cpu_words.specs.Common.{HasNone, is_border, is_hear}
+use Rattle.cpu_words.proofs.shown.Showing.{more, standing_place, standing_in, backed, shows_split, shows_join}
+use Rattle.cpu_words.proofs.logs.Logs.{tells_nothing, names_nobody, seat_cut, seat_join}
+use Rattle.cpu_words.specs.Common.{InHand, CpuView, ReferenceView, LogItem, Logged, View, Cpu, Reference, Spent, Spot, section_of, passive_of, count_of, head_word, live_of, next_of, record_of, total_of, word_at, is_to, SameHand, HandFits, IsCollectedFor, CpuShown, ReferenceShown, cpu_of, reference_of, reference_to, Good, number_or_none, number_of_id, by_number, did, log_of_events, the_cpu, maker, LoggedRuled, logged_after_split, no_log, no_teller, fresh, joined_seat, spent_seat, leaves_hand, cuts_off, takes_in, SplitsBy, JoinsBy, SplitsOn, JoinsOn, IsIdle, with_hand, reference_in, with_empty_hand, reference_of_hand, with_reference_in_hand, IsTaking, IsBack, IsTrying, trying_in, HasNone, is_border, is_hear}
 use Rattle.cpu_words.specs.declared.view.InHand.TheVariants.{Empty as NoEntry, Taking as TakingEntry, Giving as GivingEntry, Back as BackEntry, Trying as TryingEntry}
-use Rattle.cpu_words.proofs.shown.Showing.{standing_in, backed, shows_split, shows_join}
 use Rattle.cpu_words.proofs.shown.Placing.{agrees_same}
 use Rattle.cpu_words.proofs.by_cpu.CpuSteps.{CpuLists, lists_of, with_lists, LeavesOthers, cpu_stays, good_after}
 use Rattle.cpu_words.proofs.shown.Seeing.{seen_of, idle_of, idle_tries}

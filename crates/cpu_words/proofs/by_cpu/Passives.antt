@@ -11,18 +11,13 @@ use Rattle.atomic_table.specs.Table.{State as Table, keeps, stepped}
 use Rattle.cpu_words.specs.Types.{Entry, Change, Settings, MOST_SLOTS, Event, PassiveAdd, PassiveSub, LoadRecord, Passive, Word}
 use Rattle.protocol.specs.Common.{IsAttached, State, with_cell, begin_at, depth_at, seen_at, found_at, row_at, passive_at, step, is_number, after_add, after_sub, word, IsIn, Occupies}
 use Rattle.registry_values.specs.Common.{slot_at, slot_of}
-use Rattle.protocol.proofs.history.History.{one_entry}
-use Rattle.protocol.proofs.slots.Cells.{cell_here, cell_other}
-use Rattle.protocol.proofs.slots.Occupied.{attached_in, one_in, in_within, one_number, slot_occupied, slot_found}
-use Rattle.protocol.proofs.slots.Numbers.{slot_number}
-use Rattle.cpu_words.specs.Common.{CpuView, LogItem, View, Cpu, Spot, section_of, passive_of, count_of, head_word, live_of, next_of, record_of, total_of, word_at, index, cpu_view, depth_of}
-use Rattle.cpu_words.specs.Common.{references_to, trying_in, without, CpuShown, cpu_of, Agrees, Good, Ruled, GoesOn, by_number, did, Makes, CpuMay, IsIdle, MayAdd, MayUse, HasSubtracted, IsAloneAt, tells_added}
-use Rattle.cpu_words.specs.Common.{tells_subtracted, tells_passive}
+use Rattle.protocol.proofs.History.{one_entry}
+use Rattle.protocol.proofs.Cells.{cell_here, cell_other, slot_number}
+use Rattle.protocol.proofs.Occupied.{attached_in, one_in, in_within, one_number, slot_occupied, slot_found}
+use Rattle.cpu_words.specs.Common.{CpuView, LogItem, View, Cpu, Spot, section_of, passive_of, count_of, head_word, live_of, next_of, record_of, total_of, word_at, index, cpu_view, depth_of, references_to, trying_in, without, CpuShown, cpu_of, Agrees, Good, Ruled, GoesOn, by_number, did, Makes, CpuMay, IsIdle, MayAdd, MayUse, HasSubtracted, IsAloneAt, tells_added, tells_subtracted, tells_passive}
 use Rattle.cpu_words.proofs.shown.Placing.{agrees_set}
-use Rattle.cpu_words.proofs.shown.Passes.{attached_prefix, taken_is_prefix}
-use Rattle.cpu_words.proofs.by_cpu.CpuSteps.{CpuLists, lists_of, with_lists, LeavesOthers, cpu_makes}
-use Rattle.cpu_words.proofs.by_cpu.Reading.{row_word, keeps_view}
-use Rattle.cpu_words.proofs.shown.Seeing.{Seen, seen_of, idle_of, idle_tries}
+use Rattle.cpu_words.proofs.shown.Seeing.{attached_prefix, taken_is_prefix, Seen, seen_of, idle_of, idle_tries}
+use Rattle.cpu_words.proofs.by_cpu.CpuSteps.{CpuLists, lists_of, with_lists, LeavesOthers, cpu_makes, row_word, keeps_view}
 use Rattle.cpu_words.proofs.shown.ReferenceLists.{to_same, to_other, in_cons, counts, one_less, others_stay, was_in}
 
 -- The entries that a CPU may refer to

@@ -1,6 +1,5 @@
 -- An entry is recalled, on the words.
-use Rattle.std.proofs.Common.{◌≡◌, ◌≢◌, inl, ⊎_elim, ℕ, zero, suc, ◌≤◌, ◌<◌, ◌&&◌, ◌==◌, nat_lt, if◌then◌else◌, List, [], length, take, get_or, set, Option, Some, None, is_none, is_some, Bool, true, refl, sym, ap}
-use Rattle.std.proofs.Common.{◌∙◌, subst, arith, get_or-set_same, get_or-set_other}
+use Rattle.std.proofs.Common.{◌≡◌, ◌≢◌, inl, ⊎_elim, ℕ, zero, suc, ◌≤◌, ◌<◌, ◌&&◌, ◌==◌, nat_lt, if◌then◌else◌, List, [], length, take, get_or, set, Option, Some, None, is_none, is_some, Bool, true, refl, sym, ap, ◌∙◌, subst, arith, get_or-set_same, get_or-set_other}
 use Rattle.std.proofs.lemmas.Bool.{and_from, lt-ltb, eq-eqb, ne_eqb, cases_eq}
 use Rattle.std.proofs.lemmas.Option.{same_Some}
 use Rattle.std.specs.Prelude.{slice_index}
@@ -9,17 +8,14 @@ use mathlib.Core.List.{IsPrefix}
 use lib.ListN.{get_elem?}
 use Rattle.atomic_table.specs.Table.{State as Table, keeps, stepped}
 use Rattle.cpu_words.specs.Types.{Entry, Change, Settings, Event, Recall, RecallHead, Refind, Word, Live}
-use Rattle.protocol.specs.Common.{IsAttached, IsLiveAt, IsNewestAt, State, guard, some_outcome, after_refind, after_seeing, is_honest, is_inside, live_at, may_recall, may_recall_head, may_refind, refind}
-use Rattle.protocol.specs.Common.{begin_at, found_at, seen_at, search_at, step}
+use Rattle.protocol.specs.Common.{IsAttached, IsLiveAt, IsNewestAt, State, guard, some_outcome, after_refind, after_seeing, is_honest, is_inside, live_at, may_recall, may_recall_head, may_refind, refind, begin_at, found_at, seen_at, search_at, step}
 use Rattle.registry_values.specs.Common.{slot_at}
-use Rattle.protocol.proofs.history.History.{at_within, one_entry}
+use Rattle.protocol.proofs.History.{at_within, one_entry}
 use Rattle.protocol.proofs.keeps.CountKeeps.{live_tells}
 use Rattle.protocol.proofs.runs.Fresh.{head_newest, honest_tells, live_is}
-use Rattle.protocol.proofs.slots.Occupied.{in_within}
-use Rattle.cpu_words.specs.Common.{CpuView, View, Keeper, Cpu, head_word, live_of, index, cpu_view, cpu_of, depth_of, CpuShown, Good, Ruled, GoesOn, by_number, did, Makes, CpuMay, LivesShow}
-use Rattle.cpu_words.specs.Common.{HasRefound, HasWholePass, IsLiveNumber, IsRefound, MayRecall, MayRefind, RecalledTold, RefindTold, event_by}
-use Rattle.cpu_words.proofs.shown.Passes.{attached_prefix, prefix_longer, take_whole, taken_is_prefix}
-use Rattle.cpu_words.proofs.shown.Seeing.{seen_of}
+use Rattle.protocol.proofs.Occupied.{in_within}
+use Rattle.cpu_words.specs.Common.{CpuView, View, Keeper, Cpu, head_word, live_of, index, cpu_view, cpu_of, depth_of, CpuShown, Good, Ruled, GoesOn, by_number, did, Makes, CpuMay, LivesShow, HasRefound, HasWholePass, IsLiveNumber, IsRefound, MayRecall, MayRefind, RecalledTold, RefindTold, event_by}
+use Rattle.cpu_words.proofs.shown.Seeing.{attached_prefix, prefix_longer, take_whole, taken_is_prefix, seen_of}
 use Rattle.cpu_words.proofs.by_cpu.CpuSteps.{CpuLists, lists_of, with_lists, same_counts, shown_on, good_after, cpu_makes}
 use Rattle.cpu_words.proofs.by_cpu.Searching.{loaded_words}
 

@@ -1,6 +1,5 @@
 -- The loads of a search on the words.
-use Rattle.std.proofs.Common.{◌++◌, ◌≡◌, ◌≢◌, ℕ, zero, suc, ◌≤◌, ◌<◌, ⊎_elim, List, [], ◌∷◌, length, take, drop, get_or, set, Option, Some, None, refl, sym, ap, ◌∙◌, subst, arith}
-use Rattle.std.proofs.Common.{get_or-set_same, get_or-set_other, set-set}
+use Rattle.std.proofs.Common.{◌++◌, ◌≡◌, ◌≢◌, ℕ, zero, suc, ◌≤◌, ◌<◌, ⊎_elim, List, [], ◌∷◌, length, take, drop, get_or, set, Option, Some, None, refl, sym, ap, ◌∙◌, subst, arith, get_or-set_same, get_or-set_other, set-set}
 use Rattle.std.proofs.lemmas.List.{set-get_or, length-take-le, take-append-drop}
 use Rattle.std.proofs.lemmas.Bool.{cases_lt}
 use Rattle.std.proofs.lemmas.Option.{none-some, same_Some}
@@ -9,30 +8,22 @@ use mathlib.Core.Option.{some, some-ne-none}
 use mathlib.Core.List.{IsPrefix}
 use lib.ListN.{get_elem?}
 use Rattle.atomic_table.specs.Table.{State as Table, keeps, stepped}
-use Rattle.cpu_words.specs.Types.{Name, Kind, Entry, Change, Detach, Settings, Seek, LoadLink, LoadRecord, Compared, Reply, Done, Word, Key, SearchPlace, AtHead, AtNext, AtNumber, AtKind, AtHigh, AtLow, AtValue}
-use Rattle.cpu_words.specs.Types.{RecordWords, Search, Loaded, On, Over, Live, Retired}
+use Rattle.cpu_words.specs.Types.{Name, Kind, Entry, Change, Detach, Settings, Seek, LoadLink, LoadRecord, Compared, Reply, Done, Word, Key, SearchPlace, AtHead, AtNext, AtNumber, AtKind, AtHigh, AtLow, AtValue, RecordWords, Search, Loaded, On, Over, Live, Retired}
 use Rattle.protocol.specs.declared.event.RecordOf.TheVariants.{Search as OfSearch}
-use Rattle.protocol.specs.Common.{IsAttached, EndsAt, IsLiveAt, IsLawful, State, begin_at, seen_at, search_at, found_at, row_at, step, some_outcome, with_some, compared_slot, load_link, link_loaded, load_searched, outcome_of}
-use Rattle.protocol.specs.Common.{word, words_of, loaded_at, loaded_of_name, entry_with, row_of_place, SlotWithin, StandsOn, Leads, To_end, To_entry, Holds, PlaceHolds}
+use Rattle.protocol.specs.Common.{IsAttached, EndsAt, IsLiveAt, IsLawful, State, begin_at, seen_at, search_at, found_at, row_at, step, some_outcome, with_some, compared_slot, load_link, link_loaded, load_searched, outcome_of, word, words_of, loaded_at, loaded_of_name, entry_with, row_of_place, SlotWithin, StandsOn, Leads, To_end, To_entry, Holds, PlaceHolds}
 use Rattle.protocol.specs.History.{change_at}
 use Rattle.registry_values.specs.Common.{are_words_of, slot_at}
 use Rattle.registry_values.proofs.Fit.{ranges}
 use Rattle.protocol.proofs.counts.Bounds.{search_within}
-use Rattle.protocol.proofs.history.History.{at_within}
+use Rattle.protocol.proofs.History.{at_within, at_prefix}
 use Rattle.protocol.proofs.keeps.SearchKeeps.{IsAnswer, AnswersLookup, record_answers}
-use Rattle.protocol.proofs.slots.Cells.{one_in}
+use Rattle.protocol.proofs.Cells.{one_in}
 use Rattle.protocol.proofs.keeps.Searching.{Walks, stands_in, words_stand, search_walks, LinkTells, link_tells, head_ahead, at_next_ahead}
-use Rattle.cpu_words.specs.Common.{CpuView, View, Cpu, Spot, section_of, passive_of, count_of, head_word, live_of, next_of, record_of, total_of, word_at, index, cpu_view, cpu_of, depth_of, CpuShown}
-use Rattle.cpu_words.specs.Common.{Agrees, Good, Ruled, GoesOn, did, Makes, CpuMay, sought, MaySeek, key_with, search_for, cpu_after_seek, search_with_place, MayLoadLink, link_answer, cpu_after_link}
-use Rattle.cpu_words.specs.Common.{LinkHolds, MayStandOn, Descends, SkipsNone, PassTells, HasFollowed, HasLoadedLink, HasSought, IsAtWord, MayLoadSearched, every_word, loaded_of, loaded_answer}
-use Rattle.cpu_words.specs.Common.{cpu_after_record_word, FoundHolds, HasSearched, HasLoadedWord, tells_compared}
-use Rattle.cpu_words.proofs.laws.Reaching.{goes_both}
+use Rattle.cpu_words.specs.Common.{CpuView, View, Cpu, Spot, section_of, passive_of, count_of, head_word, live_of, next_of, record_of, total_of, word_at, index, cpu_view, cpu_of, depth_of, CpuShown, Agrees, Good, Ruled, GoesOn, did, Makes, CpuMay, sought, MaySeek, key_with, search_for, cpu_after_seek, search_with_place, MayLoadLink, link_answer, cpu_after_link, LinkHolds, MayStandOn, Descends, SkipsNone, PassTells, HasFollowed, HasLoadedLink, HasSought, IsAtWord, MayLoadSearched, every_word, loaded_of, loaded_answer, cpu_after_record_word, FoundHolds, HasSearched, HasLoadedWord, tells_compared}
+use Rattle.cpu_words.proofs.shown.Showing.{goes_both}
 use Rattle.cpu_words.proofs.shown.Placing.{agrees_same}
-use Rattle.protocol.proofs.history.History.{at_prefix}
-use Rattle.cpu_words.proofs.shown.Passes.{attached_take, attached_prefix, taken_is_prefix, prefix_longer, take_whole}
-use Rattle.cpu_words.proofs.by_cpu.Reading.{keeps_view}
-use Rattle.cpu_words.proofs.by_cpu.CpuSteps.{CpuLists, lists_of, with_lists, same_counts, shown_on, found_on, cpu_makes}
-use Rattle.cpu_words.proofs.shown.Seeing.{seen_of, idle_of}
+use Rattle.cpu_words.proofs.shown.Seeing.{attached_take, attached_prefix, taken_is_prefix, prefix_longer, take_whole, seen_of, idle_of}
+use Rattle.cpu_words.proofs.by_cpu.CpuSteps.{keeps_view, CpuLists, lists_of, with_lists, same_counts, shown_on, found_on, cpu_makes}
 
 -- a load leaves the words
 pub loaded_words : (z : Settings) (words : List ℕ) (g : State) (l : CpuLists) (i m : ℕ) → slice_index words i ≡ m → Agrees z words g → l.section ≡ g.section → l.passive ≡ g.passive → l.counts ≡ g.counts

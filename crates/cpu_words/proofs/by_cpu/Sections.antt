@@ -6,12 +6,10 @@ use Rattle.std.specs.Prelude.{slice_index}
 use mathlib.Core.List.{IsPrefix}
 use Rattle.cpu_words.specs.Types.{Change, Settings, Enter, Exit, Done}
 use Rattle.protocol.specs.Common.{State, section_at, begin_at, depth_at, seen_at, step}
-use Rattle.cpu_words.specs.Common.{CpuView, Cpu, Spot, section_of, passive_of, count_of, head_word, live_of, next_of, record_of, total_of, word_at, index, cpu_view, depth_of, CpuShown, Agrees, Good}
-use Rattle.cpu_words.specs.Common.{did, Makes, CpuMay, MayEnter, HasEntered, MayExit, HasExited}
+use Rattle.cpu_words.specs.Common.{CpuView, Cpu, Spot, section_of, passive_of, count_of, head_word, live_of, next_of, record_of, total_of, word_at, index, cpu_view, depth_of, CpuShown, Agrees, Good, did, Makes, CpuMay, MayEnter, HasEntered, MayExit, HasExited}
 use Rattle.cpu_words.proofs.shown.Placing.{agrees_set}
-use Rattle.cpu_words.proofs.shown.Passes.{prefix_longer, take_whole}
+use Rattle.cpu_words.proofs.shown.Seeing.{prefix_longer, take_whole, Seen, seen_of, idle_of}
 use Rattle.cpu_words.proofs.by_cpu.CpuSteps.{CpuLists, lists_of, with_lists, same_counts, shown_on, found_on, cpu_makes}
-use Rattle.cpu_words.proofs.shown.Seeing.{Seen, seen_of, idle_of}
 
 -- the words after a step on the CPU's section word
 pub section_words : (z : Settings) (words : List ℕ) (g : State) (x : CpuView) (l : CpuLists) (m : ℕ) → Seen g x → Good g → Agrees z words g → l.passive ≡ g.passive → l.counts ≡ g.counts

@@ -1,6 +1,5 @@
 -- Passive references without a section, on the words.
-use Rattle.std.proofs.Common.{◌≡◌, ◌≢◌, inl, inr, ⊎_elim, ℕ, ◌+◌, ◌-◌, ◌%◌, ◌^◌, ◌<◌, ◌≤◌, ◌&&◌, ◌==◌, nat_le, Bool, true, if◌then◌else◌, List, [], ◌∷◌, length, set, take, get_or, Some, None, is_none, IsTrue, refl, sym, ap}
-use Rattle.std.proofs.Common.{◌∙◌, subst, arith, leb-true, get_or-set_same, get_or-set_other}
+use Rattle.std.proofs.Common.{◌≡◌, ◌≢◌, inl, inr, ⊎_elim, ℕ, ◌+◌, ◌-◌, ◌%◌, ◌^◌, ◌<◌, ◌≤◌, ◌&&◌, ◌==◌, nat_le, Bool, true, if◌then◌else◌, List, [], ◌∷◌, length, set, take, get_or, Some, None, is_none, IsTrue, refl, sym, ap, ◌∙◌, subst, arith, leb-true, get_or-set_same, get_or-set_other}
 use Rattle.std.proofs.lemmas.Bool.{and_from, and_parts, le-leb, lt-ltb, eq-eqb, ne_eqb, cases_eq, cases_lt}
 use Rattle.std.specs.List.{Contains}
 use Rattle.std.specs.Prelude.{slice_index}
@@ -10,21 +9,17 @@ use lib.ListN.{get_elem?}
 use Rattle.atomic_table.specs.Table.{State as Table, keeps, stepped}
 use Rattle.cpu_words.specs.Types.{MOST_COUNT, MOST_SECTIONS, Entry, Change, Settings, Slot, Vacant, Live, Retired, Event, Try, Confirm, TakeBack, Recall, Word, Hand, Empty, Trying}
 use Rattle.registry_values.specs.Common.{are_fit, are_limits_fit, are_sizes_fit, is_within, slot_at}
-use Rattle.protocol.specs.Common.{IsAttached, IsLiveAt, State, with_cell, seen_at, search_at, hand_at, passive_at, trying_of, step, guard, some_outcome, IsIn, Occupies}
-use Rattle.protocol.specs.Common.{after_confirm, confirm, is_honest, has_live, live_at, may_confirm, take_back}
-use Rattle.protocol.proofs.history.History.{at_within, one_entry}
+use Rattle.protocol.specs.Common.{IsAttached, IsLiveAt, State, with_cell, seen_at, search_at, hand_at, passive_at, trying_of, step, guard, some_outcome, IsIn, Occupies, after_confirm, confirm, is_honest, has_live, live_at, may_confirm, take_back}
+use Rattle.protocol.proofs.History.{at_within, one_entry}
 use Rattle.protocol.proofs.keeps.CountKeeps.{trying_tells}
 use Rattle.protocol.proofs.runs.Fresh.{honest_tells, live_is}
-use Rattle.protocol.proofs.slots.Cells.{cell_other}
-use Rattle.protocol.proofs.slots.Occupied.{one_in, one_number}
+use Rattle.protocol.proofs.Cells.{cell_other}
+use Rattle.protocol.proofs.Occupied.{one_in, one_number}
 use Rattle.cpu_words.specs.declared.view.InHand.TheVariants.{Empty as NoEntry, Trying as TryingEntry}
-use Rattle.cpu_words.specs.Common.{InHand, CpuView, View, Cpu, passive_of, live_of, index, cpu_view, depth_of, SameHand, HandFits, trying_in, references_to}
-use Rattle.cpu_words.specs.Common.{CpuShown, cpu_of, Agrees, Good, Ruled, GoesOn, did, Makes, CpuMay, IsIdle}
-use Rattle.cpu_words.specs.Common.{EndTold, HasConfirmed, HasTakenBack, HasTried, IsTrying, MayEndTry, MayTakeBack, MayTry, TriedTold, event_by}
-use Rattle.cpu_words.proofs.shown.Passes.{attached_longer, attached_prefix, number_within, prefix_longer, take_whole, taken_is_prefix}
+use Rattle.cpu_words.specs.Common.{InHand, CpuView, View, Cpu, passive_of, live_of, index, cpu_view, depth_of, SameHand, HandFits, trying_in, references_to, CpuShown, cpu_of, Agrees, Good, Ruled, GoesOn, did, Makes, CpuMay, IsIdle, EndTold, HasConfirmed, HasTakenBack, HasTried, IsTrying, MayEndTry, MayTakeBack, MayTry, TriedTold, event_by}
+use Rattle.cpu_words.proofs.shown.Seeing.{attached_longer, attached_prefix, number_within, prefix_longer, take_whole, taken_is_prefix, Seen, seen_of, idle_of, empty_hand, idle_tries, trying_here, trying_elsewhere}
 use Rattle.cpu_words.proofs.shown.Placing.{agrees_same}
 use Rattle.cpu_words.proofs.shown.ReferenceLists.{to_same, to_other, in_cons, some_of}
-use Rattle.cpu_words.proofs.shown.Seeing.{Seen, seen_of, idle_of, empty_hand, idle_tries, trying_here, trying_elsewhere}
 use Rattle.cpu_words.proofs.by_cpu.CpuSteps.{CpuLists, lists_of, with_lists, LeavesOthers, found_on, cpu_makes}
 use Rattle.cpu_words.proofs.by_cpu.Hands.{handed, same_words, trying_hand}
 use Rattle.cpu_words.proofs.by_cpu.Passives.{held_known, known_in, alone, put, put_here, put_words}

@@ -1,20 +1,222 @@
--- Passive looks and collections on the words.
-use Rattle.std.proofs.Common.{◌≡◌, ◌≢◌, inr, ⊎_elim, ℕ, ◌<◌, List, [], length, get_or, set, Some, Bool, true, false, cond, eq-eqb, ne_eqb, refl, sym, ap, ◌∙◌, subst, arith}
-use Rattle.std.proofs.lemmas.Bool.{lt-ltb, cases_eq}
+-- Snapshots, looks and collections on the words, where a mark of one CPU changes.
+use Rattle.std.proofs.Common.{◌≡◌, ◌≢◌, inr, ⊎_elim, ℕ, zero, suc, ◌+◌, ◌<◌, List, [], ◌∷◌, length, get_or, set, sum_by, Bool, true, if◌then◌else◌, refl, sym, ap, ◌∙◌, subst, arith, Some, None, false, nat_lt, cond, ne_eqb}
+use Rattle.std.specs.List.{zip}
+use Rattle.std.proofs.lemmas.List.Sums.{sum_by-cons}
+use Rattle.std.proofs.lemmas.Bool.{cases_eq, lt-ltb, eq-eqb}
 use Rattle.std.specs.Prelude.{slice_index}
-use Rattle.cpu_words.specs.Types.{Entry, Settings, Slot, Vacant, Retired, Mark, Rest, Adding, PassiveLook, Collect, Word}
-use Rattle.protocol.specs.Common.{State, cell, with_cell, mark_at, passive_at, count_at, step, addition_due_at, is_adding_at}
-use Rattle.registry_values.specs.Common.{no_mark, have_passed, are_clear, mark_after_passive_look, mark_after_collect, slot_at}
+use mathlib.Core.List.{IsPrefix}
+use Rattle.atomic_table.specs.Table.{keeps, stepped}
+use Rattle.cpu_words.specs.Types.{Entry, Mark, Due, Change, Settings, Slot, Retired, Rest, Snapshots, Event, Look, Snapshot, Word, Vacant, Adding, PassiveLook, Collect}
+use Rattle.registry_values.specs.Common.{no_mark, slot_at, mark_after_look, have_passed, are_clear, mark_after_passive_look, mark_after_collect}
 use Rattle.registry_values.proofs.Fit.{ranges}
-use Rattle.protocol.proofs.slots.Cells.{cell_cases, cell_here, cell_other}
-use Rattle.protocol.proofs.counts.HeldSums.{one_self, one_other}
-use Rattle.cpu_words.specs.Common.{KeeperView, Keeper, Spot, section_of, passive_of, count_of, head_word, live_of, next_of, record_of, total_of, word_at, index, keeper_view, KeeperShown}
-use Rattle.cpu_words.specs.Common.{GivesUp, collected_net, collected_one, Agrees, Good, did, Makes, KeeperMay, MayLook, keeper_after_look, MayPassiveLook, LookedPassiveTold, MayCollect, CollectTold}
+use Rattle.protocol.specs.Common.{State, with_cell, cell, mark_at, count_at, total_at, AreRows, IsIn, subtraction_due_at, addition_due_at, is_adding_at, section_at, at_rest, step, snapshot_mark, DueHolds, passive_at}
+use Rattle.protocol.proofs.Cells.{cell_cases, row_here, row_other, cell_here, cell_other}
+use Rattle.protocol.proofs.Occupied.{in_within}
+use Rattle.protocol.proofs.counts.Sums.{one_self, one_other}
+use Rattle.cpu_words.specs.Common.{KeeperView, number_at, keeper_view, KeeperShown, GivesUp, collected_net, collected_one, Good, Keeper, section_of, index, GoesOn, by_number, did, Makes, KeeperMay, MayGlance, MayLook, MaySnapshot, due_next, LookTold, keeper_after_look, Spot, passive_of, count_of, head_word, live_of, next_of, record_of, total_of, word_at, Agrees, MayPassiveLook, LookedPassiveTold, MayCollect, CollectTold}
+use Rattle.cpu_words.proofs.by_keeper.KeeperSteps.{KeeperLists, keeper_lists, with_keeper, leaves_all, keeper_makes, seen_by_keeper, loads, SeenByKeeper}
 use Rattle.cpu_words.proofs.shown.Placing.{agrees_set}
-use Rattle.cpu_words.proofs.by_keeper.KeeperSteps.{KeeperLists, keeper_lists, with_keeper, leaves_all, keeper_makes}
-use Rattle.cpu_words.proofs.by_keeper.KeeperSees.{SeenByKeeper, seen_by_keeper, loads}
-use Rattle.cpu_words.proofs.by_keeper.Marked.{due_alike, same_collected, shown_marked, sum_here, sum_off}
-use Rattle.protocol.proofs.slots.Occupied.{in_within}
+
+-- A mark of one CPU changes: what was collected, and what the keeper's view shows of it.
+
+-- a sum over the marks and net counts of a slot, as one mark changes
+pub sum_marked : (f : Mark × ℕ → ℕ) (ms : List Mark) (ns : List ℕ) (c : ℕ) (m : Mark) → c < length ms → c < length ns
+    → sum_by f (zip (set ms c m) ns) + f (get_or ms c no_mark, get_or ns c 0) ≡ sum_by f (zip ms ns) + f (m, get_or ns c 0)
+sum_marked f [] ns c m lt there = absurd (omega arith)
+sum_marked f (x ∷ ms) [] c m lt there = absurd (omega arith)
+sum_marked f (x ∷ ms) (n ∷ ns) zero m lt there =
+    let a = sum_by-cons f (x, n) (zip ms ns) in
+    let b = sum_by-cons f (m, n) (zip ms ns) in
+    omega arith
+sum_marked f (x ∷ ms) (n ∷ ns) (suc c) m lt there =
+    let a = sum_by-cons f (x, n) (zip ms ns) in
+    let b = sum_by-cons f (x, n) (zip (set ms c m) ns) in
+    let h = sum_marked f ms ns c m (omega arith) (omega arith) in
+    omega arith
+
+pub same_collected : (g : State) (t c : ℕ) (m : Mark) → m.collected ≡ (mark_at g.marks t c).collected → (u d : ℕ) → (mark_at g.marks u d).collected ≡ true
+    → (mark_at (with_cell g.marks t c m) u d).collected ≡ true
+same_collected g t c m same u d is = ⊎_elim
+    (λ (here : (u ≡ t) × (d ≡ c) × (cell no_mark (with_cell g.marks t c m) u d ≡ m)). ap (λ (x : Mark). x.collected) here.2 ∙ same
+    ∙ sym (ap (λ (p : ℕ × ℕ). (mark_at g.marks p.0 p.1).collected) (λ k. (here.0 k, here.1 k))) ∙ is)
+    (λ (off : cell no_mark (with_cell g.marks t c m) u d ≡ cell no_mark g.marks u d). ap (λ (x : Mark). x.collected) off ∙ is)
+    (cell_cases no_mark g.marks t c m u d)
+
+-- of the slot t, and of another slot
+pub sum_here : (f : Mark × ℕ → ℕ) (g : State) (t c : ℕ) (m : Mark) → Good g → t < length g.slots → c < g.settings.cpus
+    → sum_by f (zip (get_or (with_cell g.marks t c m) t []) (get_or g.nets t [])) + f (mark_at g.marks t c, count_at g.nets c t)
+    ≡ sum_by f (zip (get_or g.marks t []) (get_or g.nets t [])) + f (m, count_at g.nets c t)
+sum_here f g t c m good lt cpu =
+    let shape = good.holds.shape in
+    let few = (ranges g.settings good.holds.fit).cpus in
+    let in_marks : t < length g.marks = omega (arith, lt, shape.slots, shape.marks) in
+    let in_nets : t < length g.nets = omega (arith, lt, shape.slots, shape.nets) in
+    let marks = shape.mark_rows t in_marks in
+    let nets = shape.net_rows t in_nets in
+    ap (λ (ms : List Mark). sum_by f (zip ms (get_or g.nets t [])) + f (mark_at g.marks t c, count_at g.nets c t)) (row_here g.marks t c m in_marks)
+    ∙ sum_marked f (get_or g.marks t []) (get_or g.nets t []) c m (omega (arith, marks, few, cpu)) (omega (arith, nets, few, cpu))
+
+pub sum_off : (f : Mark × ℕ → ℕ) (g : State) (t c : ℕ) (m : Mark) (u : ℕ) → u ≢ t
+    → sum_by f (zip (get_or (with_cell g.marks t c m) u []) (get_or g.nets u [])) ≡ sum_by f (zip (get_or g.marks u []) (get_or g.nets u []))
+sum_off f g t c m u off = ap (λ (ms : List Mark). sum_by f (zip ms (get_or g.nets u []))) (row_other g.marks t c m u off)
+
+-- what is due is as much for the total of each slot
+abbrev pub DueAlike : Due → Due → Type 0
+DueAlike due was = (u : ℕ) → (addition_due_at u due ≡ addition_due_at u was) × (is_adding_at u due ≡ is_adding_at u was) × (subtraction_due_at u due ≡ subtraction_due_at u was)
+
+pub due_alike : (due was : Due) → due ≡ was → DueAlike due was
+due_alike due was same u = (ap (addition_due_at u) same, ap (is_adding_at u) same, ap (subtraction_due_at u) same)
+
+-- the marks of t change at c, and not whether it was collected; what is due is as much for each total
+pub gives_up_marked : (g : State) (t c : ℕ) (m : Mark) (due : Due) (given_up : List ℕ) → Good g → c < g.settings.cpus → m.collected ≡ (mark_at g.marks t c).collected → DueAlike due g.due
+    → (u : ℕ) (e : Entry) → IsIn e (slot_at g.slots u) → GivesUp g given_up u e.number → GivesUp (record g { marks = with_cell g.marks t c m; due = due }) given_up u e.number
+gives_up_marked g t c m due given_up good lt same alike u e here was =
+    let a = alike u in
+    ⊎_elim
+    (λ (is : u ≡ t).
+    let lt : t < length g.slots = subst (λ v. v < length g.slots) is (in_within g.slots u e here) in
+    let one = at collected_one (λ x. if x then 1 else 0) (λ x n. refl) lt in
+    let net = at collected_net (λ x. if x then count_at g.nets c t else 0) (λ x n. refl) lt in
+    let p = subst (λ v. sum_by collected_one (zip (get_or (with_cell g.marks t c m) v []) (get_or g.nets v [])) ≡ sum_by collected_one (zip (get_or g.marks v []) (get_or g.nets v []))) (sym is) one in
+    let q = subst (λ v. sum_by collected_net (zip (get_or (with_cell g.marks t c m) v []) (get_or g.nets v [])) ≡ sum_by collected_net (zip (get_or g.marks v []) (get_or g.nets v []))) (sym is) net in
+    omega (arith, was, a.0, a.1, a.2, p, q))
+    (λ (off : u ≢ t).
+    let p = sum_off collected_one g t c m u off in
+    let q = sum_off collected_net g t c m u off in
+    omega (arith, was, a.0, a.1, a.2, p, q))
+    (cases_eq u t)
+  where
+    at : (f : Mark × ℕ → ℕ) (v : Bool → ℕ) → ((x : Mark) (n : ℕ) → f (x, count_at g.nets c t) ≡ v x.collected) → t < length g.slots
+        → sum_by f (zip (get_or (with_cell g.marks t c m) t []) (get_or g.nets t [])) ≡ sum_by f (zip (get_or g.marks t []) (get_or g.nets t []))
+    at f v by lt' =
+        let h = sum_here f g t c m good lt' lt in
+        let old = by (mark_at g.marks t c) 0 in
+        let new = by m 0 in
+        let is = ap v same in
+        omega (arith, h, old, new, is)
+
+-- what the keeper's view shows after such a change
+pub shown_marked : (g : State) (k : KeeperView) (t c : ℕ) (m : Mark) (due : Due) (own : KeeperView) → Good g → KeeperShown g k → c < g.settings.cpus → m.collected ≡ (mark_at g.marks t c).collected
+    → DueAlike due g.due → own.counts ≡ k.counts → own.given_up ≡ k.given_up → own.noted_pass ≡ k.noted_pass
+    → KeeperShown (record g { marks = with_cell g.marks t c m; due = due }) (keeper_view (record g { marks = with_cell g.marks t c m; due = due }) own)
+shown_marked g k t c m due own good had lt same alike counts given_up noted_pass = record {
+  is = refl;
+  counts = λ d u vacant. had.counts d u vacant ∙ ap (λ (x : List (List ℕ)). count_at x d u) (sym counts);
+  sized = ap length counts ∙ had.sized;
+  rows = subst AreRows (sym counts) had.rows;
+  live_total = λ u e live. ap (λ (x : List ℕ). total_at g.totals u + number_at x e.number) given_up ∙ had.live_total u e live;
+  gives_up = λ u e retired. gives_up_marked g t c m due own.given_up good lt same alike u e (inr retired) (subst (λ (x : List ℕ). GivesUp g x u e.number) (sym given_up) (had.gives_up u e retired));
+  later = λ n above. ap (λ (x : List ℕ). number_at x n) given_up ∙ had.later n above;
+  beyond = λ d u past. ⊎_elim
+      (λ (here : (u ≡ t) × (d ≡ c) × (cell no_mark (with_cell g.marks t c m) u d ≡ m)). absurd (let e = here.1 in omega (arith, e, past, lt)))
+      (λ (off : cell no_mark (with_cell g.marks t c m) u d ≡ cell no_mark g.marks u d). ap (λ (x : Mark). x.collected) off ∙ had.beyond d u past)
+      (cell_cases no_mark g.marks t c m u d);
+  honest = had.honest;
+  noted_pass = subst (λ (x : List Change). IsPrefix x g.history) (sym noted_pass) had.noted_pass;
+}
+
+-- Looks and snapshots on the words.
+
+pub look_may : (z : Settings) (k : KeeperView) (t c : ℕ) → MayLook k t c
+    → KeeperMay z k (index z (section_of c)) (λ n. n) (λ n. did (Look (Some t) c) (Word n)) (λ v n l. Makes (Look (Some t) c) (Word n) (Keeper v) (Keeper l) × LookTold (Look (Some t) c) v n l)
+look_may z k t c may s r i at fits =
+    let g = r.g in
+    let had : KeeperShown g k = (r.shows.fits i (Keeper k) at).1 in
+    let seen = seen_by_keeper g k r.good had in
+    let lt : c < g.settings.cpus = omega (arith, may.glance.cpu, ap (λ (a : Settings). a.cpus) seen.settings) in
+    let w = slice_index s.words (index z (section_of c)) in
+    let found : w ≡ section_at g c = r.words.at (section_of c) lt in
+    let e = may.retired.0 in
+    let retired : slot_at g.slots t ≡ Retired e = sym (ap (λ (x : List Slot). slot_at x t) seen.slots) ∙ may.retired.1 in
+    let rest : g.due ≡ Rest = sym seen.due ∙ may.glance.rest in
+    let m : Mark = mark_after_look (mark_at g.marks t c) (section_at g c) in
+    let l : KeeperLists = record (keeper_lists g) { marks = with_cell g.marks t c m } in
+    let own : KeeperView = keeper_after_look k (Look (Some t) c) (Word w) in
+    let made : step g (Look (Some t) c) ≡ Some (record { state = with_keeper g l; reply = Word w }) = rw (rest, retired, lt-ltb c g.settings.cpus lt, found) refl in
+    let shown : KeeperShown (with_keeper g l) (keeper_view (with_keeper g l) own) = shown_marked g k t c m g.due own r.good had lt refl (due_alike g.due g.due refl) refl refl refl in
+    let done = keeper_makes z s r i k (index z (section_of c)) w l (Look (Some t) c) (Word w) own at made (leaves_all g l refl refl refl refl (same_collected g t c m refl)) (λ n. refl) refl shown
+    (loads z _ _ _ _ r.words refl (λ q _. refl)) in
+    let change : keeper_view (with_keeper g l) own ≡ record (keeper_after_look k (Look (Some t) c) (Word w)) { marks = with_cell k.marks t c (mark_after_look (mark_at k.marks t c) w) } =
+    ap (λ n. record (keeper_view g own) { marks = with_cell g.marks t c (mark_after_look (mark_at g.marks t c) n) }) (sym found)
+    ∙ ap (λ (v : KeeperView). record (keeper_after_look v (Look (Some t) c) (Word w)) { marks = with_cell v.marks t c (mark_after_look (mark_at v.marks t c) w) }) (sym had.is) in
+    (Keeper (keeper_view (with_keeper g l) own), done.0, (refl, (done.1, change)))
+
+-- a load of a section word for no entry
+glance_may : (z : Settings) (k : KeeperView) (c : ℕ) (e : Event) → MayGlance k c
+    → ((g : State) → at_rest g.due ≡ true → nat_lt c g.settings.cpus ≡ true → (step g e ≡ Some (record { state = g; reply = Word (section_at g c) })) × (by_number g e ≡ e))
+    → KeeperMay z k (index z (section_of c)) (λ n. n) (λ n. did e (Word n)) (λ v n l. Makes e (Word n) (Keeper v) (Keeper l) × (l ≡ keeper_after_look v e (Word n)))
+glance_may z k c e may steps s r i at fits =
+    let g = r.g in
+    let had : KeeperShown g k = (r.shows.fits i (Keeper k) at).1 in
+    let seen = seen_by_keeper g k r.good had in
+    let lt : c < g.settings.cpus = omega (arith, may.cpu, ap (λ (a : Settings). a.cpus) seen.settings) in
+    let w = slice_index s.words (index z (section_of c)) in
+    let found : w ≡ section_at g c = r.words.at (section_of c) lt in
+    let l = keeper_lists g in
+    let own : KeeperView = keeper_after_look k e (Word w) in
+    let steps_here = steps g (ap at_rest (sym seen.due ∙ may.rest)) (lt-ltb c g.settings.cpus lt) in
+    let made : step g e ≡ Some (record { state = with_keeper g l; reply = Word w }) = steps_here.0 ∙ ap (λ n. Some (record { state = g; reply = Word n })) (sym found) in
+    let shown : KeeperShown (with_keeper g l) (keeper_view (with_keeper g l) own) =
+    record {
+      is = refl;
+      counts = had.counts;
+      sized = had.sized;
+      rows = had.rows;
+      live_total = had.live_total;
+      gives_up = had.gives_up;
+      later = had.later;
+      beyond = had.beyond;
+      honest = had.honest;
+      noted_pass = had.noted_pass;
+    } in
+    let done = keeper_makes z s r i k (index z (section_of c)) w l e (Word w) own at made (leaves_all g l refl refl refl refl (λ t d is. is)) (λ n. refl) refl shown
+    (loads z _ _ _ _ r.words refl (λ q _. refl)) in (
+      Keeper (keeper_view (with_keeper g l) own),
+      subst (λ (f : Event). GoesOn z s r (did f (Word w)) (stepped s (index z (section_of c)) w i [] (Keeper (keeper_view (with_keeper g l) own)) keeps)) steps_here.1 done.0,
+      (refl, (done.1, ap (λ (v : KeeperView). keeper_after_look v e (Word w)) (sym had.is))),
+    )
+
+pub look_now_may : (z : Settings) (k : KeeperView) (c : ℕ) → MayGlance k c
+    → KeeperMay z k (index z (section_of c)) (λ n. n) (λ n. did (Look None c) (Word n)) (λ v n l. Makes (Look None c) (Word n) (Keeper v) (Keeper l) × LookTold (Look None c) v n l)
+look_now_may z k c may = glance_may z k c (Look None c) may (λ g rest lt. (rw (rest, lt) refl, refl))
+
+pub snapshot_now_may : (z : Settings) (k : KeeperView) (c : ℕ) → MayGlance k c
+    → KeeperMay z k (index z (section_of c)) (λ n. n) (λ n. did (Snapshot None c) (Word n)) (λ v n l. Makes (Snapshot None c) (Word n) (Keeper v) (Keeper l) × LookTold (Snapshot None c) v n l)
+snapshot_now_may z k c may = glance_may z k c (Snapshot None c) may (λ g rest lt. (rw (rest, lt) refl, refl))
+
+-- snapshots are due, or nothing: no total is to change
+alike_after : (z : Settings) (t c : ℕ) (due : Due) → due ≡ Snapshots t c → DueAlike (due_next z t c) due
+alike_after z t c due is = subst (DueAlike (due_next z t c)) (sym is) (from (nat_lt (c + 1) z.cpus))
+  where
+    from : (b : Bool) → DueAlike (if b then Snapshots t (c + 1) else Rest) (Snapshots t c)
+    from true u = (refl, refl, refl)
+    from false u = (refl, refl, refl)
+
+pub snapshot_may : (z : Settings) (k : KeeperView) (t c : ℕ) → MaySnapshot k t c
+    → KeeperMay z k (index z (section_of c)) (λ n. n) (λ n. did (Snapshot (Some t) c) (Word n))
+    (λ v n l. Makes (Snapshot (Some t) c) (Word n) (Keeper v) (Keeper l) × LookTold (Snapshot (Some t) c) v n l)
+snapshot_may z k t c may s r i at fits =
+    let g = r.g in
+    let had : KeeperShown g k = (r.shows.fits i (Keeper k) at).1 in
+    let seen = seen_by_keeper g k r.good had in
+    let due : g.due ≡ Snapshots t c = sym seen.due ∙ may in
+    let lt : c < g.settings.cpus = (subst (DueHolds g.settings.cpus g.slots) due r.good.holds.references.due_at).0 in
+    let w = slice_index s.words (index z (section_of c)) in
+    let found : w ≡ section_at g c = r.words.at (section_of c) lt in
+    let m : Mark = snapshot_mark (section_at g c) in
+    let l : KeeperLists = record (keeper_lists g) { marks = with_cell g.marks t c m; due = due_next g.settings t c } in
+    let fresh : false ≡ (mark_at g.marks t c).collected = sym (r.good.holds.balance.fresh c t c due) in
+    let made : step g (Snapshot (Some t) c) ≡ Some (record { state = with_keeper g l; reply = Word w }) = rw (due, eq-eqb t t refl, eq-eqb c c refl, found) refl in
+    let shown : KeeperShown (with_keeper g l) (keeper_view (with_keeper g l) k) =
+    shown_marked g k t c m (due_next g.settings t c) k r.good had lt fresh (alike_after g.settings t c g.due due) refl refl refl in
+    let done = keeper_makes z s r i k (index z (section_of c)) w l (Snapshot (Some t) c) (Word w) k at made (leaves_all g l refl refl refl refl (same_collected g t c m fresh)) (λ n. refl) refl shown
+    (loads z _ _ _ _ r.words refl (λ q _. refl)) in
+    let change : keeper_view (with_keeper g l) k ≡ record k { marks = with_cell k.marks t c (snapshot_mark w); due = due_next k.settings t c } =
+    ap (λ n. record (keeper_view g k) { marks = with_cell g.marks t c (snapshot_mark n); due = due_next g.settings t c }) (sym found)
+    ∙ ap (λ (v : KeeperView). record v { marks = with_cell v.marks t c (snapshot_mark w); due = due_next v.settings t c }) (sym had.is) in
+    (Keeper (keeper_view (with_keeper g l) k), done.0, (refl, (done.1, change)))
+
+-- Passive looks and collections on the words.
 
 -- what the core has where the keeper may look at a slot
 record Looking (g : State) (t c : ℕ) : Type 0 where

@@ -1,25 +1,64 @@
--- A step of the keeper's seat: what it changes in the core, why the other views stay, and that it is its event.
-use Rattle.std.proofs.Common.{◌≡◌, ◌⊎◌, inl, inr, ⊎_elim, ℕ, ◌+◌, ◌≤◌, ◌<◌, List, [], ◌++◌, length, take, set, sum_by, Option, Some, None, true, refl, sym, ap, ◌∙◌, subst, arith, length-append}
-use Rattle.std.proofs.lemmas.List.{append-nil}
-use Rattle.protocol.proofs.counts.Sums.{one_at}
+-- A step of the keeper's seat: what its view tells of the core, what the step changes, why the other views stay, and that it is its event.
+use Rattle.std.proofs.Common.{◌≡◌, ℕ, List, set, sym, ap, subst, ◌⊎◌, inl, inr, ⊎_elim, ◌+◌, ◌≤◌, ◌<◌, [], ◌++◌, length, take, sum_by, Option, Some, None, true, refl, ◌∙◌, arith, length-append}
+use Rattle.std.proofs.lemmas.List.{set-get_or, append-nil}
+use Rattle.std.specs.Prelude.{slice_index}
 use mathlib.Core.Option.{some}
 use mathlib.Core.List.{IsPrefix}
 use lib.ListN.{get_elem?}
 use Rattle.atomic_table.specs.Table.{State as Table, keeps, stepped}
-use Rattle.cpu_words.specs.Types.{Entry, Change, Settings, Event, Reply, RecordWords, Slot, Retired, Mark, Hand, Empty, Taking, Giving, Back, Trying, Due, LocalPlace}
-use Rattle.protocol.specs.Common.{IsAttached, State, hand_at, mark_at, passive_at, trying_at, count_at, seen_at, step, IsIn, Occupies, one_if, standing_of, HandHolds, Holds}
+use Rattle.cpu_words.specs.Types.{Settings, Entry, Change, Event, Reply, RecordWords, Slot, Retired, Mark, Hand, Empty, Taking, Giving, Back, Trying, Due, LocalPlace}
 use Rattle.registry_values.specs.Common.{bias, slot_at, slot_of}
-use Rattle.protocol.proofs.slots.Occupied.{slot_has, slot_found, fresh_unoccupied}
+use Rattle.registry_values.proofs.Fit.{Ranges, ranges}
+use Rattle.protocol.specs.Common.{State, IsAttached, hand_at, mark_at, passive_at, trying_at, count_at, seen_at, step, IsIn, Occupies, one_if, standing_of, HandHolds, Holds}
+use Rattle.protocol.proofs.counts.Sums.{one_at}
+use Rattle.protocol.proofs.Occupied.{slot_has, slot_found, fresh_unoccupied}
 use Rattle.protocol.proofs.keeps.Keeping.{step_holds}
-use Rattle.cpu_words.proofs.laws.Reaching.{more}
-use Rattle.cpu_words.proofs.shown.Standing.{standing_place}
-use Rattle.cpu_words.specs.Common.{InHand, CpuView, KeeperView, ReferenceView, View, Keeper, Cpu, Reference, Note, Spent, cpu_view, keeper_view, references_to, is_to, SameHand}
-use Rattle.cpu_words.specs.Common.{HandFits, CpuShown, KeeperShown, Spot, section_of, passive_of, count_of, head_word, live_of, next_of, record_of, total_of, word_at, Agrees, IsFresh, Good, Ruled, GoesOn}
-use Rattle.cpu_words.specs.Common.{by_number, did, Makes}
+use Rattle.cpu_words.specs.Common.{KeeperView, Spot, IsSpot, word_at, KeeperShown, Agrees, Good, InHand, CpuView, ReferenceView, View, Keeper, Cpu, Reference, Note, Spent, cpu_view, keeper_view, references_to, is_to, SameHand, HandFits, CpuShown, section_of, passive_of, count_of, head_word, live_of, next_of, record_of, total_of, IsFresh, Ruled, GoesOn, by_number, did, Makes}
 use Rattle.cpu_words.specs.declared.view.InHand.TheVariants.{Empty as NoEntry, Taking as TakingEntry, Giving as GivingEntry, Back as BackEntry, Trying as TryingEntry}
-use Rattle.cpu_words.proofs.shown.Showing.{standing_in, IsBacked, Stay, shows_set}
-use Rattle.cpu_words.proofs.shown.Seeing.{tries}
-use Rattle.cpu_words.proofs.shown.Passes.{attached_on, attached_prefix, prefix_on, take_on}
+use Rattle.cpu_words.proofs.shown.Placing.{agrees_same}
+use Rattle.cpu_words.proofs.shown.Showing.{more, standing_place, standing_in, IsBacked, Stay, shows_set}
+use Rattle.cpu_words.proofs.shown.Seeing.{tries, attached_on, attached_prefix, prefix_on, take_on}
+
+-- What the keeper's view tells of the core that shows it.
+
+pub record SeenByKeeper (g : State) (k : KeeperView) : Type 0 where
+  pub fit : Ranges g.settings
+  pub settings : k.settings ≡ g.settings
+  pub seated : k.seated ≡ g.seated
+  pub history : k.history ≡ g.history
+  pub slots : k.slots ≡ g.slots
+  pub marks : k.marks ≡ g.marks
+  pub keeps : k.keeps ≡ g.keeps
+  pub due : k.due ≡ g.due
+  pub head : k.head ≡ g.head
+  pub next : k.next ≡ g.next
+  pub rows : k.rows ≡ g.rows
+  pub totals : k.totals ≡ g.totals
+  pub lives : k.lives ≡ g.lives
+
+pub seen_by_keeper : (g : State) (k : KeeperView) → Good g → KeeperShown g k → SeenByKeeper g k
+seen_by_keeper g k good had = record {
+  fit = ranges g.settings good.holds.fit;
+  settings = ap (λ (v : KeeperView). v.settings) had.is;
+  seated = ap (λ (v : KeeperView). v.seated) had.is;
+  history = ap (λ (v : KeeperView). v.history) had.is;
+  slots = ap (λ (v : KeeperView). v.slots) had.is;
+  marks = ap (λ (v : KeeperView). v.marks) had.is;
+  keeps = ap (λ (v : KeeperView). v.keeps) had.is;
+  due = ap (λ (v : KeeperView). v.due) had.is;
+  head = ap (λ (v : KeeperView). v.head) had.is;
+  next = ap (λ (v : KeeperView). v.next) had.is;
+  rows = ap (λ (v : KeeperView). v.rows) had.is;
+  totals = ap (λ (v : KeeperView). v.totals) had.is;
+  lives = ap (λ (v : KeeperView). v.lives) had.is;
+}
+
+-- the words after a load
+pub loads : (z : Settings) (words : List ℕ) (g g' : State) (i : ℕ) → Agrees z words g → g'.settings ≡ g.settings → ((q : Spot) → IsSpot g.settings q → word_at g' q ≡ word_at g q)
+    → Agrees z (set words i (slice_index words i)) g'
+loads z words g g' i agrees same others = subst (λ (l : List ℕ). Agrees z l g') (sym (set-get_or words i 0)) (agrees_same z words g g' agrees same others)
+
+-- A step of the keeper's seat: what it changes in the core, why the other views stay, and that it is its event.
 
 -- what an event of the keeper can change in the core
 pub record KeeperLists : Type 0 where

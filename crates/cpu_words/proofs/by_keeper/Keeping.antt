@@ -8,18 +8,14 @@ use Rattle.atomic_table.proofs.Lists.{at_set}
 use Rattle.cpu_words.specs.Types.{Entry, Driver, Settings, Keep, Done, Slot, Vacant, Live, Retired, LocalPlace, Free, Standing, Rest}
 use Rattle.registry_values.specs.Common.{slot_at, slot_of, is_driver}
 use Rattle.protocol.specs.Common.{kept_at, number_standing, step, is_driver_slot, IsIn, one_if}
-use Rattle.protocol.proofs.slots.Numbers.{slot_number}
+use Rattle.protocol.proofs.Cells.{slot_number}
 use Rattle.protocol.proofs.counts.Sums.{one_at, local_changed, standing_within}
-use Rattle.cpu_words.specs.Common.{KeeperView, ReferenceView, Logged, View, Keeper, Reference, Spent, is_to, keeper_of, reference_of, number_or_none, did, log_of_events, JoinsBy, JoinsOn, MayKeep}
-use Rattle.cpu_words.specs.Common.{keeper_after_keep, with_kept, LoggedRuled, joined_seat, spent_seat, keeps_for}
+use Rattle.cpu_words.specs.Common.{KeeperView, ReferenceView, Logged, View, Keeper, Reference, Spent, is_to, keeper_of, reference_of, number_or_none, did, log_of_events, JoinsBy, JoinsOn, MayKeep, keeper_after_keep, with_kept, LoggedRuled, joined_seat, spent_seat, keeps_for}
 use Rattle.cpu_words.proofs.shown.Placing.{agrees_same}
-use Rattle.cpu_words.proofs.laws.Reaching.{more}
-use Rattle.cpu_words.proofs.logs.Seats.{seat_join}
-use Rattle.cpu_words.proofs.shown.Standing.{standing_place}
-use Rattle.cpu_words.proofs.shown.Showing.{standing_in, backed, shows_join}
-use Rattle.cpu_words.proofs.by_keeper.KeeperSteps.{KeeperLists, with_keeper, leaves_all, keeper_good_after, beside, beside_stays, beside_words}
-use Rattle.cpu_words.proofs.by_keeper.KeeperSees.{seen_by_keeper}
-use Rattle.cpu_words.proofs.by_cpu.Reading.{local_here}
+use Rattle.cpu_words.proofs.shown.Showing.{more, standing_place, standing_in, backed, shows_join}
+use Rattle.cpu_words.proofs.logs.Logs.{seat_join}
+use Rattle.cpu_words.proofs.by_keeper.KeeperSteps.{KeeperLists, with_keeper, leaves_all, keeper_good_after, beside, beside_stays, beside_words, seen_by_keeper}
+use Rattle.cpu_words.proofs.by_cpu.CpuSteps.{local_here}
 
 driver_slot : (e : Entry) (x : Slot) → IsIn e x → e.rec.kind ≡ Driver → is_driver_slot x ≡ true
 driver_slot e x here kind = ⊎_elim

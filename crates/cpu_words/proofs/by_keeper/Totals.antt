@@ -1,6 +1,5 @@
 -- Totals on the words: what was collected is added, and a reference that is given up is subtracted.
-use Rattle.std.proofs.Common.{◌≡◌, ◌≢◌, inl, inr, ⊎_elim, ℕ, ◌+◌, ◌-◌, ◌%◌, ◌^◌, ◌≤◌, ◌<◌, ◌==◌, List, [], ◌++◌, length, get_or, set, Some, Bool, true, false, cond, eq-eqb, ne_eqb, refl, sym, ap, ◌∙◌}
-use Rattle.std.proofs.Common.{subst, arith}
+use Rattle.std.proofs.Common.{◌≡◌, ◌≢◌, inl, inr, ⊎_elim, ℕ, ◌+◌, ◌-◌, ◌%◌, ◌^◌, ◌≤◌, ◌<◌, ◌==◌, List, [], ◌++◌, length, get_or, set, Some, Bool, true, false, cond, eq-eqb, ne_eqb, refl, sym, ap, ◌∙◌, subst, arith}
 use Rattle.std.proofs.lemmas.Bool.{cases_eq, cases_lt}
 use Rattle.std.specs.Prelude.{slice_index}
 use mathlib.Core.Option.{some}
@@ -10,29 +9,20 @@ use Rattle.atomic_table.proofs.Lists.{at_set}
 use Rattle.cpu_words.specs.Types.{Entry, Attach, Settings, Mark, Slot, Live, Retired, LocalPlace, Free, Standing, Rest, Adding, Subtracting, TotalAdd, TotalSub, JoinKeeper, Done}
 use Rattle.protocol.specs.Common.{State, mark_at, total_at, number_standing, step, total_add, total_sub, IsIn, one_if, subtraction_due_at, addition_due_at, is_adding_at}
 use Rattle.registry_values.specs.Common.{bias, no_mark, is_collected, is_some_collected, slot_at, slot_of}
-use Rattle.protocol.proofs.history.History.{at_within, one_entry}
-use Rattle.protocol.proofs.slots.Occupied.{attached_in, one_in, one_number, in_within}
-use Rattle.protocol.proofs.slots.Cells.{total_here, total_other}
-use Rattle.protocol.proofs.counts.HeldSums.{one_self, one_other}
+use Rattle.protocol.proofs.History.{at_within, one_entry}
+use Rattle.protocol.proofs.Occupied.{attached_in, one_in, one_number, in_within}
+use Rattle.protocol.proofs.Cells.{total_here, total_other, slot_number, any_within}
+use Rattle.protocol.proofs.counts.Sums.{one_self, one_other, local_changed, standing_within}
 use Rattle.protocol.proofs.keeps.References.{due_adding, due_subtracting}
 use Rattle.protocol.proofs.keeps.MarkKeeps.{mark_place}
-use Rattle.protocol.proofs.slots.Numbers.{slot_number}
-use Rattle.protocol.proofs.slots.MarkRows.{any_within}
-use Rattle.protocol.proofs.counts.Sums.{local_changed, standing_within}
 use Rattle.protocol.proofs.counts.Bounds.{adding_range, adding_within, subtracting_range}
-use Rattle.cpu_words.specs.Common.{KeeperView, ReferenceView, Logged, View, Keeper, Reference, Spent, Spot, section_of, passive_of, count_of, head_word, live_of, next_of, record_of, total_of, word_at, index}
-use Rattle.cpu_words.specs.Common.{KeeperView, keeper_view, number_at, one_more, is_to, IsCollectedFor, KeeperShown, ReferenceShown, GivesUp, keeper_of, reference_of, Agrees, Good}
-use Rattle.cpu_words.specs.Common.{number_or_none, did, log_of_events, Makes, JoinsBy, JoinsOn, KeeperMay, KeeperStores, MayTotalAdd, TotalAddTold, MayTotalSub, TotalSubTold, MayJoinKeeper}
-use Rattle.cpu_words.specs.Common.{keeper_after_join, with_given_up, LoggedRuled, joined_seat, spent_seat, gives_up}
-use Rattle.cpu_words.proofs.laws.Reaching.{more}
-use Rattle.cpu_words.proofs.logs.Seats.{seat_join}
+use Rattle.cpu_words.specs.Common.{KeeperView, ReferenceView, Logged, View, Keeper, Reference, Spent, Spot, section_of, passive_of, count_of, head_word, live_of, next_of, record_of, total_of, word_at, index, keeper_view, number_at, one_more, is_to, IsCollectedFor, KeeperShown, ReferenceShown, GivesUp, keeper_of, reference_of, Agrees, Good, number_or_none, did, log_of_events, Makes, JoinsBy, JoinsOn, KeeperMay, KeeperStores, MayTotalAdd, TotalAddTold, MayTotalSub, TotalSubTold, MayJoinKeeper, keeper_after_join, with_given_up, LoggedRuled, joined_seat, spent_seat, gives_up}
+use Rattle.cpu_words.proofs.shown.Showing.{more, standing_in, backed, shows_join, standing_place}
+use Rattle.cpu_words.proofs.logs.Logs.{seat_join}
 use Rattle.cpu_words.proofs.shown.Placing.{agrees_set, agrees_same}
-use Rattle.cpu_words.proofs.shown.Showing.{standing_in, backed, shows_join}
-use Rattle.cpu_words.proofs.by_cpu.Counting.{one_more_same, one_more_other}
-use Rattle.cpu_words.proofs.by_keeper.KeeperSteps.{beside, beside_stays, beside_words, KeeperLists, keeper_lists, with_keeper, leaves_all, keeper_good_after, keeper_makes}
-use Rattle.cpu_words.proofs.shown.Standing.{standing_place}
-use Rattle.cpu_words.proofs.by_keeper.KeeperSees.{seen_by_keeper}
-use Rattle.cpu_words.proofs.by_keeper.Marked.{due_alike}
+use Rattle.cpu_words.proofs.by_cpu.Locals.{one_more_same, one_more_other}
+use Rattle.cpu_words.proofs.by_keeper.KeeperSteps.{beside, beside_stays, beside_words, KeeperLists, keeper_lists, with_keeper, leaves_all, keeper_good_after, keeper_makes, seen_by_keeper}
+use Rattle.cpu_words.proofs.by_keeper.Draining.{due_alike}
 
 -- Counts by number
 

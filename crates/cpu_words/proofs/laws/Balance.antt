@@ -8,10 +8,9 @@ use Rattle.cpu_words.specs.Types.{Entry, Settings, Slot, Due, Hand}
 use Rattle.registry_values.specs.Common.{bias, slot_at}
 use Rattle.protocol.specs.declared.state.Hand.TheVariants.{Empty as EmptyHand, Taking as TakingHand, Giving as GivingHand, Back as BackHand, Trying as TryingHand}
 use Rattle.protocol.specs.Common.{State, hand_at, count_at, total_at, IsIn, one_if_used, itself, in_hand, kept_of, addition_due_at, is_adding_at, subtraction_due_at}
-use Rattle.protocol.proofs.slots.Occupied.{in_within}
-use Rattle.cpu_words.specs.Common.{InHand, Empty, Taking, Giving, Back, Trying, KeeperView, View, Keeper, Cpu, Reference, Note, Spent, count_of, total_of, SameHand, CpuShown, Shown, Agrees, Sits, ShowsViews}
-use Rattle.cpu_words.specs.Common.{Good, sum_below, count_word, total_word, in_hand_to, hand_to, held_by_seats, HasOneSeat, IsBalanced, SeatsBalance}
-use Rattle.cpu_words.proofs.by_keeper.KeeperSees.{SeenByKeeper, seen_by_keeper}
+use Rattle.protocol.proofs.Occupied.{in_within}
+use Rattle.cpu_words.specs.Common.{InHand, Empty, Taking, Giving, Back, Trying, KeeperView, View, Keeper, Cpu, Reference, Note, Spent, count_of, total_of, SameHand, CpuShown, Shown, Agrees, Sits, ShowsViews, Good, sum_below, count_word, total_word, in_hand_to, hand_to, held_by_seats, HasOneSeat, IsBalanced, SeatsBalance}
+use Rattle.cpu_words.proofs.by_keeper.KeeperSteps.{SeenByKeeper, seen_by_keeper}
 
 -- Sums over numbers
 

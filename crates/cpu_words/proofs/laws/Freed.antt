@@ -1,7 +1,5 @@
--- Destroying: an entry whose slot the keeper made vacant has no slot and no holder in any later state.
-use Rattle.cpu_words.proofs.logs.Changes.{run_as_logged}
-use Rattle.std.proofs.Common.{◌≡◌, inr, ⊎_elim, ℕ, true, IsTrue, List, [], ◌∷◌, ◌++◌, length, set, Option, Some, IsSome, refl, sym, ap, ◌∙◌, subst, append_assoc}
-use Rattle.std.proofs.Common.{length-append, arith}
+-- Destroying: an entry whose slot the keeper made vacant is gone in any later state; drivers that are kept; and the end of a run.
+use Rattle.std.proofs.Common.{◌≡◌, inr, ⊎_elim, ℕ, true, IsTrue, List, [], ◌∷◌, ◌++◌, length, set, Option, Some, IsSome, refl, sym, ap, ◌∙◌, subst, append_assoc, length-append, arith, suc, ◌<◌}
 use Rattle.std.proofs.lemmas.List.{append-nil}
 use Rattle.std.proofs.lemmas.Option.{none-some, same_Some}
 use mathlib.Core.List.{IsPrefix}
@@ -9,32 +7,32 @@ use lib.ListN.{get_elem?}
 use mathlib.Core.Option.{some}
 use Rattle.atomic_table.specs.Table.{State as Table}
 use Rattle.atomic_table.proofs.Lists.{at_map}
-use Rattle.cpu_words.specs.Types.{Entry, Change, Attach, Detach, Settings, Vacant, Retired, Event, Vacate, KeptSub, Reply}
+use Rattle.cpu_words.specs.Types.{Entry, Change, Attach, Detach, Settings, Vacant, Retired, Event, Vacate, KeptSub, Reply, Live, Publish, Done}
 use Rattle.registry_values.specs.Common.{are_fit, slot_at}
-use Rattle.protocol.specs.Common.{IsAttached, EndsAt, State, opening, Outcome, step, state_after}
-use Rattle.protocol.specs.Common.{Holds, Occupies, IsUnheld, number_in, picture, after, occupant_of, destroyed_slot, IsAllowed}
-use Rattle.protocol.proofs.Made.{Made, Vacates, SubsKept, made}
-use Rattle.protocol.proofs.history.History.{one_entry, at_within}
+use Rattle.protocol.specs.Common.{IsAttached, EndsAt, State, opening, Outcome, step, state_after, Holds, Occupies, IsUnheld, number_in, picture, after, occupant_of, destroyed_slot, IsAllowed, kept_at, is_honest, live_at}
+use Rattle.protocol.proofs.Made.{Made, Vacates, SubsKept, made, Publishes}
+use Rattle.protocol.proofs.History.{one_entry, at_within, at_prefix}
 use Rattle.protocol.proofs.keeps.Keeping.{opening_holds, step_holds}
 use Rattle.protocol.proofs.keeps.MarkKeeps.{is_drained_tells}
 use Rattle.protocol.proofs.model.RefiningEntries.{number_of}
-use Rattle.protocol.proofs.runs.Headline.{unheld_unoccupied}
+use Rattle.protocol.proofs.runs.Headline.{unheld_unoccupied, obeys_laws}
 use Rattle.protocol.proofs.runs.Reuse.{number_is, destroyed_drained}
-use Rattle.protocol.proofs.runs.State.{obeys_laws}
-use Rattle.protocol.proofs.slots.Occupied.{attached_in, in_within, slot_cases}
-use Rattle.cpu_words.specs.Common.{LogItem, Logged, View, Good, ShowsViews, IsDetachedFrom, IsFreedFrom, part, without_logs, AreByOwn, RunsAsLogged, IsGone, FreedIsGone, FreedByKeeper, Sits, IsStanding, KeeperView, Keeper}
-use Rattle.protocol.proofs.history.History.{at_prefix}
-use Rattle.cpu_words.proofs.shown.Passes.{attached_prefix}
+use Rattle.protocol.proofs.Occupied.{attached_in, in_within, slot_cases}
+use Rattle.protocol.proofs.keeps.ListKeeps.{may_publish_tells}
+use Rattle.protocol.proofs.Cells.{slot_here}
+use Rattle.protocol.proofs.keeps.CountKeeps.{live_tells}
+use Rattle.protocol.proofs.runs.Fresh.{honest_tells}
+use Rattle.cpu_words.specs.Common.{LogItem, Logged, View, Good, ShowsViews, IsDetachedFrom, IsFreedFrom, part, without_logs, AreByOwn, RunsAsLogged, IsGone, FreedIsGone, FreedByKeeper, Sits, IsStanding, KeeperView, Keeper, log_item, changes_in, keeping, IsAttachedKeeping, KeepsDriver, KeepsAsLong, AttachedKeeps, Agrees, EndedRuns, IsGoneFrom, KeeperShown, Shown, live_of}
+use Rattle.cpu_words.proofs.logs.Loads.{run_as_logged, is_whole, same_event, place, halve}
+use Rattle.cpu_words.proofs.shown.Seeing.{attached_prefix}
 use Rattle.cpu_words.proofs.shown.Showing.{backed}
-use Rattle.cpu_words.proofs.laws.Safety.{running_headline}
-use Rattle.cpu_words.proofs.laws.Holders.{seat_has_slot}
+use Rattle.cpu_words.proofs.laws.Safety.{running_headline, seat_has_slot}
 use Rattle.cpu_words.proofs.laws.Waiting.{own_first}
-use Rattle.cpu_words.proofs.logs.Known.{Known, known_stays, known_first}
-use Rattle.cpu_words.proofs.logs.Loads.{is_whole, same_event, place, halve}
-use Rattle.cpu_words.proofs.logs.Parts.{part_append}
-use Rattle.cpu_words.proofs.logs.Runs.{Follows, follows_after, follows_holds, cut}
-use Rattle.cpu_words.proofs.logs.Standings.{one_detached}
-use Rattle.cpu_words.proofs.logs.Walks.{walked}
+use Rattle.cpu_words.proofs.logs.Known.{Known, known_stays, known_first, keeps_on}
+use Rattle.cpu_words.proofs.logs.Runs.{part_append, Follows, follows_after, follows_holds, cut, walked}
+use Rattle.cpu_words.proofs.logs.Slots.{one_detached}
+
+-- Destroying: an entry whose slot the keeper made vacant has no slot and no holder in any later state.
 
 -- The event
 
@@ -208,3 +206,84 @@ pub freed_by_keeper : FreedByKeeper
 freed_by_keeper z s i l k t n r at is f =
     let run = running_headline z s r in
     record { run = run; gone = gone_by z s l.log t n run ([], append-nil l.log ∙ keeper_did z s i l k run at is) f }
+
+-- Kept drivers: an interface keeps the driver that its slot kept as it was attached, and that driver has its slot.
+
+-- an attach gives the next number
+abbrev Numbers : State → State → Event → Type 0
+Numbers s n (Publish t) = occupant_of n t ≡ Some (suc (length s.history))
+Numbers s n e = Unit {0}
+
+made_numbers : (s n : State) (e : Event) (r : Reply) → Holds s → Made s e n r → Numbers s n e
+made_numbers s _ _ _ on (Publishes t e of may) =
+    let told = may_publish_tells s t e on.shape may in
+    ap number_in (slot_here s.slots t (Live e) told.within) ∙ ap (λ (n : ℕ). Some n) told.number
+made_numbers s _ _ _ on _ = tt
+
+kept_since : (cpus : ℕ) (log : List LogItem) (m : State) (more : List (ℕ × LogItem)) (es : List Event) (g : State) (t n d : ℕ)
+    → Follows m ((0, log_item (Publish t) Done) ∷ more) es g → Holds m → Known cpus log m → n ≡ suc (changes_in log) → keeping t log ≡ Some d → occupant_of g t ≡ Some n → KeepsDriver g t d
+kept_since cpus log m more [] g t n d run on known number keeps is = absurd run
+kept_since cpus log m more (e ∷ es) g t n d run on known number keeps is =
+    let o = run.0 in
+    let same : Publish t ≡ e = same_event m e (Publish t) (ap (λ (x : LogItem). x.event) run.2) refl in
+    let attach : step m (Publish t) ≡ Some o = ap (step m) same ∙ run.1 in
+    let holds : Holds o.state = step_holds m o.state e o.reply on run.1 in
+    let has : occupant_of o.state t ≡ Some n = made_numbers m o.state (Publish t) o.reply on (made m (Publish t) o attach) ∙ ap (λ (k : ℕ). Some (suc k)) known.changes ∙ ap (λ (k : ℕ). Some k) (sym number) in
+    let kept : kept_at o.state.keeps t ≡ Some d = keeps_on t m (Publish t) o on attach ∙ (known.kept t ∙ keeps) in
+    let laws = (obeys_laws o.state holds).drivers in
+    let stands = laws.stands t d kept in
+    let there : occupant_of o.state stands.0 ≡ Some d = number_of (slot_at o.state.slots stands.0) stands.1 stands.2 ∙ ap (λ (k : ℕ). Some k) stands.3 in
+    let leads : g ≡ after o.state es = follows_after o.state more es g run.3 in
+    let long = laws.throughout es t stands.0 n d has kept there (ap (λ (q : State). occupant_of q t) (sym leads) ∙ is) in
+    record {
+      kept = ap (λ (q : State). kept_at q.keeps t) leads ∙ long.0;
+      slot = stands.0;
+      stands = ap (λ (q : State). occupant_of q stands.0) leads ∙ long.1;
+    }
+
+keeps_long : (z : Settings) (s : Table ℕ Logged) (i : ℕ) (l : Logged) (t n d : ℕ) → RunsAsLogged z s → get_elem? s.views i ≡ some l → IsAttachedKeeping t n d l.known_log → KeepsAsLong z s t n d
+keeps_long z s i l t n d r at f =
+    let a = at_item z s l.known_log f.before f.after (log_item (Publish t) Done) r (r.known i l at).0 f.are in
+    record { run = r; keeps = λ is. kept_since z.cpus f.before a.m a.more a.es (after (opening z) r.run.events) t n d a.run a.on a.known f.number f.keeps is }
+
+pub attached_keeps : AttachedKeeps
+attached_keeps z s i l t n d r at f = keeps_long z s i l t n d (running_headline z s r) at f
+
+-- The end of a run: what follows for the last words, from the laws of any table under the rule.
+
+-- a live word is honest, so it isn't the number of an entry without a slot
+gone_from : (z : Settings) (g : State) (k : KeeperView) (last : List ℕ) (s : Table ℕ View) (t n : ℕ) → Agrees z last g → KeeperShown g k → IsGone g s t n → IsGoneFrom z g last n
+gone_from z g k last s t n words shown gone = record {
+  slotless = gone.slotless;
+  unheld = gone.unheld;
+  unlisted = λ u lt is.
+      let here : live_at g.lives u ≡ n = sym (words.at (live_of u) (subst (λ (a : Settings). u < a.slots) (sym words.settings) lt)) ∙ is in
+      let some_one : 0 < n = subst (λ (m : ℕ). 0 < m) gone.number (at_within g.history gone.e.number (Attach gone.e) gone.attached).0 in
+      let honest : is_honest n (slot_at g.slots u) ≡ true = subst (λ (m : ℕ). is_honest m (slot_at g.slots u) ≡ true) here (shown.honest u) in
+      let live = live_tells n (slot_at g.slots u) (honest_tells n (slot_at g.slots u) some_one honest) in
+      gone.slotless u (ap number_in live.2 ∙ ap (λ (m : ℕ). Some m) live.1);
+}
+
+pub ended_runs : EndedRuns
+ended_runs z k log last end =
+    let r : RunsAsLogged z end.table = running_headline z end.table end.ruled in
+    let run = r.run in
+    let g : State = after (opening z) run.events in
+    let words : Agrees z last g = subst (λ (l : List ℕ). Agrees z l g) end.words run.words in
+    let shown : KeeperShown g k = subst (Shown g) end.view (run.shows.fits end.place end.seat.view (at_map (λ (l : Logged). l.view) end.table.views end.place end.seat end.at)).1 in
+    let own : log ≡ part 0 r.acts = sym end.did ∙ keeper_did z end.table end.place end.seat k r end.at end.view in
+    record {
+      events = run.events;
+      acts = r.acts;
+      are = r.are;
+      all = r.all;
+      seat = run.seat;
+      owners = r.owners;
+      words = words;
+      holds = run.good.holds;
+      modelled = run.modelled;
+      laws = run.laws;
+      keeper = own;
+      shown = shown;
+      gone = λ t n freed. gone_from z g k last (without_logs end.table) t n words shown (gone_by z end.table log t n r ([], append-nil log ∙ own) freed);
+    }

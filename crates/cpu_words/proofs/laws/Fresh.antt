@@ -1,6 +1,5 @@
 -- Fresh lookups: a CPU's search is in the list where its log has it, and the protocol's law holds of it there.
-use Rattle.std.proofs.Common.{◌≡◌, ◌≢◌, inl, inr, ⊎_elim, ℕ, ◌+◌, ◌-◌, ◌≤◌, IsTrue, IsSome, List, [], ◌∷◌, ◌++◌, length, take, Option, Some, true, false, Bool, refl, sym, ap, ◌∙◌, subst, length-append}
-use Rattle.std.proofs.Common.{append_assoc, arith}
+use Rattle.std.proofs.Common.{◌≡◌, ◌≢◌, inl, inr, ⊎_elim, ℕ, ◌+◌, ◌-◌, ◌≤◌, IsTrue, IsSome, List, [], ◌∷◌, ◌++◌, length, take, Option, Some, true, false, Bool, refl, sym, ap, ◌∙◌, subst, length-append, append_assoc, arith}
 use Rattle.std.specs.List.{AllByRecursion}
 use Rattle.std.proofs.lemmas.Bool.{cases_eq}
 use Rattle.std.proofs.lemmas.List.{append-nil, take_at}
@@ -17,13 +16,10 @@ use Rattle.protocol.proofs.keeps.Keeping.{opening_holds, step_keeps, after_keeps
 use Rattle.protocol.proofs.runs.Answers.{history_grows}
 use Rattle.protocol.proofs.runs.Fresh.{answers_freshly, one_word, recalls_live, recalls_newest, sees_all}
 use Rattle.protocol.proofs.runs.Steps.{after_more}
-use Rattle.cpu_words.specs.Common.{Cpu, CpuView, LogItem, Logged, by_number, reply_without_id, maker, IsSeatOf, AreByOwn, part, has_heard_from, IsStanding, RunsAsLogged, Sits}
-use Rattle.cpu_words.specs.Common.{has_sought, until_reply, with_reply, HeadsAreNewest, LookupsAreFresh, history_length, PassesAreWhole, RecallsAreLive, RefindsAreLive, WholeInTheList, log_item}
+use Rattle.cpu_words.specs.Common.{Cpu, CpuView, LogItem, Logged, by_number, reply_without_id, maker, IsSeatOf, AreByOwn, part, has_heard_from, IsStanding, RunsAsLogged, Sits, has_sought, until_reply, with_reply, HeadsAreNewest, LookupsAreFresh, history_length, PassesAreWhole, RecallsAreLive, RefindsAreLive, WholeInTheList, log_item}
 use Rattle.cpu_words.proofs.laws.Waiting.{own_first, part_placed, fewer_acts, cut_at}
-use Rattle.cpu_words.proofs.logs.Changes.{run_as_logged}
-use Rattle.cpu_words.proofs.logs.Loads.{is_whole, same_event, part_same, part_off, place}
-use Rattle.cpu_words.proofs.logs.Parts.{part_append}
-use Rattle.cpu_words.proofs.logs.Runs.{Follows, after_append, follows_after, follows_holds, cut}
+use Rattle.cpu_words.proofs.logs.Loads.{run_as_logged, is_whole, same_event, part_same, part_off, place}
+use Rattle.cpu_words.proofs.logs.Runs.{part_append, Follows, after_append, follows_after, follows_holds, cut}
 
 -- One event of a run
 

@@ -1,6 +1,5 @@
 -- Waiting: where the keeper took the section word of each CPU, and later found each even or another one, each section that was open before has ended.
-use Rattle.std.proofs.Common.{None, ◌≡◌, ◌⊎◌, inl, inr, ⊎_elim, ℕ, ◌+◌, ◌-◌, ◌%◌, ◌<◌, ◌≤◌, IsTrue, List, [], ◌∷◌, ◌++◌, length, take, drop, Some, refl, sym, ap, ◌∙◌, subst, length-append}
-use Rattle.std.proofs.Common.{append_assoc, arith}
+use Rattle.std.proofs.Common.{None, ◌≡◌, ◌⊎◌, inl, inr, ⊎_elim, ℕ, ◌+◌, ◌-◌, ◌%◌, ◌<◌, ◌≤◌, IsTrue, List, [], ◌∷◌, ◌++◌, length, take, drop, Some, refl, sym, ap, ◌∙◌, subst, length-append, append_assoc, arith}
 use Rattle.std.proofs.lemmas.Bool.{cases_lt}
 use Rattle.std.proofs.lemmas.List.{append_cancel_left, append_cancel_right, take_at, take-append-drop, take-append-le, length-take-le}
 use Rattle.std.proofs.lemmas.Option.{none-some}
@@ -12,16 +11,13 @@ use Rattle.cpu_words.specs.Types.{Settings, Event, Exit}
 use Rattle.registry_values.specs.Common.{are_fit}
 use Rattle.protocol.specs.Common.{State, opening, section_at, begin_at, Holds, after, after_event, IsAllowed, HasExit, HasMoved}
 use Rattle.protocol.proofs.keeps.Keeping.{opening_holds}
-use Rattle.protocol.proofs.runs.Grace.{ends_by_exit}
-use Rattle.cpu_words.specs.Common.{LogItem, Logged, Teller, Cpu, changes_in, has_taken, has_found, has_heard_from, HasHeardFrom, IsSeenOut, HasWaited, part, AreByOwn, RunsAsLogged, HasEndedOn}
-use Rattle.cpu_words.specs.Common.{HasEndedSince, HadHeard, IsBeforeTelling, HaveEnded, WaitingEnds}
+use Rattle.protocol.proofs.runs.Headline.{ends_by_exit}
+use Rattle.cpu_words.specs.Common.{LogItem, Logged, Teller, Cpu, changes_in, has_taken, has_found, has_heard_from, HasHeardFrom, IsSeenOut, HasWaited, part, AreByOwn, RunsAsLogged, HasEndedOn, HasEndedSince, HadHeard, IsBeforeTelling, HaveEnded, WaitingEnds}
 use Rattle.cpu_words.proofs.shown.Seeing.{seen_of}
 use Rattle.cpu_words.proofs.laws.Safety.{running_headline}
-use Rattle.cpu_words.proofs.logs.Changes.{counted, run_as_logged}
-use Rattle.cpu_words.proofs.logs.Runs.{Follows, after_append, follows_after, follows_holds, cut}
-use Rattle.cpu_words.proofs.logs.Loads.{Same, Late, late_on, run_since, Placed, place, part_same, halve, starts_taken, starts_found}
-use Rattle.cpu_words.proofs.logs.Parts.{part_append}
-use Rattle.cpu_words.proofs.logs.Standings.{changes_both}
+use Rattle.cpu_words.proofs.logs.Loads.{counted, run_as_logged, Same, Late, late_on, run_since, Placed, place, part_same, halve, starts_taken, starts_found}
+use Rattle.cpu_words.proofs.logs.Runs.{Follows, after_append, follows_after, follows_holds, cut, part_append}
+use Rattle.cpu_words.proofs.logs.Slots.{changes_both}
 
 -- Waiting for one CPU
 

@@ -5,11 +5,9 @@ use mathlib.Core.Option.{none, some}
 use lib.ListN.{get_elem?}
 use Rattle.atomic_table.specs.Table.{State as Table, Me, Step, Allows, keeps}
 use Rattle.cpu_words.specs.Types.{Settings, Hear, Done}
-use Rattle.cpu_words.specs.Common.{CpuView, KeeperView, LogItem, Named, Seated, words_of, Logged, Keeper, Cpu, cpu_of, keeper_of, did, IsShownAfter, heard_from, CpuMay, KeeperMay}
-use Rattle.cpu_words.specs.Common.{SeatMay, the_keeper, AreBy, LoggedRuled, IsTold, heard_by_cpu, heard_by_keeper}
-use Rattle.cpu_words.specs.Common.{hears_note, HasNone, IsStanding, ListGoesOn, Moves, View, is_hear, who}
+use Rattle.cpu_words.specs.Common.{CpuView, KeeperView, LogItem, Named, Seated, words_of, Logged, Keeper, Cpu, cpu_of, keeper_of, did, IsShownAfter, heard_from, CpuMay, KeeperMay, SeatMay, the_keeper, AreBy, LoggedRuled, IsTold, heard_by_cpu, heard_by_keeper, hears_note, HasNone, IsStanding, ListGoesOn, Moves, View, is_hear, who}
 use Rattle.cpu_words.proofs.logs.Logs.{logged_moves, logged_hears, logged_heard}
-use Rattle.cpu_words.proofs.logs.OwnLog.{own_log, shown_after}
+use Rattle.cpu_words.proofs.logs.Known.{own_log, shown_after}
 
 -- l once a step has changed its view, its log and its list
 abbrev moved : Logged → View → List LogItem → List (ℕ × LogItem) → Logged

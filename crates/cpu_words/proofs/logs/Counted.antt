@@ -1,26 +1,20 @@
 -- What the keeper's log says of counts: which entry each slot has, and the count words that were collected for it, which are net counts.
-use Rattle.std.proofs.Common.{◌≡◌, ℕ, suc, inr, ⊎_elim, ◌+◌, ◌<◌, ◌==◌, ◌&&◌, ◌-◌, Bool, true, false, not, if◌then◌else◌, List, [], ◌∷◌, ◌++◌, length, set, replicate, Option, Some, None}
-use Rattle.std.proofs.Common.{eq-eqb, ne_eqb, refl, sym, ap, ◌∙◌, arith}
+use Rattle.std.proofs.Common.{◌≡◌, ℕ, suc, inr, ⊎_elim, ◌+◌, ◌<◌, ◌==◌, ◌&&◌, ◌-◌, Bool, true, false, not, if◌then◌else◌, List, [], ◌∷◌, ◌++◌, length, set, replicate, Option, Some, None, eq-eqb, ne_eqb, refl, sym, ap, ◌∙◌, arith}
 use Rattle.std.proofs.lemmas.Bool.{and_parts, cases_eq, eqb-true}
-use Rattle.cpu_words.specs.Types.{Entry, Mark, Settings, MOST_CPUS, Slot, Vacant, Live, Retired, Event, Publish, Unpublish}
-use Rattle.cpu_words.specs.Types.{Collect, KeptSub}
-use Rattle.cpu_words.specs.Types.{Vacate, Reply, Done, Word, Ref, Empty, Giving}
+use Rattle.cpu_words.specs.Types.{Entry, Mark, Settings, MOST_CPUS, Slot, Vacant, Live, Retired, Event, Publish, Unpublish, Collect, KeptSub, Vacate, Reply, Done, Word, Ref, Empty, Giving}
 use Rattle.registry_values.specs.Common.{bias, no_mark, mark_after_look, mark_after_passive_look, mark_after_collect, is_retired, slot_at}
-use Rattle.protocol.specs.Common.{State, opening, with_cell, section_at, mark_at, passive_at, count_at}
-use Rattle.protocol.specs.Common.{after_publish, after_collect, may_collect, snapshot_mark, may_publish, may_examine, is_drainable, is_drained}
-use Rattle.protocol.specs.Common.{Holds, IsCounting}
+use Rattle.protocol.specs.Common.{State, opening, with_cell, section_at, mark_at, passive_at, count_at, after_publish, after_collect, may_collect, snapshot_mark, may_publish, may_examine, is_drainable, is_drained, Holds, IsCounting}
 use Rattle.protocol.proofs.Made.{Made, Publishes, Unpublishes, Snaps, Looks, LooksPassive, Counts, CountsDown, Collects, SubsKept, Vacates}
 use Rattle.protocol.proofs.counts.Counts.{is_counting, not_both}
 use Rattle.protocol.proofs.keeps.CountKeeps.{hand_within, held_counting}
 use Rattle.protocol.proofs.keeps.ListKeeps.{may_publish_tells, false_from}
 use Rattle.protocol.proofs.keeps.MarkKeeps.{is_drained_tells, mark_place, may_examine_tells}
 use Rattle.protocol.proofs.keeps.References.{snapshot_due_tells}
-use Rattle.protocol.proofs.keeps.Unlinking.{within_live, within_retired}
-use Rattle.protocol.proofs.slots.Cells.{by_cell, cell_cases, cell_here, cell_in_old, cell_other, get_or_all}
-use Rattle.protocol.proofs.slots.Occupied.{is_retired_tells, slot_cases, slot_has}
-use Rattle.cpu_words.specs.Common.{LogItem, Teller, by_number, reply_without_id, changes_of, changes_in, occupant_after, occupant_from, occupant, replied, word_after, word_from, word_collected}
-use Rattle.cpu_words.specs.Common.{occupant_of, word_if, is_drawn, word_in, AreCountsOf, maker, IsSeatOf}
-use Rattle.cpu_words.proofs.logs.Changes.{moves_past}
+use Rattle.protocol.proofs.keeps.Linking.{within_live, within_retired}
+use Rattle.protocol.proofs.Cells.{by_cell, cell_cases, cell_here, cell_in_old, cell_other, get_or_all}
+use Rattle.protocol.proofs.Occupied.{is_retired_tells, slot_cases, slot_has}
+use Rattle.cpu_words.specs.Common.{LogItem, Teller, by_number, reply_without_id, changes_of, changes_in, occupant_after, occupant_from, occupant, replied, word_after, word_from, word_collected, occupant_of, word_if, is_drawn, word_in, AreCountsOf, maker, IsSeatOf}
+use Rattle.cpu_words.proofs.logs.Loads.{moves_past}
 use Rattle.cpu_words.proofs.logs.Marks.{fresh}
 use Rattle.cpu_words.proofs.logs.Runs.{item_of}
 

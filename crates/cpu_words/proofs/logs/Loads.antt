@@ -1,17 +1,86 @@
--- What a run does to the section of each CPU that an item of a seat is in, and what an item that loads a section word tells of the state.
-use Rattle.std.proofs.Common.{◌≡◌, ◌≢◌, ◌⊎◌, inl, inr, ⊎_elim, ℕ, suc, ◌+◌, ◌*◌, ◌≤◌, ◌==◌, ◌&&◌, Bool, true, false, cond, nat_lt, List, [], ◌∷◌, ◌++◌, length, set, get_or, Option, Some, None}
-use Rattle.std.proofs.Common.{eq-eqb, ne_eqb, refl, sym, ap, ◌∙◌, length-append, get_or-set_same, get_or-set_other, arith}
-use Rattle.std.proofs.lemmas.Bool.{and_parts, cases_eq}
+-- What items of a run do to the section of a CPU, what one that loads a section word tells, and how many changes there were.
+use Rattle.std.proofs.Common.{◌≡◌, ◌≢◌, ⊎_elim, ℕ, ◌+◌, ◌≤◌, Bool, cond, IsTrue, List, [], ◌∷◌, length, Some, eq-eqb, ne_eqb, refl, sym, ap, ◌∙◌, subst, arith, ◌⊎◌, inl, inr, suc, ◌*◌, ◌==◌, ◌&&◌, true, false, nat_lt, ◌++◌, set, get_or, Option, None, length-append, get_or-set_same, get_or-set_other, ◌<◌}
+use Rattle.std.proofs.lemmas.Bool.{cases_eq, and_parts}
+use Rattle.std.proofs.lemmas.List.{length-map}
 use Rattle.std.proofs.lemmas.Option.{none-some, same_Some}
-use Rattle.cpu_words.specs.Types.{Event, LoadRecord, Snapshot, Look, JoinRef, JoinKeeper, Keep, Reply, Word, Ref}
-use Rattle.protocol.specs.Common.{State, section_at, begin_at, Outcome, guard, some_outcome, step, is_idle, is_outside, is_inside, may_glance, Holds}
-use Rattle.protocol.proofs.Either.{either}
-use Rattle.protocol.proofs.Made.{Made, Enters, Exits, made}
+use Rattle.atomic_table.specs.Table.{State as Table}
+use Rattle.cpu_words.specs.Types.{Settings, Attach, Detach, Event, Publish, Unpublish, Reply, LoadRecord, Snapshot, Look, JoinRef, JoinKeeper, Keep, Word, Ref, Enter, Exit}
+use Rattle.registry_values.specs.Common.{are_fit}
+use Rattle.protocol.specs.Common.{State, opening, Outcome, step, Holds, empty_run, after, section_at, begin_at, guard, some_outcome, is_idle, is_outside, is_inside, may_glance, may_enter, may_exit, after_enter, after_exit}
+use Rattle.protocol.proofs.Made.{Made, Publishes, Unpublishes, made, Enters, Exits}
+use Rattle.protocol.proofs.History.{length-after_change}
 use Rattle.protocol.proofs.keeps.Keeping.{step_holds}
+use Rattle.protocol.proofs.Either.{either}
 use Rattle.protocol.proofs.keeps.SectionKeeps.{idle_parts}
-use Rattle.cpu_words.specs.Common.{LogItem, by_number, reply_without_id, has_taken, has_found, part}
-use Rattle.cpu_words.proofs.logs.Changes.{step_grows, changes_up}
-use Rattle.cpu_words.proofs.logs.Runs.{item_of, Follows, same_first, same_rest}
+use Rattle.cpu_words.specs.Common.{LogItem, Logged, by_number, log_of_events, changes_of, changes_in, part, untold, maker, IsSeatOf, AreByOwn, LoggedRuled, RunsAsLogged, reply_without_id, has_taken, has_found, HasNone, is_border, the_cpu}
+use Rattle.cpu_words.proofs.logs.Runs.{Follows, follows, item_of, same_first, same_rest}
+
+-- How many changes the keeper's log says there were: as many as the history has.
+
+-- One event
+
+-- it adds so many changes
+made_grows : (s t : State) (e : Event) (r : Reply) → Made s e t r → length t.history ≡ changes_of e (length s.history)
+made_grows s _ _ _ (Publishes t e of may) = length-after_change s.history (Attach e)
+made_grows s _ _ _ (Unpublishes t head next e at rest is) = length-after_change s.history (Detach e.number)
+made_grows s _ _ _ _ = refl
+
+pub step_grows : (s : State) (e : Event) (o : Outcome) → step s e ≡ Some o → length o.state.history ≡ changes_of e (length s.history)
+step_grows s e o is = made_grows s o.state e o.reply (made s e o is)
+
+pub changes_up : (e : Event) (n : ℕ) → n ≤ changes_of e n
+changes_up (Publish t) n = omega arith
+changes_up (Unpublish t) n = omega arith
+changes_up e n = omega arith
+
+-- A run
+
+pub unnamed_changes : (s : State) (e : Event) (n : ℕ) → changes_of (by_number s e) n ≡ changes_of e n
+unnamed_changes s (Publish t) n = refl
+unnamed_changes s e n = refl
+
+pub moves_past : (e : Event) (a b : ℕ) → changes_of e a + b ≡ a + changes_of e b
+moves_past (Publish t) a b = omega arith
+moves_past (Unpublish t) a b = omega arith
+moves_past e a b = refl
+
+changes_off : (seat : ℕ → ℕ) (n i : ℕ) (e : Event) (m : ℕ) → IsSeatOf seat n i (maker e) → i ≢ 0 → changes_of e m ≡ m
+changes_off seat n i (Publish t) m is off = absurd (off is)
+changes_off seat n i (Unpublish t) m is off = absurd (off is)
+changes_off seat n i e m is off = refl
+
+-- the keeper's part of the acts has all the changes
+pub counted : (seat : ℕ → ℕ) (n : ℕ) (s : State) (acts : List (ℕ × LogItem)) (es : List Event) (t : State) → Follows s acts es t → Holds s → AreByOwn seat n acts
+    → length t.history ≡ changes_in (part 0 acts) + length s.history
+counted seat n s [] [] t is holds own = let size : length t.history ≡ length s.history = ap (λ (g : State). length g.history) is in omega arith
+counted seat n s [] (e ∷ es) t on holds own = absurd on
+counted seat n s (a ∷ more) [] t on holds own = absurd on
+counted seat n s (a ∷ more) (e ∷ es) t on holds own =
+    let o = on.0 in
+    let rest = counted seat n o.state more es t on.3 (step_holds s o.state e o.reply holds on.1) own.1 in
+    let grows = step_grows s e o on.1 in
+    let c = changes_in (part 0 more) in
+    let here : c + length o.state.history ≡ changes_of a.1.event c + length s.history =
+    ap (λ n. c + n) grows ∙ (sym (moves_past e c (length s.history)) ∙ (λ k. (sym (unnamed_changes s e c) ∙ ap (λ (d : LogItem). changes_of d.event c) (sym on.2)) k + length s.history)) in
+    ⊎_elim
+    (λ (same : a.0 ≡ 0). rest ∙ (here ∙ sym (ap (λ (b : Bool). changes_in (cond b (a.1 ∷ part 0 more) (part 0 more)) + length s.history) (eq-eqb a.0 0 same))))
+    (λ (off : a.0 ≢ 0). rest ∙ (here ∙ ((λ k. changes_off seat n a.0 a.1.event c own.0 off k + length s.history)
+    ∙ sym (ap (λ (b : Bool). changes_in (cond b (a.1 ∷ part 0 more) (part 0 more)) + length s.history) (ne_eqb a.0 0 off)))))
+    (cases_eq a.0 0)
+
+-- the run of a table under the rule
+pub run_of : (z : Settings) (s : Table ℕ Logged) (r : LoggedRuled z s) → Follows (opening z) r.acts r.run.reached.events (after (opening z) r.run.reached.events)
+run_of z s r = follows r.run.seat r.run.g.seated (empty_run (opening z)) r.acts r.run.reached.events r.told r.are r.run.reached.made
+
+pub fit_of : (z : Settings) (s : Table ℕ Logged) (r : LoggedRuled z s) → IsTrue (are_fit z)
+fit_of z s r = subst (λ (a : Settings). IsTrue (are_fit a)) r.run.settings r.run.good.holds.fit
+
+pub run_as_logged : (z : Settings) (s : Table ℕ Logged) (r : RunsAsLogged z s) → Follows (opening z) r.acts r.run.events (after (opening z) r.run.events)
+run_as_logged z s r =
+    let made : length (log_of_events z r.run.events) ≡ length r.run.events = sym (ap (λ (d : List LogItem). length d) r.are) ∙ (length-map r.acts (λ (a : ℕ × LogItem). untold a.1) ∙ r.all) in
+    follows r.run.seat (after (opening z) r.run.events).seated (empty_run (opening z)) r.acts r.run.events r.told r.are made
+
+-- What a run does to the section of each CPU that an item of a seat is in, and what an item that loads a section word tells of the state.
 
 -- What an event does to the section of a CPU
 
@@ -213,3 +282,83 @@ starts_taken s c w more (e ∷ es) t run = (word_taken s e run.0 c w run.1 run.2
 pub starts_found : (s : State) (c w : ℕ) (more : List (ℕ × LogItem)) (es : List Event) (t : State) → Follows s ((0, has_found c w) ∷ more) es t → section_at s c ≡ w
 starts_found s c w more [] t run = absurd run
 starts_found s c w more (e ∷ es) t run = (word_found s e run.0 c w run.1 run.2).1
+
+-- Whether a CPU is inside a section, by what its seat did: its last enter or exit decides.
+
+abbrev pub is_open : Option ℕ → Bool
+is_open None = false
+is_open (Some b) = true
+
+abbrev pub inside_after : Event → Bool → Bool
+inside_after (Enter c) b = true
+inside_after (Exit c) b = false
+inside_after e b = b
+
+abbrev pub inside_by : Bool → List LogItem → Bool
+inside_by b [] = b
+inside_by b (d ∷ ds) = inside_by (inside_after d.event b) ds
+
+-- what is no enter and no exit leaves it
+
+left_after : (e : Event) (b : Bool) → is_border e ≡ false → inside_after e b ≡ b
+left_after (Enter c) b is = absurd (let q : true ≡ false = is in cc)
+left_after (Exit c) b is = absurd (let q : true ≡ false = is in cc)
+left_after e b is = refl
+
+pub inside_still : (b : Bool) (ds : List LogItem) → HasNone is_border ds → inside_by b ds ≡ b
+inside_still b [] none = refl
+inside_still b (d ∷ ds) none = ap (λ (a : Bool). inside_by a ds) (left_after d.event b none.0) ∙ inside_still b ds none.1
+
+-- One event
+
+-- the CPU's own enter and exit
+
+entered : (s : State) (c : ℕ) → Holds s → may_enter s c ≡ true → is_open (begin_at (after_enter s c) c) ≡ true
+entered s c on may =
+    let idle = idle_parts s c (and_parts (is_idle s c) (is_outside s c && nat_lt (section_at s c) (2 * s.settings.section_limit)) may).0 in
+    ap is_open (get_or-set_same s.begins c (Some (length s.history)) None (omega (arith, idle.0, on.seats.within, on.shape.begins)))
+
+exited : (s : State) (c : ℕ) → Holds s → may_exit s c ≡ true → is_open (begin_at (after_exit s c) c) ≡ false
+exited s c on may =
+    let idle = idle_parts s c (and_parts (is_idle s c) (is_inside s c && (get_or s.depths c 0 == 1)) may).0 in
+    ap is_open (get_or-set_same s.begins c None None (omega (arith, idle.0, on.seats.within, on.shape.begins)))
+
+-- an event of the CPU's own seat, and one of another seat
+
+own : (s n : State) (c : ℕ) (e : Event) (r : Reply) → Holds s → ((d : ℕ) → maker (by_number s e) ≡ the_cpu d → d ≡ c) → Made s e n r
+    → is_open (begin_at n c) ≡ inside_after e (is_open (begin_at s c))
+own s n c _ _ on only (Enters d may) = subst (λ (x : ℕ). is_open (begin_at n x) ≡ true) (only d refl) (entered s d on may)
+own s n c _ _ on only (Exits d may) = subst (λ (x : ℕ). is_open (begin_at n x) ≡ false) (only d refl) (exited s d on may)
+own s n c _ _ on only _ = refl
+
+other : (s n : State) (c : ℕ) (e : Event) (r : Reply) → (maker (by_number s e) ≡ the_cpu c → ⊥) → Made s e n r → begin_at n c ≡ begin_at s c
+other s n c _ _ off (Enters d may) = get_or-set_other s.begins d c _ None (λ same. off (ap the_cpu (sym same)))
+other s n c _ _ off (Exits d may) = get_or-set_other s.begins d c _ None (λ same. off (ap the_cpu (sym same)))
+other s n c _ _ off _ = refl
+
+-- A run
+
+unnamed : (s : State) (e : Event) (b : Bool) → inside_after (by_number s e) b ≡ inside_after e b
+unnamed s (Enter c) b = refl
+unnamed s (Exit c) b = refl
+unnamed s e b = refl
+
+pub inside_run : (seat : ℕ → ℕ) (n i c : ℕ) (s : State) (acts : List (ℕ × LogItem)) (es : List Event) (t : State) → Follows s acts es t → Holds s → AreByOwn seat n acts → i ≡ seat c
+    → ((d : ℕ) → d < n → i ≡ seat d → d ≡ c) → is_open (begin_at t c) ≡ inside_by (is_open (begin_at s c)) (part i acts)
+inside_run seat n i c s [] [] t is on own_acts at only = ap (λ (g : State). is_open (begin_at g c)) is
+inside_run seat n i c s [] (e ∷ es) t run on own_acts at only = absurd run
+inside_run seat n i c s (a ∷ more) [] t run on own_acts at only = absurd run
+inside_run seat n i c s (a ∷ more) (e ∷ es) t run on own_acts at only =
+    let o = run.0 in
+    let event : a.1.event ≡ by_number s e = ap (λ (x : LogItem). x.event) run.2 in
+    let made_by : maker a.1.event ≡ maker (by_number s e) = ap maker event in
+    let rest = inside_run seat n i c o.state more es t run.3 (step_holds s o.state e o.reply on run.1) own_acts.1 at only in
+    rest ∙ ⊎_elim
+    (λ (same : a.0 ≡ i).
+    let mine = own s o.state c e o.reply on (λ d of. let seated = subst (IsSeatOf seat n a.0) (made_by ∙ of) own_acts.0 in only d seated.1 (sym same ∙ seated.0)) (made s e o run.1) in
+    ap (λ (b : Bool). inside_by b (part i more)) (mine ∙ sym (ap (λ (f : Event). inside_after f (is_open (begin_at s c))) event ∙ unnamed s e (is_open (begin_at s c))))
+    ∙ ap (inside_by (is_open (begin_at s c))) (sym (part_same i a more same)))
+    (λ (off : a.0 ≢ i).
+    let theirs = other s o.state c e o.reply (λ of. off ((subst (IsSeatOf seat n a.0) (made_by ∙ of) own_acts.0).0 ∙ sym at)) (made s e o run.1) in
+    ap (λ (x : Option ℕ). inside_by (is_open x) (part i more)) theirs ∙ ap (inside_by (is_open (begin_at s c))) (sym (part_off i a more off)))
+    (cases_eq a.0 i)

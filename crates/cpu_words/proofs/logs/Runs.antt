@@ -1,10 +1,40 @@
--- A run whose events were all made, each beside the act that it is: how it is cut in two, and what its state is.
-use Rattle.std.proofs.Common.{◌≡◌, ℕ, suc, ◌≤◌, List, [], ◌∷◌, ◌++◌, length, Option, Some, None, refl, sym, ap, ◌∙◌, subst, append_assoc, arith}
+-- A run whose events were all made: what each seat did of it, how it is cut in two, and a walk over it.
+use Rattle.std.proofs.Common.{◌≡◌, ◌≢◌, ℕ, ◌==◌, Bool, true, false, cond, List, [], ◌∷◌, ◌++◌, map, eq-eqb, ne_eqb, refl, sym, ap, ◌∙◌, suc, ◌≤◌, length, Option, Some, None, subst, append_assoc, arith, ⊎_elim}
+use Rattle.std.proofs.lemmas.Bool.{cases_eq}
+use Rattle.std.proofs.lemmas.List.{append-nil}
 use Rattle.cpu_words.specs.Types.{Event, Reply}
 use Rattle.protocol.specs.Common.{State, Outcome, step, state_after, Holds, Run, run_of_events, run_with_event, after, after_event}
 use Rattle.protocol.proofs.keeps.Keeping.{step_holds}
 use Rattle.protocol.proofs.runs.Steps.{after_more}
-use Rattle.cpu_words.specs.Common.{LogItem, Teller, by_number, reply_without_id, log_item, log_with, log_from, events_of, untold, teller_if, AreToldBefore}
+use Rattle.cpu_words.specs.Common.{LogItem, part, untold, events_of, Teller, by_number, reply_without_id, log_item, log_with, log_from, teller_if, AreToldBefore, maker, IsSeatOf, AreByOwn}
+
+-- What each seat did, of what all seats did in order.
+
+-- what the seat i did more
+abbrev pub by_seat : ℕ → List LogItem → List (ℕ × LogItem)
+by_seat i ds = map (λ (d : LogItem). (i, d)) ds
+
+cond_append : (b : Bool) (d : LogItem) (x y : List LogItem) → cond b (d ∷ (x ++ y)) (x ++ y) ≡ cond b (d ∷ x) x ++ y
+cond_append true d x y = refl
+cond_append false d x y = refl
+
+pub part_append : (i : ℕ) (a b : List (ℕ × LogItem)) → part i (a ++ b) ≡ part i a ++ part i b
+part_append i [] b = refl
+part_append i (x ∷ xs) b = ap (λ (l : List LogItem). cond (x.0 == i) (x.1 ∷ l) l) (part_append i xs b) ∙ cond_append (x.0 == i) x.1 (part i xs) (part i b)
+
+pub part_own : (i : ℕ) (ds : List LogItem) → part i (by_seat i ds) ≡ ds
+part_own i [] = refl
+part_own i (d ∷ ds) = ap (λ (b : Bool). cond b (d ∷ part i (by_seat i ds)) (part i (by_seat i ds))) (eq-eqb i i refl) ∙ ap (λ (l : List LogItem). d ∷ l) (part_own i ds)
+
+pub part_other : (i j : ℕ) (ds : List LogItem) → j ≢ i → part j (by_seat i ds) ≡ []
+part_other i j [] ne = refl
+part_other i j (d ∷ ds) ne = ap (λ (b : Bool). cond b (d ∷ part j (by_seat i ds)) (part j (by_seat i ds))) (ne_eqb i j (λ same. ne (sym same))) ∙ part_other i j ds ne
+
+pub events_of_seat : (i : ℕ) (ds : List LogItem) → events_of (by_seat i ds) ≡ map untold ds
+events_of_seat i [] = refl
+events_of_seat i (d ∷ ds) = ap (λ (l : List LogItem). untold d ∷ l) (events_of_seat i ds)
+
+-- A run whose events were all made, each beside the act that it is: how it is cut in two, and what its state is.
 
 -- an event as its seat knows it; where it heard a note, h told that
 abbrev pub item_as : Event → Reply → Option Teller → LogItem
@@ -134,3 +164,31 @@ cut s (a ∷ more) second (e ∷ es) t on =
       before = (on.0, on.1, on.2, p.before);
       since = p.since;
     }
+
+-- A walk over a run: what is so of the keeper's log and of the state at the start, and stays so by each event, is so at the end.
+
+-- it stays so by each event: the keeper's log goes on with one of its own, and no other is the keeper's
+pub record Stays (seat : ℕ → ℕ) (n : ℕ) (P : List LogItem → State → Type 0) : Type 0 where
+  pub own : (log : List LogItem) (s : State) (e : Event) (o : Outcome) (h : Option Teller) → Holds s → step s e ≡ Some o → P log s → P (log ++ item_of s e o.reply h ∷ []) o.state
+  pub off : (i : ℕ) (log : List LogItem) (s : State) (e : Event) (o : Outcome) → IsSeatOf seat n i (maker (by_number s e)) → i ≢ 0 → Holds s → step s e ≡ Some o → P log s → P log o.state
+
+pub walked : (seat : ℕ → ℕ) (n : ℕ) (P : List LogItem → State → Type 0) (log : List LogItem) (s : State) (acts : List (ℕ × LogItem)) (es : List Event) (t : State)
+    → Stays seat n P → Follows s acts es t → Holds s → AreByOwn seat n acts → P log s → P (log ++ part 0 acts) t
+walked seat n P log s [] [] t stays is on own so = subst (P (log ++ [])) (sym is) (subst (λ (l : List LogItem). P l s) (sym (append-nil log)) so)
+walked seat n P log s [] (e ∷ es) t stays run on own so = absurd run
+walked seat n P log s (a ∷ more) [] t stays run on own so = absurd run
+walked seat n P log s (a ∷ more) (e ∷ es) t stays run on own so =
+    let o = run.0 in
+    let holds : Holds o.state = step_holds s o.state e o.reply on run.1 in
+    ⊎_elim
+    (λ (same : a.0 ≡ 0).
+    let next : P (log ++ a.1 ∷ []) o.state = subst (λ (d : LogItem). P (log ++ d ∷ []) o.state) (sym run.2) (stays.own log s e o a.1.teller on run.1 so) in
+    let whole : (log ++ a.1 ∷ []) ++ part 0 more ≡ log ++ part 0 (a ∷ more) =
+    append_assoc log (a.1 ∷ []) (part 0 more) ∙ sym (ap (λ (b : Bool). log ++ cond b (a.1 ∷ part 0 more) (part 0 more)) (eq-eqb a.0 0 same)) in
+    subst (λ (l : List LogItem). P l t) whole (walked seat n P (log ++ a.1 ∷ []) o.state more es t stays run.3 holds own.1 next))
+    (λ (off : a.0 ≢ 0).
+    let mine : IsSeatOf seat n a.0 (maker (by_number s e)) = subst (λ (d : LogItem). IsSeatOf seat n a.0 (maker d.event)) run.2 own.0 in
+    let next : P log o.state = stays.off a.0 log s e o mine off on run.1 so in
+    let whole : log ++ part 0 more ≡ log ++ part 0 (a ∷ more) = sym (ap (λ (b : Bool). log ++ cond b (a.1 ∷ part 0 more) (part 0 more)) (ne_eqb a.0 0 off)) in
+    subst (λ (l : List LogItem). P l t) whole (walked seat n P log o.state more es t stays run.3 holds own.1 next))
+    (cases_eq a.0 0)

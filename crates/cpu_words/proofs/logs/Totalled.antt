@@ -1,8 +1,6 @@
 -- What the keeper's log says of totals: of each occupied slot the words that were collected, less the references given up.
-use Rattle.cpu_words.specs.Types.{Reply, Entry, Mark, Settings, MOST_CPUS, Slot, Vacant, Live, Retired, Event, Publish, Collect, TotalAdd, JoinKeeper, TotalSub, KeptSub}
-use Rattle.cpu_words.specs.Types.{Due, Rest, Snapshots, Adding, Subtracting, Done, Word}
-use Rattle.std.proofs.Common.{◌≡◌, inl, inr, ⊎_elim, ℕ, zero, suc, ◌+◌, ◌-◌, ◌*◌, ◌<◌, ◌≤◌, ◌==◌, ◌&&◌, nat_lt, not, Bool, true, false, if◌then◌else◌, List, [], ◌∷◌, ◌++◌, length, get_or, set, sum_by}
-use Rattle.std.proofs.Common.{Option, Some, None, eq-eqb, ne_eqb, refl, sym, ap, ◌∙◌, subst, append_assoc, arith}
+use Rattle.cpu_words.specs.Types.{Reply, Entry, Mark, Settings, MOST_CPUS, Slot, Vacant, Live, Retired, Event, Publish, Collect, TotalAdd, JoinKeeper, TotalSub, KeptSub, Due, Rest, Snapshots, Adding, Subtracting, Done, Word}
+use Rattle.std.proofs.Common.{◌≡◌, inl, inr, ⊎_elim, ℕ, zero, suc, ◌+◌, ◌-◌, ◌*◌, ◌<◌, ◌≤◌, ◌==◌, ◌&&◌, nat_lt, not, Bool, true, false, if◌then◌else◌, List, [], ◌∷◌, ◌++◌, length, get_or, set, sum_by, Option, Some, None, eq-eqb, ne_eqb, refl, sym, ap, ◌∙◌, subst, append_assoc, arith}
 use Rattle.std.specs.List.{zip, list_all}
 use Rattle.std.specs.Prelude.{take}
 use Rattle.std.proofs.lemmas.Bool.{and_parts, cases_eq, cases_lt, eqb-true}
@@ -11,27 +9,23 @@ use Rattle.std.proofs.lemmas.List.Sums.{sum_by-cons}
 use Rattle.std.proofs.lemmas.Option.{same_Some}
 use Rattle.registry_values.specs.Common.{bias, no_mark, is_retired, slot_at, slot_of}
 use Rattle.registry_values.proofs.Fit.{ranges}
-use Rattle.protocol.specs.Common.{may_publish, after_publish, may_collect, after_collect, after_total, number_standing, local_at, may_join_keeper, after_join_keeper, is_drained, after_kept_sub}
-use Rattle.protocol.specs.Common.{State, opening, mark_at, count_at, total_at, kept_at, at_rest, may_examine, may_join, is_drainable}
-use Rattle.protocol.specs.Common.{is_bias, Holds, IsIn, one_if, addition_due_at, is_adding_at, subtraction_due_at}
+use Rattle.protocol.specs.Common.{may_publish, after_publish, may_collect, after_collect, after_total, number_standing, local_at, may_join_keeper, after_join_keeper, is_drained, after_kept_sub, State, opening, mark_at, count_at, total_at, kept_at, at_rest, may_examine, may_join, is_drainable, is_bias, Holds, IsIn, one_if, addition_due_at, is_adding_at, subtraction_due_at}
 use Rattle.protocol.proofs.Either.{either}
 use Rattle.protocol.proofs.Made.{Made, Publishes, Unpublishes, Snaps, Collects, AddsTotal, SubsTotal, JoinsKeeper, SubsKept, Vacates}
 use Rattle.protocol.proofs.counts.Bounds.{adding_range, adding_within, driver_positive, subtracting_range}
-use Rattle.protocol.proofs.counts.HeldSums.{one_self, one_other}
+use Rattle.protocol.proofs.counts.Sums.{one_self, one_other}
 use Rattle.protocol.proofs.keeps.ListKeeps.{may_publish_tells, false_from}
 use Rattle.protocol.proofs.keeps.MarkKeeps.{is_drained_tells, may_examine_tells}
 use Rattle.protocol.proofs.keeps.References.{snapshot_due_tells}
-use Rattle.protocol.proofs.slots.Cells.{total_here, total_other}
-use Rattle.protocol.proofs.slots.Occupied.{at_rest_tells, fresh_unoccupied, in_within, one_number, slot_has}
-use Rattle.cpu_words.specs.Common.{LogItem, Teller, KeeperView, number_at, collected_net, collected_one, GivesUp, KeeperShown, Good, number_or_none, by_number, changes_of, changes_in, keeping, names}
-use Rattle.cpu_words.specs.Common.{occupant_after, occupant, word_after, word_collected, occupant_of, word_if, AreCountsOf, given_by, given_after, given_up, sum_below, is_there, word_or_none}
-use Rattle.cpu_words.specs.Common.{words_collected, sum_collected, AreTotalsOf}
-use Rattle.cpu_words.proofs.by_keeper.Marked.{due_alike}
+use Rattle.protocol.proofs.Cells.{total_here, total_other}
+use Rattle.protocol.proofs.Occupied.{at_rest_tells, fresh_unoccupied, in_within, one_number, slot_has}
+use Rattle.cpu_words.specs.Common.{LogItem, Teller, KeeperView, number_at, collected_net, collected_one, GivesUp, KeeperShown, Good, number_or_none, by_number, changes_of, changes_in, keeping, names, occupant_after, occupant, word_after, word_collected, occupant_of, word_if, AreCountsOf, given_by, given_after, given_up, sum_below, is_there, word_or_none, words_collected, sum_collected, AreTotalsOf}
+use Rattle.cpu_words.proofs.by_keeper.Draining.{due_alike}
 use Rattle.cpu_words.proofs.by_keeper.Totals.{one_subtracted}
-use Rattle.cpu_words.proofs.logs.Changes.{changes_up, unnamed_changes}
+use Rattle.cpu_words.proofs.logs.Loads.{changes_up, unnamed_changes}
 use Rattle.cpu_words.proofs.logs.Counted.{no_word, occupant_next, undrawn_slot, undrawn_mark, word_next}
 use Rattle.cpu_words.proofs.logs.Runs.{item_of}
-use Rattle.cpu_words.proofs.logs.Standings.{changes_last}
+use Rattle.cpu_words.proofs.logs.Slots.{changes_last}
 
 -- References given up, with one item more
 

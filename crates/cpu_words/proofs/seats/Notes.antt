@@ -8,19 +8,13 @@ use Rattle.atomic_table.specs.Table.{Splits, Joins}
 use Rattle.atomic_table.proofs.Lists.{at_set}
 use Rattle.cpu_words.specs.Types.{Change, Settings, Event, Tell, Hear, Done, Rest}
 use Rattle.protocol.specs.Common.{State, seen_at, step}
-use Rattle.cpu_words.specs.Common.{CpuView, KeeperView, Logged, View, Keeper, Cpu, Note, Spent, cpu_view, keeper_view, depth_of, CpuShown, KeeperShown, Shown, cpu_of}
-use Rattle.cpu_words.specs.Common.{keeper_of, note_of, Sits, reference_to, Good, by_number, did, log_item, log_of_events, Makes, SplitsBy, CpuMay, KeeperMay, SplitsOn, JoinsOn, the_cpu, who}
-use Rattle.cpu_words.specs.Common.{LoggedRuled, logged_after_split, known_log_of, whole_log, fresh, logged_with_note, spent_seat, tells_pass, tells_history, told_by_cpu, no_teller, IsIdle, as_before}
-use Rattle.cpu_words.specs.Common.{pass_told, history_told, with_note, keeper_with_note, beside_cpu, beside_keeper, HasHeard, KeeperHasHeard, CpuHears, section_of, head_word, index}
+use Rattle.cpu_words.specs.Common.{CpuView, KeeperView, Logged, View, Keeper, Cpu, Note, Spent, cpu_view, keeper_view, depth_of, CpuShown, KeeperShown, Shown, cpu_of, keeper_of, note_of, Sits, reference_to, Good, by_number, did, log_item, log_of_events, Makes, SplitsBy, CpuMay, KeeperMay, SplitsOn, JoinsOn, the_cpu, who, LoggedRuled, logged_after_split, known_log_of, whole_log, fresh, logged_with_note, spent_seat, tells_pass, tells_history, told_by_cpu, no_teller, IsIdle, as_before, pass_told, history_told, with_note, keeper_with_note, beside_cpu, beside_keeper, HasHeard, KeeperHasHeard, CpuHears, section_of, head_word, index}
 use Rattle.std.proofs.lemmas.List.{append-nil}
-use Rattle.cpu_words.proofs.laws.Reaching.{more}
-use Rattle.cpu_words.proofs.logs.Seats.{tells_known, tells_whole, seat_cut, seat_with_note, names_nobody, names_cpu}
-use Rattle.cpu_words.proofs.shown.Showing.{Stay, shows_split, shows_join}
-use Rattle.cpu_words.proofs.shown.Passes.{taken_is_prefix, prefix_longer, take_whole}
-use Rattle.cpu_words.proofs.shown.Seeing.{seen_of, idle_of}
+use Rattle.cpu_words.proofs.shown.Showing.{more, Stay, shows_split, shows_join}
+use Rattle.cpu_words.proofs.logs.Logs.{tells_known, tells_whole, seat_cut, seat_with_note, names_nobody, names_cpu}
+use Rattle.cpu_words.proofs.shown.Seeing.{taken_is_prefix, prefix_longer, take_whole, seen_of, idle_of}
 use Rattle.cpu_words.proofs.by_cpu.CpuSteps.{CpuLists, lists_of, with_lists, same_counts, shown_on, found_on, cpu_makes}
-use Rattle.cpu_words.proofs.by_keeper.KeeperSteps.{keeper_lists, with_keeper, leaves_all, keeper_makes}
-use Rattle.cpu_words.proofs.by_keeper.KeeperSees.{seen_by_keeper, loads}
+use Rattle.cpu_words.proofs.by_keeper.KeeperSteps.{keeper_lists, with_keeper, leaves_all, keeper_makes, seen_by_keeper, loads}
 
 -- where a seat's own view alone changes, the core stays, and each other view is shown as it was
 pub own_view_alone : (g : State) (seat : ℕ → ℕ) (i : ℕ) → Stay g g seat i

@@ -1,11 +1,12 @@
--- Where the words lie: no two share a place, and one step changes one word.
-use Rattle.std.proofs.Common.{◌≡◌, ℕ, ◌+◌, ◌*◌, ◌<◌, ◌≤◌, List, length, get_or, set, refl, sym, ap, ◌∙◌, subst, arith, length-set, get_or-set_same, get_or-set_other}
+-- Where the words lie: no two share a place, those of two owners are at least nine words apart, and one step changes one word.
+use Rattle.std.proofs.Common.{◌≡◌, ℕ, ◌+◌, ◌*◌, ◌<◌, ◌≤◌, List, length, get_or, set, refl, sym, ap, ◌∙◌, subst, arith, length-set, get_or-set_same, get_or-set_other, inl, inr, ⊎_elim, Option, Some, None}
 use Rattle.std.proofs.lemmas.Nat.{same_from_place, row_fits}
+use Rattle.std.proofs.lemmas.Bool.{cases_order}
 use mathlib.Core.Logic.{dite}
 use native.Mathlib.Decide.{ℕ_discrete}
 use Rattle.cpu_words.specs.Types.{Settings}
 use Rattle.protocol.specs.Common.{State}
-use Rattle.cpu_words.specs.Common.{Spot, section_of, passive_of, count_of, head_word, live_of, next_of, record_of, total_of, index, IsSpot, rows_from, stride_of, words_of, word_at, Agrees}
+use Rattle.cpu_words.specs.Common.{Spot, section_of, passive_of, count_of, head_word, live_of, next_of, record_of, total_of, index, IsSpot, rows_from, stride_of, words_of, word_at, Agrees, owner, AreApart, LinesApart, OnePlace, FirstWordsFree}
 
 -- two places of rows that are one: one row, and one place in it
 in_rows : (z : Settings) (c d a b : ℕ) → a < stride_of z.slots → b < stride_of z.slots → rows_from z.slots + c * stride_of z.slots + a ≡ rows_from z.slots + d * stride_of z.slots + b → (c ≡ d) × (a ≡ b)
@@ -118,3 +119,52 @@ agrees_same z words g g' agrees same others = record {
   at = λ q there'. let there = subst (λ (y : Settings). IsSpot y q) same there' in agrees.at q there ∙ sym (others q there);
   unused = agrees.unused;
 }
+
+-- The words of two owners are at least nine words apart.
+
+-- a CPU's words lie in its row, and the shared ones before all rows
+abbrev LiesIn : Settings → Option ℕ → ℕ → Type 0
+LiesIn z (Some c) i = (rows_from z.slots + c * stride_of z.slots ≤ i) × (i + 16 ≤ rows_from z.slots + c * stride_of z.slots + stride_of z.slots)
+LiesIn z None i = i + 9 ≤ rows_from z.slots
+
+-- each word lies where its owner's lie
+lies_in : (z : Settings) (p : Spot) → IsSpot z p → LiesIn z (owner p) (index z p)
+lies_in z (section_of c) here = (omega arith, omega arith)
+lies_in z (passive_of c t) here = (omega arith, omega (arith, here))
+lies_in z (count_of c t) here = (omega arith, omega (arith, here))
+lies_in z head_word here = omega arith
+lies_in z (live_of t) here = omega (arith, here)
+lies_in z (next_of t) here = omega (arith, here)
+lies_in z (record_of t k) here = omega (arith, here)
+lies_in z (total_of t) here = omega (arith, here)
+
+-- two such ranges are apart, where they are not one CPU's or both the shared ones
+rows_apart : (z : Settings) (a b : Option ℕ) (i j : ℕ) → LiesIn z a i → LiesIn z b j → (a ≡ b → ⊥) → AreApart i j
+rows_apart z None None i j at there other = absurd (other refl)
+rows_apart z None (Some d) i j at there other = inl (omega (arith, at, there))
+rows_apart z (Some c) None i j at there other = inr (omega (arith, at, there))
+rows_apart z (Some c) (Some d) i j at there other = ⊎_elim
+    (λ (same : c ≡ d). absurd (other (ap Some same)))
+    (⊎_elim
+    (λ (less : c < d). inl (omega (arith, at, there, row_fits c (stride_of z.slots) d (stride_of z.slots) less (omega arith))))
+    (λ (more : d < c). inr (omega (arith, at, there, row_fits d (stride_of z.slots) c (stride_of z.slots) more (omega arith)))))
+    (cases_order c d)
+
+-- words of two owners share no line
+pub lines_apart : LinesApart
+lines_apart z p q here there other = rows_apart z (owner p) (owner q) (index z p) (index z q) (lies_in z p here) (lies_in z q there) other
+
+-- no word is among the first
+pub first_words_free : FirstWordsFree
+first_words_free z (section_of c) here = omega arith
+first_words_free z (passive_of c t) here = omega arith
+first_words_free z (count_of c t) here = omega arith
+first_words_free z head_word here = omega arith
+first_words_free z (live_of t) here = omega arith
+first_words_free z (next_of t) here = omega arith
+first_words_free z (record_of t k) here = omega arith
+first_words_free z (total_of t) here = omega arith
+
+-- two words share no place
+pub one_place : OnePlace
+one_place z p q here there other same = other (sym (same_spot z p q here there (sym same)))

@@ -1,11 +1,108 @@
--- What a CPU's view tells of the core that shows it.
-use Rattle.std.proofs.Common.{◌≡◌, ℕ, ◌≤◌, ◌<◌, ◌==◌, length, take, None, true, refl, sym, ap, ◌∙◌, subst, arith}
-use Rattle.std.proofs.lemmas.Bool.{lt-ltb, eq-eqb, ne_eqb}
-use Rattle.cpu_words.specs.Types.{Entry, Hand, Empty, Taking, Giving, Back, Trying}
-use Rattle.protocol.specs.Common.{State, section_at, begin_at, seen_at, search_at, found_at, hand_at, is_idle, one_if, trying_at, trying_of}
+-- What a CPU's view tells of the core that shows it, its pass, and the live words, which stay honest.
+use Rattle.std.proofs.Common.{◌≡◌, ℕ, ◌≤◌, List, ◌++◌, length, take, drop, sym, ap, ◌∙◌, subst, arith, append_assoc, zero, suc, set, Bool, true, false, refl, ◌<◌, ◌==◌, None}
+use Rattle.std.proofs.lemmas.List.{take-append-drop, length-take-le, take_all, take-append-le}
+use Rattle.std.proofs.lemmas.Bool.{eq-eqb, lt-ltb, ne_eqb}
+use mathlib.Core.List.{IsPrefix}
+use Rattle.cpu_words.specs.Types.{Entry, Change, Attach, Slot, Vacant, Live, Retired, Hand, Empty, Taking, Giving, Back, Trying}
+use Rattle.registry_values.specs.Common.{slot_at}
 use Rattle.registry_values.proofs.Fit.{Ranges, ranges}
+use Rattle.protocol.specs.Common.{IsAttached, is_honest, live_at, State, section_at, begin_at, seen_at, search_at, found_at, hand_at, is_idle, one_if, trying_at, trying_of}
+use Rattle.protocol.specs.History.{change_at}
+use Rattle.protocol.proofs.History.{at_prefix, at_within}
+use Rattle.protocol.proofs.Cells.{place_put}
+use Rattle.cpu_words.specs.Common.{LivesShow, CpuView, InHand, SameHand, CpuShown, Good, IsIdle, trying_in}
 use Rattle.cpu_words.specs.declared.view.InHand.TheVariants.{Empty as NoEntry, Taking as TakingEntry, Giving as GivingEntry, Back as BackEntry, Trying as TryingEntry}
-use Rattle.cpu_words.specs.Common.{CpuView, InHand, SameHand, CpuShown, Good, IsIdle, trying_in}
+
+-- A pass is a prefix of the history: what is attached in it, and how it grows.
+
+pub attached_on : (p zs : List Change) (e : Entry) → IsAttached p e → IsAttached (p ++ zs) e
+attached_on p zs e there = at_prefix p zs e.number (at_within p e.number (Attach e) there).1 ∙ there
+
+pub attached_prefix : (p h : List Change) (e : Entry) → IsPrefix p h → IsAttached p e → IsAttached h e
+attached_prefix p h e pre there = subst (λ l. IsAttached l e) pre.1 (attached_on p pre.0 e there)
+
+pub taken_is_prefix : (n : ℕ) (h : List Change) → IsPrefix (take n h) h
+taken_is_prefix n h = (drop n h, take-append-drop n h)
+
+-- an entry of the history is in a pass that reaches its number
+pub attached_take : (h : List Change) (n : ℕ) (e : Entry) → n ≤ length h → IsAttached h e → e.number ≤ n → IsAttached (take n h) e
+attached_take h n e le there reach =
+    let size : length (take n h) ≡ n = length-take-le n h le in
+    sym (at_prefix (take n h) (drop n h) e.number (omega arith)) ∙ ap (λ l. change_at l e.number) (take-append-drop n h) ∙ there
+
+pub number_within : (h : List Change) (n : ℕ) (e : Entry) → n ≤ length h → IsAttached (take n h) e → e.number ≤ n
+number_within h n e le there =
+    let size : length (take n h) ≡ n = length-take-le n h le in
+    let b = (at_within (take n h) e.number (Attach e) there).1 in
+    omega arith
+
+-- a pass grows
+pub attached_longer : (h : List Change) (m n : ℕ) (e : Entry) → m ≤ n → n ≤ length h → IsAttached (take m h) e → IsAttached (take n h) e
+attached_longer h m n e le within there =
+    let few = number_within h m e (omega arith) there in
+    attached_take h n e within (attached_prefix (take m h) h e (taken_is_prefix m h) there) (omega arith)
+
+pub prefix_longer : (h : List Change) (m n : ℕ) → m ≤ n → n ≤ length h → IsPrefix (take m h) (take n h)
+prefix_longer h m n le within =
+    let size : length (take n h) ≡ n = length-take-le n h within in
+    let same : take m h ≡ take m (take n h) = ap (take m) (sym (take-append-drop n h)) ∙ take-append-le m (take n h) (drop n h) (omega arith) in
+    subst (λ p. IsPrefix p (take n h)) (sym same) (taken_is_prefix m (take n h))
+
+pub prefix_on : (p h zs : List Change) → IsPrefix p h → IsPrefix p (h ++ zs)
+prefix_on p h zs pre = (pre.0 ++ zs, sym (append_assoc p pre.0 zs) ∙ ap (λ l. l ++ zs) pre.1)
+
+-- a pass of the history stays as the history grows
+pub take_on : (n : ℕ) (h zs : List Change) → n ≤ length h → take n (h ++ zs) ≡ take n h
+take_on n h zs le = take-append-le n h zs le
+
+pub take_whole : (h : List Change) → take (length h) h ≡ h
+take_whole h = take_all (length h) h (omega arith)
+
+-- The live words stay honest as the slots change that they speak of, and as they are stored.
+
+-- 0 says nothing
+zero_honest : (n : ℕ) (x : Slot) → n ≡ 0 → is_honest n x ≡ true
+zero_honest zero x none = refl
+zero_honest (suc n) x none = absurd (omega arith)
+
+-- the number of a live entry does
+pub live_honest : (n : ℕ) (e : Entry) → e.number ≡ n → is_honest n (Live e) ≡ true
+live_honest zero e same = refl
+live_honest (suc n) e same = eq-eqb e.number (suc n) same
+
+-- the word of a slot without a live entry is 0
+dead_zero : (n : ℕ) (x : Slot) → ((e : Entry) → x ≡ Live e → ⊥) → is_honest n x ≡ true → n ≡ 0
+dead_zero zero x dead test = refl
+dead_zero (suc n) Vacant dead test = absurd (let q : ◌≡◌ {A = Bool} false true = test in cc)
+dead_zero (suc n) (Live e) dead test = absurd (dead e refl)
+dead_zero (suc n) (Retired e) dead test = absurd (let q : ◌≡◌ {A = Bool} false true = test in cc)
+
+-- a slot changes whose word is 0
+pub honest_changed : (slots : List Slot) (lives : List ℕ) (t : ℕ) (x : Slot) → live_at lives t ≡ 0 → LivesShow slots lives → LivesShow (set slots t x) lives
+honest_changed slots lives t x none honest u = place_put Vacant slots t x (λ v y. is_honest (live_at lives v) y ≡ true) u (zero_honest (live_at lives t) x none) (honest u)
+
+-- and so does one that has no live entry
+pub honest_dead : (slots : List Slot) (lives : List ℕ) (t : ℕ) (y x : Slot) → slot_at slots t ≡ y → ((e : Entry) → y ≡ Live e → ⊥) → LivesShow slots lives → LivesShow (set slots t x) lives
+honest_dead slots lives t y x at dead honest =
+    honest_changed slots lives t x (dead_zero (live_at lives t) (slot_at slots t) (λ e live. dead e (sym at ∙ live)) (honest t)) honest
+
+vacant_dead : (e : Entry) → Vacant ≡ Live e → ⊥
+vacant_dead e is = cc
+
+retired_dead : (f e : Entry) → Retired f ≡ Live e → ⊥
+retired_dead f e is = cc
+
+pub honest_vacant : (slots : List Slot) (lives : List ℕ) (t : ℕ) (x : Slot) → slot_at slots t ≡ Vacant → LivesShow slots lives → LivesShow (set slots t x) lives
+honest_vacant slots lives t x at honest = honest_dead slots lives t Vacant x at vacant_dead honest
+
+pub honest_retired : (slots : List Slot) (lives : List ℕ) (t : ℕ) (f : Entry) (x : Slot) → slot_at slots t ≡ Retired f → LivesShow slots lives → LivesShow (set slots t x) lives
+honest_retired slots lives t f x at honest = honest_dead slots lives t (Retired f) x at (retired_dead f) honest
+
+-- a word is stored
+pub honest_stored : (slots : List Slot) (lives : List ℕ) (t n : ℕ) → is_honest n (slot_at slots t) ≡ true → LivesShow slots lives → LivesShow slots (set lives t n)
+honest_stored slots lives t n here honest u = place_put {X = ℕ} 0 lives t n (λ v m. is_honest m (slot_at slots v) ≡ true) u here (honest u)
+
+-- What a CPU's view tells of the core that shows it.
 
 pub record Seen (g : State) (x : CpuView) : Type 0 where
   pub fit : Ranges g.settings

@@ -1,11 +1,67 @@
--- The views of a table: how they are shown on as one of them changes, is cut in two, or is joined into another.
-use Rattle.std.proofs.Common.{◌≡◌, ◌≢◌, ◌⊎◌, inl, inr, ℕ, zero, suc, ◌+◌, ◌<◌, ◌≤◌, List, [], ◌∷◌, ◌++◌, length, set, sum_by, refl, sym, ap, ◌∙◌, subst, ⊎_elim, arith, length-set}
+-- Reached states, and the views of a table: how they are shown on as one of them changes, is cut in two, or is joined into another.
+use Rattle.std.proofs.Common.{◌≡◌, ℕ, List, [], ◌∷◌, ◌++◌, Option, Some, None, refl, sym, ap, ◌∙◌, append_assoc, length, length-append, arith, ◌≢◌, ⊎_elim, zero, suc, ◌<◌, sum_by, ◌⊎◌, inl, inr, ◌+◌, ◌≤◌, set, subst, length-set}
 use Rattle.std.proofs.lemmas.List.Sums.{sum_by-cons, sum_by_push}
+use Rattle.std.proofs.lemmas.Bool.{cases_eq}
+use Rattle.atomic_table.specs.Table.{State as Table}
 use mathlib.Core.Option.{some, some-ne-none, some-injective}
 use lib.ListN.{get_elem?}
 use Rattle.atomic_table.proofs.Lists.{at_set, at_longer, at_last}
-use Rattle.protocol.specs.Common.{State, standing_of}
-use Rattle.cpu_words.specs.Common.{CpuView, KeeperView, View, Keeper, Cpu, Reference, Note, Spent, Shown, Sits, reference_to, HaveViews, ShowsViews, Maker, the_keeper, the_cpu, another, who}
+use Rattle.cpu_words.specs.Types.{Settings, Event, Reply, LocalPlace, Free, Standing, Lifted}
+use Rattle.protocol.specs.Common.{State, opening, Outcome, step, Run, run_of_events, empty_run, run_with_event, after, local_at, standing_of}
+use Rattle.protocol.proofs.counts.Sums.{none_at}
+use Rattle.cpu_words.specs.Common.{LogItem, View, Reached, Ruled, GoesOn, by_number, did, log_with, log_from, log_of_events, CpuView, KeeperView, Keeper, Cpu, Reference, Note, Spent, Shown, Sits, reference_to, HaveViews, ShowsViews, Maker, the_keeper, the_cpu, another, who}
+
+-- Reached states: what one event more makes of a reached state and of what was done.
+
+ran_push : (r : Run) (es : List Event) (e : Event) → run_of_events r (es ++ e ∷ []) ≡ run_with_event (run_of_events r es) (step (run_of_events r es).state e)
+ran_push r [] e = refl
+ran_push r (f ∷ es) e = ran_push (run_with_event r (step r.state f)) es e
+
+noted_push : (s : State) (e : Event) (o : Option Outcome) (a b : List LogItem) → log_with s e o (a ++ b) ≡ log_with s e o a ++ b
+noted_push s e None a b = refl
+noted_push s e (Some o) a b = refl
+
+log_push : (r : Run) (es : List Event) (e : Event) (h : State) (rep : Reply) → step (run_of_events r es).state e ≡ Some (record { state = h; reply = rep })
+    → log_from r (es ++ e ∷ []) ≡ log_from r es ++ did (by_number (run_of_events r es).state e) rep
+log_push r [] e h rep made = ap (λ (o : Option Outcome). log_with r.state e o []) made
+log_push r (f ∷ fs) e h rep made =
+    let next = run_with_event r (step r.state f) in
+    ap (log_with r.state f (step r.state f)) (log_push next fs e h rep made) ∙ noted_push r.state f (step r.state f) (log_from next fs) (did (by_number (run_of_events next fs).state e) rep)
+
+pub more : (z : Settings) (g h : State) (e : Event) (rep : Reply) (reached : Reached z g) → step g e ≡ Some (record { state = h; reply = rep })
+    → (next : Reached z h) × (log_of_events z next.events ≡ log_of_events z reached.events ++ did (by_number g e) rep)
+more z g h e rep reached made =
+    let r : Run = run_of_events (empty_run (opening z)) reached.events in
+    let here : step r.state e ≡ Some (record { state = h; reply = rep }) = ap (λ (s : State). step s e) (sym reached.run) ∙ made in
+    let run : h ≡ after (opening z) (reached.events ++ e ∷ []) =
+    sym (ap (λ (x : Run). x.state) (ran_push (empty_run (opening z)) reached.events e) ∙ ap (λ (o : Option Outcome). (run_with_event r o).state) here) in
+    let longer = log_push (empty_run (opening z)) reached.events e h rep here in
+    let all : length (log_of_events z (reached.events ++ e ∷ [])) ≡ length (reached.events ++ e ∷ []) =
+    omega (arith, ap (λ (ds : List LogItem). length ds) longer, length-append (log_of_events z reached.events) (did (by_number r.state e) rep), length-append reached.events (e ∷ []), reached.made) in
+    (record { events = reached.events ++ e ∷ []; run = run; made = all }, longer ∙ ap (λ (s : State). log_of_events z reached.events ++ did (by_number s e) rep) (sym reached.run))
+
+-- one going on after another
+pub goes_both : (z : Settings) (s t u : Table ℕ View) (r : Ruled z s) (first second : List LogItem) (a : GoesOn z s r first t) → GoesOn z t a.ruled second u → GoesOn z s r (first ++ second) u
+goes_both z s t u r first second a b = record {
+  ruled = b.ruled;
+  goes_on = b.goes_on ∙ (ap (λ (ds : List LogItem). ds ++ second) a.goes_on ∙ append_assoc (log_of_events z r.reached.events) first second);
+  seated = let p = a.seated in let q = b.seated in omega arith;
+  seats = λ c lt. b.seats c (let p = a.seated in omega (arith, lt, p)) ∙ a.seats c lt;
+}
+
+-- Where a live local reference stands.
+
+-- a place where a live reference to n stands
+pub standing_place : (n : ℕ) (locals : List LocalPlace) → 0 < sum_by (standing_of n) locals → (id : ℕ) × (local_at locals id ≡ Standing n)
+standing_place n [] some_one = absurd (omega arith)
+standing_place n (Free ∷ ps) some_one = let a = sum_by-cons (standing_of n) Free ps in let p = standing_place n ps (omega arith) in (suc p.0, p.1)
+standing_place n (Lifted c ∷ ps) some_one = let a = sum_by-cons (standing_of n) (Lifted c) ps in let p = standing_place n ps (omega arith) in (suc p.0, p.1)
+standing_place n (Standing m ∷ ps) some_one = ⊎_elim
+    (λ (same : m ≡ n). (zero, ap Standing same))
+    (λ (off : m ≢ n). let a = sum_by-cons (standing_of n) (Standing m) ps in let b = none_at m n off in let p = standing_place n ps (omega arith) in (suc p.0, p.1))
+    (cases_eq m n)
+
+-- The views of a table: how they are shown on as one of them changes, is cut in two, or is joined into another.
 
 sum_at : (f : View → ℕ) (l : List View) (i : ℕ) (v w : View) → get_elem? l i ≡ some v → sum_by f (set l i w) + f v ≡ sum_by f l + f w
 sum_at f [] i v w e = absurd (some-ne-none v (sym e))

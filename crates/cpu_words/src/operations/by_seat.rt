@@ -1,12 +1,10 @@
 //! Steps of any seat.
 
-ghost use Rattle.std.specs.Prelude.{◌≡◌, ℕ, ◌<◌, ◌+◌, ◌-◌, ◌%◌, ◌^◌};
+ghost use Rattle.std.specs.Prelude.{◌≡◌, ℕ, ◌<◌, ◌+◌, ◌-◌, ◌%◌, ◌^◌, ◌==◌};
 ghost use prog.Atomic.{either};
-ghost use Rattle.std.specs.Prelude.{◌==◌};
 ghost use Rattle.cpu_words.specs.Spots.{words_of};
-ghost use Rattle.cpu_words.specs.Acts.{is_hear, HasNone};
+ghost use Rattle.cpu_words.specs.Steps.{is_hear, HasNone, SeatMay, SeatGoesOn};
 ghost use Rattle.cpu_words.specs.Logs.{who, AreBy};
-ghost use Rattle.cpu_words.specs.Steps.{SeatMay, SeatGoesOn};
 
 use crate::law::{Tale, Told, Words};
 use crate::seat::{Seat, SeatView};

@@ -2,10 +2,9 @@
 
 ghost use Rattle.std.specs.Prelude.{◌≡◌, ℕ, ◌<◌, ◌+◌, ◌-◌, ◌%◌, ◌^◌};
 ghost use Rattle.cpu_words.specs.Spots.{words_of};
-ghost use Rattle.cpu_words.specs.Acts.{is_hear, HasNone};
+ghost use Rattle.cpu_words.specs.Steps.{is_hear, HasNone, KeeperMay, KeeperStores, SeatGoesOn};
 ghost use Rattle.cpu_words.specs.KeeperLog.{IsOwnLog};
 ghost use Rattle.cpu_words.specs.Logs.{the_keeper, AreBy};
-ghost use Rattle.cpu_words.specs.Steps.{KeeperMay, KeeperStores, SeatGoesOn};
 
 use crate::law::{KeeperHearing, Tale, Words};
 use crate::seat::KeeperSeat;

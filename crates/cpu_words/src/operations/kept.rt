@@ -5,7 +5,7 @@ ghost use Rattle.cpu_words.specs.Types.{Keep, Done};
 ghost use Rattle.cpu_words.specs.declared.view.View.TheVariants.{Keeper, Reference};
 ghost use Rattle.cpu_words.specs.Steps.{JoinsBy, SeatRegroups};
 ghost use Rattle.cpu_words.specs.Rule.{did};
-ghost use Rattle.cpu_words.specs.Keeping.{MayKeep, keeper_after_keep};
+ghost use Rattle.cpu_words.specs.Publishing.{MayKeep, keeper_after_keep};
 
 use crate::law::Words;
 use crate::seat::{KeeperSeat, MustJoin, ReferenceSeat};
@@ -30,7 +30,7 @@ struct Kept<S: KeepingSlot> {
 }
 
 impl<S: KeepingSlot> Join<Logged> for Kept<S> {
-    ghost use Rattle.cpu_words.specs.Keeping.{with_kept};
+    ghost use Rattle.cpu_words.specs.Publishing.{with_kept};
     ghost use Rattle.cpu_words.specs.Logs.{joined_seat, spent_seat, keeps_for};
 
     ghost both = { joined_seat (with_kept S.slot) (keeps_for S.slot) };

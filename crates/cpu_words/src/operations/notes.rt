@@ -4,10 +4,9 @@ ghost use Rattle.std.specs.Prelude.{◌≡◌, ◌<◌, ◌++◌, Some, None};
 ghost use Rattle.cpu_words.specs.declared.view.View.TheVariants.{Cpu};
 ghost use Rattle.cpu_words.specs.Types.{Rest};
 ghost use Rattle.cpu_words.specs.KeeperLog.{KnownLogGrows, heard_from, IsOwnLog, IsShownAfter};
-ghost use Rattle.cpu_words.specs.Acts.{ListGoesOn};
-ghost use Rattle.cpu_words.specs.Notes.{with_note, keeper_with_note, CpuHears, KeeperHears};
+ghost use Rattle.cpu_words.specs.Steps.{ListGoesOn, SeatGoesOn};
+ghost use Rattle.cpu_words.specs.Seats.{with_note, keeper_with_note, CpuHears, KeeperHears};
 ghost use Rattle.cpu_words.specs.Sections.{IsIdle};
-ghost use Rattle.cpu_words.specs.Steps.{SeatGoesOn};
 
 use crate::law::{CpuHearing, NoteHearing, Words};
 use crate::layout::{HEAD, section_place};
@@ -19,7 +18,7 @@ use atomic_table::{Join, Split};
 pub(crate) struct CpuNote;
 
 impl Split<Logged> for CpuNote {
-    ghost use Rattle.cpu_words.specs.Notes.{as_before, pass_told};
+    ghost use Rattle.cpu_words.specs.Seats.{as_before, pass_told};
     ghost use Rattle.cpu_words.specs.Logs.{logged_after_split, fresh, known_log_of, tells_pass, told_by_cpu};
 
     ghost left = { logged_after_split as_before tells_pass };
@@ -28,7 +27,7 @@ impl Split<Logged> for CpuNote {
 }
 
 impl Join<Logged> for CpuNote {
-    ghost use Rattle.cpu_words.specs.Notes.{beside_cpu};
+    ghost use Rattle.cpu_words.specs.Seats.{beside_cpu};
     ghost use Rattle.cpu_words.specs.Logs.{logged_with_note, spent_seat};
 
     ghost both = { logged_with_note beside_cpu };
@@ -40,7 +39,7 @@ impl Join<Logged> for CpuNote {
 pub(crate) struct KeeperNote;
 
 impl Split<Logged> for KeeperNote {
-    ghost use Rattle.cpu_words.specs.Notes.{as_before, history_told};
+    ghost use Rattle.cpu_words.specs.Seats.{as_before, history_told};
     ghost use Rattle.cpu_words.specs.Logs.{logged_after_split, fresh, whole_log, tells_history, no_teller};
 
     ghost left = { logged_after_split as_before tells_history };
@@ -49,7 +48,7 @@ impl Split<Logged> for KeeperNote {
 }
 
 impl Join<Logged> for KeeperNote {
-    ghost use Rattle.cpu_words.specs.Notes.{beside_keeper};
+    ghost use Rattle.cpu_words.specs.Seats.{beside_keeper};
     ghost use Rattle.cpu_words.specs.Logs.{logged_with_note, spent_seat};
 
     ghost both = { logged_with_note beside_keeper };

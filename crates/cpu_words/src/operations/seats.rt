@@ -7,7 +7,7 @@ use atomic_table::Split;
 pub(crate) struct NextSeat;
 
 impl Split<Logged> for NextSeat {
-    ghost use Rattle.cpu_words.specs.Opening.{with_cpu_seated, next_seat};
+    ghost use Rattle.cpu_words.specs.Seats.{with_cpu_seated, next_seat};
     ghost use Rattle.cpu_words.specs.Logs.{logged_after_split, fresh, no_log, no_teller, seats_next};
 
     ghost left = { logged_after_split with_cpu_seated seats_next };

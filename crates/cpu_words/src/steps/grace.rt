@@ -4,7 +4,7 @@ ghost use Rattle.std.specs.Prelude.{◌≡◌, ◌<◌, Some, None};
 ghost use Rattle.cpu_words.specs.Types.{Look, Snapshot, Word};
 ghost use Rattle.cpu_words.specs.declared.view.View.TheVariants.{Keeper};
 ghost use Rattle.cpu_words.specs.Steps.{SeatMakes};
-ghost use Rattle.cpu_words.specs.Grace.{MayGlance, MayLook, MaySnapshot, HasLooked, HasSnapshot, keeper_after_look};
+ghost use Rattle.cpu_words.specs.Draining.{MayGlance, MayLook, MaySnapshot, HasLooked, HasSnapshot, keeper_after_look};
 
 use crate::law::Words;
 use crate::layout::section_place;

@@ -5,7 +5,7 @@ ghost use Rattle.cpu_words.specs.Types.{Keep, Done};
 ghost use Rattle.cpu_words.specs.declared.view.View.TheVariants.{Keeper, Reference};
 ghost use Rattle.cpu_words.specs.Rule.{did};
 ghost use Rattle.cpu_words.specs.Steps.{JoinsBy, SeatRegroups};
-ghost use Rattle.cpu_words.specs.Keeping.{MayKeep, keeper_after_keep};
+ghost use Rattle.cpu_words.specs.Publishing.{MayKeep, keeper_after_keep};
 
 use crate::law::Words;
 use crate::operations::kept;

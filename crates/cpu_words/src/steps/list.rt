@@ -4,8 +4,8 @@ ghost use Rattle.std.specs.Prelude.{◌≡◌, ◌<◌, ◌≤◌, ◌+◌};
 ghost use Rattle.cpu_words.specs.Types.{StoreSlot, StoreNext, Done};
 ghost use Rattle.cpu_words.specs.declared.view.View.TheVariants.{Keeper};
 ghost use Rattle.cpu_words.specs.Steps.{SeatMakes};
-ghost use Rattle.cpu_words.specs.Vacating.{MayWrite};
-ghost use Rattle.cpu_words.specs.Storing.{HasRecordWord, HasCountWord, HasLink};
+ghost use Rattle.cpu_words.specs.Draining.{MayWrite};
+ghost use Rattle.cpu_words.specs.Publishing.{HasRecordWord, HasCountWord, HasLink};
 
 use crate::law::Words;
 use crate::layout::{count_place, next_place, record_place};

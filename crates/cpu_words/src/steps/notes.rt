@@ -7,9 +7,8 @@ ghost use Rattle.cpu_words.specs.Types.{Tell, Hear, Done, Rest};
 ghost use Rattle.cpu_words.specs.declared.view.View.TheVariants.{Keeper, Cpu, Note};
 ghost use Rattle.cpu_words.specs.Sections.{IsIdle};
 ghost use Rattle.cpu_words.specs.Rule.{did};
-ghost use Rattle.cpu_words.specs.Acts.{ListGoesOn};
-ghost use Rattle.cpu_words.specs.Steps.{Makes, SplitsBy, SeatRegroups};
-ghost use Rattle.cpu_words.specs.Notes.{with_note, keeper_with_note};
+ghost use Rattle.cpu_words.specs.Steps.{ListGoesOn, Makes, SplitsBy, SeatRegroups};
+ghost use Rattle.cpu_words.specs.Seats.{with_note, keeper_with_note};
 ghost use Rattle.cpu_words.specs.KeeperLog.{KnownLogGrows, heard_from, IsOwnLog, IsShownAfter};
 ghost use Rattle.cpu_words.specs.Logs.{teller_of};
 

@@ -6,9 +6,8 @@ ghost use Rattle.cpu_words.specs.Types.{Recall, RecallHead, Refind, Word};
 ghost use Rattle.cpu_words.specs.declared.view.View.TheVariants.{Cpu};
 ghost use Rattle.cpu_words.specs.Steps.{Makes, SeatGoesOn, SeatMakes};
 ghost use Rattle.cpu_words.specs.Sections.{HasWholePass};
-ghost use Rattle.cpu_words.specs.Recalls.{HasRecalled, HasRecalledHead, HasRefound, MayRecall, MayRefind};
+ghost use Rattle.cpu_words.specs.Passives.{HasRecalled, HasRecalledHead, HasRefound, MayRecall, MayRefind, event_by};
 ghost use Rattle.cpu_words.specs.Rule.{did};
-ghost use Rattle.cpu_words.specs.Tries.{event_by};
 
 use crate::law::Words;
 use crate::layout::{HEAD, live_place};

@@ -7,7 +7,7 @@ ghost use Rattle.protocol.specs.declared.event.RecordOf.TheVariants.{Search as O
 ghost use Rattle.cpu_words.specs.declared.view.View.TheVariants.{Cpu};
 ghost use Rattle.cpu_words.specs.Rule.{did};
 ghost use Rattle.cpu_words.specs.Steps.{Makes, SeatGoesOn, SeatMakes};
-ghost use Rattle.cpu_words.specs.Searching.{MaySeek, key_with, search_for, cpu_after_seek, MayLoadLink, link_answer, HasFollowed, HasLoadedLink, MayLoadSearched, loaded_of, loaded_answer, HasLoadedWord, IsValueThere};
+ghost use Rattle.cpu_words.specs.Sections.{MaySeek, key_with, search_for, cpu_after_seek, MayLoadLink, link_answer, HasFollowed, HasLoadedLink, MayLoadSearched, loaded_of, loaded_answer, HasLoadedWord, IsValueThere};
 
 use crate::law::Words;
 use crate::layout::{HEAD, linked_place, record_place};

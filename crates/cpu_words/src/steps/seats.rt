@@ -5,7 +5,7 @@ ghost use Rattle.cpu_words.specs.Types.{Seat, Done};
 ghost use Rattle.cpu_words.specs.declared.view.View.TheVariants.{Keeper, Cpu};
 ghost use Rattle.cpu_words.specs.Rule.{did};
 ghost use Rattle.cpu_words.specs.Steps.{SplitsBy, SeatRegroups};
-ghost use Rattle.cpu_words.specs.Opening.{MaySeat, cpu_seat};
+ghost use Rattle.cpu_words.specs.Seats.{MaySeat, cpu_seat};
 
 use crate::law::Words;
 use crate::operations::seats::NextSeat;

@@ -6,8 +6,7 @@ ghost use Rattle.cpu_words.specs.Types.{Try, Confirm, TakeBack, Recall, Word};
 ghost use Rattle.cpu_words.specs.declared.view.View.TheVariants.{Cpu};
 ghost use Rattle.cpu_words.specs.Rule.{did};
 ghost use Rattle.cpu_words.specs.Steps.{Makes, SeatGoesOn, SeatMakes};
-ghost use Rattle.cpu_words.specs.Recalls.{HasSeenMore};
-ghost use Rattle.cpu_words.specs.Tries.{event_by, HasConfirmed, HasTakenBack, HasTried, MayEndTry, MayTakeBack, MayTry};
+ghost use Rattle.cpu_words.specs.Passives.{HasSeenMore, event_by, HasConfirmed, HasTakenBack, HasTried, MayEndTry, MayTakeBack, MayTry};
 
 use crate::law::Words;
 use crate::layout::{live_place, passive_place};

@@ -7,7 +7,7 @@ ghost use Rattle.cpu_words.specs.declared.view.View.TheVariants.{Keeper};
 ghost use Rattle.cpu_words.specs.KeeperLog.{IsFreedFrom};
 ghost use Rattle.cpu_words.specs.Rule.{did};
 ghost use Rattle.cpu_words.specs.Steps.{Makes, SeatGoesOn};
-ghost use Rattle.cpu_words.specs.Vacating.{MayVacate, keeper_after_vacate};
+ghost use Rattle.cpu_words.specs.Draining.{MayVacate, keeper_after_vacate};
 
 use crate::law::Words;
 use crate::layout::HEAD;

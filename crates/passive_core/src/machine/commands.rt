@@ -6,8 +6,6 @@
 
 mod advance;
 mod attach;
-mod audit;
-mod destroy;
 mod detach;
 mod find;
 mod local;

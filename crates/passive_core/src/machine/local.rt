@@ -2,7 +2,7 @@
 
 ghost use Rattle.std.specs.Prelude.{◌≡◌, ◌<◌, ◌≤◌, IfErr, IfSome, OnErr, OnOk, Some, None, Ok, length, position};
 ghost use Rattle.passive_core.specs.Types.{Ref, CountAdd, SplitRef, JoinRef, CountDown, SplitBack, LoadRecord, Taking, Giving, Back};
-ghost use Rattle.passive_core.specs.Locals.{with_room};
+ghost use Rattle.passive_core.specs.References.{with_room};
 ghost use Rattle.protocol.specs.declared.event.RecordOf.TheVariants.{Local as OfLocal};
 ghost use Rattle.protocol.specs.Common.{may_count, is_free, least_id, exchange, narrow_step, with_local, hand_at, Steps};
 ghost use Rattle.registry_values.specs.Common.{slot_of};

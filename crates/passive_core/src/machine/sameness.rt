@@ -2,7 +2,7 @@
 
 ghost use Rattle.std.specs.Prelude.{◌≡◌, ◌↔◌, true};
 ghost use Rattle.std.specs.Bool.{Decides};
-ghost use Rattle.passive_core.specs.Sameness.{HaveSameCounts, HaveSameCpus, HaveSameSearches, HaveSameSections, HaveSameSlots};
+ghost use Rattle.passive_core.specs.Making.{HaveSameCounts, HaveSameCpus, HaveSameSearches, HaveSameSections, HaveSameSlots};
 
 use crate::machine::Core;
 

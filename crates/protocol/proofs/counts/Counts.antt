@@ -1,19 +1,14 @@
 -- Each event keeps the balance of all slots.
-use Rattle.std.proofs.Common.{◌≡◌, ℕ, zero, suc, ◌+◌, ◌-◌, ◌<◌, ◌≤◌, ◌⊎◌, inl, inr, List, [], length, get_or, set, replicate, Option, Some, None, Bool, true, false, IsTrue, cond, nat_lt, ◌==◌, refl}
-use Rattle.std.proofs.Common.{sym, ap, subst, ◌∙◌, arith, sum_by, length-set}
+use Rattle.std.proofs.Common.{◌≡◌, ℕ, zero, suc, ◌+◌, ◌-◌, ◌<◌, ◌≤◌, ◌⊎◌, inl, inr, List, [], length, get_or, set, replicate, Option, Some, None, Bool, true, false, IsTrue, cond, nat_lt, ◌==◌, refl, sym, ap, subst, ◌∙◌, arith, sum_by, length-set}
 use Rattle.std.proofs.lemmas.Bool.{cases_lt, cases_Bool, eq-eqb, ne_eqb}
 use Rattle.std.proofs.lemmas.List.{get_or-replicate, get_or_past, length-replicate}
 use Rattle.protocol.specs.Types.{Entry, Settings, MOST_CPUS, Slot, Vacant, Live, Retired, Mark}
-use Rattle.protocol.specs.Common.{Hand, Empty, Taking, Giving, Back, LocalPlace, Free, Standing, Lifted, Due, Rest, Snapshots, Adding, Subtracting, State, with_cell, mark_at, count_at, total_at}
-use Rattle.protocol.specs.Common.{kept_at, local_at, least_id, with_local, IsIn, AreRows, HasShape, Balances, IsCounting, CountsHold, one_if, standing_of, in_hand, kept_of, subtraction_due_at}
-use Rattle.protocol.specs.Common.{addition_due_at, is_adding_at, held_at, greatest_limit}
+use Rattle.protocol.specs.Common.{Hand, Empty, Taking, Giving, Back, LocalPlace, Free, Standing, Lifted, Due, Rest, Snapshots, Adding, Subtracting, State, with_cell, mark_at, count_at, total_at, kept_at, local_at, least_id, with_local, IsIn, AreRows, HasShape, Balances, IsCounting, CountsHold, one_if, standing_of, in_hand, kept_of, subtraction_due_at, addition_due_at, is_adding_at, held_at, greatest_limit}
 use Rattle.registry_values.specs.Common.{are_fit, bias, no_mark, mark_after_collect, slot_at}
 use Rattle.registry_values.proofs.Fit.{ranges}
-use Rattle.protocol.proofs.counts.Sums.{one_at, none_at, standing_within, lifted_within, local_changed, hand_changed, kept_changed, local_added}
-use Rattle.protocol.proofs.counts.Balancing.{AreWords, word_floor, counted_up, counted_down, added, subtracted, published, collected as word_collected}
-use Rattle.protocol.proofs.slots.Cells.{by_place, by_cell, row_here, row_other, cell_here, cell_other, cell_cases, cell_in_new, cell_in_old, get_or_all, one_in, slot_here, slot_other, not_vacated}
-use Rattle.protocol.proofs.slots.Cells.{total_here, total_other}
-use Rattle.protocol.proofs.slots.Occupied.{not_vacant, in_within}
+use Rattle.protocol.proofs.counts.Sums.{one_at, none_at, standing_within, lifted_within, local_changed, hand_changed, kept_changed, local_added, AreWords, word_floor, counted_up, counted_down, added, subtracted, published, collected as word_collected}
+use Rattle.protocol.proofs.Cells.{by_place, by_cell, row_here, row_other, cell_here, cell_other, cell_cases, cell_in_new, cell_in_old, get_or_all, one_in, slot_here, slot_other, not_vacated, total_here, total_other}
+use Rattle.protocol.proofs.Occupied.{not_vacant, in_within}
 use Rattle.protocol.proofs.Either.{either}
 
 -- the lengths and limits that the lemmas need

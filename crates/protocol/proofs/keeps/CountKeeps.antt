@@ -6,19 +6,13 @@ use Rattle.std.specs.Prelude.{is_none, nat_le, nat_lt}
 use Rattle.protocol.proofs.counts.Counts as C
 use Rattle.protocol.proofs.keeps.ListKeeps.{CountsOf, cell_sized, may_write_tells, false_from}
 use Rattle.protocol.proofs.keeps.MarkKeeps.{cpus_fit, mark_place, may_examine_tells}
-use Rattle.protocol.proofs.slots.Cells.{cell_put}
-use Rattle.protocol.proofs.keeps.Marking.{list_all_within, marks_write, snapshots_marked}
-use Rattle.protocol.proofs.slots.Occupied.{at_rest_tells, is_retired_tells, one_number, slot_has, slot_its, slot_occupied}
-use Rattle.protocol.proofs.keeps.Passive.{found_not_passed, passive_hand, passive_hands, passive_marked, passive_shifted, shifted_back, shifted_try, trying_none, trying_one}
+use Rattle.protocol.proofs.Cells.{cell_put}
+use Rattle.protocol.proofs.keeps.Marking.{list_all_within, marks_write, snapshots_marked, found_not_passed, passive_hand, passive_hands, passive_marked, passive_shifted, shifted_back, shifted_try, trying_none, trying_one}
+use Rattle.protocol.proofs.Occupied.{at_rest_tells, is_retired_tells, one_number, slot_has, slot_its, slot_occupied}
 use Rattle.protocol.proofs.keeps.Drivers.{drivers_keep}
-use Rattle.protocol.proofs.keeps.References.{back_holds, due_adding, due_subtracting, giving_holds, hand_seated, references_collect, references_collected, references_count_add, references_count_down}
-use Rattle.protocol.proofs.keeps.References.{references_join, references_join_keeper, references_keep, references_split, references_split_back, references_total, references_unheld, seats_hand}
-use Rattle.protocol.proofs.keeps.SectionKeeps.{idle_parts, idle_tells, none_from, see_keeps}
-use Rattle.protocol.proofs.keeps.Sections.{tries_hand}
-use Rattle.protocol.specs.Common.{after_collect, after_collected, after_count_add, after_count_down, after_count_store, after_hand, after_join_keeper, after_keep, after_split, after_total, after_confirm, after_taking, after_take_back, after_try}
-use Rattle.protocol.specs.Common.{is_drainable, is_driver_slot, is_idle, is_number, may_collect, may_count, may_examine, may_join, may_join_keeper, may_keep, may_write, may_try, may_confirm, has_live, search_at, Holds}
-use Rattle.protocol.specs.Common.{IsCounting, IsIn, IsSeenInHand, SeatsShow, TriesSeen, seen_at, SnapshotsStand, at_rest, State, count_at, found_at, hand_at, kept_at, local_at, mark_at, passive_at, total_at, trying_at, trying_of, with_cell, Due, Adding}
-use Rattle.protocol.specs.Common.{Rest, Snapshots, Subtracting, Hand, Back, Empty, Giving, Taking, Trying, Lifted, Standing}
+use Rattle.protocol.proofs.keeps.References.{back_holds, due_adding, due_subtracting, giving_holds, hand_seated, references_collect, references_collected, references_count_add, references_count_down, references_join, references_join_keeper, references_keep, references_split, references_split_back, references_total, references_unheld, seats_hand}
+use Rattle.protocol.proofs.keeps.SectionKeeps.{idle_parts, idle_tells, none_from, see_keeps, tries_hand}
+use Rattle.protocol.specs.Common.{after_collect, after_collected, after_count_add, after_count_down, after_count_store, after_hand, after_join_keeper, after_keep, after_split, after_total, after_confirm, after_taking, after_take_back, after_try, is_drainable, is_driver_slot, is_idle, is_number, may_collect, may_count, may_examine, may_join, may_join_keeper, may_keep, may_write, may_try, may_confirm, has_live, search_at, Holds, IsCounting, IsIn, IsSeenInHand, SeatsShow, TriesSeen, seen_at, SnapshotsStand, at_rest, State, count_at, found_at, hand_at, kept_at, local_at, mark_at, passive_at, total_at, trying_at, trying_of, with_cell, Due, Adding, Rest, Snapshots, Subtracting, Hand, Back, Empty, Giving, Taking, Trying, Lifted, Standing}
 use Rattle.registry_values.specs.Common.{mark_after_collect, are_clear, have_passed, is_clear, is_some_collected, no_mark, is_retired, slot_of, slot_at, bias}
 use Rattle.protocol.specs.Types.{Entry, Slot, Vacant, Live, Retired}
 use Rattle.protocol.proofs.Either.{either}

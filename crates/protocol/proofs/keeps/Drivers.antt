@@ -4,9 +4,9 @@ use Rattle.std.proofs.lemmas.Bool.{cases_eq}
 use Rattle.protocol.specs.Types.{Kind, Iface, Driver, Entry, Change, Slot, Vacant, Live, Retired}
 use Rattle.protocol.specs.Common.{Hand, LocalPlace, Due, kept_at, keeps_rightly, is_driver_slot, IsIn, SlotsShow, held_at, DriversKept}
 use Rattle.registry_values.specs.Common.{slot_at, slot_of, is_driver}
-use Rattle.protocol.proofs.slots.Occupied.{written_cases, in_other, in_written, in_within, not_vacant, live_one, retired_one, one_in, in_published, in_unpublished, in_vacated, one_number, slot_has}
-use Rattle.protocol.proofs.counts.HeldSums.{Unreferred, unreferred}
-use Rattle.protocol.proofs.slots.Cells.{get_or_all}
+use Rattle.protocol.proofs.Occupied.{written_cases, in_other, in_written, in_within, not_vacant, live_one, retired_one, one_in, in_published, in_unpublished, in_vacated, one_number, slot_has}
+use Rattle.protocol.proofs.counts.Sums.{Unreferred, unreferred}
+use Rattle.protocol.proofs.Cells.{get_or_all}
 use Rattle.protocol.proofs.Either.{either}
 
 -- the driver d has its slot

@@ -3,30 +3,20 @@ use Rattle.std.proofs.Common.{◌≡◌, ℕ, ◌-◌, inr, List, [], ◌∷◌,
 use Rattle.std.specs.Prelude.{is_none, nat_lt}
 use Rattle.std.specs.List.{list_all}
 use Rattle.std.proofs.lemmas.Bool.{and_parts, eqb-true}
-use Rattle.protocol.proofs.Made.{Made, Seats, Enters, Exits, Seeks, LoadsEnd, LoadsSlot, LoadsWord, LoadsLast, StoresRow, StoresCount, StoresLink, Publishes, Unpublishes, Hears, Snaps, Looks, AddsPassive, SubsPassive, LooksPassive, made, each_event}
-use Rattle.protocol.proofs.Made.{Counts, Splits, Joins, CountsDown, FindsCollected, SplitsBack, Collects, AddsTotal, JoinsKeeper, SubsTotal, KeepsDriver, SubsKept, Vacates, Shows, Hides, Recalls, RecallsHead, Refinds, Tries, ConfirmsTry, TakesBack}
-use Rattle.protocol.proofs.counts.CountBounds.{bias_at, none_held_at_bias}
-use Rattle.protocol.proofs.keeps.CountKeeps.{collect_keeps, count_add_keeps, count_down_keeps, count_store_keeps, collected_keeps, fit_of, join_keeper_keeps, join_keeps, keep_keeps, only_slot, split_back_keeps}
-use Rattle.protocol.proofs.keeps.CountKeeps.{confirm_keeps, split_keeps, take_back_keeps, total_add_keeps, total_sub_keeps, try_keeps}
+use Rattle.protocol.proofs.Made.{Made, Seats, Enters, Exits, Seeks, LoadsEnd, LoadsSlot, LoadsWord, LoadsLast, StoresRow, StoresCount, StoresLink, Publishes, Unpublishes, Hears, Snaps, Looks, AddsPassive, SubsPassive, LooksPassive, made, each_event, Counts, Splits, Joins, CountsDown, FindsCollected, SplitsBack, Collects, AddsTotal, JoinsKeeper, SubsTotal, KeepsDriver, SubsKept, Vacates, Shows, Hides, Recalls, RecallsHead, Refinds, Tries, ConfirmsTry, TakesBack}
+use Rattle.protocol.proofs.counts.Bounds.{bias_at, none_held_at_bias}
+use Rattle.protocol.proofs.keeps.CountKeeps.{collect_keeps, count_add_keeps, count_down_keeps, count_store_keeps, collected_keeps, fit_of, join_keeper_keeps, join_keeps, keep_keeps, only_slot, split_back_keeps, confirm_keeps, split_keeps, take_back_keeps, total_add_keeps, total_sub_keeps, try_keeps}
 use Rattle.protocol.proofs.counts.Counts as C
 use Rattle.protocol.proofs.keeps.Drivers.{drivers_kept_sub, drivers_opening, drivers_publish, drivers_unpublish, drivers_vacate, kept_found}
 use Rattle.registry_values.proofs.Fit.{ranges}
-use Rattle.protocol.proofs.counts.HeldSums.{published_held}
+use Rattle.protocol.proofs.counts.Sums.{published_held}
 use Rattle.protocol.proofs.keeps.ListKeeps as L
 use Rattle.protocol.proofs.keeps.MarkKeeps as M
-use Rattle.protocol.proofs.slots.Occupied.{in_within, at_rest_tells}
-use Rattle.protocol.proofs.keeps.References.{references_kept_sub, references_opening, references_publish, references_snapshot, references_unpublish, references_vacate, standing_tells}
-use Rattle.protocol.proofs.keeps.References.{snapshot_due_tells}
+use Rattle.protocol.proofs.Occupied.{in_within, at_rest_tells}
+use Rattle.protocol.proofs.keeps.References.{references_kept_sub, references_opening, references_publish, references_snapshot, references_unpublish, references_vacate, standing_tells, snapshot_due_tells}
 use Rattle.protocol.proofs.keeps.SearchKeeps.{link_keeps, record_keeps, seek_keeps}
 use Rattle.protocol.proofs.keeps.SectionKeeps.{enter_keeps, exit_keeps, hear_keeps, recall_head_keeps, recall_keeps, refind_keeps, seat_keeps}
-use Rattle.protocol.specs.Common.{Outcome, after_kept_sub, after_look, after_look_passive, after_publish, after_snapshot, after_unpublish, after_vacate}
-use Rattle.protocol.specs.Common.{entry_of, is_bias, is_drained, is_iface_slot, is_snapshot_due}
-use Rattle.protocol.specs.Common.{may_examine, may_look_passive, may_publish, may_vacate, may_write}
-use Rattle.protocol.specs.Common.{with_retired, count_at, after_live_store, snapshot_mark, state_after, step, Holds, held_at}
-use Rattle.protocol.specs.Common.{Run, run_of_events, run_with_event, at_rest, State, kept_at, local_at, mark_at, opening, passive_at, row_at, section_at, total_at}
-use Rattle.protocol.specs.Common.{Keeps, Event}
-use Rattle.protocol.specs.Common.{Reply}
-use Rattle.protocol.specs.Common.{Snapshots}
+use Rattle.protocol.specs.Common.{Outcome, after_kept_sub, after_look, after_look_passive, after_publish, after_snapshot, after_unpublish, after_vacate, entry_of, is_bias, is_drained, is_iface_slot, is_snapshot_due, may_examine, may_look_passive, may_publish, may_vacate, may_write, with_retired, count_at, after_live_store, snapshot_mark, state_after, step, Holds, held_at, Run, run_of_events, run_with_event, at_rest, State, kept_at, local_at, mark_at, opening, passive_at, row_at, section_at, total_at, Keeps, Event, Reply, Snapshots}
 use Rattle.registry_values.specs.Common.{mark_after_passive_look, mark_after_look, slot_of, slot_at, are_fit, bias}
 use Rattle.protocol.specs.Types.{Entry, Settings, Live, Retired}
 

@@ -1,26 +1,19 @@
 -- The keeper's events on the list keep the invariant: stores to a vacant slot, Publish and Unpublish.
-use Rattle.std.proofs.Common.{Bool, List, None, Option, Some, [], ap, arith, false, get_or, get_or-set_other, get_or-set_same, inl, inr, length, length-set, ltb-true, not, refl, replicate, set, subst}
-use Rattle.std.proofs.Common.{suc, sym, true, zero, ℕ, ◌&&◌, ◌+◌, ◌<◌, ◌∙◌, ◌≡◌, ◌≢◌, ◌≤◌}
+use Rattle.std.proofs.Common.{Bool, List, None, Option, Some, [], ap, arith, false, get_or, get_or-set_other, get_or-set_same, inl, inr, length, length-set, ltb-true, not, refl, replicate, set, subst, suc, sym, true, zero, ℕ, ◌&&◌, ◌+◌, ◌<◌, ◌∙◌, ◌≡◌, ◌≢◌, ◌≤◌}
 use Rattle.std.proofs.lemmas.Bool.{and_from, and_parts, cases_eq, cases_lt, eq-eqb, eqb-true, leb-true}
 use Rattle.std.proofs.lemmas.List.{set_past}
 use Rattle.std.proofs.lemmas.List.Folds.{list_any_at}
 use Rattle.std.proofs.lemmas.List.Sums.{sum_by-set}
 use Rattle.std.proofs.lemmas.Option.{none-some, same_Some}
 use Rattle.std.specs.Prelude.{if◌then◌else◌, nat_lt, ◌==◌}
-use Rattle.protocol.proofs.history.Growing.{found_old, searches_old, sections_old}
-use Rattle.protocol.proofs.history.History.{length-after_change}
-use Rattle.protocol.proofs.keeps.Marking.{marks_detach, snapshots_detach}
-use Rattle.protocol.proofs.keeps.Passive.{passive_attach, passive_detach}
-use Rattle.protocol.proofs.keeps.Publishing.{held_attach, legal_attach, links_attach, list_attach, marks_attach, rows_attach, slots_attach, snapshots_attach}
-use Rattle.protocol.proofs.keeps.Unlinking.{before_leads, head_leads, head_leads_on, held_detach, legal_detach, link_to, links_detach, list_unlink_head, list_unlink_mid, rows_detach, slots_detach}
-use Rattle.protocol.proofs.keeps.Unlinking.{within_live}
-use Rattle.protocol.specs.Common.{after_link_store, after_publish, after_row_store, after_unpublish, are_unused, entry_if, entry_of, has_room, is_prepared, keeps_rightly, kind_of, may_publish}
-use Rattle.protocol.specs.Common.{may_write, with_retired, with_link_past, with_word, words_of, after_change, AreRows, CountsHold, DriversKept, HasShape, Holds, IsIn, Leads, LinksStay, ListShows}
-use Rattle.protocol.specs.Common.{ReferencesHold, RowsShow, SnapshotsStand, one_if, at_rest, State, kept_at, no_words, row_at, with_cell, Rest, RecordWords}
+use Rattle.protocol.proofs.History.{found_old, searches_old, sections_old, length-after_change}
+use Rattle.protocol.proofs.keeps.Marking.{marks_detach, snapshots_detach, passive_attach, passive_detach}
+use Rattle.protocol.proofs.keeps.Linking.{held_attach, legal_attach, links_attach, list_attach, marks_attach, rows_attach, slots_attach, snapshots_attach, before_leads, head_leads, head_leads_on, held_detach, legal_detach, link_to, links_detach, list_unlink_head, list_unlink_mid, rows_detach, slots_detach, within_live}
+use Rattle.protocol.specs.Common.{after_link_store, after_publish, after_row_store, after_unpublish, are_unused, entry_if, entry_of, has_room, is_prepared, keeps_rightly, kind_of, may_publish, may_write, with_retired, with_link_past, with_word, words_of, after_change, AreRows, CountsHold, DriversKept, HasShape, Holds, IsIn, Leads, LinksStay, ListShows, ReferencesHold, RowsShow, SnapshotsStand, one_if, at_rest, State, kept_at, no_words, row_at, with_cell, Rest, RecordWords}
 use Rattle.protocol.specs.Types.{MOST_CPUS, Attach, Detach, Entry, Kind, Driver, Iface, Key, Slot, Live, Retired, Vacant}
 use Rattle.registry_values.specs.Common.{key_of, is_live, is_live_as, is_taken, is_vacant, kind_word, live_count, same_key, same_kind, same_name, slot_before, slot_at, bias, no_mark}
 use Rattle.registry_values.specs.Names.{are_key_words}
-use Rattle.protocol.proofs.slots.Occupied.{not_vacant, is_vacant_tells, at_rest_tells}
+use Rattle.protocol.proofs.Occupied.{not_vacant, is_vacant_tells, at_rest_tells}
 use Rattle.protocol.proofs.Either.{either}
 
 -- the clauses that other files keep, at a state

@@ -1,27 +1,21 @@
 -- Snapshots, looks, passive references and the end of a slot's use keep the invariant; the opening state has it.
-use Rattle.std.proofs.Common.{Bool, List, None, Option, Some, [], ap, arith, false, get_or, length, length-set, ltb-true, refl, replicate, set, subst, suc, sym, true, zero, ℕ, ◌%◌, ◌&&◌, ◌+◌, ◌-◌}
-use Rattle.std.proofs.Common.{◌<◌, ◌||◌, ◌∙◌, ◌≡◌, ◌≤◌}
+use Rattle.std.proofs.Common.{Bool, List, None, Option, Some, [], ap, arith, false, get_or, length, length-set, ltb-true, refl, replicate, set, subst, suc, sym, true, zero, ℕ, ◌%◌, ◌&&◌, ◌+◌, ◌-◌, ◌<◌, ◌||◌, ◌∙◌, ◌≡◌, ◌≤◌}
 use Rattle.std.proofs.lemmas.Bool.{and_parts, cases_lt, eqb-true, or_cases}
 use Rattle.std.proofs.lemmas.List.{get_or_past, length-replicate}
 use Rattle.std.proofs.lemmas.Option.{none-some}
 use Rattle.std.specs.Prelude.{IsTrue, is_none, nat_lt, ◌==◌}
-use Rattle.protocol.proofs.history.History.{at_empty}
+use Rattle.protocol.proofs.History.{at_empty}
 use Rattle.protocol.proofs.keeps.ListKeeps.{CountsOf, DriversOf, ReferencesOf, cell_sized, live_count_put}
-use Rattle.protocol.proofs.keeps.Marking.{held_vacate, links_vacate, list_all_within, list_vacate, marks_look, marks_snapshot, marks_vacate, marks_write, rows_vacate, slots_vacate, snapshots_marked}
-use Rattle.protocol.proofs.keeps.Marking.{snapshots_taken, snapshots_vacate}
-use Rattle.protocol.proofs.keeps.Passive.{found_not_passed, passive_counted, passive_marked, passive_vacate}
-use Rattle.protocol.proofs.keeps.Unlinking.{within_retired}
-use Rattle.protocol.specs.Common.{after_add, after_kept_sub, after_look, after_look_passive, after_snapshot, after_sub, after_vacate, is_drainable, is_drained, is_idle, is_number, is_snapshot_due}
-use Rattle.protocol.specs.Common.{may_add, may_examine, may_look_passive, may_sub, may_vacate, snapshot_mark, AreRows, DueHolds, Holds, IsIn, SnapshotsStand, To_end, at_rest, State, found_at, kept_at}
-use Rattle.protocol.specs.Common.{mark_at, no_words, opening, passive_at, trying_at, trying_of, section_at, total_at, Rest, Snapshots, Empty, IsSeenInHand}
-use Rattle.registry_values.specs.Common.{mark_after_passive_look, mark_after_look, are_clear, are_collected, has_changed, have_passed, is_clear, is_collected, is_even, is_passed, no_mark, are_fit}
-use Rattle.registry_values.specs.Common.{is_retired, live_count, slot_of, slot_at, bias}
+use Rattle.protocol.proofs.keeps.Marking.{held_vacate, links_vacate, list_all_within, list_vacate, marks_look, marks_snapshot, marks_vacate, marks_write, rows_vacate, slots_vacate, snapshots_marked, snapshots_taken, snapshots_vacate, found_not_passed, passive_counted, passive_marked, passive_vacate}
+use Rattle.protocol.proofs.keeps.Linking.{within_retired}
+use Rattle.protocol.specs.Common.{after_add, after_kept_sub, after_look, after_look_passive, after_snapshot, after_sub, after_vacate, is_drainable, is_drained, is_idle, is_number, is_snapshot_due, may_add, may_examine, may_look_passive, may_sub, may_vacate, snapshot_mark, AreRows, DueHolds, Holds, IsIn, SnapshotsStand, To_end, at_rest, State, found_at, kept_at, mark_at, no_words, opening, passive_at, trying_at, trying_of, section_at, total_at, Rest, Snapshots, Empty, IsSeenInHand}
+use Rattle.registry_values.specs.Common.{mark_after_passive_look, mark_after_look, are_clear, are_collected, has_changed, have_passed, is_clear, is_collected, is_even, is_passed, no_mark, are_fit, is_retired, live_count, slot_of, slot_at, bias}
 use Rattle.registry_values.proofs.Fit.{ranges}
 use Rattle.protocol.specs.Types.{Attach, Detach, Entry, Settings, MOST_CPUS, Mark, Slot, Live, Retired, Vacant}
-use Rattle.protocol.proofs.slots.Occupied.{not_vacant, slot_has, is_retired_tells, at_rest_tells}
+use Rattle.protocol.proofs.Occupied.{not_vacant, slot_has, is_retired_tells, at_rest_tells}
 use Rattle.protocol.proofs.keeps.References.{snapshot_due_tells}
 use Rattle.protocol.proofs.keeps.SectionKeeps.{idle_tells}
-use Rattle.protocol.proofs.slots.Cells.{get_or_all}
+use Rattle.protocol.proofs.Cells.{get_or_all}
 use Rattle.protocol.proofs.Either.{either}
 
 -- no more CPUs than a row has places

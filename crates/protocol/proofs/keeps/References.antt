@@ -1,16 +1,14 @@
 -- Each event keeps what is so of local references: places, hands, and what the keeper must do next.
-use Rattle.std.proofs.Common.{◌≡◌, ℕ, ◌+◌, ◌<◌, ◌≤◌, ◌==◌, ◌⊎◌, inl, inr, List, [], ◌∷◌, ◌++◌, length, get_or, set, replicate, nat_lt, if◌then◌else◌, Bool, true, false, Option, Some, None, position}
-use Rattle.std.proofs.Common.{refl, sym, ap, subst, ◌∙◌, arith, length-set, get_or-set_same, get_or-set_other}
+use Rattle.std.proofs.Common.{◌≡◌, ℕ, ◌+◌, ◌<◌, ◌≤◌, ◌==◌, ◌⊎◌, inl, inr, List, [], ◌∷◌, ◌++◌, length, get_or, set, replicate, nat_lt, if◌then◌else◌, Bool, true, false, Option, Some, None, position, refl, sym, ap, subst, ◌∙◌, arith, length-set, get_or-set_same, get_or-set_other}
 use Rattle.std.proofs.lemmas.List.{get_or_past, get_or_append_left, get_or_push, length_push}
 use Rattle.std.proofs.lemmas.List.Quantifiers.{position-Some}
 use Rattle.std.proofs.lemmas.Bool.{cases_lt, cases_eq, and_parts, eqb-true, cond_both, ltb-true, ltb-false}
 use Rattle.protocol.specs.Types.{Entry, Slot, Vacant, Live, Retired}
-use Rattle.protocol.specs.Common.{Search, Hand, Empty, Taking, Giving, Back, Trying, LocalPlace, Free, Standing, Lifted, Due, Rest, Snapshots, Adding, Subtracting, local_at, is_snapshot_due, number_standing}
-use Rattle.protocol.specs.Common.{is_free, id_if, least_id, with_local, Occupies, held_at, HandHolds, DueHolds, ReferencesHold, SeatsShow}
+use Rattle.protocol.specs.Common.{Search, Hand, Empty, Taking, Giving, Back, Trying, LocalPlace, Free, Standing, Lifted, Due, Rest, Snapshots, Adding, Subtracting, local_at, is_snapshot_due, number_standing, is_free, id_if, least_id, with_local, Occupies, held_at, HandHolds, DueHolds, ReferencesHold, SeatsShow}
 use Rattle.registry_values.specs.Common.{slot_at}
-use Rattle.protocol.proofs.slots.Occupied.{place_cases, place_within, written_cases, in_within, occupies_publish, occupies_unpublish, occupies_vacate}
-use Rattle.protocol.proofs.counts.HeldSums.{number_of, Unreferred, unreferred}
-use Rattle.protocol.proofs.slots.Cells.{get_or_all}
+use Rattle.protocol.proofs.Occupied.{place_cases, place_within, written_cases, in_within, occupies_publish, occupies_unpublish, occupies_vacate}
+use Rattle.protocol.proofs.counts.Sums.{number_of, Unreferred, unreferred}
+use Rattle.protocol.proofs.Cells.{get_or_all}
 use Rattle.protocol.proofs.Either.{either}
 
 -- Slots change, places and hands stay.

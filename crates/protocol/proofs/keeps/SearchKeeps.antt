@@ -1,15 +1,11 @@
--- Seek and the loads of a search keep the invariant, and their answers are lawful.
-use Rattle.std.proofs.Common.{◌≡◌, ℕ, zero, suc, ◌<◌, List, length, get_or, set, Option, Some, None, Bool, true, false, refl, sym, subst, ◌∙◌, arith, get_or-set_same, length-set}
+-- Seek and the loads of a search keep the invariant, their answers are lawful, and what they do to the state.
+use Rattle.std.proofs.Common.{◌≡◌, ℕ, zero, suc, ◌<◌, List, length, get_or, set, Option, Some, None, Bool, true, false, refl, sym, subst, ◌∙◌, arith, get_or-set_same, length-set, ◌≤◌}
 use Rattle.std.proofs.lemmas.Bool.{and_parts}
-use Rattle.registry_values.specs.Common.{are_words_of}
 use Rattle.protocol.specs.Types.{Entry, Key, Change}
-use Rattle.protocol.specs.Common.{Reply, Done, Word, Found, Missed, Ref, Collected, SearchPlace, AtHead, AtNext, AtNumber, AtKind, AtHigh, AtLow, AtValue, Search, MayHold, IsLawful, State, begin_at}
-use Rattle.protocol.specs.Common.{seen_at, search_at, row_at, entry_with, loaded_of_name, Outcome, is_idle, is_inside, may_seek, after_seek, after_seeing, with_search_at, search_over, link_loaded}
-use Rattle.protocol.specs.Common.{load_link, load_searched, outcome_of, StandsOn, PlaceHolds, SearchHolds, FoundHold, Holds, Keeps}
-use Rattle.protocol.proofs.keeps.Sections.{seats_search, seated_search}
-use Rattle.protocol.proofs.keeps.SectionKeeps.{some_from, idle_parts, see_keeps}
-use Rattle.protocol.proofs.keeps.Searching.{within_some, searches_over, searches_on, found_none, found_some, Walks, search_walks, head_ahead, next_ahead, LinkTells, link_tells, goes_on, found_is}
-use Rattle.protocol.proofs.keeps.Searching.{weight, IsStep, Steps, load_link_steps, load_searched_steps}
+use Rattle.registry_values.specs.Common.{are_words_of}
+use Rattle.protocol.specs.Common.{Reply, Done, Word, Found, Missed, Ref, Collected, SearchPlace, AtHead, AtNext, AtNumber, AtKind, AtHigh, AtLow, AtValue, Search, MayHold, IsLawful, State, begin_at, seen_at, search_at, row_at, entry_with, loaded_of_name, Outcome, is_idle, is_inside, may_seek, after_seek, after_seeing, with_search_at, search_over, link_loaded, load_link, load_searched, outcome_of, StandsOn, PlaceHolds, SearchHolds, FoundHold, Holds, Keeps, Loaded, loaded_at, row_of_place}
+use Rattle.protocol.proofs.keeps.SectionKeeps.{seats_search, seated_search, some_from, idle_parts, see_keeps}
+use Rattle.protocol.proofs.keeps.Searching.{within_some, searches_over, searches_on, found_none, found_some, Walks, search_walks, head_ahead, next_ahead, LinkTells, link_tells, goes_on, found_is, weight, IsStep, Steps, load_link_steps, load_searched_steps, at_next_ahead}
 
 -- the invariant after an event, if it was allowed
 
@@ -144,3 +140,38 @@ pub record_answers : (s : State) (c : ℕ) (q : Search) → Holds s → search_a
 record_answers s c q on is =
     step_answers c q (weight s q.place) (load_searched s c q q.place)
     (load_searched_steps s c q.start q q.place on (search_walks s c q on is) (on.searches c q is).started is (on.searches c q is).stands)
+
+-- What the loads of a search do to the state, by what they make of the words.
+
+-- a load keeps the invariant, by what it made of the word
+pub loaded_keeps : (s : State) (c : ℕ) (q : Search) (x : Option Loaded) → Holds s → search_at s c ≡ Some q → loaded_at q q.place (row_of_place s.rows q.place) ≡ x → Keeps (outcome_of s c q x)
+loaded_keeps s c q x on is load = subst (λ (y : Option Loaded). Keeps (outcome_of s c q y)) load (record_keeps s c q on is)
+
+pub head_keeps : (s : State) (c : ℕ) (q : Search) → Holds s → search_at s c ≡ Some q → q.place ≡ AtHead → Keeps (link_loaded s c q s.head)
+head_keeps s c q on is at = subst (λ (p : SearchPlace). Keeps (load_link s c q p)) at (link_keeps s c q on is)
+
+pub next_keeps : (s : State) (c t : ℕ) (q : Search) → Holds s → search_at s c ≡ Some q → q.place ≡ AtNext t → Keeps (link_loaded s c q (get_or s.next t 0))
+next_keeps s c t q on is at = subst (λ (p : SearchPlace). Keeps (load_link s c q p)) at (link_keeps s c q on is)
+
+tells_bound : (s : State) (from n x : ℕ) (key : Key) → LinkTells s from key n x → x ≤ length s.slots
+tells_bound s from n zero key tells = omega arith
+tells_bound s from n (suc t) key tells = tells.4
+
+-- a link that a search follows is in range
+pub head_bound : (s : State) (c : ℕ) (q : Search) → Holds s → search_at s c ≡ Some q → s.head ≤ s.settings.slots
+head_bound s c q on is =
+    let walk : Walks s c q.start = search_walks s c q on is in
+    omega (
+      arith,
+      on.shape.slots,
+      tells_bound s q.start (suc (length s.history)) s.head q.key (link_tells s c q.start (suc (length s.history)) s.head q.key on walk (head_ahead s q.start q.key on walk.by_now)),
+    )
+
+pub next_bound : (s : State) (c t : ℕ) (q : Search) → Holds s → search_at s c ≡ Some q → q.place ≡ AtNext t → (t < s.settings.slots) × (get_or s.next t 0 ≤ s.settings.slots)
+next_bound s c t q on is at =
+    let walk : Walks s c q.start = search_walks s c q on is in
+    let p = subst (PlaceHolds s.history q.start (get_or s.seen c 0) q.key) at (on.searches c q is).stands in
+    let ahead = at_next_ahead s c q.start (get_or s.seen c 0) t q.key on walk (on.sections.prefix c) p in (
+      omega (arith, ahead.0, on.shape.links),
+      omega (arith, on.shape.slots, tells_bound s q.start p.0.number (get_or s.next t 0) q.key (link_tells s c q.start p.0.number (get_or s.next t 0) q.key on walk ahead.1)),
+    )

@@ -1,18 +1,13 @@
 -- A walk over links: what each load leaves holds, and what ends it is lawful.
-use Rattle.std.proofs.Common.{◌≡◌, ℕ, zero, suc, ◌+◌, ◌*◌, ◌<◌, ◌≤◌, ◌⊎◌, inl, inr, List, length, get_or, set, Option, Some, None, Bool, true, false, ◌&&◌, nat_eq, refl, sym, ap, subst, ◌∙◌, arith}
-use Rattle.std.proofs.Common.{get_or-set_same, get_or-set_other, eqb-true}
+use Rattle.std.proofs.Common.{◌≡◌, ℕ, zero, suc, ◌+◌, ◌*◌, ◌<◌, ◌≤◌, ◌⊎◌, inl, inr, List, length, get_or, set, Option, Some, None, Bool, true, false, ◌&&◌, nat_eq, refl, sym, ap, subst, ◌∙◌, arith, get_or-set_same, get_or-set_other, eqb-true}
 use Rattle.std.proofs.lemmas.Option.{same_Some, none-some}
 use Rattle.std.proofs.lemmas.List.{get_or_past}
 use Rattle.std.proofs.lemmas.Bool.{cases_lt, cases_eq, and_parts}
 use Rattle.protocol.specs.Types.{Kind, Iface, Driver, Entry, Change, Attach, Detach, Key}
-use Rattle.protocol.specs.Common.{Reply, Done, Word, Found, Missed, Ref, Collected, RecordWords, Loaded, SearchPlace, On, Over, AtHead, AtNext, AtNumber, AtKind, AtHigh, AtLow, AtValue, Search}
-use Rattle.protocol.specs.Common.{EndsAt, MayHold, IsLookup, IsLawful, State, row_at, seen_at, search_at, begin_at, Outcome, after_seeing, with_search_at, with_some, link_at, link_loaded, load_link}
-use Rattle.protocol.specs.Common.{load_searched, outcome_of, words_of, SlotWithin, entry_with, loaded_at, loaded_of_name, row_of_place, IsIn, SearchHolds, SearchesHold, FoundHold, StandsOn, AllBelow}
-use Rattle.protocol.specs.Common.{PlaceHolds, Holds}
+use Rattle.protocol.specs.Common.{Reply, Done, Word, Found, Missed, Ref, Collected, RecordWords, Loaded, SearchPlace, On, Over, AtHead, AtNext, AtNumber, AtKind, AtHigh, AtLow, AtValue, Search, EndsAt, MayHold, IsLookup, IsLawful, State, row_at, seen_at, search_at, begin_at, Outcome, after_seeing, with_search_at, with_some, link_at, link_loaded, load_link, load_searched, outcome_of, words_of, SlotWithin, entry_with, loaded_at, loaded_of_name, row_of_place, IsIn, SearchHolds, SearchesHold, FoundHold, StandsOn, AllBelow, PlaceHolds, Holds}
 use Rattle.registry_values.specs.Common.{are_words_of, key_of, slot_at, kind_word}
-use Rattle.protocol.proofs.history.History.{at_within, one_entry}
-use Rattle.protocol.proofs.history.Lookup.{Ahead, No_more, One_more, step_ahead, all_below_later, found_lawful, missed_lawful, find_exact}
-use Rattle.protocol.proofs.slots.Occupied.{in_within}
+use Rattle.protocol.proofs.History.{at_within, one_entry, Ahead, No_more, One_more, step_ahead, all_below_later, found_lawful, missed_lawful, find_exact}
+use Rattle.protocol.proofs.Occupied.{in_within}
 use Rattle.protocol.proofs.Either.{either}
 
 -- a place that shows something is within the list

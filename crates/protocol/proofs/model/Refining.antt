@@ -3,28 +3,20 @@ use Rattle.std.proofs.Common.{inl, inr, ◌≡◌, ℕ, ◌+◌, ◌-◌, List, 
 use Rattle.std.specs.Prelude.{IsSome}
 use Rattle.std.proofs.lemmas.Bool.{and_parts}
 use Rattle.protocol.specs.Types.{Settings, MOST_CPUS, Vacant}
-use Rattle.protocol.specs.Common.{Event}
-use Rattle.protocol.specs.Common.{Confirm, Reply, Word, Hand}
-use Rattle.protocol.specs.Common.{Empty, Trying, State, opening, total_at, hand_at}
-use Rattle.protocol.specs.Common.{with_retired, is_iface_slot, is_drained, live_at, local_at, Outcome, guard, some_outcome, step, Run, run_with_event, run_of_events, empty_run, Holds, Model, empty_model, IsModelRun, Stays}
-use Rattle.protocol.specs.Common.{passive_in, lookup_of, number_in, picture, Confirms, EveryRunIsModelRun, HasConfirm, TakesNone}
+use Rattle.protocol.specs.Common.{Event, Confirm, Reply, Word, Hand, Empty, Trying, State, opening, total_at, hand_at, with_retired, is_iface_slot, is_drained, live_at, local_at, Outcome, guard, some_outcome, step, Run, run_with_event, run_of_events, empty_run, Holds, Model, empty_model, IsModelRun, Stays, passive_in, lookup_of, number_in, picture, Confirms, EveryRunIsModelRun, HasConfirm, TakesNone}
 use Rattle.registry_values.specs.Common.{bias, slot_at, slot_of}
 use Rattle.protocol.specs.Events
-use Rattle.protocol.proofs.Made.{Made, Enters, Exits, Seeks, LoadsEnd, LoadsSlot, LoadsWord, LoadsLast, Publishes, Unpublishes, Hears, Snaps, AddsPassive, SubsPassive, Counts, Splits, Joins, CountsDown, made}
-use Rattle.protocol.proofs.Made.{FindsCollected, SplitsBack, Collects, AddsTotal, JoinsKeeper, SubsTotal, KeepsDriver, SubsKept, Vacates, Recalls, RecallsHead, Refinds, Tries, ConfirmsTry, TakesBack}
-use Rattle.protocol.proofs.slots.Occupied.{at_rest_tells}
+use Rattle.protocol.proofs.Made.{Made, Enters, Exits, Seeks, LoadsEnd, LoadsSlot, LoadsWord, LoadsLast, Publishes, Unpublishes, Hears, Snaps, AddsPassive, SubsPassive, Counts, Splits, Joins, CountsDown, made, FindsCollected, SplitsBack, Collects, AddsTotal, JoinsKeeper, SubsTotal, KeepsDriver, SubsKept, Vacates, Recalls, RecallsHead, Refinds, Tries, ConfirmsTry, TakesBack}
+use Rattle.protocol.proofs.Occupied.{at_rest_tells}
 use Rattle.protocol.proofs.keeps.References.{standing_tells}
 use Rattle.protocol.proofs.keeps.Keeping.{step_keeps, turned_keeps, opening_holds}
 use Rattle.protocol.proofs.keeps.SearchKeeps.{AnswersLookup, link_answers, record_answers}
 use Rattle.protocol.proofs.runs.Steps.{turned_state}
 use Rattle.protocol.proofs.keeps.MarkKeeps.{cell_all}
-use Rattle.protocol.proofs.slots.Cells.{get_or_all}
-use Rattle.protocol.proofs.counts.HeldSums.{number_of, no_hand}
-use Rattle.protocol.proofs.model.Picturing.{same_model, join_runs, widen_run}
-use Rattle.protocol.proofs.model.RefiningSections.{enter_refines, exit_refines, hear_refines, recall_head_refines, recall_refines, refind_refines, seek_refines, missed_refines, followed_refines, going_on_refines, over_refines}
-use Rattle.protocol.proofs.model.RefiningReferences.{confirm_refines, take_back_refines, try_refines}
-use Rattle.protocol.proofs.model.RefiningReferences.{add_refines, sub_refines, count_add_refines, split_refines, join_refines, count_down_refines, collected_refines, split_back_refines}
-use Rattle.protocol.proofs.model.RefiningReferences.{snapshot_refines, collect_refines, total_add_refines, total_sub_refines, join_keeper_refines}
+use Rattle.protocol.proofs.Cells.{get_or_all}
+use Rattle.protocol.proofs.counts.Sums.{number_of, no_hand}
+use Rattle.protocol.proofs.model.RefiningSections.{same_model, join_runs, widen_run, enter_refines, exit_refines, hear_refines, recall_head_refines, recall_refines, refind_refines, seek_refines, missed_refines, followed_refines, going_on_refines, over_refines}
+use Rattle.protocol.proofs.model.RefiningReferences.{confirm_refines, take_back_refines, try_refines, add_refines, sub_refines, count_add_refines, split_refines, join_refines, count_down_refines, collected_refines, split_back_refines, snapshot_refines, collect_refines, total_add_refines, total_sub_refines, join_keeper_refines}
 use Rattle.protocol.proofs.model.RefiningEntries.{publish_refines, unpublish_refines, keep_refines, vacate_refines, kept_sub_refines}
 
 -- the Confirm of an entry that is live is allowed

@@ -3,24 +3,20 @@ use Rattle.std.proofs.Common.{◌≡◌, ℕ, ◌+◌, ◌-◌, ◌<◌, ◌⊎�
 use Rattle.std.proofs.lemmas.Bool.{and_parts, cases_eq, cases_lt}
 use Rattle.std.proofs.lemmas.Option.{none-some, same_Some}
 use Rattle.protocol.specs.Types.{Entry, Change, Attach, Detach, Slot, Vacant, Live, Retired}
-use Rattle.protocol.specs.Common.{Free, Standing, Due, Rest, after_change, IsLegal, EndsAt, State, row_at, passive_at, kept_at, local_at}
-use Rattle.protocol.specs.Common.{may_write, entry_of, may_publish, after_publish, with_retired, with_link_past, after_unpublish, is_driver_slot, may_keep, after_keep, is_drained, after_kept_sub}
-use Rattle.protocol.specs.Common.{may_vacate, after_vacate, Holds, IsIn, SlotsShow, held_at, standing_of, in_hand, put, IsUnheld, IsDriverHere, IsModelRun, number_in, passive_in}
-use Rattle.protocol.specs.Common.{Hand, trying_at, subtractions_due, locals_of, picture, TakesNone}
+use Rattle.protocol.specs.Common.{Free, Standing, Due, Rest, after_change, IsLegal, EndsAt, State, row_at, passive_at, kept_at, local_at, may_write, entry_of, may_publish, after_publish, with_retired, with_link_past, after_unpublish, is_driver_slot, may_keep, after_keep, is_drained, after_kept_sub, may_vacate, after_vacate, Holds, IsIn, SlotsShow, held_at, standing_of, in_hand, put, IsUnheld, IsDriverHere, IsModelRun, number_in, passive_in, Hand, trying_at, subtractions_due, locals_of, picture, TakesNone}
 use Rattle.registry_values.specs.Common.{slot_at, slot_of, slot_before}
 use Rattle.protocol.specs.Model
-use Rattle.protocol.proofs.history.History.{one_entry}
+use Rattle.protocol.proofs.History.{one_entry}
 use Rattle.protocol.proofs.keeps.Searching.{within_some}
-use Rattle.protocol.proofs.slots.Occupied.{in_other, in_written, not_vacant, live_one, in_within, in_published, in_unpublished, in_vacated, attached_in, slot_has}
-use Rattle.protocol.proofs.slots.Numbers.{slot_number}
+use Rattle.protocol.proofs.Occupied.{in_other, in_written, not_vacant, live_one, in_within, in_published, in_unpublished, in_vacated, attached_in, slot_has}
+use Rattle.protocol.proofs.Cells.{slot_number}
 use Rattle.protocol.proofs.keeps.SectionKeeps.{none_from}
 use Rattle.protocol.proofs.keeps.ListKeeps.{may_publish_tells, may_write_tells, entry_shows}
 use Rattle.protocol.proofs.keeps.MarkKeeps.{is_drained_tells}
-use Rattle.protocol.proofs.counts.CountBounds.{none_held_at_bias}
+use Rattle.protocol.proofs.counts.Bounds.{none_held_at_bias}
 use Rattle.protocol.proofs.keeps.Drivers.{HasDriver, slot_has_driver}
-use Rattle.protocol.proofs.counts.HeldSums.{unreferred, standing_counts}
-use Rattle.protocol.proofs.counts.Sums.{one_at, none_at, standing_within, local_changed}
-use Rattle.protocol.proofs.model.Picturing.{one_step, two_steps, put_here, put_other, put_is, written, unwritten}
+use Rattle.protocol.proofs.counts.Sums.{unreferred, standing_counts, one_at, none_at, standing_within, local_changed}
+use Rattle.protocol.proofs.model.RefiningSections.{one_step, two_steps, put_here, put_other, put_is, written, unwritten}
 use Rattle.protocol.proofs.Either.{either}
 
 -- Slots change, and the references that a number has stay.

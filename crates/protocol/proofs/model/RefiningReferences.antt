@@ -1,25 +1,18 @@
 -- The events of passive and local references make steps of the model.
-use Rattle.std.proofs.Common.{◌≡◌, ℕ, ◌+◌, ◌-◌, ◌<◌, inl, inr, List, [], length, get_or, set, Option, Some, None, Bool, true, false, ◌&&◌, ◌||◌, ◌==◌, nat_lt, if◌then◌else◌, refl, sym, ap, subst, ◌∙◌}
-use Rattle.std.proofs.Common.{arith, ltb-true, get_or-set_same, get_or-set_other}
+use Rattle.std.proofs.Common.{◌≡◌, ℕ, ◌+◌, ◌-◌, ◌<◌, inl, inr, List, [], length, get_or, set, Option, Some, None, Bool, true, false, ◌&&◌, ◌||◌, ◌==◌, nat_lt, if◌then◌else◌, refl, sym, ap, subst, ◌∙◌, arith, ltb-true, get_or-set_same, get_or-set_other}
 use Rattle.std.proofs.lemmas.Bool.{and_parts, or_cases}
 use Rattle.protocol.specs.Types.{Entry, Slot, Retired}
-use Rattle.protocol.specs.Common.{Hand, Empty, Taking, Giving, Back, Trying, LocalPlace, Free, Standing, Lifted, Due, Rest, Snapshots, Adding, Subtracting, State, with_cell, found_at, hand_at, passive_at}
-use Rattle.protocol.specs.Common.{count_at, local_at, is_idle, is_number, may_add, after_add, may_sub, after_sub, may_count, after_count_add, least_id, with_local, after_split, after_hand}
-use Rattle.protocol.specs.Common.{after_count_down, after_collected, is_snapshot_due, after_snapshot, due_after, may_collect, after_collect, after_total}
-use Rattle.protocol.specs.Common.{may_join_keeper, may_join, after_join_keeper, Holds, DueHolds, one_if, put, IsModelRun, passive_in, number_in, subtractions_due, locals_of, picture, TakesNone}
-use Rattle.protocol.specs.Common.{after_confirm, after_take_back, after_taking, after_tried, after_try, has_live, may_confirm, may_try, cell, trying_at, trying_of, in_hand, IsIn}
+use Rattle.protocol.specs.Common.{Hand, Empty, Taking, Giving, Back, Trying, LocalPlace, Free, Standing, Lifted, Due, Rest, Snapshots, Adding, Subtracting, State, with_cell, found_at, hand_at, passive_at, count_at, local_at, is_idle, is_number, may_add, after_add, may_sub, after_sub, may_count, after_count_add, least_id, with_local, after_split, after_hand, after_count_down, after_collected, is_snapshot_due, after_snapshot, due_after, may_collect, after_collect, after_total, may_join_keeper, may_join, after_join_keeper, Holds, DueHolds, one_if, put, IsModelRun, passive_in, number_in, subtractions_due, locals_of, picture, TakesNone, after_confirm, after_take_back, after_taking, after_tried, after_try, has_live, may_confirm, may_try, cell, trying_at, trying_of, in_hand, IsIn}
 use Rattle.registry_values.specs.Common.{slot_at, slot_of, has_number}
 use Rattle.protocol.specs.Model
-use Rattle.protocol.proofs.slots.Cells.{cell_here, cell_other}
-use Rattle.protocol.proofs.slots.Occupied.{one_in, slot_has, is_retired_tells, at_rest_tells}
-use Rattle.protocol.proofs.slots.Numbers.{slot_number}
+use Rattle.protocol.proofs.Cells.{cell_here, cell_other, slot_number}
+use Rattle.protocol.proofs.Occupied.{one_in, slot_has, is_retired_tells, at_rest_tells}
 use Rattle.protocol.proofs.keeps.SectionKeeps.{idle_tells}
 use Rattle.protocol.proofs.keeps.MarkKeeps.{cpus_fit, may_examine_tells}
-use Rattle.protocol.proofs.keeps.Passive.{found_number, shifted_back, shifted_try, trying_none, trying_one, trying_stays}
+use Rattle.protocol.proofs.keeps.Marking.{found_number, shifted_back, shifted_try, trying_none, trying_one, trying_stays}
 use Rattle.protocol.proofs.keeps.References.{snapshot_due_tells, giving_holds, back_holds}
 use Rattle.protocol.proofs.counts.Sums.{one_at, none_at, standing_within, lifted_within, local_changed, hand_changed, local_added}
-use Rattle.protocol.proofs.model.Picturing.{Alike, join_runs, no_step, one_step, put_is, put_twice, widen_run}
-use Rattle.protocol.proofs.model.RefiningSections.{seeing_refines}
+use Rattle.protocol.proofs.model.RefiningSections.{Alike, join_runs, no_step, one_step, put_is, put_twice, widen_run, seeing_refines}
 use Rattle.protocol.proofs.keeps.CountKeeps.{confirm_tells, hand_full, live_tells, may_try_tells, passive_place, taking_keeps, tried_seen, trying_tells}
 use Rattle.protocol.proofs.Either.{either}
 

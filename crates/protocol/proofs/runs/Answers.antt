@@ -2,9 +2,8 @@
 use Rattle.std.proofs.Common.{◌≡◌, ℕ, ◌≤◌, inl, inr, List, [], ◌∷◌, ◌++◌, length, get_or, set, Option, Some, None, refl, sym, ap, subst, ◌∙◌, arith}
 use Rattle.std.proofs.lemmas.Option.{none-some, same_Some}
 use Rattle.protocol.specs.Types.{Entry, Change, Attach, Detach, Key}
-use Rattle.protocol.specs.Common.{Event, Seek, Reply, Found, Missed, Search, SearchPlace, AtNumber, IsLawful, State, opening, seen_at, search_at, Outcome, step, state_after, Holds, after, after_event, answer_of, IsAnswered}
-use Rattle.protocol.specs.Common.{HasBegun, AnswersLawfully, LawfulAnswers}
-use Rattle.protocol.proofs.slots.Occupied.{written_cases}
+use Rattle.protocol.specs.Common.{Event, Seek, Reply, Found, Missed, Search, SearchPlace, AtNumber, IsLawful, State, opening, seen_at, search_at, Outcome, step, state_after, Holds, after, after_event, answer_of, IsAnswered, HasBegun, AnswersLawfully, LawfulAnswers}
+use Rattle.protocol.proofs.Occupied.{written_cases}
 use Rattle.protocol.proofs.keeps.SearchKeeps.{AnswersLookup, IsAnswer, link_answers, record_answers}
 use Rattle.protocol.proofs.Made.{Made, Enters, Seeks, LoadsEnd, LoadsSlot, LoadsWord, LoadsLast, Publishes, Unpublishes, Hears, Recalls, RecallsHead, Refinds, ConfirmsTry, made, each_event}
 use Rattle.protocol.proofs.runs.Reuse.{every_run_keeps}

@@ -1,27 +1,20 @@
 -- Fresh lookups: a search goes on from the history as it was at its Seek, whatever other events come between.
-use Rattle.std.proofs.Common.{◌≡◌, ℕ, zero, suc, ◌<◌, ◌≤◌, ◌⊎◌, inl, inr, List, [], ◌∷◌, ◌++◌, length, get_or, set, Option, Some, None, Bool, true, false, refl, sym, ap, subst, ◌∙◌, arith, get_or-set_other}
-use Rattle.std.proofs.Common.{get_or-set_same, IsSome, append_assoc}
+use Rattle.std.proofs.Common.{◌≡◌, ℕ, zero, suc, ◌<◌, ◌≤◌, ◌⊎◌, inl, inr, List, [], ◌∷◌, ◌++◌, length, get_or, set, Option, Some, None, Bool, true, false, refl, sym, ap, subst, ◌∙◌, arith, get_or-set_other, get_or-set_same, IsSome, append_assoc}
 use Rattle.std.proofs.lemmas.Bool.{and_parts, cases_eq}
 use Rattle.std.proofs.lemmas.List.{append-nil}
 use Rattle.std.proofs.lemmas.Option.{none-some, same_Some}
 use Rattle.protocol.specs.Types.{Entry, Change, Attach, Detach, Key, Slot, Live}
-use Rattle.protocol.specs.Common.{Leads, To_end, To_entry, IsNewestAt, RecallsNewest, NewestRecalls, Refind, after_refind, found_at, may_recall_head, may_refind, refind}
-use Rattle.protocol.specs.Common.{Event, Seek, Reply, Done, Word, Found, Missed, Search, SearchPlace, AtHead, AtNumber}
-use Rattle.protocol.specs.Common.{EndsAt, IsLiveAt, IsLawful, IsLegal, IsLookup, State, opening, seen_at, search_at, begin_at, Outcome, step, state_after, guard, is_idle, is_inside}
-use Rattle.protocol.specs.Common.{may_enter, may_seek, may_recall, may_confirm, confirm, is_honest, has_live, live_at, hand_at, Hand, Trying, IsAttached, after_confirm, after_seek, after_enter, after_seeing, after_change, with_some, load_link, load_searched, some_outcome}
-use Rattle.protocol.specs.Common.{Holds, PlaceHolds, after, after_event, IsAllowed, IsLoadOf, answer_of}
+use Rattle.protocol.specs.Common.{Leads, To_end, To_entry, IsNewestAt, RecallsNewest, NewestRecalls, Refind, after_refind, found_at, may_recall_head, may_refind, refind, Event, Seek, Reply, Done, Word, Found, Missed, Search, SearchPlace, AtHead, AtNumber, EndsAt, IsLiveAt, IsLawful, IsLegal, IsLookup, State, opening, seen_at, search_at, begin_at, Outcome, step, state_after, guard, is_idle, is_inside, may_enter, may_seek, may_recall, may_confirm, confirm, is_honest, has_live, live_at, hand_at, Hand, Trying, IsAttached, after_confirm, after_seek, after_enter, after_seeing, after_change, with_some, load_link, load_searched, some_outcome, Holds, PlaceHolds, after, after_event, IsAllowed, IsLoadOf, answer_of, seek_for, IsNoSeek, SeeksNone, AnswersFreshly, SeesAll, RecallsLive, FreshAnswers, WholePasses, LiveRecalls}
 use Rattle.protocol.specs.History.{change_at}
 use Rattle.registry_values.specs.Common.{key_of, slot_at}
-use Rattle.protocol.specs.Common.{seek_for, IsNoSeek, SeeksNone, AnswersFreshly, SeesAll, RecallsLive, FreshAnswers, WholePasses, LiveRecalls}
-use Rattle.protocol.proofs.history.History.{at_within, at_prefix, one_entry, one_live, length-after_change}
-use Rattle.protocol.proofs.history.Growing.{place_old}
+use Rattle.protocol.proofs.History.{at_within, at_prefix, one_entry, one_live, length-after_change, place_old}
 use Rattle.protocol.proofs.keeps.Keeping.{step_keeps, after_keeps}
 use Rattle.protocol.proofs.keeps.SectionKeeps.{idle_parts, recall_head_tells, recall_tells, refind_tells, some_from}
 use Rattle.protocol.proofs.keeps.CountKeeps.{confirm_tells, live_tells, tried_seen, trying_tells}
 use Rattle.protocol.proofs.keeps.Searching.{Walks, Steps, IsStep, load_link_steps, load_searched_steps, weight, placed, within_some, seen_now, searching_within}
 use Rattle.protocol.proofs.runs.Answers.{history_grows}
 use Rattle.protocol.proofs.Made.{Made, Enters, Exits, Seeks, LoadsEnd, LoadsSlot, LoadsWord, LoadsLast, Publishes, Unpublishes, Hears, Recalls, RecallsHead, Refinds, ConfirmsTry, each_event}
-use Rattle.protocol.proofs.slots.Cells.{by_place}
+use Rattle.protocol.proofs.Cells.{by_place}
 use Rattle.protocol.proofs.runs.Steps.{after_more}
 use Rattle.protocol.proofs.runs.Reuse.{every_run_keeps}
 use Rattle.protocol.proofs.Either.{either}

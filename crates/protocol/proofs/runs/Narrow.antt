@@ -1,14 +1,13 @@
--- The pure machine: its lists of events are lists of `step`, and what it attaches has a lawful name.
-use Rattle.std.proofs.Common.{◌≡◌, ℕ, ◌+◌, List, [], ◌∷◌, length, Option, Some, None, Bool, true, false, if◌then◌else◌, refl, sym, subst, arith}
+-- The pure machine: its lists of events are lists of `step`, and what it attaches has a lawful name; the worked rows, computed.
+use Rattle.std.proofs.Common.{◌≡◌, ℕ, ◌+◌, List, [], ◌∷◌, length, Option, Some, None, Bool, true, false, if◌then◌else◌, refl, sym, subst, arith, ◌++◌}
 use Rattle.std.specs.Prelude.{IsTrue}
 use Rattle.std.proofs.lemmas.Option.{none-some}
 use Rattle.protocol.specs.Types.{Entry, Change, Attach, Detach}
 use Rattle.registry_values.specs.Common.{is_lawful}
-use Rattle.registry_values.specs.Names.{are_name_words}
-use Rattle.protocol.specs.Common.{Event, Publish, Outcome, Reply, RecordWords, State, guard, names_lawfully, narrow_step, opening, row_at, state_after, step, Run, empty_run, narrow_run_of_events}
-use Rattle.protocol.specs.Common.{run_of_events, run_with_event, with_lawful_names, after_change, entry_of, Holds, AreNamedLawfully, NarrowEvents, NarrowNames, NarrowRuns}
+use Rattle.registry_values.specs.Names.{are_name_words, are_key_words}
+use Rattle.protocol.specs.Common.{Event, Publish, Outcome, Reply, RecordWords, State, guard, names_lawfully, narrow_step, opening, row_at, state_after, step, Run, empty_run, narrow_run_of_events, run_of_events, run_with_event, with_lawful_names, after_change, entry_of, Holds, AreNamedLawfully, NarrowEvents, NarrowNames, NarrowRuns, Found, FrozenLink, CollectRace, TryRace, Gives, two_cpus, attaches, done_replies, loads, try_replies, first, all_three, search_begins, wm0, wm1, wm2, search_case, detaches, unlinked_case, search_goes_on, has_found}
 use Rattle.protocol.proofs.Either.{either}
-use Rattle.protocol.proofs.history.History.{at_cases, at_empty}
+use Rattle.protocol.proofs.History.{at_cases, at_empty}
 use Rattle.protocol.proofs.keeps.Keeping.{after_keeps, opening_holds, step_keeps}
 use Rattle.protocol.proofs.keeps.ListKeeps.{entry_shows}
 use Rattle.protocol.proofs.Made.{Made, Publishes, Unpublishes, each_event}
@@ -107,3 +106,29 @@ ran_named r (e ∷ es) on named =
 
 pub narrow_names : NarrowNames
 narrow_names z events fit = ran_named (empty_run (opening z)) events (opening_holds z fit) (λ e att. absurd (at_empty e.number (Attach e) att))
+
+-- The worked rows, computed.
+
+attached : Gives (opening two_cpus) attaches (done_replies 35) all_three
+unfolding are_key_words
+attached = (refl, refl)
+
+begun : Gives all_three search_begins (done_replies 2 ++ loads 3 ++ loads 3 ++ loads 2 ++ loads wm2.high ++ loads 0 ++ loads 2 ++ loads 2 ++ loads 2) search_case
+begun = (refl, refl)
+
+detached : Gives search_case detaches (done_replies 1 ++ loads 1 ++ loads 0 ++ done_replies 3 ++ loads 1 ++ loads 0 ++ done_replies 2 ++ try_replies ++ try_replies) unlinked_case
+detached = (refl, refl)
+
+gone_on : Gives unlinked_case search_goes_on (loads wm1.high ++ loads 0 ++ loads 1 ++ loads 1 ++ loads 2 ++ loads wm0.high ++ loads 0 ++ Some (Found first) ∷ []) has_found
+gone_on = (refl, refl)
+
+pub frozen_link : FrozenLink
+frozen_link = record { attached = attached; begun = begun; detached = detached; gone_on = gone_on; is_freed = refl; are_vacant = refl }
+
+pub collect_race : CollectRace
+unfolding are_key_words
+collect_race = record { detached = refl; race = refl; counted = refl }
+
+pub try_race : TryRace
+unfolding are_key_words
+try_race = record { tries = refl; tried = refl; confirmed = refl; detached = refl; headed = refl; refound = refl; unhidden = refl; freed = refl; given = refl }

@@ -1,16 +1,13 @@
 -- Safe reuse: which events move an occupant, and what holds nothing then.
-use Rattle.std.proofs.Common.{◌≡◌, ℕ, suc, ◌⊎◌, inl, inr, List, length, set, Option, Some, None, Bool, true, false, ◌&&◌, IsSome, refl, sym, ap, subst, ◌∙◌}
-use Rattle.std.proofs.Common.{get_or-set_same, get_or-set_other}
+use Rattle.std.proofs.Common.{◌≡◌, ℕ, suc, ◌⊎◌, inl, inr, List, length, set, Option, Some, None, Bool, true, false, ◌&&◌, IsSome, refl, sym, ap, subst, ◌∙◌, get_or-set_same, get_or-set_other}
 use Rattle.std.proofs.lemmas.Bool.{and_parts, cases_eq}
 use Rattle.std.proofs.lemmas.Option.{none-some, same_Some}
 use Rattle.protocol.specs.Types.{Entry, Slot, Vacant, Live, Retired}
-use Rattle.protocol.specs.Common.{Event, Publish, KeptSub, Vacate, EndsAt, State, opening, kept_at, state_after}
-use Rattle.protocol.specs.Common.{may_write, is_drained, Holds, IsIn, IsUnheld, number_in, picture, empty_run, IsAllowed, occupant_of}
-use Rattle.protocol.specs.Common.{Reply, after_event, destroyed_slot, given_slot, EveryRunKeeps}
+use Rattle.protocol.specs.Common.{Event, Publish, KeptSub, Vacate, EndsAt, State, opening, kept_at, state_after, may_write, is_drained, Holds, IsIn, IsUnheld, number_in, picture, empty_run, IsAllowed, occupant_of, Reply, after_event, destroyed_slot, given_slot, EveryRunKeeps}
 use Rattle.registry_values.specs.Common.{slot_at}
 use Rattle.protocol.proofs.keeps.Keeping.{ran_keeps, opening_holds}
 use Rattle.protocol.proofs.model.RefiningEntries.{Drained, drained}
-use Rattle.protocol.proofs.slots.Occupied.{written_cases, in_within}
+use Rattle.protocol.proofs.Occupied.{written_cases, in_within}
 use Rattle.protocol.proofs.keeps.ListKeeps.{may_write_tells, may_publish_tells}
 use Rattle.protocol.proofs.keeps.MarkKeeps.{is_drained_tells}
 use Rattle.protocol.proofs.Made.{Made, StoresRow, StoresCount, StoresLink, Publishes, Unpublishes, KeepsDriver, SubsKept, Vacates, each_event}

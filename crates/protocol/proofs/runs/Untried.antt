@@ -1,16 +1,12 @@
 -- Without a Try no hand is trying, so each passive word counts references alone.
 use Rattle.std.proofs.Common.{◌≡◌, ℕ, zero, suc, inl, inr, List, [], ◌∷◌, set, Option, Some, None, Bool, true, false, ◌==◌, nat_lt, if◌then◌else◌, refl, ap, ◌∙◌}
 use Rattle.protocol.specs.Types.{Entry, Slot, Live}
-use Rattle.protocol.specs.Common.{Event, Seat, Enter, Exit, Seek, LoadLink, LoadRecord, StoreSlot, StoreNext, Publish, Unpublish, Tell, Hear, Snapshot, Look, PassiveAdd, PassiveSub, PassiveLook}
-use Rattle.protocol.specs.Common.{CountAdd, SplitRef, JoinRef, CountDown, SplitBack, Collect, TotalAdd, JoinKeeper, TotalSub, Keep, KeptSub, Vacate, Show, Hide, Recall, RecallHead, Refind, Try, Confirm, TakeBack, RecordOf}
-use Rattle.protocol.specs.Common.{Hand, Empty, Taking, Giving, Back, Trying, Due, Adding, Subtracting, Loaded, On, Over, Search, State, hand_at, opening, trying_at, trying_of, Outcome, guard, some_outcome, with_some, step, Reply}
-use Rattle.protocol.specs.Common.{count_at, found_at, kept_at, local_at, row_at, search_at, loaded_at, number_standing, row_of_place}
-use Rattle.protocol.specs.Common.{Run, run_of_events, run_with_event, empty_run, with_link_past, with_retired, link_loaded, IsTry, HasTry, UntriedRuns}
+use Rattle.protocol.specs.Common.{Event, Seat, Enter, Exit, Seek, LoadLink, LoadRecord, StoreSlot, StoreNext, Publish, Unpublish, Tell, Hear, Snapshot, Look, PassiveAdd, PassiveSub, PassiveLook, CountAdd, SplitRef, JoinRef, CountDown, SplitBack, Collect, TotalAdd, JoinKeeper, TotalSub, Keep, KeptSub, Vacate, Show, Hide, Recall, RecallHead, Refind, Try, Confirm, TakeBack, RecordOf, Hand, Empty, Taking, Giving, Back, Trying, Due, Adding, Subtracting, Loaded, On, Over, Search, State, hand_at, opening, trying_at, trying_of, Outcome, guard, some_outcome, with_some, step, Reply, count_at, found_at, kept_at, local_at, row_at, search_at, loaded_at, number_standing, row_of_place, Run, run_of_events, run_with_event, empty_run, with_link_past, with_retired, link_loaded, IsTry, HasTry, UntriedRuns}
 use Rattle.protocol.specs.declared.event.RecordOf.TheVariants.{Search as OfSearch, Passive as OfPassive, Local as OfLocal, Compared as OfCompared}
 use Rattle.registry_values.specs.Common.{slot_at, slot_before, slot_of}
 use Rattle.protocol.specs.Events
-use Rattle.protocol.proofs.slots.Cells.{get_or_all}
-use Rattle.protocol.proofs.slots.Occupied.{written_cases}
+use Rattle.protocol.proofs.Cells.{get_or_all}
+use Rattle.protocol.proofs.Occupied.{written_cases}
 use Rattle.protocol.proofs.Either.{either}
 
 -- no CPU is trying

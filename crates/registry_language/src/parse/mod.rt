@@ -2,8 +2,7 @@
 
 ghost use Rattle.std.specs.Prelude.{◌≡◌, IfOk, IfSome, IsTrue, map};
 ghost use Rattle.registry_language.specs.Grammar.{first_of, second_of, later_of, command_at, command_of, said, line_of, is_bad_byte, is_comment};
-ghost use Rattle.registry_language.specs.Program.{may_follow};
-ghost use Rattle.registry_language.specs.Parsing.{LineGives};
+ghost use Rattle.registry_language.specs.Program.{may_follow, LineGives};
 ghost use Rattle.std.specs.List.{list_any};
 
 mod arguments;

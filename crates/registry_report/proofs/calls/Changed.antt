@@ -11,16 +11,13 @@ use Rattle.protocol.specs.Common.{after_seeing, with_retired, with_link_past, En
 use Rattle.registry_values.specs.Common.{is_lawful, is_iface, slot_before, slot_of, slot_at, no_mark, found_answer}
 use Rattle.registry_values.proofs.Answers.{attach_tells}
 use Rattle.passive_core.proofs.Attaching.{given_tells, first_fit_tells, seated_keeps, iface_links}
-use Rattle.protocol.proofs.history.History.{at_within}
-use Rattle.protocol.proofs.slots.Occupied.{is_vacant_tells, in_other, in_unpublished, in_within, in_written, live_one}
-use Rattle.protocol.proofs.model.Picturing.{unwritten}
+use Rattle.protocol.proofs.History.{at_within}
+use Rattle.protocol.proofs.Occupied.{is_vacant_tells, in_other, in_unpublished, in_within, in_written, live_one}
+use Rattle.protocol.proofs.model.RefiningSections.{unwritten}
 use Rattle.protocol.proofs.model.RefiningEntries.{passive_moved}
-use Rattle.registry_report.specs.Common.{attach_answer, attach_iface_answer, detach_answer, command_answer, lookup_now, plug_answer, with_label, Hitch, Refused, Gives, Leaves, Registry, SessionState}
-use Rattle.registry_report.specs.Common.{with_core, IsSession, Shows, ShowsModel, SnapshotsFollow, number_at, after_plug, with_attached, with_detached, with_reference_kept, on_ok, on_some}
-use Rattle.registry_report.specs.Common.{with_attached_iface}
-use Rattle.registry_report.proofs.shows.Attached.{attach_answers, attach_iface_answers, keeping_shows, linked_shows, now_is}
-use Rattle.registry_report.proofs.calls.Giving.{gives, leaves}
-use Rattle.registry_report.proofs.shows.Published.{detach_counts, detach_follows, retired_tallies}
+use Rattle.registry_report.specs.Common.{attach_answer, attach_iface_answer, detach_answer, command_answer, lookup_now, plug_answer, with_label, Hitch, Refused, Gives, Leaves, Registry, SessionState, with_core, IsSession, Shows, ShowsModel, SnapshotsFollow, number_at, after_plug, with_attached, with_detached, with_reference_kept, on_ok, on_some, with_attached_iface}
+use Rattle.registry_report.proofs.shows.Attached.{attach_answers, attach_iface_answers, keeping_shows, linked_shows, now_is, detach_counts, detach_follows, retired_tallies}
+use Rattle.registry_report.proofs.calls.Walked.{gives, leaves}
 use Rattle.registry_report.proofs.shows.Sectioned.{inside_is}
 use Rattle.protocol.proofs.Either.{either}
 

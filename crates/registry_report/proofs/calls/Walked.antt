@@ -1,17 +1,27 @@
--- The commands on sections and lookups: what they give and leave.
+-- The commands on sections and lookups: what they give and leave, as any command does.
 use Rattle.std.proofs.Common.{◌≡◌, ℕ, ◌<◌, Option, None, Bool, true, false, not, is_some, sym, ap, subst, ◌∙◌}
-use Rattle.std.specs.Prelude.{if◌then◌else◌, ◌==◌, Result, Ok, Err}
-use Rattle.registry_report.specs.Types.{Entry, Refusal, Key}
-use Rattle.passive_core.specs.Common.{all_seated, IsLookupNow, after_enter_command, after_exit_command, after_find}
-use Rattle.passive_core.specs.Entering as core
-use Rattle.protocol.specs.Events as events
+use Rattle.std.specs.Prelude.{Result, Err, if◌then◌else◌, ◌==◌, Ok}
+use Rattle.registry_report.specs.Types.{NoMemory, Entry, Refusal, Key}
 use Rattle.protocol.specs.Common.{Holds}
-use Rattle.protocol.proofs.model.Picturing.{put_here}
-use Rattle.registry_report.specs.Common.{Hitch, NotInside, enter_answer, exit_answer, find_answer, command_answer, is_inside, lookup_now, Gives, Leaves, Registry, SessionState, with_core, Shows}
-use Rattle.registry_report.specs.Common.{with_section_entered, with_section_exited, with_found, on_ok}
+use Rattle.protocol.specs.Events as events
+use Rattle.protocol.proofs.model.RefiningSections.{put_here}
+use Rattle.passive_core.specs.Common.{all_seated, IsLookupNow, after_enter_command, after_exit_command, after_find}
+use Rattle.passive_core.specs.Commands as core
+use Rattle.registry_report.specs.Common.{Hitch, Refused, Gives, Leaves, Registry, SessionState, Shows, NotInside, enter_answer, exit_answer, find_answer, command_answer, is_inside, lookup_now, with_core, with_section_entered, with_section_exited, with_found, on_ok}
 use Rattle.registry_report.proofs.shows.Attached.{now_is}
-use Rattle.registry_report.proofs.calls.Giving.{gives, leaves}
 use Rattle.registry_report.proofs.shows.Sectioned.{enter_answers, enter_shows, exit_shows, found_shows, inside_is}
+
+-- A result that is due is given, and what shows the registry is left.
+
+pub gives : {X : Type 0} (given answer : Result X Hitch) → answer ≡ given → Gives given answer
+gives (Err (Refused NoMemory)) answer is = tt
+gives given answer is = is
+
+pub leaves : {X : Type 0} (given : Result X Hitch) (s : SessionState) (r : Registry) → Shows s r → Leaves given (Shows s r)
+leaves (Err (Refused NoMemory)) s r on = tt
+leaves given s r on = on
+
+-- The commands on sections and lookups: what they give and leave.
 
 pub enter_done : (s : SessionState) (r : Registry) (c : ℕ) (result : Result (Unit {0}) Refusal) → Holds s.core → Shows s r → c < s.core.settings.cpus → result ≡ core.enter_answer s.core c
     → Gives (command_answer result) (command_answer (enter_answer r c))

@@ -7,13 +7,12 @@ use Rattle.registry_report.specs.Types.{Entry, Change, Record, CorePsref, Refusa
 use Rattle.protocol.specs.Common.{State, found_at, local_at, is_number, number_standing, Holds, trying_at, put, with_passive, passive_in}
 use Rattle.registry_values.specs.Common.{slot_of, Answers}
 use Rattle.passive_core.specs.Common.{IsQuiet, all_seated, IsRecordOf, psref_to_found, psref_copy, passive_of, refusal_of, with_one_less, with_one_more}
-use Rattle.passive_core.specs.Passives as core
-use Rattle.passive_core.proofs.Acting.{acting_untried}
+use Rattle.passive_core.specs.References as core
+use Rattle.passive_core.proofs.Entering.{acting_untried}
 use Rattle.passive_core.proofs.Passives.{counted_less, counted_more}
-use Rattle.registry_report.specs.Common.{Hitch, LabelTaken, Reading, acquire_answer, copy_answer, held_answer, command_answer, if_free, misuse, one_more, read_answer, reading_of, reference_answer}
-use Rattle.registry_report.specs.Common.{release_answer, unless, with_label, value_in, value_of, Registry, IsSession, SessionState, with_core, Shows, with_reference, without_reference}
+use Rattle.registry_report.specs.Common.{Hitch, LabelTaken, Reading, acquire_answer, copy_answer, held_answer, command_answer, if_free, misuse, one_more, read_answer, reading_of, reference_answer, release_answer, unless, with_label, value_in, value_of, Registry, IsSession, SessionState, with_core, Shows, with_reference, without_reference}
 use Rattle.registry_report.proofs.Lookups.{entry_is}
-use Rattle.registry_report.proofs.shows.Showing.{put_shows}
+use Rattle.registry_report.proofs.shows.Sectioned.{put_shows}
 
 -- In general
 

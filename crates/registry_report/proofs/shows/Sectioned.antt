@@ -1,21 +1,84 @@
--- Enter, exit and find: the registry that the session shows answers and changes as the core does.
-use Rattle.std.proofs.Common.{◌≡◌, ℕ, ◌+◌, ◌-◌, ◌*◌, ◌<◌, ◌≤◌, List, length, get_or, set, get_or-set_same, get_or-set_other, Option, Some, None, Bool, true, false, not, ◌&&◌, is_some, is_none, refl}
-use Rattle.std.proofs.Common.{sym, ap, subst, ◌∙◌, arith}
-use Rattle.std.specs.Prelude.{if◌then◌else◌, ◌==◌, Result, Ok, Err, is_ok}
-use Rattle.std.proofs.lemmas.Bool.{cases_eq}
+-- A session that begins, and enter, exit and find: the registry that the session shows answers and changes as the core does.
+use Rattle.std.proofs.Common.{◌≡◌, ℕ, ◌*◌, ◌<◌, List, length, get_or, set, get_or-set_same, get_or-set_other, nat_lt, sym, ◌∙◌, arith, [], replicate, Option, Some, None, is_some, refl, ap, subst, ◌+◌, ◌-◌, ◌≤◌, Bool, true, false, not, ◌&&◌, is_none}
+use Rattle.std.proofs.lemmas.Bool.{cases_lt, lt-ltb, le-ltb, cases_eq}
 use Rattle.std.proofs.lemmas.Option.{none-some}
-use Rattle.registry_report.specs.Types.{Entry, Change, MOST_DEPTH, Refusal, TooDeep, SectionsSpent, Mark, Slot}
-use Rattle.protocol.specs.Common.{section_at, begin_at, depth_at, mark_at, Holds, MarksHold, one_if, put}
-use Rattle.passive_core.specs.Common.{all_seated, with_depth, after_enter_command, after_exit_command, after_find}
-use Rattle.passive_core.specs.Entering as core
+use Rattle.std.specs.Prelude.{if◌then◌else◌, ◌==◌, Result, Ok, Err, is_ok}
+use Rattle.registry_report.specs.Types.{Entry, Settings, Empty, Vacant, MOST_CPUS, Change, MOST_DEPTH, Refusal, TooDeep, SectionsSpent, Mark, Slot}
+use Rattle.registry_values.specs.Common.{slot_of, slot_at}
+use Rattle.protocol.specs.Common.{put, IsIn, one_if, number_in, passive_in, opening, section_at, begin_at, depth_at, mark_at, Holds, MarksHold}
 use Rattle.protocol.specs.Events as events
-use Rattle.protocol.proofs.keeps.SectionKeeps.{some_from}
-use Rattle.registry_report.specs.Common.{is_inside, enter_answer, may_begin, Registry, SessionState, with_core, Shows, SnapshotsFollow, on_ok, with_section_entered, with_section_exited}
-use Rattle.registry_report.specs.Common.{with_section_begun, with_section_ended, with_found}
-use Rattle.protocol.proofs.slots.Cells.{by_place}
-use Rattle.protocol.proofs.model.Picturing.{put_here, put_other}
-use Rattle.registry_report.proofs.shows.Showing.{put_shows, twice_less}
+use Rattle.protocol.proofs.model.RefiningSections.{put_is, put_here, put_other}
 use Rattle.protocol.proofs.Either.{either}
+use Rattle.protocol.proofs.Cells.{get_or_all, by_place}
+use Rattle.protocol.proofs.keeps.MarkKeeps.{none_live}
+use Rattle.protocol.proofs.Occupied.{not_vacant, slot_has}
+use Rattle.protocol.proofs.keeps.SectionKeeps.{some_from}
+use Rattle.passive_core.specs.Common.{all_seated, with_depth, after_enter_command, after_exit_command, after_find}
+use Rattle.passive_core.specs.Commands as core
+use Rattle.registry_report.specs.Common.{opening_registry, SessionState, without_labels, Shows, number_at, is_inside, enter_answer, may_begin, Registry, with_core, SnapshotsFollow, on_ok, with_section_entered, with_section_exited, with_section_begun, with_section_ended, with_found}
+
+-- A list with another value in a place, and a function with the same one there.
+
+pub put_shows : {X : Type 0} (f : ℕ → X) (d : X) (xs : List X) (c : ℕ) (x y : X) → c < length xs → ((j : ℕ) → f j ≡ get_or xs j d) → x ≡ y → (j : ℕ) → put f c x j ≡ get_or (set xs c y) j d
+put_shows f d xs c x y lt shows same = put_is f (λ j. get_or (set xs c y) j d) c x
+    (same ∙ sym (get_or-set_same xs c y d lt))
+    (λ j off. shows j ∙ sym (get_or-set_other xs c j y d off))
+
+-- twice as much is less where it is
+pub twice_less : (a b : ℕ) → nat_lt (2 * a) (2 * b) ≡ nat_lt a b
+twice_less a b = either (cases_lt a b)
+    (λ lt. lt-ltb (2 * a) (2 * b) (omega arith) ∙ sym (lt-ltb a b lt))
+    (λ ge. le-ltb (2 * a) (2 * b) (omega arith) ∙ sym (le-ltb a b ge))
+
+-- A session that begins shows the registry that a script begins with.
+
+-- no slot is occupied
+vacant_at : (n t : ℕ) → slot_at (replicate n Vacant) t ≡ Vacant
+vacant_at n t = get_or_all n Vacant t
+
+nobody : (n t : ℕ) (e : Entry) → IsIn e (slot_at (replicate n Vacant) t) → ⊥
+nobody n t e is = not_vacant e (slot_at (replicate n Vacant) t) (vacant_at n t) is
+
+none_held : (z : Settings) (c n : ℕ) (o : Option ℕ) → slot_of (replicate z.slots Vacant) n ≡ o → 0 ≡ passive_in (replicate z.slots (replicate MOST_CPUS 0)) (replicate z.cpus Empty) c o
+none_held z c n None at = refl
+none_held z c n (Some t) at = absurd (let has = slot_has (replicate z.slots Vacant) n t at in nobody z.slots t has.1.0 has.1.1)
+
+pub opened_shows : (z : Settings) → Shows (without_labels (opening z)) (opening_registry z)
+opened_shows z = record {
+  settings = refl;
+  model = record {
+    history = refl;
+    sections = λ c. sym (get_or_all z.cpus None c);
+    last_found = λ c. sym (get_or_all z.cpus None c);
+    held = λ c n. none_held z c n (slot_of (replicate z.slots Vacant) n) refl;
+    counted = λ n. refl;
+    occupants = λ t. sym (ap number_in (vacant_at z.slots t));
+    kept = λ t. sym (get_or_all z.slots None t);
+  };
+  sections = record {
+    deep = λ c. sym (get_or_all {X = ℕ} z.cpus 0 c);
+    turns = λ c. omega (arith, get_or_all {X = ℕ} z.cpus 0 c, ap (λ (o : Option ℕ). one_if (is_some o)) (get_or_all z.cpus None c));
+  };
+  live = omega (arith, none_live z.slots);
+  grace = λ t p c b w e at end begun snapshot same. absurd (none-some b (sym (get_or_all z.cpus None c) ∙ begun));
+  tallies = record {
+    net = λ t c e is low. absurd (nobody z.slots t e is);
+    word = λ t c e is low uncollected. absurd (nobody z.slots t e is);
+    total = λ t e is uncollected. absurd (nobody z.slots t e is);
+    collected = λ t c e is is_collected. absurd (nobody z.slots t e is);
+    fresh = λ n later. record { unacquired = λ c. refl; unreleased = λ c. refl; kept = refl; uncollected = refl };
+  };
+  labels = record {
+    passive = λ x. sym (get_or_all 26 None x);
+    local = λ x. sym (ap (number_at []) (get_or_all 26 None x));
+  };
+}
+
+-- the same of the session that a script begins with
+pub begins : (s : SessionState) (z w : Settings) → s ≡ without_labels (opening z) → z ≡ w → Shows s (opening_registry w)
+begins s z w is same = subst (λ (x : SessionState). Shows x (opening_registry w)) (sym (is ∙ ap (λ (y : Settings). without_labels (opening y)) same)) (opened_shows w)
+
+-- Enter, exit and find: the registry that the session shows answers and changes as the core does.
 
 -- who is inside
 pub inside_is : (s : SessionState) (r : Registry) (c : ℕ) → Shows s r → is_inside r c ≡ events.is_inside s.core c

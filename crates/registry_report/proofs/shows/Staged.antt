@@ -1,6 +1,5 @@
 -- Advance, destroy and perform: the registry that the session shows answers and changes as the core does.
-use Rattle.std.proofs.Common.{◌≡◌, ℕ, zero, suc, ◌+◌, ◌-◌, ◌<◌, ◌≤◌, inl, inr, List, length, get_or, set, get_or-set_same, get_or-set_other, Option, Some, None, Bool, true, false, ◌&&◌, nat_lt, refl, sym}
-use Rattle.std.proofs.Common.{ap, subst, ◌∙◌, arith, sum_by}
+use Rattle.std.proofs.Common.{◌≡◌, ℕ, zero, suc, ◌+◌, ◌-◌, ◌<◌, ◌≤◌, inl, inr, List, length, get_or, set, get_or-set_same, get_or-set_other, Option, Some, None, Bool, true, false, ◌&&◌, nat_lt, refl, sym, ap, subst, ◌∙◌, arith, sum_by}
 use Rattle.std.specs.Prelude.{if◌then◌else◌, is_some, not, Result, Ok, Err}
 use Rattle.std.proofs.lemmas.Bool.{and_parts, cases_Bool, cases_eq, cases_lt, eq-eqb, ne_eqb, lt-ltb, le-ltb}
 use Rattle.std.proofs.lemmas.Option.{none-some}
@@ -8,31 +7,24 @@ use Rattle.registry_report.specs.Types.{Entry, Change, Attach, Detach, Refusal, 
 use Rattle.passive_core.specs.Advancing as core
 use Rattle.passive_core.specs.Common.{AdvanceLeaves, DestroyLeaves, LeavesFree, LeavesMarks, LeavesTotal, StageLeaves, is_open_since, is_snapshot, IsQuiet, all_seated, PerformLeaves}
 use Rattle.registry_values.specs.Common.{wait_answer, destroy_result, destroy_result_of, stage_of, is_retired_as, has_number, is_retired, slot_at, least_below, no_mark}
-use Rattle.protocol.specs.Common.{MarksGrow, SameElsewhere, Holds, IsIn, SlotsShow, held_at, in_hand, one_if, subtraction_due_at, put, number_in, passive_in, is_empty, State, begin_at, count_at}
-use Rattle.protocol.specs.Common.{hand_at, kept_at, mark_at, passive_at, section_at, total_at, trying_at, trying_of}
+use Rattle.protocol.specs.Common.{MarksGrow, SameElsewhere, Holds, IsIn, SlotsShow, held_at, in_hand, one_if, subtraction_due_at, put, number_in, passive_in, is_empty, State, begin_at, count_at, hand_at, kept_at, mark_at, passive_at, section_at, total_at, trying_at, trying_of}
 use Rattle.registry_values.specs.Slots as values
 use Rattle.protocol.specs.Events as events
-use Rattle.passive_core.specs.Performing as performing
-use Rattle.registry_values.proofs.Least.{none_below, least_none, least_agrees}
-use Rattle.registry_values.proofs.Slots.{retired_slot_tells}
-use Rattle.protocol.proofs.slots.MarkRows.{snapshot_stands}
+use Rattle.passive_core.specs.Advancing as performing
+use Rattle.registry_values.proofs.Slots.{none_below, least_none, least_agrees, retired_slot_tells}
+use Rattle.protocol.proofs.Cells.{snapshot_stands, slot_number}
 use Rattle.passive_core.proofs.Advancing.{clear_none, unclear_some}
 use Rattle.passive_core.proofs.Entering.{acts_free}
-use Rattle.protocol.proofs.counts.HeldSums.{no_hand, number_of}
-use Rattle.protocol.proofs.history.History.{at_within}
+use Rattle.protocol.proofs.counts.Sums.{no_hand, number_of}
+use Rattle.protocol.proofs.History.{at_within}
 use Rattle.protocol.proofs.keeps.ListKeeps.{live_count_put}
-use Rattle.protocol.proofs.slots.Numbers.{slot_number}
-use Rattle.protocol.proofs.slots.Occupied.{at_rest_tells, attached_in, has_it, in_other, in_vacated, in_within, one_in, one_number}
-use Rattle.protocol.proofs.model.Picturing.{put_here, put_is, put_other, unwritten}
+use Rattle.protocol.proofs.Occupied.{at_rest_tells, attached_in, has_it, in_other, in_vacated, in_within, one_in, one_number}
+use Rattle.protocol.proofs.model.RefiningSections.{put_here, put_is, put_other, unwritten}
 use Rattle.protocol.proofs.model.RefiningEntries.{passive_moved}
 use Rattle.protocol.proofs.keeps.Searching.{within_some}
-use Rattle.registry_report.specs.Common.{advance_answer, count_below, destroy_answer, is_inside, perform_answer, has_passive, has_section, held_count, is_this, first_obstacle, retired_slot, stage_in}
-use Rattle.registry_report.specs.Common.{end_of, has_ended, may_hold, Registry, IsSession, SessionState, with_core, CountsLive, Shows, ShowsModel, ShowsTallies, SnapshotsFollow, after_advance}
-use Rattle.registry_report.specs.Common.{after_destroy, with_freed, on_ok, after_stage}
-use Rattle.registry_report.proofs.Below.{kept_is, position_is, same_count}
-use Rattle.registry_report.proofs.Lookups.{end_is, end_tells}
-use Rattle.registry_report.proofs.shows.Sectioned.{inside_is}
-use Rattle.registry_report.proofs.shows.Showing.{put_shows}
+use Rattle.registry_report.specs.Common.{advance_answer, count_below, destroy_answer, is_inside, perform_answer, has_passive, has_section, held_count, is_this, first_obstacle, retired_slot, stage_in, end_of, has_ended, may_hold, Registry, IsSession, SessionState, with_core, CountsLive, Shows, ShowsModel, ShowsTallies, SnapshotsFollow, after_advance, after_destroy, with_freed, on_ok, after_stage}
+use Rattle.registry_report.proofs.Lookups.{kept_is, position_is, same_count, end_is, end_tells}
+use Rattle.registry_report.proofs.shows.Sectioned.{inside_is, put_shows}
 use Rattle.protocol.proofs.Either.{either}
 
 -- Local references

@@ -8,10 +8,8 @@ use Rattle.registry_language.specs.declared.command.Command.TheVariants.{Attach,
 use Rattle.registry_report.specs.Common.{ReportIsModelRun, Registry, opening_registry, after, IsSound, IsLawfulTurn}
 use Rattle.registry_language.specs.Program.{is_label, suits}
 use Rattle.registry_report.proofs.sound.Turns.{each_turn, idle_turn, opened_sound}
-use Rattle.registry_report.proofs.sound.Entries.{attach_turn, detach_turn, plug_turn}
-use Rattle.registry_report.proofs.sound.Freeing.{advance_turn, destroy_turn}
-use Rattle.registry_report.proofs.sound.References.{copy_turn, count_turn, reference_turn, release_turn, uncount_turn}
-use Rattle.registry_report.proofs.sound.Sections.{enter_turn, exit_turn, find_turn}
+use Rattle.registry_report.proofs.sound.Entries.{attach_turn, detach_turn, plug_turn, advance_turn, destroy_turn}
+use Rattle.registry_report.proofs.sound.Sections.{copy_turn, count_turn, reference_turn, release_turn, uncount_turn, enter_turn, exit_turn, find_turn}
 
 -- the command suits the settings
 abbrev Fits : Settings → Command → Type 0

@@ -6,10 +6,10 @@ use Rattle.std.specs.List.{All}
 use Rattle.std.proofs.lemmas.List.Elements.{All-head, All-tail}
 use Rattle.std.proofs.lemmas.Option.{none-some, same_Some}
 use Rattle.protocol.specs.Common.{one_if, put, Stays, IsLegal}
-use Rattle.protocol.proofs.model.Picturing.{join_runs, put_here, put_other}
+use Rattle.protocol.proofs.model.RefiningSections.{join_runs, put_here, put_other}
 use Rattle.registry_report.specs.Types.{Refusal, Settings, Attach, Detach}
 use Rattle.registry_report.specs.Common.{Hitch, Refused, count_below, command_answer, is_this, Registry, opening_registry, after_each, labels_for, IsSound, IsLawfulTurn, on_ok}
-use Rattle.protocol.proofs.history.History.{at_empty}
+use Rattle.protocol.proofs.History.{at_empty}
 use Rattle.protocol.proofs.Either.{either}
 
 -- A function with one value put

@@ -10,9 +10,7 @@ use Rattle.c_handles.specs.declared.values.plain.TheConstants.{DONE, NO_ROOM}
 use Rattle.c_calls.specs.Audits.{AreAllHere, AreTold, AuditWrites, Audits, cpus_in, occupied}
 use Rattle.c_calls.specs.Opening.{bodies_of, body_at}
 use Rattle.c_handles.specs.values.Places.{put}
-use Rattle.c_calls.proofs.Audited.{audit_told}
-use Rattle.c_calls.proofs.AuditsAnswered.{audited, missing_cpu, no_room}
-use Rattle.c_calls.proofs.Gathering.{here_still, none_heard}
+use Rattle.c_calls.proofs.Audited.{audit_told, audited, missing_cpu, no_room, here_still, none_heard}
 use Rattle.c_calls.proofs.audit.audit_all.Goals as goal
 
 pub returns-then-not-are_all : goal.returns-then-not-are_all

@@ -2,7 +2,7 @@
 use Rattle.std.proofs.Common.{sym, ap, ◌∙◌}
 use Rattle.c_handles.specs.declared.values.rows.BalancesPlace.{BalancesPlace}
 use Rattle.c_calls.specs.Opening.{bodies_of}
-use Rattle.c_calls.proofs.AuditsAnswered.{without_list}
+use Rattle.c_calls.proofs.Audited.{without_list}
 use Rattle.c_calls.proofs.audit.audit_list.Goals as goal
 
 pub returns-clause-call : goal.returns-clause-call

@@ -5,7 +5,7 @@ use Rattle.passive_list.specs.Common.{OnKeeper}
 use Rattle.name_registry.proofs.Gathered.{gathered_alike, gathered_notes, listened}
 use Rattle.c_calls.specs.Audits.{cpus_in}
 use Rattle.c_calls.specs.Opening.{bodies_of}
-use Rattle.c_calls.proofs.Gathering.{all_heard, behind_more, behind_next, cpus_size, gathered_next, gathered_size, passed_table}
+use Rattle.c_calls.proofs.Audited.{all_heard, behind_more, behind_next, cpus_size, gathered_next, gathered_size, passed_table}
 use Rattle.c_calls.proofs.audit.gather.Goals as goal
 
 pub pass_on-note-requires : goal.pass_on-note-requires

@@ -4,7 +4,7 @@ use Rattle.cpu_words.specs.Common.{did}
 use Rattle.name_registry.proofs.Gathered.{Gathered}
 use Rattle.c_calls.specs.Audits.{cpus_in}
 use Rattle.c_calls.specs.Opening.{bodies_of}
-use Rattle.c_calls.proofs.Gathering.{SameBehind}
+use Rattle.c_calls.proofs.Audited.{SameBehind}
 use Rattle.c_calls.proofs.audit.gather.Given as goal
 
 -- the CPUs so far have heard

@@ -5,8 +5,8 @@ use Rattle.c_calls.specs.Types.{Entry, Driver, Name, Refusal}
 use Rattle.c_calls.specs.Calls.{Puts}
 use Rattle.c_calls.specs.KeeperCalls.{Attaches, record_of}
 use Rattle.c_handles.specs.values.Places.{put}
-use Rattle.c_handles.specs.values.Values.{entry_out, number_of}
-use Rattle.c_calls.proofs.Named.{no_name, one_name}
+use Rattle.c_handles.specs.values.Texts.{entry_out, number_of}
+use Rattle.c_calls.proofs.Handles.{no_name, one_name}
 use Rattle.c_calls.proofs.keeper_answers.attach.Goals as goal
 
 pub returns-in-Ok-clause-call : goal.returns-in-Ok-clause-call

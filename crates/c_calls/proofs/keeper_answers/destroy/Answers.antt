@@ -4,7 +4,7 @@ use Rattle.c_calls.specs.Types.{Refusal, Stage}
 use Rattle.name_registry.specs.Common.{is_inside}
 use Rattle.c_calls.specs.KeeperCalls.{AdvancesFor}
 use Rattle.c_handles.specs.values.Places.{put}
-use Rattle.c_calls.proofs.Gone.{destroyed_by}
+use Rattle.c_calls.proofs.Turned.{destroyed_by}
 use Rattle.c_calls.proofs.keeper_answers.destroy.Goals as goal
 
 pub returns-in-Ok-clause-call : goal.returns-in-Ok-clause-call

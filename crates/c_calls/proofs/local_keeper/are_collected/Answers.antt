@@ -4,7 +4,7 @@ use Rattle.c_calls.specs.Types.{Mark, Settings}
 use Rattle.registry_values.specs.Common.{is_retired_as, slot_at}
 use Rattle.passive_list.specs.Common.{OnPlainKeeper}
 use Rattle.passive_list.proofs.Rows.{retired_in}
-use Rattle.c_calls.specs.Collected.{some_collected}
+use Rattle.c_calls.specs.LocalCalls.{some_collected}
 use Rattle.c_calls.proofs.Collected.{none_below, retired_of, some_now, some_stays}
 use Rattle.c_calls.proofs.local_keeper.are_collected.Goals as goal
 

@@ -1,5 +1,5 @@
 use Rattle.std.proofs.Common.{◌≡◌, false}
-use Rattle.c_calls.specs.Collected.{some_collected}
+use Rattle.c_calls.specs.LocalCalls.{some_collected}
 use Rattle.c_calls.proofs.local_keeper.are_collected.Given as goal
 
 -- of the CPUs so far none was collected

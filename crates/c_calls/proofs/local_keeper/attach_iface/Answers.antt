@@ -6,7 +6,7 @@ use Rattle.c_handles.specs.Bodies.{OnLocalBody}
 use Rattle.c_calls.specs.KeeperCalls.{AttachesIface, record_of}
 use Rattle.c_calls.specs.LocalCalls.{WritesIface}
 use Rattle.c_handles.specs.values.Places.{put}
-use Rattle.c_calls.proofs.Named.{no_name, one_name}
+use Rattle.c_calls.proofs.Handles.{no_name, one_name}
 use Rattle.c_calls.proofs.local_keeper.attach_iface.Goals as goal
 
 pub returns-in-Ok-clause-call : goal.returns-in-Ok-clause-call

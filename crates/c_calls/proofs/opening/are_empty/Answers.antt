@@ -4,7 +4,7 @@ use Rattle.std.proofs.lemmas.Bool.{false≢true}
 use Rattle.passive_list.specs.Common.{OnPlainCpu}
 use Rattle.c_calls.specs.Opening.{bodies_of, body_at}
 use Rattle.c_calls.proofs.Handles.{body_is, count_bodies, same_bodies}
-use Rattle.c_calls.proofs.Here.{all_none, none_more}
+use Rattle.c_calls.proofs.Audited.{all_none, none_more}
 use Rattle.c_calls.proofs.opening.are_empty.Goals as goal
 
 pub returns-then-not-is_empty : goal.returns-then-not-is_empty

@@ -1,6 +1,6 @@
 use Rattle.std.proofs.Common.{◌≡◌, ◌-◌, length}
 use Rattle.c_calls.specs.Opening.{boxed, opened_down}
-use Rattle.c_calls.proofs.Seats.{AreLeft}
+use Rattle.c_calls.proofs.Opened.{AreLeft}
 use Rattle.c_calls.proofs.opening.cpus_of.Given as goal
 
 -- the seats of the first CPUs are left, and the others have their CPUs

@@ -5,7 +5,7 @@ use Rattle.registry_values.specs.Common.{are_fit, number_of_refusal}
 use Rattle.passive_list.specs.Common.{OnPlainCpu, OnPlainKeeper}
 use Rattle.c_calls.specs.Opening.{AreEmpty, HasOpened, Opens, bodies_of}
 use Rattle.c_calls.proofs.Handles.{count_bodies}
-use Rattle.c_calls.proofs.Opens.{bad_settings, came_to_open, full_handle, missing_cpu}
+use Rattle.c_calls.proofs.Opened.{bad_settings, came_to_open, full_handle, missing_cpu}
 use Rattle.c_calls.proofs.opening.open_by.Goals as goal
 
 pub returns-in-Err : goal.returns-in-Err

@@ -2,7 +2,7 @@
 use Rattle.std.proofs.Common.{Ok, Err, refl, subst, ◌∙◌}
 use Rattle.passive_list.specs.Common.{OnPlainCpu}
 use Rattle.c_calls.specs.LocalCalls.{LocalAcquires}
-use Rattle.c_calls.proofs.Acquired.{no_body, one_body}
+use Rattle.c_calls.proofs.Handles.{no_body, one_body}
 use Rattle.c_calls.proofs.through_local.acquire.Goals as goal
 
 pub returns-in-Ok : goal.returns-in-Ok

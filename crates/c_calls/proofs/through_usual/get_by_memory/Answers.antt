@@ -1,8 +1,8 @@
 -- One try, or a lookup follows.
 use Rattle.std.proofs.Common.{ℕ, Option, subst, ◌∙◌}
 use Rattle.c_handles.specs.declared.values.plain.CEntry.{CEntry}
-use Rattle.passive_ref.proofs.Sharing.{none_got}
-use Rattle.c_calls.specs.UsualCalls.{GetsAnew, GetsByMemory}
+use Rattle.passive_ref.proofs.Gets.{none_got}
+use Rattle.c_calls.specs.Calls.{GetsAnew, GetsByMemory}
 use Rattle.c_calls.proofs.UsualCalls.{answered, got_nothing, tries_done, tries_vain}
 use Rattle.c_calls.proofs.through_usual.get_by_memory.Goals as goal
 

@@ -2,7 +2,7 @@
 use Rattle.std.proofs.Common.{ℕ, Option, ◌∙◌}
 use Rattle.c_handles.specs.declared.values.plain.CEntry.{CEntry}
 use Rattle.passive_list.proofs.ByMemory.{still_outside}
-use Rattle.c_calls.specs.UsualCalls.{LooksUpByMemory}
+use Rattle.c_calls.specs.Calls.{LooksUpByMemory}
 use Rattle.c_calls.proofs.UsualCalls.{answered, looked_anew, recalled_at_once}
 use Rattle.c_calls.proofs.through_usual.look_by_memory.Goals as goal
 

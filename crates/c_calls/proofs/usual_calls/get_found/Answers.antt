@@ -1,7 +1,7 @@
 -- One try, or the calls follow.
 use Rattle.std.proofs.Common.{Option, Some, subst}
 use Rattle.c_handles.specs.declared.values.plain.CEntry.{CEntry}
-use Rattle.c_calls.specs.UsualCalls.{GetsInSection}
+use Rattle.c_calls.specs.Calls.{GetsInSection}
 use Rattle.c_calls.proofs.UsualCalls.{got_nothing, tries_done, tries_vain}
 use Rattle.c_calls.proofs.usual_calls.get_found.Goals as goal
 

@@ -1,8 +1,8 @@
 -- Where the find is done, the acquire's answer decides. A reference that is kept changes nothing of the CPU.
 use Rattle.std.proofs.Common.{Ok, Err, refl, subst, sym, ◌∙◌}
 use Rattle.passive_list.specs.Common.{OnPlainCpu}
-use Rattle.c_calls.specs.UsualCalls.{FindsAndAcquires}
-use Rattle.c_calls.proofs.Gone.{refused_not}
+use Rattle.c_calls.specs.Calls.{FindsAndAcquires}
+use Rattle.c_calls.proofs.Turned.{refused_not}
 use Rattle.c_calls.proofs.UsualCalls.{looked}
 use Rattle.c_calls.proofs.usual_calls.look_and_acquire.Goals as goal
 

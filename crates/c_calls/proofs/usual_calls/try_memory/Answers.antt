@@ -3,9 +3,8 @@ use Rattle.std.proofs.Common.{Some, None, refl, sym, ap, subst, ◌∙◌}
 use Rattle.c_calls.specs.Types.{Name, Seen}
 use Rattle.cpu_words.specs.Common.{key_with}
 use Rattle.passive_list.specs.Common.{OnPlainCpu}
-use Rattle.c_handles.specs.values.Values.{name_in}
-use Rattle.passive_ref.specs.Psrefs.{OnPsref}
-use Rattle.passive_ref.specs.Gets.{HasGotByMemory}
+use Rattle.c_handles.specs.values.Texts.{name_in}
+use Rattle.passive_ref.specs.Psrefs.{OnPsref, HasGotByMemory}
 use Rattle.c_calls.proofs.usual_calls.try_memory.Goals as goal
 
 pub returns-in_default-clause-call : goal.returns-in_default-clause-call

@@ -2,7 +2,7 @@
 use Rattle.std.proofs.Common.{◌≤◌, ap, arith, map}
 use Rattle.c_calls.specs.Types.{MOST_SLOTS, Settings}
 use Rattle.registry_values.proofs.Fit.{ranges}
-use Rattle.c_handles.specs.values.Flags.{none_or_number}
+use Rattle.c_handles.specs.values.Texts.{none_or_number}
 use Rattle.name_registry.proofs.Passed.{none_retired, passes_past}
 use Rattle.c_calls.proofs.waiting.pass_entries.Goals as goal
 

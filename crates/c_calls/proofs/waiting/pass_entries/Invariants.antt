@@ -1,6 +1,6 @@
 use Rattle.std.proofs.Common.{◌≡◌, map}
 use Rattle.name_registry.specs.Common.{PassesBelow}
-use Rattle.c_handles.specs.values.Flags.{none_or_number}
+use Rattle.c_handles.specs.values.Texts.{none_or_number}
 use Rattle.c_calls.proofs.waiting.pass_entries.Given as goal
 
 -- the entries so far were looked at

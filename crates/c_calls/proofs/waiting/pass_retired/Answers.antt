@@ -1,7 +1,7 @@
 -- `pass_retired`: its clause `passed`.
 use Rattle.std.proofs.Common.{map, subst}
 use Rattle.c_calls.specs.Types.{Settings}
-use Rattle.c_handles.specs.values.Flags.{none_or_number}
+use Rattle.c_handles.specs.values.Texts.{none_or_number}
 use Rattle.name_registry.specs.Common.{HasPassedAll}
 use Rattle.name_registry.proofs.Passed.{made_passes}
 use Rattle.c_calls.proofs.waiting.pass_retired.Goals as goal

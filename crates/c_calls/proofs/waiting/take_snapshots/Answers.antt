@@ -3,7 +3,7 @@ use Rattle.std.proofs.Common.{subst}
 use Rattle.c_calls.specs.Types.{Settings}
 use Rattle.passive_list.specs.Common.{HasOwnLog}
 use Rattle.name_registry.specs.Common.{Hold, SnapshotsBelow}
-use Rattle.name_registry.proofs.Glanced.{made_hold}
+use Rattle.name_registry.proofs.Passed.{made_hold}
 use Rattle.c_calls.proofs.waiting.take_snapshots.Goals as goal
 
 pub returns-clause-own : goal.returns-clause-own

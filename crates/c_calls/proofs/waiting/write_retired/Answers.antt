@@ -2,11 +2,11 @@
 use Rattle.std.proofs.Common.{◌≡◌, ◌≤◌, ◌<◌, ⊎_elim, refl, sym, ap, ◌∙◌, arith, length-set}
 use Rattle.std.proofs.lemmas.Bool.{cases_eq, cases_lt}
 use Rattle.std.proofs.lemmas.List.{get_or-set_other, get_or-set_same}
-use Rattle.protocol.proofs.slots.Cells.{get_or_all}
+use Rattle.protocol.proofs.Cells.{get_or_all}
 use Rattle.c_calls.specs.Types.{MOST_SLOTS, Settings}
 use Rattle.registry_values.specs.Common.{retired_number}
 use Rattle.registry_values.proofs.Fit.{ranges}
-use Rattle.c_handles.specs.values.Flags.{number_or_none}
+use Rattle.c_handles.specs.values.Texts.{number_or_none}
 use Rattle.name_registry.proofs.Passed.{none_retired}
 use Rattle.c_calls.proofs.waiting.write_retired.Goals as goal
 

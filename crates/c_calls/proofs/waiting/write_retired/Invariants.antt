@@ -1,6 +1,6 @@
 use Rattle.std.proofs.Common.{◌≡◌, ◌<◌, ◌≤◌, ℕ, length, get_or}
 use Rattle.registry_values.specs.Common.{retired_number, slot_at}
-use Rattle.c_handles.specs.values.Flags.{number_or_none}
+use Rattle.c_handles.specs.values.Texts.{number_or_none}
 use Rattle.c_calls.proofs.waiting.write_retired.Given as goal
 use Rattle.c_calls.specs.Types.{MOST_SLOTS}
 

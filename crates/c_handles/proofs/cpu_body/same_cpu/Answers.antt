@@ -1,5 +1,5 @@
 use denote.Param.Send.{sendable}
-use Rattle.c_handles.proofs.Sent.{cpu_send}
+use Rattle.c_handles.proofs.SpareSent.{cpu_send}
 use Rattle.c_handles.proofs.cpu_body.same_cpu.Goals as goal
 
 pub crosses-requires-send-T : goal.crosses-requires-send-T

@@ -1,5 +1,5 @@
 -- `ended_run`: its clause.
-use Rattle.cpu_words.proofs.laws.Ended.{ended_runs}
+use Rattle.cpu_words.proofs.laws.Freed.{ended_runs}
 use Rattle.cpu_words.proofs.headline.ended_run.Goals as goal
 
 pub returns : goal.returns

@@ -1,5 +1,5 @@
 -- `honest_marks`: its clauses `drained`, `marked` and `found`.
-use Rattle.cpu_words.proofs.laws.Honest.{drained_is_free, marks_are_honest, found_is_held}
+use Rattle.cpu_words.proofs.laws.Safety.{drained_is_free, marks_are_honest, found_is_held}
 use Rattle.cpu_words.proofs.headline.honest_marks.Goals as goal
 
 pub returns-clause-drained : goal.returns-clause-drained

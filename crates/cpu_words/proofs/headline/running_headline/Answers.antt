@@ -1,13 +1,10 @@
 -- `running_headline`: its clauses `run`, `held`, `waiting`, `freed`, `kept`, `balance`, `freed_by`, `fresh` and others.
-use Rattle.cpu_words.proofs.laws.Safety.{running_headline}
-use Rattle.cpu_words.proofs.laws.Holders.{held_have_slots}
+use Rattle.cpu_words.proofs.laws.Safety.{running_headline, held_have_slots}
 use Rattle.cpu_words.proofs.laws.Waiting.{waiting_ends}
-use Rattle.cpu_words.proofs.laws.Freed.{freed_by_keeper, freed_is_gone}
+use Rattle.cpu_words.proofs.laws.Freed.{freed_by_keeper, freed_is_gone, attached_keeps}
 use Rattle.cpu_words.proofs.laws.Fresh.{heads_are_newest, lookups_are_fresh, recalls_are_live, refinds_are_live, whole_in_the_list}
-use Rattle.cpu_words.proofs.laws.Kept.{attached_keeps}
-use Rattle.cpu_words.proofs.laws.Ordered.{ordered_in_time}
+use Rattle.cpu_words.proofs.laws.Called.{ordered_in_time, cpu_hears_later, ends_open_sections, keeper_hears_later}
 use Rattle.cpu_words.proofs.laws.Balance.{seats_balance}
-use Rattle.cpu_words.proofs.laws.Called.{cpu_hears_later, ends_open_sections, keeper_hears_later}
 use Rattle.cpu_words.proofs.headline.running_headline.Goals as goal
 
 pub returns-clause-run : goal.returns-clause-run

@@ -1,6 +1,5 @@
 -- `layout_law`: its clauses `lines_apart`, `one_place` and `first_words_free`.
-use Rattle.cpu_words.proofs.shown.Apart.{lines_apart, one_place, first_words_free}
-use Rattle.cpu_words.proofs.shown.Placing.{below_size}
+use Rattle.cpu_words.proofs.shown.Placing.{lines_apart, one_place, first_words_free, below_size}
 use Rattle.cpu_words.proofs.layout.layout_law.Goals as goal
 
 pub returns-clause-lines_apart : goal.returns-clause-lines_apart

@@ -2,7 +2,7 @@
 use Rattle.std.proofs.Common.{◌≡◌, ◌∙◌, ◌<◌, ℕ, List, ap, arith, sym, get_or, get_or-set_other, get_or-set_same, length, length-set, replicate, set, ⊎_elim}
 use Rattle.std.proofs.lemmas.Bool.{cases_eq}
 use Rattle.std.proofs.lemmas.List.{length-replicate}
-use Rattle.protocol.proofs.slots.Cells.{get_or_all}
+use Rattle.protocol.proofs.Cells.{get_or_all}
 use Rattle.registry_values.specs.Common.{bias}
 use Rattle.cpu_words.specs.Common.{index, total_of, words_of}
 use Rattle.cpu_words.proofs.shown.Placing.{below_size}

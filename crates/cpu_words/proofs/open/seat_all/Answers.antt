@@ -1,7 +1,7 @@
 -- `seat_all`: that each turn of its loop keeps the invariants.
 use Rattle.std.proofs.Common.{◌≤◌, ◌+◌, List, ap, ◌∙◌, sym, subst}
 use Rattle.cpu_words.specs.Common.{CpuView, Seated, AreSeats, cpu_seat, one_seated}
-use Rattle.cpu_words.proofs.seats.Opening.{more_seats}
+use Rattle.cpu_words.proofs.seats.Seating.{more_seats}
 use Rattle.cpu_words.proofs.open.seat_all.Goals as goal
 
 pub loop-preserved : goal.loop-preserved

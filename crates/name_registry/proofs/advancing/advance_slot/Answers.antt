@@ -1,6 +1,5 @@
 -- `advance_slot`: its clause `meets`.
-use Rattle.name_registry.proofs.Seen.{passive_after, settles_after}
-use Rattle.name_registry.proofs.Worked.{still_clear, still_passed, worked_more}
+use Rattle.name_registry.proofs.Worked.{passive_after, settles_after, still_clear, still_passed, worked_more}
 use Rattle.name_registry.proofs.advancing.advance_slot.Goals as goal
 
 pub returns-in-Some-look_at_passive-clause-meets : goal.returns-in-Some-look_at_passive-clause-meets

@@ -1,7 +1,6 @@
 -- `clears`: its clauses `leaves` and `sees`; what `look_passive` requires.
 use Rattle.std.proofs.Common.{◌∙◌, sym}
-use Rattle.name_registry.proofs.Seen.{sees_passive}
-use Rattle.name_registry.proofs.Worked.{looked_none, look_leaves, cleared_grows, all_passed}
+use Rattle.name_registry.proofs.Worked.{sees_passive, looked_none, look_leaves, cleared_grows, all_passed}
 use Rattle.name_registry.proofs.advancing.clears.Goals as goal
 
 pub look_passive-requires-clause-passed : goal.look_passive-requires-clause-passed

@@ -3,11 +3,9 @@ use Rattle.std.proofs.Common.{◌≡◌, ◌∙◌, true, sym, subst, ◌<◌}
 use borrow.Author.Count.{below_more}
 use Rattle.name_registry.specs.Types.{Settings}
 use Rattle.protocol.specs.Common.{mark_at}
-use Rattle.passive_list.proofs.Logs.{goes_on}
+use Rattle.passive_list.proofs.Rows.{goes_on}
 use Rattle.name_registry.specs.Common.{IsLook, MayWork}
-use Rattle.name_registry.proofs.Looks.{look_goes_on, looks_go_on, looks_more}
-use Rattle.name_registry.proofs.Seen.{grace_met}
-use Rattle.name_registry.proofs.Worked.{may_work, still_works, looked_more, still_passed}
+use Rattle.name_registry.proofs.Worked.{look_goes_on, looks_go_on, looks_more, grace_met, may_work, still_works, looked_more, still_passed}
 use Rattle.name_registry.proofs.advancing.look_at_all.Goals as goal
 
 pub passes-requires-clause-works : goal.passes-requires-clause-works

@@ -3,8 +3,7 @@ use Rattle.std.proofs.Common.{◌≡◌, ◌∙◌, true, sym, subst, ◌<◌}
 use borrow.Author.Count.{below_more}
 use Rattle.name_registry.specs.Types.{Settings}
 use Rattle.protocol.specs.Common.{mark_at}
-use Rattle.name_registry.proofs.Seen.{passive_met}
-use Rattle.name_registry.proofs.Worked.{looked_more, still_clear}
+use Rattle.name_registry.proofs.Worked.{passive_met, looked_more, still_clear}
 use Rattle.name_registry.proofs.advancing.look_at_passive.Goals as goal
 
 pub returns-then-not-clears-clause-met : goal.returns-then-not-clears-clause-met

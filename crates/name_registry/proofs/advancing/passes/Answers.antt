@@ -1,7 +1,6 @@
 -- `passes`: its clauses `leaves` and `sees`.
 use Rattle.std.proofs.Common.{◌∙◌, sym}
-use Rattle.name_registry.proofs.Seen.{sees_section}
-use Rattle.name_registry.proofs.Worked.{looked_none, look_leaves, looked_grows}
+use Rattle.name_registry.proofs.Worked.{sees_section, looked_none, look_leaves, looked_grows}
 use Rattle.name_registry.proofs.advancing.passes.Goals as goal
 
 pub returns-then-mark-clause-leaves : goal.returns-then-mark-clause-leaves

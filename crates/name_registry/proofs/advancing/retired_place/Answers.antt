@@ -1,7 +1,7 @@
 -- `retired_place`: its clauses `value` and `works`.
 use Rattle.std.proofs.Common.{◌∙◌, sym}
 use Rattle.passive_list.proofs.Rows.{keeper_is}
-use Rattle.name_registry.proofs.Placed.{retired_in_rows, place_works}
+use Rattle.name_registry.proofs.Worked.{retired_in_rows, place_works}
 use Rattle.name_registry.proofs.advancing.retired_place.Goals as goal
 
 pub returns-in-Some-clause-value : goal.returns-in-Some-clause-value

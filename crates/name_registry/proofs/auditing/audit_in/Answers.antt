@@ -5,9 +5,8 @@ use Rattle.registry_values.proofs.Fit.{ranges}
 use Rattle.cpu_words.specs.Common.{Named}
 use Rattle.name_registry.specs.Common.{AreAllCpus, tallies_met}
 use Rattle.name_registry.proofs.Audits.{counts_met, places_met, sums_met}
-use Rattle.name_registry.proofs.ByLog.{audit_known}
+use Rattle.name_registry.proofs.Tallies.{audit_known, audit_right, known_keeper}
 use Rattle.name_registry.proofs.Gathered.{audit_in_log, listened_none, tallies_learned}
-use Rattle.name_registry.proofs.Tallies.{audit_right, known_keeper}
 use Rattle.name_registry.proofs.auditing.audit_in.Goals as goal
 
 pub returns-in-Ok-clause-places : goal.returns-in-Ok-clause-places

@@ -2,7 +2,7 @@
 use Rattle.std.proofs.Common.{subst}
 use Rattle.name_registry.specs.Types.{Settings}
 use Rattle.name_registry.specs.Common.{HasAdvancedFor}
-use Rattle.name_registry.proofs.Turned.{made_turn, told_turn}
+use Rattle.name_registry.proofs.Destroyed.{made_turn, told_turn}
 use Rattle.name_registry.proofs.destroying.advance_for.Goals as goal
 
 pub returns-clause-answer : goal.returns-clause-answer

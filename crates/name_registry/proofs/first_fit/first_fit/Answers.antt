@@ -3,7 +3,7 @@ use Rattle.std.proofs.Common.{◌∙◌, ap, position, sym, take}
 use Rattle.name_registry.specs.Types.{Settings}
 use Rattle.passive_list.proofs.Rows.{keeper_is}
 use Rattle.name_registry.specs.Common.{is_available_row}
-use Rattle.name_registry.proofs.Rows.{first_fit_in_rows}
+use Rattle.name_registry.proofs.Worked.{first_fit_in_rows}
 use Rattle.name_registry.proofs.first_fit.first_fit.Goals as goal
 
 pub returns-in-Some-clause-value : goal.returns-in-Some-clause-value

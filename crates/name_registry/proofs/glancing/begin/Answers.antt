@@ -2,7 +2,7 @@
 use Rattle.std.proofs.Common.{subst}
 use Rattle.name_registry.specs.Types.{Settings}
 use Rattle.name_registry.specs.Common.{HasBegun, SnapshotsBelow}
-use Rattle.name_registry.proofs.Glanced.{made_hold}
+use Rattle.name_registry.proofs.Passed.{made_hold}
 use Rattle.name_registry.proofs.glancing.begin.Goals as goal
 
 pub returns-clause-begun : goal.returns-clause-begun

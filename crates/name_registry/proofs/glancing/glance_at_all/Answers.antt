@@ -3,7 +3,7 @@ use Rattle.std.proofs.Common.{◌≡◌, not, subst}
 use Rattle.name_registry.specs.Types.{Settings}
 use Rattle.registry_values.specs.Common.{least_below}
 use Rattle.name_registry.specs.Common.{GlancesBelow, HasGlanced, is_seen}
-use Rattle.name_registry.proofs.Glanced.{made_hold}
+use Rattle.name_registry.proofs.Passed.{made_hold}
 use Rattle.name_registry.proofs.glancing.glance_at_all.Goals as goal
 
 pub returns-clause-glanced : goal.returns-clause-glanced

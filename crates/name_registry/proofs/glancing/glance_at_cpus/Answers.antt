@@ -4,7 +4,7 @@ use Rattle.std.proofs.lemmas.List.{get_or-set_other}
 use Rattle.name_registry.specs.Types.{Settings}
 use Rattle.registry_values.proofs.Fit.{ranges}
 use Rattle.name_registry.specs.Common.{GlancesOnce, looking, word_of}
-use Rattle.name_registry.proofs.Glanced.{glances_more}
+use Rattle.name_registry.proofs.Passed.{glances_more}
 use Rattle.name_registry.proofs.glancing.glance_at_cpus.Goals as goal
 
 pub loop-cpu-preserved : goal.loop-cpu-preserved

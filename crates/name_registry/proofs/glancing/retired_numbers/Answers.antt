@@ -2,7 +2,7 @@
 use Rattle.std.proofs.Common.{◌≡◌, ◌≤◌, ◌<◌, ⊎_elim, None, refl, sym, ap, ◌∙◌, arith, length-set}
 use Rattle.std.proofs.lemmas.Bool.{cases_eq, cases_lt}
 use Rattle.std.proofs.lemmas.List.{get_or-set_other, get_or-set_same}
-use Rattle.protocol.proofs.slots.Cells.{get_or_all}
+use Rattle.protocol.proofs.Cells.{get_or_all}
 use Rattle.name_registry.specs.Types.{MOST_SLOTS, Settings}
 use Rattle.registry_values.specs.Common.{retired_number}
 use Rattle.registry_values.proofs.Fit.{ranges}

@@ -3,7 +3,7 @@ use Rattle.std.proofs.Common.{◌∙◌, None, ap, arith, length-set}
 use Rattle.name_registry.specs.Types.{Snapshot, Settings}
 use Rattle.registry_values.proofs.Fit.{ranges}
 use Rattle.name_registry.specs.Common.{LooksOnce, looking}
-use Rattle.name_registry.proofs.Glanced.{snapshots_more}
+use Rattle.name_registry.proofs.Passed.{snapshots_more}
 use Rattle.name_registry.proofs.glancing.snapshot_all.Goals as goal
 
 pub loop-cpu-preserved : goal.loop-cpu-preserved

@@ -1,4 +1,4 @@
-use Rattle.name_registry.proofs.Exact.{exact_law}
+use Rattle.name_registry.proofs.Tallies.{exact_law}
 use Rattle.name_registry.proofs.law.exact_audit.Goals as goal
 
 pub returns : goal.returns

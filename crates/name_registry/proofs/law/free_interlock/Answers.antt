@@ -1,4 +1,4 @@
-use Rattle.name_registry.proofs.Balanced.{free_law}
+use Rattle.name_registry.proofs.Tallies.{free_law}
 use Rattle.name_registry.proofs.law.free_interlock.Goals as goal
 
 pub returns : goal.returns

@@ -1,17 +1,17 @@
-//! How far the destruction of a retired entry comes: one turn of the keeper's work on it.
+//! How far the destruction of a retired entry comes: one turn of the keeper's work on it, and at most so many turns.
 
-ghost use Rattle.std.specs.Prelude.{◌≡◌, ◌<◌, IfSome, ℕ, Some, None, true, false, not, length};
+ghost use Rattle.std.specs.Prelude.{◌≡◌, ◌<◌, IfSome, ℕ, Some, None, true, false, not, length, ◌≤◌};
 ghost use Rattle.registry_values.specs.declared.entry.Entry.{Entry as AnEntry};
 ghost use Rattle.passive_core.specs.Types.{Retired};
 ghost use Rattle.registry_values.specs.Common.{is_retired_as, retired_slot, is_retired, slot_at, least_below, stage_of};
-ghost use Rattle.passive_core.specs.Advancing.{is_open_since, has_passive, advance_answer, plain_stage, first_obstacle, AdvanceLeaves, StageLeaves, Settles, Empties, Gathers, HoldersAreOpen, MarksPass, MarksClear, SameBut, PassedBelow, ClearBelow, StageMarks, AdvanceMarks};
+ghost use Rattle.passive_core.specs.Advancing.{is_open_since, has_passive, advance_answer, plain_stage, first_obstacle, AdvanceLeaves, StageLeaves, Settles, Empties, Gathers, HoldersAreOpen, MarksPass, MarksClear, SameBut, PassedBelow, ClearBelow, StageMarks, AdvanceMarks, destroy_answer, DestroyLeaves, DestroyMarks};
 ghost use Rattle.protocol.specs.Common.{AllPassed, AllClear, AllCollected, is_drained, held_at, at_rest, count_at, mark_at};
 ghost use Rattle.passive_core.specs.Commands.{may_act};
-ghost use Rattle.passive_core.specs.Making.{AdvanceMakes, MakesOnly, IsWork, IsLookFor, IsPassiveLookFor, IsCollectionFor, IsFreeingOf};
+ghost use Rattle.passive_core.specs.Making.{AdvanceMakes, MakesOnly, IsWork, IsLookFor, IsPassiveLookFor, IsCollectionFor, IsFreeingOf, DestroyMakes};
 
 use crate::machine::Core;
 use protocol::Event;
-use registry_values::{BIAS, Refusal, Slot, Stage, is_retired_as, settled};
+use registry_values::{BIAS, Refusal, Slot, Stage, destroyed, is_retired_as, settled};
 
 impl Core {
     /// Makes one turn of the work on the retired entry `number`, up to its first obstacle. Returns, with the lowest-numbered CPU first:
@@ -245,4 +245,37 @@ fn retired_place(number: u64, slots: &[Slot]) -> Option<usize>
     ensures within { IfSome result (λ t. t < length slots.now) }
 {
     slots.iter().position(|slot| is_retired_as(number, slot))
+}
+
+impl Core {
+    /// Advances the retired entry `number` on behalf of the CPU `c`, at most `turns` times (psref_target_destroy of psref(9),
+    /// localcount_drain of localcount(9)). The answer is the slot, from 0, that is vacant again.
+    ///
+    /// Refused, in this order: `Inside` if the CPU is inside a section, and `NotRetired` if no slot has the retired entry `number`; nothing
+    /// has changed then. `StillHeld` with the obstacle that the last turn met; what the turns noted and collected stays.
+    pub fn destroy(&mut self, c: u8, number: u64, turns: u32) -> Result<u8, Refusal>
+        requires known { c < self.old.settings.cpus }
+        requires rest { at_rest self.old.due ≡ true }
+        requires ready { may_act self.old c ≡ true }
+        requires some { 1 ≤ turns }
+        ensures answer { result ≡ destroy_answer self.old c number }
+        ensures after { DestroyLeaves self.old self.new number result }
+        ensures marks { DestroyMarks self.old self.new number result }
+        ensures made { DestroyMakes self.old self.new number result }
+        ensures settings { self.new.settings ≡ self.old.settings }
+        ensures rest { at_rest self.new.due ≡ true }
+        ensures ready { (d : ℕ) → may_act self.old d ≡ true → may_act self.new d ≡ true }
+    {
+        if self.inside(c) {
+            return Err(Refusal::Inside);
+        }
+        let mut stage = self.advance(number)?;
+        for _ in 1..turns {
+            if let Stage::Freed(slot) = stage {
+                return Ok(slot);
+            }
+            stage = self.advance(number)?;
+        }
+        destroyed(stage)
+    }
 }

@@ -2,7 +2,7 @@
 
 ghost use Rattle.std.specs.Prelude.{◌≡◌, ◌<◌, ℕ, IfErr, IfOk, IfSome, OnErr, OnOk, replicate, slice_index_or, [], true};
 ghost use Rattle.passive_core.specs.Commands.{all_seated, may_act};
-ghost use Rattle.passive_core.specs.Detaching.{after_detach, with_all_snapshots, IsDetachAnswer, IsLookupNow};
+ghost use Rattle.passive_core.specs.Attaching.{after_detach, with_all_snapshots, IsDetachAnswer, IsLookupNow};
 ghost use Rattle.passive_core.specs.Making.{Makes, detach_events, seats_and, snapshots_from};
 ghost use Rattle.protocol.specs.Common.{after_unpublish, is_idle, at_rest};
 ghost use Rattle.registry_values.specs.Common.{no_mark, slot_at};

@@ -1,11 +1,10 @@
 //! Lookups.
 
 ghost use Rattle.std.specs.Prelude.{◌≡◌, ◌<◌, ℕ, IsSome, Some, length, true};
-ghost use Rattle.passive_core.specs.Commands.{all_seated, may_act};
+ghost use Rattle.passive_core.specs.Commands.{all_seated, may_act, after_find, next_load};
 ghost use Rattle.passive_core.specs.Making.{FindMakes};
 ghost use Rattle.protocol.specs.declared.event.Event.{Event as AnEvent};
 ghost use Rattle.protocol.specs.Common.{is_inside, narrow_step, IsLoadOf, IsLookup, Holds, at_rest, search_at};
-ghost use Rattle.passive_core.specs.Finding.{after_find, next_load};
 
 use crate::machine::Core;
 use protocol::{Event, RecordOf, Reply, Search, SearchPlace};

@@ -1,18 +1,20 @@
-//! Local references (localcount(9)): acquired in a section, and released on any CPU.
+//! Local references (localcount(9)): acquired in a section, and released on any CPU; and their audit.
 
-ghost use Rattle.std.specs.Prelude.{◌≡◌, ℕ, ◌+◌, ◌<◌, nat_lt, IfOk, IsTrue, Some, None, [], ◌∷◌, ◌++◌, if◌then◌else◌, false, true};
+ghost use Rattle.std.specs.Prelude.{◌≡◌, ℕ, ◌+◌, ◌<◌, nat_lt, IfOk, IsTrue, Some, None, [], ◌∷◌, ◌++◌, if◌then◌else◌, false, true, ◌≤◌, ◌^◌, IfErr, OnErr, All, map, length, pos, neg_ℤ, ◌≤ℤ◌, slice_index_or};
 ghost use Rattle.passive_core.specs.Commands.{all_seated, may_act};
 ghost use Rattle.passive_core.specs.Making.{Makes, record_loads, seats_and};
-ghost use Rattle.passive_core.specs.Types.{CountAdd, SplitRef, JoinRef, CountDown, SplitBack};
+ghost use Rattle.passive_core.specs.Types.{CountAdd, SplitRef, JoinRef, CountDown, SplitBack, Entry};
 ghost use Rattle.protocol.specs.declared.event.RecordOf.TheVariants.{Local as OfLocal};
-ghost use Rattle.protocol.specs.Common.{is_idle, number_standing, at_rest, found_at, local_at};
-ghost use Rattle.passive_core.specs.Locals.{IsCounted, after_acquire_local, after_release_local, release_events, under_events, count_in, count_refusal, is_counting, is_live_local, local_slot, with_count_less, with_total_less};
-ghost use Rattle.passive_core.specs.Passives.{IsRecordOf};
-ghost use Rattle.registry_values.specs.Common.{why_uncounted, slot_of, bias};
+ghost use Rattle.protocol.specs.Common.{is_idle, number_standing, at_rest, found_at, local_at, IsIn};
+ghost use Rattle.passive_core.specs.References.{IsCounted, after_acquire_local, after_release_local, release_events, under_events, count_in, count_refusal, is_counting, is_live_local, local_slot, with_count_less, with_total_less, IsRecordOf, IsHeldRightly, IsOccupied, audit_of, locals_at, tally_of};
+ghost use Rattle.registry_values.specs.Common.{why_uncounted, slot_of, bias, less_bias, local_of, sum_of, tally_shown, slot_at};
 
 use crate::machine::Core;
 use protocol::{Event, RecordOf, Reply};
-use registry_values::{BIAS, Record, Refusal, record_from, why_uncounted};
+use registry_values::{
+    BIAS, Balance, Record, Refusal, Slot, less_bias, local_of, record_from, sum, why_uncounted,
+};
+use std::alloc::AllocError;
 
 impl Core {
     /// Acquires a local reference to the CPU's last found entry (localcount(9)), and returns its id: the lowest, from 0, that no live
@@ -173,5 +175,69 @@ impl Core {
         let low = self.load_word(RecordOf::Local(id, 3));
         let value = self.load_word(RecordOf::Local(id, 4));
         record_from(kind, high, low, value)
+    }
+}
+
+impl Core {
+    /// Audits the counts of each live or retired entry, lowest slot first (localcount(9)). It makes no event.
+    /// Refused: `NoMemory`, and not where there is no such entry.
+    pub fn audit(&self) -> Result<Vec<Balance>, Refusal>
+        requires { at_rest self.now.due ≡ true }
+        ensures answer { IfOk result (λ list. map tally_shown list.items ≡ audit_of self.now) }
+        ensures tally { IfOk result (λ list. All (λ b. IsHeldRightly self.now (tally_shown b)) list.items) }
+        ensures err { IfErr result (λ refusal. refusal ≡ Refusal.NoMemory) }
+        ensures wanted { OnErr result (IsOccupied self.now) }
+    {
+        self.balances().map_err(|_| Refusal::NoMemory)
+    }
+
+    fn balances(&self) -> Result<Vec<Balance>, AllocError>
+        requires { at_rest self.now.due ≡ true }
+        ensures answer { IfOk result (λ list. map tally_shown list.items ≡ audit_of self.now) }
+        ensures tally { IfOk result (λ list. All (λ b. IsHeldRightly self.now (tally_shown b)) list.items) }
+        ensures wanted { OnErr result (IsOccupied self.now) }
+    {
+        let mut list = Vec::new(*self.history.allocator());
+        let slots = self.settings.slots;
+        for t in 0..slots {
+            match self.slot_at(t) {
+                Slot::Vacant => (),
+                Slot::Live(entry) | Slot::Retired(entry) => {
+                    list.push(self.balance(t, entry.number)?)?;
+                }
+            }
+        }
+        Ok(list)
+    }
+
+    fn balance(&self, t: u8, number: u64) -> Result<Balance, AllocError>
+        requires rest { at_rest self.now.due ≡ true }
+        requires occupied { (e : Entry) × IsIn e (slot_at self.now.slots t) }
+        ensures { IfOk result (λ b. tally_shown b ≡ tally_of self.now number t) }
+    {
+        let _ = &self.settings;
+        let locals = self.locals_at(t)?;
+        let total = less_bias(self.total_at(t));
+        let held = sum(&locals) + total;
+        Ok(Balance {
+            number,
+            slot: t,
+            held,
+            locals,
+            total,
+        })
+    }
+
+    /// Of each CPU its net count, by its count word.
+    fn locals_at(&self, t: u8) -> Result<Vec<i64>, AllocError>
+        requires { (e : Entry) × IsIn e (slot_at self.now.slots t) }
+        ensures value { IfOk result (λ list. list.items ≡ locals_at self.now t) }
+    {
+        let mut list = Vec::new(*self.history.allocator());
+        let cpus = self.settings.cpus;
+        for c in 0..cpus {
+            list.push(local_of(self.count_at(c, t)))?;
+        }
+        Ok(list)
     }
 }

@@ -7,7 +7,7 @@ ghost use Rattle.passive_core.specs.Types.{PassiveAdd, PassiveSub, Word};
 ghost use Rattle.protocol.specs.declared.event.RecordOf.TheVariants.{Passive as OfPassive};
 ghost use Rattle.protocol.specs.Common.{is_idle, is_number, load_record, some_outcome, Holds, found_at, at_rest};
 ghost use Rattle.registry_values.specs.Common.{slot_of, why_full, Answers};
-ghost use Rattle.passive_core.specs.Passives.{passive_of, psref_to_found, refusal_of, psref_copy, IsOneMore, IsOneLess, IsRecordOf, IsWordLoad, after_acquire, after_release, after_read, with_one_more, with_one_less};
+ghost use Rattle.passive_core.specs.References.{passive_of, psref_to_found, refusal_of, psref_copy, IsOneMore, IsOneLess, IsRecordOf, IsWordLoad, after_acquire, after_release, after_read, with_one_more, with_one_less};
 
 use crate::machine::Core;
 use crate::psref::CorePsref;

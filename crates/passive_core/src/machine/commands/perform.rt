@@ -5,7 +5,7 @@ ghost use Rattle.protocol.specs.Common.{AllPassed, is_inside, at_rest, section_a
 ghost use Rattle.registry_values.specs.Common.{least_below, retired_number, is_retired, slot_at};
 ghost use Rattle.passive_core.specs.Commands.{may_act};
 ghost use Rattle.passive_core.specs.Making.{IsWaiting, MakesOnly};
-ghost use Rattle.passive_core.specs.Performing.{perform_answer, PerformLeaves, OnlyPasses, AllOutside, AreSeen, AreWords};
+ghost use Rattle.passive_core.specs.Advancing.{perform_answer, PerformLeaves, OnlyPasses, AllOutside, AreSeen, AreWords};
 
 use crate::machine::Core;
 use protocol::{Event, Reply};

@@ -1,8 +1,7 @@
 //! Sections: what a caller may test of a CPU, and how a CPU begins and ends its read section (pserialize(9)).
 
 ghost use Rattle.std.specs.Prelude.{◌≡◌, ◌<◌, ◌≤◌, ℕ, OnOk, [], ◌∷◌, false, true};
-ghost use Rattle.passive_core.specs.Commands.{all_seated, may_act};
-ghost use Rattle.passive_core.specs.Entering.{enter_answer, may_begin, after_enter_command, after_exit_command, with_depth};
+ghost use Rattle.passive_core.specs.Commands.{all_seated, may_act, enter_answer, may_begin, after_enter_command, after_exit_command, with_depth};
 ghost use Rattle.passive_core.specs.Making.{Makes, seats_and};
 ghost use Rattle.passive_core.specs.Types.{Enter, Exit};
 ghost use Rattle.protocol.specs.Common.{is_idle, is_inside, Holds, at_rest, depth_at};

@@ -3,9 +3,9 @@ use Rattle.std.proofs.Common.{◌≡◌, ◌∙◌, ◌+◌, ◌-◌, ◌<◌, l
 use Rattle.passive_list.specs.Types.{Settings}
 use Rattle.registry_values.specs.Common.{bias, slot_at}
 use Rattle.passive_list.specs.Common.{KeptSlot, OnPlainKeeper, IsOurKeeper, row_at, total_or_bias}
-use Rattle.passive_list.proofs.KeptMarks.{mark_below}
+use Rattle.passive_list.proofs.Marks.{mark_below}
 use Rattle.passive_list.proofs.Rows.{keeper_is, retired_in, row_read}
-use Rattle.passive_list.proofs.Collections.{CollectionTells, collection_tells, collected_keeper, collected_into, row_with_total}
+use Rattle.passive_list.proofs.GivenUp.{CollectionTells, collection_tells, collected_keeper, collected_into, row_with_total}
 use Rattle.passive_list.proofs.collecting.collect.Goals.{After-total_or_bias}
 use Rattle.passive_list.proofs.collecting.collect.Goals as goal
 

@@ -3,7 +3,7 @@ use Rattle.std.proofs.Common.{◌≡◌, ◌∙◌, ap, rules}
 use Rattle.registry_values.specs.Common.{slot_at}
 use Rattle.passive_list.specs.Common.{OnPlainKeeper, row_at, total_or_bias}
 use Rattle.passive_list.proofs.Rows.{retired_in, row_read}
-use Rattle.passive_list.proofs.Collections.{total_tells}
+use Rattle.passive_list.proofs.GivenUp.{total_tells}
 use Rattle.passive_list.proofs.collecting.total.Goals.{After-total_or_bias}
 use Rattle.passive_list.proofs.collecting.total.Goals as goal
 

@@ -2,9 +2,9 @@
 use Rattle.std.proofs.Common.{◌≡◌, IsTrue, Some, ap, ◌∙◌, sym, subst}
 use Rattle.passive_list.specs.Types.{CpuView}
 use Rattle.cpu_words.specs.Common.{key_with}
-use Rattle.cpu_words.proofs.shown.KeepersShown.{step_is_shown}
+use Rattle.cpu_words.proofs.seats.Seating.{step_is_shown}
 use Rattle.passive_list.specs.Common.{OnPlainCpu, may_begin}
-use Rattle.passive_list.proofs.FromOutside.{may_seek, may_exit, from_outside_agrees, found_from_outside}
+use Rattle.passive_list.proofs.Agreeing.{may_seek, may_exit, from_outside_agrees, found_from_outside}
 use Rattle.passive_list.proofs.Walking.{slots_seen}
 use Rattle.passive_list.proofs.from_outside.find_from_outside.Goals as goal
 

@@ -2,10 +2,9 @@
 use Rattle.std.proofs.Common.{◌∙◌, ap, set, subst, sym, arith}
 use Rattle.passive_list.specs.Types.{KeeperView}
 use Rattle.passive_list.specs.Common.{KeptSlot, IsOurKeeper, OnPlainRef, state_of, total_or_bias}
-use Rattle.passive_list.proofs.KeptMarks.{marks_stay}
+use Rattle.passive_list.proofs.Marks.{marks_stay}
 use Rattle.passive_list.proofs.Rows.{keeper_is, row_read}
-use Rattle.passive_list.proofs.Subtracting.{HeldRow, row_less}
-use Rattle.passive_list.proofs.GivenUp.{may_take_in, given_is, given_row, given_keeper, has_given_up}
+use Rattle.passive_list.proofs.GivenUp.{HeldRow, row_less, may_take_in, given_is, given_row, given_keeper, has_given_up}
 use Rattle.passive_list.proofs.giving_up.release_under.Goals.{After-index}
 use Rattle.passive_list.proofs.giving_up.release_under.Goals as goal
 

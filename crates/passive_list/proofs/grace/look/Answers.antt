@@ -4,9 +4,8 @@ use Rattle.passive_list.specs.Types.{Keeper, Look, Mark, Word}
 use Rattle.registry_values.specs.Common.{slot_at, mark_after_look}
 use Rattle.cpu_words.specs.Common.{HasLooked, Makes, did}
 use Rattle.passive_list.specs.Common.{OnPlainKeeper}
-use Rattle.passive_list.proofs.KeptMarks.{mark_below}
+use Rattle.passive_list.proofs.Marks.{mark_below, may_look, looked_keeper, looked_mark}
 use Rattle.passive_list.proofs.Rows.{retired_in}
-use Rattle.passive_list.proofs.Marks.{may_look, looked_keeper, looked_mark}
 use Rattle.passive_list.proofs.grace.look.Goals as goal
 
 pub look-word-requires-clause-may : goal.look-word-requires-clause-may

@@ -3,12 +3,11 @@ use Rattle.std.proofs.Common.{◌≡◌, ◌+◌, ◌++◌, ◌<◌, ◌∙◌, 
 use Rattle.std.proofs.lemmas.List.{map-set}
 use Rattle.passive_list.specs.Types.{Entry, Keep, Done, LogItem, Settings, Slot, Live, KeeperView, ReferenceView, Keeper, Reference}
 use Rattle.cpu_words.specs.Common.{JoinsBy, did, keeper_after_keep}
-use Rattle.cpu_words.proofs.shown.KeepersShown.{step_is_shown}
+use Rattle.cpu_words.proofs.seats.Seating.{step_is_shown}
 use Rattle.passive_list.specs.Common.{KeptSlot, LogsAttach, OnKeeper, OnPlainRef, IsOurKeeper, RowsAgree, row_at, state_of, states_of, MayAttach, HasEntry, HasAttachedKeeping}
 use Rattle.passive_list.proofs.Rows.{keeper_is, row_read, settings_are}
-use Rattle.passive_list.proofs.Attached.{published_keeper, row_live}
-use Rattle.passive_list.proofs.KeptMarks.{marks_stay}
-use Rattle.passive_list.proofs.Kept.{keeps_it, row_keeping, rows_keeping, states_keeping, may_attach, same_history}
+use Rattle.passive_list.proofs.Attached.{published_keeper, row_live, keeps_it, row_keeping, rows_keeping, states_keeping, may_attach, same_history}
+use Rattle.passive_list.proofs.Marks.{marks_stay}
 use Rattle.passive_list.proofs.keeping.publish_iface.Goals.{After-index_mut}
 use Rattle.passive_list.proofs.keeping.publish_iface.Goals as goal
 

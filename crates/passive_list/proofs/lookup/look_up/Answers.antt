@@ -3,10 +3,9 @@ use Rattle.std.proofs.Common.{◌≡◌, rules, ◌+◌, ◌-◌, ◌++◌, Bool
 use Rattle.passive_list.specs.Types.{Seek, Done}
 use Rattle.protocol.specs.Common.{entry_with}
 use Rattle.cpu_words.specs.Common.{did, key_with}
-use Rattle.cpu_words.proofs.shown.KeepersShown.{step_is_shown}
+use Rattle.cpu_words.proofs.seats.Seating.{step_is_shown}
 use Rattle.passive_list.specs.Common.{IsAtLink, IsOn, HasVisited}
-use Rattle.passive_list.proofs.Walking.{on_slot, on_way, may_take, may_go, number_falls, follows, at_end, found, visit_id, follow_id}
-use Rattle.passive_list.proofs.Searches.{search_begun, link_loaded, word_loaded, one_visited, search_missed, search_found}
+use Rattle.passive_list.proofs.Walking.{on_slot, on_way, may_take, may_go, number_falls, follows, at_end, found, visit_id, follow_id, search_begun, link_loaded, word_loaded, one_visited, search_missed, search_found}
 use Rattle.passive_list.proofs.Visited.{gone_by_none, gone_by_next, few_missed, few_found, value_replied}
 use Rattle.passive_list.proofs.lookup.look_up.Goals.{After-visit-number}
 use Rattle.passive_list.proofs.lookup.look_up.Goals as goal

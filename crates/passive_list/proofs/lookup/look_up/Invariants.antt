@@ -1,7 +1,7 @@
 use Rattle.std.proofs.Common.{◌≡◌, ℕ}
 use Rattle.cpu_words.specs.Common.{IsShownCpu, key_with}
 use Rattle.passive_list.specs.Common.{HasSearchedFor, IsAtLink}
-use Rattle.passive_list.proofs.Searches.{EndsAtLink}
+use Rattle.passive_list.proofs.Walking.{EndsAtLink}
 use Rattle.passive_list.proofs.Visited.{HasGoneBy}
 use Rattle.passive_list.proofs.lookup.look_up.Given as goal
 

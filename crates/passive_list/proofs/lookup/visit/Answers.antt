@@ -2,8 +2,7 @@
 use Rattle.std.proofs.Common.{refl, sym, subst, Bool}
 use Rattle.cpu_words.specs.Common.{key_with}
 use Rattle.passive_list.specs.Common.{HasVisited}
-use Rattle.passive_list.proofs.Walking.{at_kind, at_high, at_low, may_load, visited}
-use Rattle.passive_list.proofs.Searches.{four_loaded}
+use Rattle.passive_list.proofs.Walking.{at_kind, at_high, at_low, may_load, visited, four_loaded}
 use Rattle.passive_list.proofs.lookup.visit.Goals as goal
 
 pub load_searched-found-requires-clause-may : goal.load_searched-found-requires-clause-may

@@ -1,5 +1,5 @@
 -- The data agree with the view as a note is heard.
-use Rattle.cpu_words.proofs.shown.KeepersShown.{step_is_shown}
+use Rattle.cpu_words.proofs.seats.Seating.{step_is_shown}
 use Rattle.passive_list.proofs.Agreeing.{noted_agrees, own_agrees}
 use Rattle.passive_list.proofs.notes.hear_on.Goals as goal
 

@@ -2,9 +2,9 @@
 use Rattle.std.proofs.Common.{◌+◌, ◌∙◌, List, sym, ap, subst, set}
 use Rattle.std.proofs.lemmas.List.{map-set}
 use Rattle.passive_list.specs.Types.{Entry, Settings, KeeperView}
-use Rattle.cpu_words.proofs.shown.KeepersShown.{step_is_shown}
+use Rattle.cpu_words.proofs.seats.Seating.{step_is_shown}
 use Rattle.passive_list.specs.Common.{KeptSlot, LogsAttach, OnKeeper, OnPlainKeeper, IsOurKeeper, state_of, states_of, MayAttach, HasAttached}
-use Rattle.passive_list.proofs.KeptMarks.{marks_stay}
+use Rattle.passive_list.proofs.Marks.{marks_stay}
 use Rattle.passive_list.proofs.Rows.{row_read}
 use Rattle.passive_list.proofs.Attached.{ask, published_keeper, row_live}
 use Rattle.passive_list.proofs.publishing.publish.Goals as goal

@@ -2,7 +2,7 @@
 use Rattle.std.proofs.Common.{◌++◌, ◌∙◌, ℕ, List, refl, sym, ap, subst, arith}
 use Rattle.passive_list.specs.Types.{Entry, Settings, Slot, LogItem, Publish, Show, Live, Done, KeeperView, Keeper}
 use Rattle.registry_values.specs.Common.{slot_at}
-use Rattle.protocol.proofs.slots.Cells.{slot_here}
+use Rattle.protocol.proofs.Cells.{slot_here}
 use Rattle.cpu_words.specs.Common.{MayPublish, Makes, did, keeper_after_live}
 use Rattle.passive_list.specs.Common.{logged_stores, states_of, keeper_after_publish}
 use Rattle.passive_list.proofs.Attached.{attached_as, keeping_more, may_publish, published_is, leads_on, leads_within, rows_live, live_rows}

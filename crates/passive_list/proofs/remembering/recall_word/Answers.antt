@@ -1,10 +1,10 @@
 -- The data agree with the view again, and what the load found tells of the entry with that number.
 use Rattle.std.proofs.Common.{refl, sym, ap}
 use Rattle.std.proofs.lemmas.Bool.{eq-eqb}
-use Rattle.cpu_words.proofs.shown.KeepersShown.{step_is_shown}
+use Rattle.cpu_words.proofs.seats.Seating.{step_is_shown}
 use Rattle.passive_list.specs.Common.{OnPlainCpu}
 use Rattle.passive_list.proofs.Agreeing.{noted_agrees, own_agrees}
-use Rattle.passive_list.proofs.Recalls.{recalled_on}
+use Rattle.passive_list.proofs.ByMemory.{recalled_on}
 use Rattle.passive_list.proofs.remembering.recall_word.Goals as goal
 
 pub invariant_of-cpu : goal.invariant_of-cpu

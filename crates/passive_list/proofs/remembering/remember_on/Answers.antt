@@ -2,7 +2,7 @@
 use Rattle.std.proofs.Common.{◌≡◌, ◌≢◌, Option, Some, None, IfSome, arith, ap, subst, sym}
 use Rattle.passive_list.specs.Types.{Attach}
 use Rattle.protocol.specs.Common.{entry_with}
-use Rattle.protocol.proofs.history.History.{at_within}
+use Rattle.protocol.proofs.History.{at_within}
 use Rattle.cpu_words.specs.Common.{key_with}
 use Rattle.passive_list.specs.Common.{Memory, HasSeen, IsOurCpu, OnPlainCpu, RemembersAnswer, Seen}
 use Rattle.passive_list.proofs.Agreeing.{memory_agrees}

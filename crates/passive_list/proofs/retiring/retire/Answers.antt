@@ -5,11 +5,11 @@ use Rattle.passive_list.specs.Types.{Settings, Hide, Unpublish, Done, Live, LogI
 use Rattle.protocol.specs.Common.{live_at}
 use Rattle.registry_values.specs.Common.{slot_at}
 use Rattle.cpu_words.specs.Common.{IsBefore, LeadsBelow, Makes, did, keeper_after_live, keeper_after_unpublish}
-use Rattle.cpu_words.proofs.shown.KeepersShown.{step_is_shown}
+use Rattle.cpu_words.proofs.seats.Seating.{step_is_shown}
 use Rattle.passive_list.specs.Common.{KeptSlot, OnKeeper, OnPlainKeeper, row_at, state_of, states_of, AreSnapshots, AreWritten, HasDetached, IsOurKeeper, LogsDetach, MarksAgree, LogsSnapshots, with_snapshots}
-use Rattle.passive_list.proofs.KeptMarks.{marks_stay, slot_below, written_back}
+use Rattle.passive_list.proofs.Marks.{marks_stay, slot_below, written_back}
 use Rattle.passive_list.proofs.Rows.{live_in, row_read, state_at}
-use Rattle.passive_list.proofs.Detached.{before_in, leads_in, may_unpublish, unpublished_is, snapped_is, stored_keeper, zero_stored, detached_keeper, detached_marks, row_retired}
+use Rattle.passive_list.proofs.Retired.{before_in, leads_in, may_unpublish, unpublished_is, snapped_is, stored_keeper, zero_stored, detached_keeper, detached_marks, row_retired}
 use Rattle.passive_list.proofs.retiring.retire.Goals.{In-Live, After-hide, After-slot_above-before, After-link_below-link}
 use Rattle.passive_list.proofs.retiring.retire.Goals as goal
 

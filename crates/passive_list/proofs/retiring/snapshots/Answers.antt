@@ -4,9 +4,8 @@ use Rattle.registry_values.specs.Common.{no_mark}
 use Rattle.protocol.specs.Common.{snapshot_mark}
 use Rattle.passive_list.specs.Types.{MOST_CPUS}
 use Rattle.passive_list.specs.Common.{AreWritten, LogsSnapshots}
-use Rattle.cpu_words.proofs.shown.KeepersShown.{step_is_shown}
-use Rattle.passive_list.proofs.KeptMarks.{none_written, one_written}
-use Rattle.passive_list.proofs.Taking.{none_taken, one_taken, taking_first, taking_next}
+use Rattle.cpu_words.proofs.seats.Seating.{step_is_shown}
+use Rattle.passive_list.proofs.Marks.{none_written, one_written, none_taken, one_taken, taking_first, taking_next}
 use Rattle.passive_list.proofs.retiring.snapshots.Goals as goal
 
 pub loop-c-init : goal.loop-c-init

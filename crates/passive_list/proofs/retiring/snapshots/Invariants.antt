@@ -2,7 +2,7 @@ use Rattle.std.proofs.Common.{◌≡◌, ◌*◌, List}
 use Rattle.passive_list.specs.Types.{Mark}
 use Rattle.cpu_words.specs.Common.{IsShown}
 use Rattle.passive_list.specs.Common.{AreSnapshots, AreWritten, LogsSnapshots}
-use Rattle.passive_list.proofs.Taking.{taking}
+use Rattle.passive_list.proofs.Marks.{taking}
 use Rattle.passive_list.proofs.retiring.snapshots.Given as goal
 
 -- the snapshots of the CPUs so far are taken and written, and the next one is due

@@ -1,9 +1,8 @@
 -- The data agree with the view as a section begins.
 use Rattle.std.proofs.Common.{◌≡◌, ◌+◌, ◌<◌, IsTrue, sym, subst, ap, ◌∙◌, arith}
 use Rattle.passive_list.specs.Common.{OnPlainCpu, may_begin}
-use Rattle.cpu_words.proofs.shown.KeepersShown.{step_is_shown}
-use Rattle.passive_list.proofs.Agreeing.{entered_agrees, own_agrees}
-use Rattle.passive_list.proofs.Entering.{unspent, entered_on}
+use Rattle.cpu_words.proofs.seats.Seating.{step_is_shown}
+use Rattle.passive_list.proofs.Agreeing.{entered_agrees, own_agrees, unspent, entered_on}
 use Rattle.passive_list.proofs.sections.begin.Goals as goal
 
 pub invariant_of-cpu : goal.invariant_of-cpu

@@ -1,7 +1,7 @@
 -- The data agree with the view as a section ends.
 use Rattle.std.proofs.Common.{◌≡◌, ap, ◌∙◌}
 use Rattle.passive_list.specs.Common.{OnPlainCpu}
-use Rattle.cpu_words.proofs.shown.KeepersShown.{step_is_shown}
+use Rattle.cpu_words.proofs.seats.Seating.{step_is_shown}
 use Rattle.passive_list.proofs.Agreeing.{exited_agrees, own_agrees}
 use Rattle.passive_list.proofs.sections.end.Goals as goal
 

@@ -2,7 +2,7 @@
 use Rattle.std.proofs.Common.{◌≡◌, nat_lt, ap, ◌∙◌, sym, subst}
 use Rattle.passive_list.specs.Types.{Settings}
 use Rattle.passive_list.specs.Common.{OnPlainCpu, may_begin}
-use Rattle.passive_list.proofs.Entering.{may_begin_is}
+use Rattle.passive_list.proofs.Agreeing.{may_begin_is}
 use Rattle.passive_list.proofs.sections.may_begin.Goals as goal
 
 pub returns : goal.returns

@@ -1,12 +1,11 @@
 -- `vacate`: its clause `change`; what `vacate` requires; the invariant of `keeper`.
 use Rattle.std.proofs.Common.{◌∙◌, set, sym, ap, subst}
 use Rattle.protocol.specs.Common.{kept_at}
-use Rattle.cpu_words.proofs.shown.KeepersShown.{step_is_shown}
+use Rattle.cpu_words.proofs.seats.Seating.{step_is_shown}
 use Rattle.passive_list.specs.Common.{KeptSlot, OnPlainKeeper, IsDrainedOn, IsOurKeeper}
 use Rattle.passive_list.specs.Types.{KeeperView}
-use Rattle.passive_list.proofs.KeptMarks.{marks_stay}
+use Rattle.passive_list.proofs.Marks.{marks_stay, has_vacated, row_vacated, vacated_keeper}
 use Rattle.passive_list.proofs.Rows.{retired_in, row_read}
-use Rattle.passive_list.proofs.Marks.{has_vacated, row_vacated, vacated_keeper}
 use Rattle.passive_list.proofs.vacating.vacate.Goals as goal
 
 pub vacate-requires-clause-may : goal.vacate-requires-clause-may

@@ -3,8 +3,7 @@ use Rattle.std.proofs.Common.{refl}
 use Rattle.passive_list.specs.Types.{Word}
 use Rattle.passive_list.specs.Common.{nobody}
 use Rattle.passive_list.proofs.GoingOver.{compared, may_load_value, gone_by}
-use Rattle.passive_list.proofs.Walking.{at_kind, at_high, at_low, may_load}
-use Rattle.passive_list.proofs.Searches.{four_loaded, five_loaded}
+use Rattle.passive_list.proofs.Walking.{at_kind, at_high, at_low, may_load, four_loaded, five_loaded}
 use Rattle.passive_list.proofs.walks.go_by.Goals as goal
 
 pub load_searched-number-requires-clause-may : goal.load_searched-number-requires-clause-may

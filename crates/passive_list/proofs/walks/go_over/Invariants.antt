@@ -1,7 +1,7 @@
 use Rattle.std.proofs.Common.{◌≡◌, ◌≤◌, ◌-◌, List, length}
 use Rattle.cpu_words.specs.Common.{IsShownCpu}
 use Rattle.passive_list.specs.Common.{HasWalkedBy, IsGoingOver, IsWritten}
-use Rattle.passive_list.proofs.Searches.{EndsAtLink}
+use Rattle.passive_list.proofs.Walking.{EndsAtLink}
 use Rattle.passive_list.proofs.walks.go_over.Given as goal
 use Rattle.passive_list.specs.Types.{Entry, MOST_SLOTS}
 

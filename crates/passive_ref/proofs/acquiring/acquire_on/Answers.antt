@@ -2,7 +2,7 @@
 use Rattle.std.proofs.Common.{◌≡◌, inl, sym, subst, None}
 use Rattle.passive_list.specs.Common.{OnPlainCpu}
 use Rattle.passive_list.proofs.Agreeing.{IsFoundAs, found_as, found_none}
-use Rattle.passive_ref.proofs.Copying.{acquired, not_acquired}
+use Rattle.passive_ref.proofs.Changing.{acquired, not_acquired}
 use Rattle.passive_ref.proofs.acquiring.acquire_on.Goals as goal
 
 pub returns-then-found-eq0-clause-answer : goal.returns-then-found-eq0-clause-answer

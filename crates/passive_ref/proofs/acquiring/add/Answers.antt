@@ -2,11 +2,10 @@
 use Rattle.std.proofs.Common.{◌∙◌, sym, ap, subst}
 use Rattle.passive_list.specs.Common.{OnPlainCpu}
 use Rattle.cpu_words.specs.Common.{references_to}
-use Rattle.cpu_words.proofs.shown.KeepersShown.{step_is_shown}
+use Rattle.cpu_words.proofs.seats.Seating.{step_is_shown}
 use Rattle.passive_list.proofs.Agreeing.{own_agrees}
 use Rattle.passive_ref.specs.Psrefs.{MayRefer}
-use Rattle.passive_ref.proofs.Changing.{added_agrees}
-use Rattle.passive_ref.proofs.Places.{within}
+use Rattle.passive_ref.proofs.Changing.{added_agrees, within}
 use Rattle.passive_ref.proofs.acquiring.add.Goals as goal
 
 pub passive_add-requires-clause-place : goal.passive_add-requires-clause-place

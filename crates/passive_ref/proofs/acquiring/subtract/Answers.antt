@@ -3,10 +3,9 @@ use Rattle.std.proofs.Common.{◌∙◌, ◌-◌, ap, arith, inr, set, subst, sy
 use Rattle.passive_list.specs.declared.place.NumberedCount.{NumberedCount}
 use Rattle.passive_list.specs.Common.{IsOurCpu, OnPlainCpu}
 use Rattle.passive_ref.specs.Psrefs.{IsHeldAt}
-use Rattle.cpu_words.proofs.shown.KeepersShown.{step_is_shown}
+use Rattle.cpu_words.proofs.seats.Seating.{step_is_shown}
 use Rattle.passive_list.proofs.Agreeing.{own_agrees, place_is}
-use Rattle.passive_ref.proofs.Changing.{less_agrees}
-use Rattle.passive_ref.proofs.Places.{held_counts, within}
+use Rattle.passive_ref.proofs.Changing.{less_agrees, held_counts, within}
 use Rattle.passive_ref.proofs.acquiring.subtract.Goals as goal
 
 pub passive_sub-requires-clause-place : goal.passive_sub-requires-clause-place

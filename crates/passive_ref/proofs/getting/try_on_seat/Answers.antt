@@ -1,6 +1,6 @@
 -- The steps on the words, one after the other.
 use Rattle.std.proofs.Common.{◌∙◌}
-use Rattle.cpu_words.proofs.shown.KeepersShown.{step_is_shown}
+use Rattle.cpu_words.proofs.seats.Seating.{step_is_shown}
 use Rattle.passive_ref.proofs.Gets.{ends_in_vain, ends_well, late_id, may_end, may_take_back, taken_as, tried_id, vain}
 use Rattle.passive_ref.proofs.getting.try_on_seat.Goals as goal
 

@@ -5,7 +5,7 @@ use Rattle.passive_list.specs.declared.place.NumberedCount.{NumberedCount}
 use Rattle.passive_list.specs.Common.{OnPlainCpu}
 use Rattle.passive_list.proofs.Agreeing.{place_is}
 use Rattle.passive_ref.specs.Psrefs.{IsHeldAt}
-use Rattle.passive_ref.proofs.Places.{held_at}
+use Rattle.passive_ref.proofs.Changing.{held_at}
 use Rattle.passive_ref.proofs.holding.counts_at.Goals as goal
 
 pub returns-then-place-number : goal.returns-then-place-number

@@ -4,7 +4,7 @@ use Rattle.std.specs.Prelude.{position}
 use Rattle.passive_list.specs.Common.{OnPlainCpu}
 use Rattle.passive_ref.specs.Psrefs.{IsHeldAt, counts_for}
 use Rattle.cpu_words.specs.Common.{references_to}
-use Rattle.passive_ref.proofs.Places.{held_here, none_here}
+use Rattle.passive_ref.proofs.Changing.{held_here, none_here}
 use Rattle.passive_ref.proofs.holding.slot_of.Goals as goal
 
 pub returns-in-Some-clause-some : goal.returns-in-Some-clause-some

@@ -1,7 +1,7 @@
 -- Four loads give the record of the entry that the CPU refers to.
 use Rattle.std.proofs.Common.{◌∙◌, ap, refl}
 use Rattle.passive_list.specs.Common.{OnPlainCpu}
-use Rattle.passive_ref.proofs.Records.{after_word, all_loaded, word_is}
+use Rattle.passive_ref.proofs.Changing.{after_word, all_loaded, word_is}
 use Rattle.passive_ref.proofs.reading.load_record.Goals as goal
 
 pub returns-clause-record : goal.returns-clause-record

@@ -2,7 +2,7 @@
 use Rattle.std.proofs.Common.{◌∙◌, inr, sym, ap, subst}
 use Rattle.passive_list.specs.Common.{OnPlainCpu}
 use Rattle.passive_ref.specs.Psrefs.{IsHeldAt}
-use Rattle.passive_ref.proofs.Places.{within}
+use Rattle.passive_ref.proofs.Changing.{within}
 use Rattle.passive_ref.proofs.reading.load_word.Goals as goal
 
 pub load_passive-requires-clause-place : goal.load_passive-requires-clause-place

@@ -1,4 +1,4 @@
-use Rattle.protocol.proofs.runs.Balance.{balance_at_rest}
+use Rattle.protocol.proofs.runs.Headline.{balance_at_rest}
 use Rattle.protocol.proofs.laws.balance_at_rest.Goals as goal
 
 pub returns : goal.returns

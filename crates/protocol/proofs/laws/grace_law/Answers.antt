@@ -1,4 +1,4 @@
-use Rattle.protocol.proofs.runs.Grace.{grace_law}
+use Rattle.protocol.proofs.runs.Headline.{grace_law}
 use Rattle.protocol.proofs.laws.grace_law.Goals as goal
 
 pub returns : goal.returns

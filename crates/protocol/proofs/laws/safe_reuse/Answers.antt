@@ -1,4 +1,4 @@
-use Rattle.protocol.proofs.runs.Drivers.{safe_reuse, drivers_outlive}
+use Rattle.protocol.proofs.runs.Headline.{safe_reuse, drivers_outlive}
 use Rattle.protocol.proofs.laws.safe_reuse.Goals as goal
 
 pub returns-clause-reuse : goal.returns-clause-reuse

@@ -1,5 +1,5 @@
 -- `worked_run`: its clauses `frozen_link`, `collect_race` and `try_race`.
-use Rattle.protocol.proofs.runs.Rows.{frozen_link, collect_race, try_race}
+use Rattle.protocol.proofs.runs.Narrow.{frozen_link, collect_race, try_race}
 use Rattle.protocol.proofs.laws.worked_run.Goals as goal
 
 pub returns-clause-frozen_link : goal.returns-clause-frozen_link

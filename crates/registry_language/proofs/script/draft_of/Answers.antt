@@ -1,6 +1,6 @@
 -- `draft_of`: what it returns; that each turn of its loop keeps the invariants.
 use Rattle.std.proofs.Common.{◌+◌, sym, ◌∙◌}
-use Rattle.registry_language.proofs.Drafts.{draft_more, draft_fault, draft_all}
+use Rattle.registry_language.proofs.Parsing.{draft_more, draft_fault, draft_all}
 use Rattle.registry_language.proofs.script.draft_of.Goals as goal
 
 pub loop-index-preserved : goal.loop-index-preserved

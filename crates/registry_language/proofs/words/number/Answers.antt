@@ -1,7 +1,7 @@
 -- `number`: what it returns; that each turn of its loop keeps the invariants.
 use Rattle.std.proofs.Common.{◌≡◌, true, rules}
 use Rattle.registry_language.specs.Words.{is_numeral}
-use Rattle.registry_language.proofs.Numbers.{gone_on, all_read, below}
+use Rattle.registry_language.proofs.Parsing.{gone_on, all_read, below}
 use Rattle.registry_language.proofs.words.number.Goals as goal
 
 pub loop-b-preserved : goal.loop-b-preserved

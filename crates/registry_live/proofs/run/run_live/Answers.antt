@@ -1,4 +1,4 @@
-use Rattle.registry_report.proofs.written.Runs.{run_not_begun}
+use Rattle.registry_report.proofs.Written.{run_not_begun}
 use Rattle.registry_live.proofs.run.run_live.Goals as goal
 
 pub returns-in-Err-clause-front : goal.returns-in-Err-clause-front

@@ -1,5 +1,5 @@
-use Rattle.registry_live.proofs.AllCpus.{new_are_all}
-use Rattle.registry_report.proofs.written.Runs.{run_not_begun}
+use Rattle.registry_live.proofs.LiveCpus.{new_are_all}
+use Rattle.registry_report.proofs.Written.{run_not_begun}
 use Rattle.registry_live.proofs.run.run_on_blank.Goals as goal
 
 pub run_live_on-requires-clause-cpus : goal.run_live_on-requires-clause-cpus

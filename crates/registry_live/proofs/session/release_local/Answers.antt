@@ -1,7 +1,7 @@
 -- `release_local`: its clauses `all` and `local`.
 use Rattle.std.proofs.Common.{get_or}
 use Rattle.registry_values.proofs.Fit.{ranges}
-use Rattle.registry_live.proofs.LetGo.{lets_go}
+use Rattle.registry_live.proofs.Ended.{lets_go}
 use Rattle.registry_live.proofs.LiveCpus.{all_with, let_go_stays}
 use Rattle.registry_live.proofs.session.release_local.Goals as goal
 

@@ -1,6 +1,6 @@
 -- `release_locals`: its clause `locals`.
 use Rattle.std.proofs.Common.{◌≡◌, length, rules, arith}
-use Rattle.registry_live.proofs.LetGo.{all_gone, gone_next, none_gone}
+use Rattle.registry_live.proofs.Ended.{all_gone, gone_next, none_gone}
 use Rattle.registry_live.proofs.session.release_locals.Goals as goal
 
 -- what the pattern of the array says of each of its 26 values: the value is at its place (`a-1.given.1`, and so on)

@@ -2,7 +2,7 @@
 use Rattle.std.proofs.Common.{arith, get_or}
 use Rattle.registry_live.proofs.Labelled.{place_missing, place_released}
 use Rattle.registry_live.proofs.LiveCpus.{all_with, one_back, released_id}
-use Rattle.registry_live.proofs.Releasing.{all_same, asked}
+use Rattle.registry_live.proofs.Ended.{all_same, asked}
 use Rattle.registry_live.proofs.session.release_passive.Goals as goal
 
 pub returns-in_default-release-clause-all : goal.returns-in_default-release-clause-all

@@ -1,7 +1,7 @@
 -- `release_passives`: its clauses `released` and `only`.
 use Rattle.std.proofs.Common.{◌≡◌, length, rules, arith}
 use Rattle.registry_live.proofs.Labelled.{all_released, none_left, released_next}
-use Rattle.registry_live.proofs.Releasing.{all_then}
+use Rattle.registry_live.proofs.Ended.{all_then}
 use Rattle.registry_live.proofs.session.release_passives.Goals as goal
 
 -- what the pattern of the array says of each of its 26 values: the value is at its place (`a-1.given.1`, and so on)

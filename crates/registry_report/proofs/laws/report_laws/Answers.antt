@@ -1,7 +1,6 @@
 -- `report_laws`: its clauses `modelled`, `lookups`, `ends` and `least`.
-use Rattle.registry_report.proofs.Lookups.{lookup_is, end_is, end_tells}
+use Rattle.registry_report.proofs.Lookups.{lookup_is, end_is, end_tells, least_iff}
 use Rattle.registry_report.proofs.sound.Commands.{report_runs}
-use Rattle.registry_report.proofs.Below.{least_iff}
 use Rattle.registry_report.proofs.laws.report_laws.Goals as goal
 
 pub returns-clause-modelled : goal.returns-clause-modelled

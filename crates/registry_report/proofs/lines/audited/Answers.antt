@@ -3,7 +3,7 @@ use Rattle.std.proofs.Common.{List, ℕ, ◌++◌, ◌∙◌, ap, map, sym, take
 use Rattle.registry_values.specs.Common.{tally_shown}
 use Rattle.registry_report.specs.Types.{Balance}
 use Rattle.registry_report.specs.Common.{balance_line, balance_lines}
-use Rattle.registry_report.proofs.written.Writing.{lines_step}
+use Rattle.registry_report.proofs.Written.{lines_step}
 use Rattle.registry_report.proofs.lines.audited.Goals as goal
 
 pub loop-balance-preserved : goal.loop-balance-preserved

@@ -4,7 +4,7 @@ use Rattle.std.specs.Prelude.{codes}
 use Rattle.std.specs.Fmt.{decimal, signed_decimal}
 use Rattle.registry_values.specs.Common.{tally_shown}
 use Rattle.registry_report.specs.Common.{spaced_words}
-use Rattle.registry_report.proofs.written.Writing.{balance_is}
+use Rattle.registry_report.proofs.Written.{balance_is}
 use Rattle.registry_report.proofs.lines.balanced.Goals as goal
 
 pub returns-clause-line : goal.returns-clause-line

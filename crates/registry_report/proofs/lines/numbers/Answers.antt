@@ -2,7 +2,7 @@
 use Rattle.std.proofs.Common.{List, ℕ, ◌++◌, ◌∙◌, ap, map, pos, sym, take}
 use Rattle.std.specs.Fmt.{signed_decimal}
 use Rattle.registry_report.specs.Common.{spaced_words}
-use Rattle.registry_report.proofs.written.Writing.{spaced_step}
+use Rattle.registry_report.proofs.Written.{spaced_step}
 use Rattle.registry_report.proofs.lines.numbers.Goals as goal
 
 pub loop-number-preserved : goal.loop-number-preserved

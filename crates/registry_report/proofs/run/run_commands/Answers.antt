@@ -2,9 +2,7 @@
 use Rattle.std.proofs.Common.{[], get_or, refl, subst, sym, ◌∙◌}
 use Rattle.registry_report.specs.Common.{IsLineOf, WritesFront, AppendsPrefix}
 use Rattle.registry_report.specs.Report.{report_from}
-use Rattle.registry_report.proofs.written.Reports.{on_err, report_done, report_step, report_stopped}
-use Rattle.registry_report.proofs.written.Runs.{run_done, run_so_far, run_step, run_stopped}
-use Rattle.registry_report.proofs.written.Writing.{appends_none, written_none}
+use Rattle.registry_report.proofs.Written.{on_err, report_done, report_step, report_stopped, run_done, run_so_far, run_step, run_stopped, appends_none, written_none}
 use Rattle.registry_report.proofs.run.run_commands.Goals as goal
 
 pub loop-command-init : goal.loop-command-init

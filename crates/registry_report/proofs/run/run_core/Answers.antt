@@ -4,8 +4,8 @@ use Rattle.std.specs.Io.KnownBytes.{Appends}
 use Rattle.registry_report.specs.Types.{Command}
 use Rattle.registry_report.specs.Common.{opening_registry, report, SessionState, AppendsPrefix}
 use Rattle.registry_report.specs.Report.{report_from}
-use Rattle.registry_report.proofs.shows.Opened.{begins}
-use Rattle.registry_report.proofs.written.Reports.{nothing_yet, on_err}
+use Rattle.registry_report.proofs.shows.Sectioned.{begins}
+use Rattle.registry_report.proofs.Written.{nothing_yet, on_err}
 use Rattle.registry_report.proofs.run.run_core.Goals as goal
 
 pub run_on-requires : goal.run_on-requires

@@ -1,6 +1,6 @@
 use Rattle.registry_report.specs.Report.{report_from}
 use Rattle.registry_report.specs.Common.{AppendsPrefix}
-use Rattle.registry_report.proofs.written.Reports.{all_of_it, flushed, on_err}
+use Rattle.registry_report.proofs.Written.{all_of_it, flushed, on_err}
 use Rattle.registry_report.proofs.run.run_on.Goals as goal
 
 pub returns-clause-err : goal.returns-clause-err

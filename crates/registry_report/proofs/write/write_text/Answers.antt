@@ -1,4 +1,4 @@
-use Rattle.registry_report.proofs.written.Writing.{written_step}
+use Rattle.registry_report.proofs.Written.{written_step}
 use Rattle.registry_report.proofs.write.write_text.Goals as goal
 
 pub loop-rest-preserved : goal.loop-rest-preserved

@@ -1,5 +1,5 @@
 -- `id_laws`: ids and their names lead back to each other.
-use Rattle.registry_values.proofs.Ids.{ids_come_back, names_come_back}
+use Rattle.registry_values.proofs.Names.{ids_come_back, names_come_back}
 use Rattle.registry_values.proofs.id.id_laws.Goals as goal
 
 pub returns-clause-back : goal.returns-clause-back

@@ -1,8 +1,8 @@
 -- `name_of_id`: its bytes are a name's, and its clause `value`.
 use Rattle.std.proofs.Common.{ap, ◌∙◌, arith}
 use Rattle.registry_values.specs.Common.{is_name, name_of}
-use Rattle.registry_values.specs.Ids.{name_of_id}
-use Rattle.registry_values.proofs.Ids.{ids_are_names}
+use Rattle.registry_values.specs.Names.{name_of_id}
+use Rattle.registry_values.proofs.Names.{ids_are_names}
 use Rattle.registry_values.proofs.id.name_of_id.Goals as goal
 
 pub from_bytes-requires : goal.from_bytes-requires

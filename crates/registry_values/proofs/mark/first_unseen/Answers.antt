@@ -1,5 +1,5 @@
 use Rattle.std.proofs.Common.{sym, ap, arith, false, not, slice_index_or}
-use Rattle.registry_values.proofs.Least.{least_is, none_below}
+use Rattle.registry_values.proofs.Slots.{least_is, none_below}
 use Rattle.registry_values.proofs.mark.first_unseen.Goals as goal
 
 pub returns-then-not-seen-c : goal.returns-then-not-seen-c

@@ -1,7 +1,7 @@
 use Rattle.std.proofs.Common.{subst}
 use Rattle.cpu_words.specs.Common.{key_with}
 use Rattle.passive_list.specs.Common.{OnPlainCpu}
-use Rattle.passive_ref.specs.Gets.{HasGotByMemory}
+use Rattle.passive_ref.specs.Psrefs.{HasGotByMemory}
 use Rattle.c_handles.proofs.cpu_body.CpuBody.get_by_memory.Goals as goal
 
 pub returns-clause-got : goal.returns-clause-got

@@ -2,9 +2,8 @@
 use Rattle.std.proofs.Common.{refl, Some}
 use denote.Memory.{lone}
 use mir.Raw.{raw}
-use Rattle.c_handles.specs.heap.Handles.{token}
-use Rattle.c_handles.proofs.Holding.{token_tests}
-use Rattle.c_handles.proofs.Lent.{lent}
+use Rattle.c_handles.specs.Heap.{token}
+use Rattle.c_handles.proofs.Lent.{token_tests, lent}
 use Rattle.c_handles.specs.contracts.keeper_body.KeeperBody.{the_row as body}
 use Rattle.c_handles.specs.contracts.handle.KeeperHandle.{the_type as for_c}
 use Rattle.c_handles.specs.contracts.handle.KeeperHandleCHandle.body_mut as f

@@ -4,7 +4,7 @@ use base.Fraction.{full_share}
 use base.Logic.{emp}
 use contract.Monad.{fact_i}
 use Rattle.c_handles.specs.contracts.handle.CpuHandle.{the_row as cpu_row}
-use Rattle.c_handles.specs.heap.Rows.{is_nothing}
+use Rattle.c_handles.specs.Heap.{is_nothing}
 use Rattle.c_handles.proofs.LentRow.{asked}
 use Rattle.c_handles.specs.declared.rows.CpusPlace.{CpusPlace}
 use Rattle.c_handles.specs.contracts.rows.CpusPlace.{the_type as for_c}

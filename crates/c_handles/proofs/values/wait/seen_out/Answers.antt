@@ -1,8 +1,8 @@
 use Rattle.std.proofs.Common.{◌≡◌, ◌∙◌, arith, length, rules, sym, false}
-use Rattle.c_handles.specs.values.Flags.{flag_of}
-use Rattle.c_handles.proofs.Lists.{map_by_place}
+use Rattle.c_handles.specs.values.Texts.{flag_of}
+use Rattle.c_handles.proofs.Written.{map_by_place}
 use Rattle.c_handles.proofs.values.wait.seen_out.Goals as goal
-use Rattle.c_handles.specs.values.Types.{MOST_CPUS}
+use Rattle.c_handles.specs.Types.{MOST_CPUS}
 
 pub returns : goal.returns
 returns c =

@@ -1,6 +1,6 @@
 use Rattle.std.proofs.Common.{subst, sym}
 use Rattle.cpu_words.specs.Common.{AreOpening}
-use Rattle.cpu_words.proofs.seats.Opening.{opens}
+use Rattle.cpu_words.proofs.seats.Seating.{opens}
 use Rattle.cpu_words.proofs.law.Words.opening.Goals as goal
 
 pub of_words-requires : goal.of_words-requires

@@ -1,7 +1,7 @@
 -- `kept_sub`: its clauses `change` and `freed`; what `subtract` requires.
 use Rattle.std.proofs.Common.{refl}
-use Rattle.cpu_words.proofs.by_keeper.KeptDrivers.{kept_sub_may, kept_sub_change}
-use Rattle.cpu_words.proofs.logs.OwnLog.{freed_by}
+use Rattle.cpu_words.proofs.by_keeper.Vacating.{kept_sub_may, kept_sub_change}
+use Rattle.cpu_words.proofs.logs.Known.{freed_by}
 use Rattle.cpu_words.proofs.steps.drain.kept_sub.Goals as goal
 
 pub subtract-requires-clause-may : goal.subtract-requires-clause-may

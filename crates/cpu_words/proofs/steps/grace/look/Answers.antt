@@ -1,4 +1,4 @@
-use Rattle.cpu_words.proofs.by_keeper.Grace.{look_may}
+use Rattle.cpu_words.proofs.by_keeper.Draining.{look_may}
 use Rattle.cpu_words.proofs.steps.grace.look.Goals as goal
 
 pub load-requires-clause-may : goal.load-requires-clause-may

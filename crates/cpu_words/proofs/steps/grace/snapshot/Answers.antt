@@ -1,4 +1,4 @@
-use Rattle.cpu_words.proofs.by_keeper.Grace.{snapshot_may}
+use Rattle.cpu_words.proofs.by_keeper.Draining.{snapshot_may}
 use Rattle.cpu_words.proofs.steps.grace.snapshot.Goals as goal
 
 pub load-requires-clause-may : goal.load-requires-clause-may

@@ -2,7 +2,7 @@
 use Rattle.std.proofs.Common.{ap, ◌∙◌}
 use Rattle.cpu_words.specs.Common.{CpuView}
 use Rattle.cpu_words.proofs.seats.Notes.{cpu_heard, heard_event, laid_idle}
-use Rattle.cpu_words.proofs.logs.OwnLog.{shown_with_note}
+use Rattle.cpu_words.proofs.logs.Known.{shown_with_note}
 use Rattle.cpu_words.proofs.steps.notes.hear.Goals as goal
 
 pub listen-requires-clause-cpu : goal.listen-requires-clause-cpu

@@ -1,7 +1,7 @@
 -- `hear_keeper`: its clauses `told`, `change` and `own_log`; what `hear_noted` requires.
 use Rattle.std.proofs.Common.{ap, ◌∙◌}
 use Rattle.cpu_words.specs.Common.{KeeperView}
-use Rattle.cpu_words.proofs.logs.OwnLog.{own_with_note}
+use Rattle.cpu_words.proofs.logs.Known.{own_with_note}
 use Rattle.cpu_words.proofs.seats.Notes.{keeper_heard}
 use Rattle.cpu_words.proofs.steps.notes.hear_keeper.Goals as goal
 

@@ -1,4 +1,4 @@
-use Rattle.cpu_words.proofs.by_keeper.LiveWords.{hide_may}
+use Rattle.cpu_words.proofs.by_keeper.Storing.{hide_may}
 use Rattle.cpu_words.proofs.steps.publishing.hide.Goals as goal
 
 pub store-requires-clause-may : goal.store-requires-clause-may

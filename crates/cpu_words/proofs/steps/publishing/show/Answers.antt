@@ -1,4 +1,4 @@
-use Rattle.cpu_words.proofs.by_keeper.LiveWords.{show_may}
+use Rattle.cpu_words.proofs.by_keeper.Storing.{show_may}
 use Rattle.cpu_words.proofs.steps.publishing.show.Goals as goal
 
 pub store-requires-clause-may : goal.store-requires-clause-may

@@ -1,4 +1,4 @@
-use Rattle.cpu_words.proofs.by_keeper.Unpublishing.{unpublish_may}
+use Rattle.cpu_words.proofs.by_keeper.Publishing.{unpublish_may}
 use Rattle.cpu_words.proofs.steps.publishing.unpublish.Goals as goal
 
 pub store-requires-clause-may : goal.store-requires-clause-may

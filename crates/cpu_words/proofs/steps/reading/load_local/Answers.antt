@@ -2,7 +2,7 @@
 use Rattle.std.proofs.Common.{ℕ, refl, sym, subst}
 use Rattle.cpu_words.specs.Types.{LoadRecord, Local, Word}
 use Rattle.cpu_words.specs.Common.{ReferenceView, Reference, Makes}
-use Rattle.cpu_words.proofs.by_cpu.Reading.{local_may}
+use Rattle.cpu_words.proofs.by_cpu.CpuSteps.{local_may}
 use Rattle.cpu_words.proofs.steps.reading.load_local.Goals as goal
 
 pub load-requires-clause-may : goal.load-requires-clause-may

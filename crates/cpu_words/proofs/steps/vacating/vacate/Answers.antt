@@ -1,7 +1,7 @@
 -- `vacate`: its clause `freed`; what `load` requires.
 use Rattle.std.proofs.Common.{refl}
 use Rattle.cpu_words.proofs.by_keeper.Vacating.{vacating_may}
-use Rattle.cpu_words.proofs.logs.OwnLog.{freed_by}
+use Rattle.cpu_words.proofs.logs.Known.{freed_by}
 use Rattle.cpu_words.proofs.steps.vacating.vacate.Goals as goal
 
 pub load-requires-clause-may : goal.load-requires-clause-may

@@ -4,7 +4,7 @@ use Rattle.name_registry.specs.Types.{KeeperView, LogItem, Settings}
 use Rattle.cpu_words.specs.Common.{HasClosed}
 use Rattle.passive_list.specs.Common.{OnCpu}
 use Rattle.name_registry.specs.Common.{ClosesRun}
-use Rattle.name_registry.proofs.Closed.{closes_run}
+use Rattle.name_registry.proofs.Destroyed.{closes_run}
 use Rattle.passive_list.proofs.Sharing.{shared}
 use Rattle.name_registry.proofs.registry.Registry.close.Goals as goal
 

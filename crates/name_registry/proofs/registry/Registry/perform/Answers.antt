@@ -3,8 +3,8 @@ use Rattle.std.proofs.Common.{◌≡◌, ◌∙◌, false, Result, IfErr, sym, s
 use Rattle.name_registry.specs.Types.{Refusal}
 use Rattle.name_registry.specs.Common.{IsPerformRefusal, is_inside}
 use Rattle.name_registry.proofs.Attached.{inside_is}
-use Rattle.name_registry.proofs.Owned.{waited_outside, waiting_refused}
-use Rattle.name_registry.proofs.Glanced.{performs_inside, performs_outside, told_small}
+use Rattle.name_registry.proofs.Noted.{waited_outside, waiting_refused}
+use Rattle.name_registry.proofs.Passed.{performs_inside, performs_outside, told_small}
 use Rattle.name_registry.proofs.Waited.{learns_none, learns_performed, waited_ok}
 use Rattle.name_registry.proofs.registry.Registry.perform.Goals as goal
 

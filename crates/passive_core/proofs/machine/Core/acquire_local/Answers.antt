@@ -6,7 +6,7 @@ use Rattle.passive_core.specs.Common.{all_seated, may_act, after_counting, count
 use Rattle.passive_core.specs.Types.{LocalFull}
 use Rattle.passive_core.proofs.Locals.{Acquired, acquires, count_allowed, more_count_ready, none_from}
 use Rattle.passive_core.proofs.Making.{acquire_makes}
-use Rattle.passive_core.proofs.Acting.{acting_idle}
+use Rattle.passive_core.proofs.Entering.{acting_idle}
 use Rattle.passive_core.proofs.machine.Core.acquire_local.Goals.{After-split_in_place}
 use Rattle.passive_core.proofs.machine.Core.acquire_local.Goals as goal
 

@@ -2,7 +2,7 @@
 use Rattle.std.proofs.Common.{[], ◌∷◌, subst, sym}
 use Rattle.protocol.specs.Common.{State}
 use Rattle.passive_core.specs.Common.{IsOneMore}
-use Rattle.passive_core.proofs.Acting.{acting_untried}
+use Rattle.passive_core.proofs.Entering.{acting_untried}
 use Rattle.passive_core.proofs.Passives.{add_allowed, added, counted_more}
 use Rattle.passive_core.specs.Types.{PassiveAdd}
 use Rattle.passive_core.proofs.Making.{makes_one, seated_and}

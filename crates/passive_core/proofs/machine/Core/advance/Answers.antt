@@ -6,8 +6,8 @@ use Rattle.protocol.specs.Common.{Holds, State}
 use Rattle.registry_values.specs.Common.{is_retired, slot_at}
 use Rattle.passive_core.proofs.Advancing.{holders_are_open, stage_acts}
 use Rattle.registry_values.proofs.Slots.{retired_slot_tells}
-use Rattle.passive_core.proofs.Acting.{acting_on}
-use Rattle.passive_core.proofs.Plain.{plain_is}
+use Rattle.passive_core.proofs.Entering.{acting_on}
+use Rattle.passive_core.proofs.Performing.{plain_is}
 use Rattle.passive_core.proofs.Making.{only_seats, work_seated}
 use Rattle.passive_core.proofs.machine.Core.advance.Goals as goal
 

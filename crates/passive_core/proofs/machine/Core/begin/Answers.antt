@@ -3,7 +3,7 @@ use Rattle.std.proofs.Common.{◌≡◌, subst, sym, true}
 use Rattle.protocol.specs.Common.{State, is_idle, Holds}
 use Rattle.passive_core.specs.Common.{may_act}
 use Rattle.passive_core.proofs.Passives.{may_still}
-use Rattle.passive_core.proofs.Acting.{acting_idle}
+use Rattle.passive_core.proofs.Entering.{acting_idle}
 use Rattle.passive_core.proofs.machine.Core.begin.Goals as goal
 
 pub returns-clause-idle : goal.returns-clause-idle

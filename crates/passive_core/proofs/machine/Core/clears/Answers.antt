@@ -5,7 +5,7 @@ use Rattle.passive_core.specs.Common.{MarksClear, SameBut, IsPassiveLookFor}
 use Rattle.protocol.specs.Common.{after_look_passive, may_look_passive, Holds, State, mark_at, passive_at}
 use Rattle.registry_values.specs.Common.{mark_after_passive_look}
 use Rattle.passive_core.proofs.Advancing.{clear_left, examines_passive, guard_some, mark_beside, passive_clears, passive_look_is, passive_look_marks}
-use Rattle.protocol.proofs.slots.MarkRows.{mark_there}
+use Rattle.protocol.proofs.Cells.{mark_there}
 use Rattle.passive_core.proofs.Making.{only_none, only_one}
 use Rattle.passive_core.proofs.machine.Core.clears.Goals as goal
 

@@ -4,8 +4,8 @@ use Rattle.passive_core.specs.Types.{Key}
 use Rattle.registry_values.proofs.Answers.{handed_on}
 use Rattle.passive_core.specs.Common.{IsDetachAnswer}
 use Rattle.protocol.specs.Common.{Holds}
-use Rattle.passive_core.proofs.Acting.{acting_idle}
-use Rattle.passive_core.proofs.Detaching.{detached_is, detached_ready, detached_settings, found_live, refused_rightly, snapped_idle, snapped_told, unlinked_blank}
+use Rattle.passive_core.proofs.Entering.{acting_idle}
+use Rattle.passive_core.proofs.Attaching.{detached_is, detached_ready, detached_settings, found_live, refused_rightly, snapped_idle, snapped_told, unlinked_blank}
 use Rattle.passive_core.proofs.Making.{detach_makes}
 use Rattle.passive_core.proofs.machine.Core.detach.Goals as goal
 

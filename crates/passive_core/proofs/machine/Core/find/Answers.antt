@@ -3,8 +3,7 @@ use Rattle.std.proofs.Common.{◌≡◌, ℕ, ◌<◌, length, Option, Some, Non
 use Rattle.passive_core.specs.Common.{all_seated, may_act, after_find, next_load}
 use Rattle.protocol.specs.Common.{guard, some_outcome, after_seek, is_inside, may_seek, Holds, State, at_rest, search_at}
 use Rattle.passive_core.specs.Types.{Entry, Reply, Done, Found, Missed, Key}
-use Rattle.passive_core.proofs.Acting.{acting_idle, acting_on, idle_unsearching}
-use Rattle.passive_core.proofs.Finding.{IsTurn, Walks, left, load_turns, seek_starts, walk_goes_on}
+use Rattle.passive_core.proofs.Entering.{acting_idle, acting_on, idle_unsearching, IsTurn, Walks, left, load_turns, seek_starts, walk_goes_on}
 use Rattle.passive_core.proofs.Making.{find_goes_on, find_starts}
 use Rattle.passive_core.proofs.machine.Core.find.Goals.{After-load_next}
 use Rattle.passive_core.proofs.machine.Core.find.Goals as goal

@@ -1,6 +1,6 @@
 use Rattle.passive_core.specs.Common.{all_seated, FindMakes}
 use Rattle.protocol.specs.Common.{search_at}
-use Rattle.passive_core.proofs.Finding.{Walks, left}
+use Rattle.passive_core.proofs.Entering.{Walks, left}
 use Rattle.passive_core.proofs.machine.Core.find.Given as goal
 
 -- the walk of this lookup

@@ -3,8 +3,8 @@ use Rattle.std.proofs.Common.{◌≡◌, inl, inr, refl, sym, subst, ◌∙◌, 
 use Rattle.passive_core.specs.Types.{Done, KeptSub, Vacate}
 use Rattle.protocol.specs.Common.{after_kept_sub, after_vacate, may_vacate, narrow_step, Holds, kept_at}
 use Rattle.passive_core.proofs.Advancing.{allowed, gave_up, gives_up, guard_some, kept_slot, left_by, vacated, vacates}
-use Rattle.registry_values.proofs.Least.{none_is}
-use Rattle.passive_core.proofs.Acting.{made_is}
+use Rattle.registry_values.proofs.Slots.{none_is}
+use Rattle.passive_core.proofs.Entering.{made_is}
 use Rattle.protocol.proofs.keeps.SectionKeeps.{some_from}
 use Rattle.passive_core.specs.Common.{IsFreeingOf}
 use Rattle.passive_core.proofs.Making.{only_one}

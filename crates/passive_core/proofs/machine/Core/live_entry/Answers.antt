@@ -2,7 +2,7 @@
 use Rattle.std.proofs.Common.{sym, subst, ◌∙◌}
 use Rattle.passive_core.specs.Common.{IsLookupNow}
 use Rattle.protocol.specs.Common.{Holds}
-use Rattle.passive_core.proofs.Detaching.{place_is, place_live, no_place_lookup}
+use Rattle.passive_core.proofs.Attaching.{place_is, place_live, no_place_lookup}
 use Rattle.passive_core.proofs.machine.Core.live_entry.Goals as goal
 
 pub returns-in_err-t-clause-answer : goal.returns-in_err-t-clause-answer

@@ -3,7 +3,7 @@ use Rattle.std.proofs.Common.{length, List, Some, sym, ap, subst, ◌∙◌}
 use Rattle.protocol.specs.Common.{State, search_at, Holds, SlotWithin, loaded_at, row_of_place, with_search_at, search_over}
 use Rattle.passive_core.specs.Common.{state_shown}
 use Rattle.passive_core.proofs.machine.Core.load_searched.Goals as goal
-use Rattle.protocol.proofs.keeps.Loading.{loaded_keeps}
+use Rattle.protocol.proofs.keeps.SearchKeeps.{loaded_keeps}
 use Rattle.protocol.proofs.counts.Bounds.{search_within}
 use Rattle.passive_core.specs.Types.{RecordWords, On, Over}
 

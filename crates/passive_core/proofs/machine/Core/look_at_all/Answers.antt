@@ -3,7 +3,7 @@ use Rattle.std.proofs.Common.{◌≡◌, ◌<◌, ◌≤◌, true, false, refl, 
 use borrow.Author.Count.{below_more}
 use Rattle.passive_core.specs.Common.{is_open_since, IsLookFor}
 use Rattle.protocol.specs.Common.{State, mark_at}
-use Rattle.registry_values.proofs.Least.{least_is, none_below}
+use Rattle.registry_values.proofs.Slots.{least_is, none_below}
 use Rattle.passive_core.proofs.Advancing.{marks_pass_none, not_false, not_true, only_marks, open_same, marks_pass_more}
 use Rattle.passive_core.proofs.Making.{only_after, only_none}
 use Rattle.passive_core.proofs.machine.Core.look_at_all.Goals as goal

@@ -4,7 +4,7 @@ use Rattle.passive_core.specs.Common.{has_passive, IsPassiveLookFor}
 use Rattle.passive_core.specs.Types.{Mark}
 use Rattle.protocol.specs.Common.{State, mark_at}
 use borrow.Author.Count.{below_more}
-use Rattle.registry_values.proofs.Least.{least_is, none_below}
+use Rattle.registry_values.proofs.Slots.{least_is, none_below}
 use Rattle.passive_core.proofs.Advancing.{marks_clear_none, marks_clear_more, not_false, not_true, only_marks, passive_same}
 use Rattle.passive_core.proofs.Making.{only_after, only_none}
 use Rattle.passive_core.proofs.machine.Core.look_at_passive.Goals as goal

@@ -3,7 +3,7 @@ use Rattle.std.proofs.Common.{refl, ◌≡◌, ℕ, ◌<◌, ◌≤◌, true, sy
 use Rattle.std.proofs.lemmas.Bool.{cases_eq}
 use Rattle.protocol.specs.Common.{AllPassed, Holds, State, mark_at}
 use Rattle.registry_values.specs.Common.{retired_number, is_retired, slot_at}
-use Rattle.protocol.proofs.slots.Occupied.{in_within, is_retired_tells}
+use Rattle.protocol.proofs.Occupied.{in_within, is_retired_tells}
 use Rattle.passive_core.proofs.Performing.{only_more, still_passed}
 use Rattle.passive_core.specs.Common.{IsWaiting}
 use Rattle.passive_core.proofs.Advancing.{passes_none}

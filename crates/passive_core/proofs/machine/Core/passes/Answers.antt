@@ -5,7 +5,7 @@ use Rattle.passive_core.specs.Common.{MarksPass, SameBut, IsLookFor}
 use Rattle.protocol.specs.Common.{after_look, Holds, State, section_at, mark_at}
 use Rattle.registry_values.specs.Common.{mark_after_look}
 use Rattle.passive_core.proofs.Advancing.{look_is, look_marks, mark_beside, look_passes, passed_left}
-use Rattle.protocol.proofs.slots.MarkRows.{mark_there}
+use Rattle.protocol.proofs.Cells.{mark_there}
 use Rattle.passive_core.proofs.Making.{only_none, only_one}
 use Rattle.passive_core.proofs.machine.Core.passes.Goals as goal
 

@@ -4,8 +4,8 @@ use Rattle.registry_values.specs.Common.{wait_answer, least_below, retired_numbe
 use Rattle.passive_core.specs.Common.{all_seated, may_act, AllOutside, OnlyPasses, IsWaiting}
 use Rattle.protocol.specs.Common.{is_inside, Holds, State}
 use Rattle.registry_values.proofs.Answers.{handed_on}
-use Rattle.registry_values.proofs.Least.{least_none}
-use Rattle.passive_core.proofs.Acting.{acting_on}
+use Rattle.registry_values.proofs.Slots.{least_none}
+use Rattle.passive_core.proofs.Entering.{acting_on}
 use Rattle.passive_core.proofs.Making.{only_after, only_none, seats_wait}
 use Rattle.passive_core.proofs.machine.Core.perform.Goals as goal
 

@@ -1,6 +1,6 @@
 use Rattle.std.proofs.Common.{subst}
 use Rattle.protocol.specs.Common.{Holds}
-use Rattle.passive_core.proofs.Acting.{acting_idle, acting_on}
+use Rattle.passive_core.proofs.Entering.{acting_idle, acting_on}
 use Rattle.passive_core.proofs.machine.Core.seat_for.Goals as goal
 
 pub returns-clause-idle : goal.returns-clause-idle

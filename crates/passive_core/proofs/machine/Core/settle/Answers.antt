@@ -5,7 +5,7 @@ use Rattle.registry_values.specs.Common.{bias, slot_at, stage_of}
 use Rattle.passive_core.specs.Types.{Stage}
 use Rattle.passive_core.specs.Common.{Settles, IsWork, MakesOnly}
 use Rattle.passive_core.proofs.Advancing.{drained_from, gathered_total, gathered_words, settled_free, settled_held}
-use Rattle.protocol.proofs.slots.Occupied.{is_retired_tells}
+use Rattle.protocol.proofs.Occupied.{is_retired_tells}
 use Rattle.passive_core.proofs.Making.{only_none}
 use Rattle.passive_core.proofs.machine.Core.settle.Goals as goal
 

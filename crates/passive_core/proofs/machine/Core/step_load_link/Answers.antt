@@ -4,7 +4,7 @@ use Rattle.std.proofs.lemmas.List.{get_or_read}
 use Rattle.protocol.specs.Common.{State, search_at, link_loaded, load_link, with_some, Keeps}
 use Rattle.passive_core.specs.Common.{state_shown}
 use Rattle.passive_core.proofs.machine.Core.step_load_link.Goals as goal
-use Rattle.protocol.proofs.keeps.Loading.{head_keeps, next_keeps, head_bound, next_bound}
+use Rattle.protocol.proofs.keeps.SearchKeeps.{head_keeps, next_keeps, head_bound, next_bound}
 use Rattle.passive_core.specs.Types.{Search}
 
 pub follow-requires-clause-slot : goal.follow-requires-clause-slot

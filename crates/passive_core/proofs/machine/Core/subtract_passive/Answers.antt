@@ -2,7 +2,7 @@
 use Rattle.std.proofs.Common.{[], ◌∷◌, subst, sym}
 use Rattle.protocol.specs.Common.{State}
 use Rattle.passive_core.specs.Common.{IsOneLess}
-use Rattle.passive_core.proofs.Acting.{acting_untried}
+use Rattle.passive_core.proofs.Entering.{acting_untried}
 use Rattle.passive_core.proofs.Passives.{sub_allowed, subbed, counted_less}
 use Rattle.passive_core.specs.Types.{PassiveSub}
 use Rattle.passive_core.proofs.Making.{makes_one, seated_and}

@@ -1,7 +1,7 @@
 -- `Core::take_snapshots`: its clauses `after` and `made`; what `make` requires; that each turn of its loop keeps the invariants.
 use Rattle.std.proofs.Common.{◌≡◌, ◌<◌, refl, sym, ap, subst, ◌∙◌, arith}
 use Rattle.protocol.specs.Common.{Holds, State}
-use Rattle.passive_core.proofs.Detaching.{snap_allowed, snap_turns, snapping, snapping_ends, snapping_starts}
+use Rattle.passive_core.proofs.Attaching.{snap_allowed, snap_turns, snapping, snapping_ends, snapping_starts}
 use Rattle.passive_core.specs.Common.{Makes, snapshots_from}
 use Rattle.passive_core.proofs.Making.{snapshots_make}
 use Rattle.passive_core.proofs.machine.Core.take_snapshots.Goals as goal

@@ -1,5 +1,5 @@
 use Rattle.std.proofs.Common.{◌≡◌}
-use Rattle.passive_core.proofs.Detaching.{snapping}
+use Rattle.passive_core.proofs.Attaching.{snapping}
 use Rattle.passive_core.proofs.machine.Core.take_snapshots.Given as goal
 
 -- the snapshots of the CPUs so far were taken

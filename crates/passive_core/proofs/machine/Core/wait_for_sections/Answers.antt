@@ -1,10 +1,10 @@
 -- `Core::wait_for_sections`: its clause `answer`, and what its first glance asks.
 use Rattle.std.proofs.Common.{◌<◌, Bool, false, not, ap, sym, subst, ◌∙◌, slice_index_or}
 use Rattle.std.proofs.lemmas.Bool.{false≢true}
-use Rattle.protocol.proofs.slots.Cells.{get_or_all}
+use Rattle.protocol.proofs.Cells.{get_or_all}
 use Rattle.registry_values.specs.Common.{least_below}
 use Rattle.protocol.specs.Common.{is_inside, State}
-use Rattle.registry_values.proofs.Least.{least_agrees}
+use Rattle.registry_values.proofs.Slots.{least_agrees}
 use Rattle.passive_core.specs.Types.{MOST_CPUS}
 use Rattle.passive_core.proofs.Performing.{not_not}
 use Rattle.passive_core.proofs.machine.Core.wait_for_sections.Goals as goal

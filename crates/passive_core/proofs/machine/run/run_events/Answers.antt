@@ -2,7 +2,7 @@
 use Rattle.std.proofs.Common.{None, Err, subst, get_or, arith}
 use Rattle.protocol.specs.Common.{Steps}
 use Rattle.passive_core.specs.Types.{StepFault, Seat}
-use Rattle.protocol.proofs.runs.Runs.{ran_more}
+use Rattle.protocol.proofs.runs.Steps.{ran_more}
 use Rattle.passive_core.proofs.machine.run.run_events.Goals as goal
 use Rattle.passive_core.proofs.machine.run.run_events.Goals.{in-Ok, in-Err-NotAllowed}
 

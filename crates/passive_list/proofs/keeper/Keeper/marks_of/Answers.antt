@@ -2,7 +2,7 @@ use Rattle.std.proofs.Common.{◌≡◌, ◌∙◌, ◌-◌, ◌*◌, ◌<◌, �
 use Rattle.std.proofs.lemmas.List.{take_rest}
 use Rattle.passive_list.specs.Types.{Mark}
 use Rattle.passive_list.specs.Common.{OnPlainKeeper}
-use Rattle.passive_list.proofs.KeptMarks.{marks_from}
+use Rattle.passive_list.proofs.Marks.{marks_from}
 use Rattle.passive_list.proofs.keeper.Keeper.marks_of.Goals as goal
 
 pub returns : goal.returns

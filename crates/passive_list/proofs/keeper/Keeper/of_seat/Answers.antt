@@ -2,9 +2,9 @@
 use Rattle.std.proofs.Common.{List, sym, ap, subst, arith, ◌∙◌, length}
 use Rattle.passive_list.specs.Types.{KeeperView, Mark}
 use Rattle.cpu_words.specs.Common.{IsShown, keeper_with}
-use Rattle.cpu_words.proofs.shown.KeepersShown.{seated_is_shown}
+use Rattle.cpu_words.proofs.seats.Seating.{seated_is_shown}
 use Rattle.passive_list.specs.Common.{KeptSlot, IsAtRest, MarksAgree, RowsAgree, states_of}
-use Rattle.passive_list.proofs.KeptMarks.{new_marks}
+use Rattle.passive_list.proofs.Marks.{new_marks}
 use Rattle.passive_list.proofs.Rows.{first_states, new_at_rest, new_rows}
 use Rattle.passive_list.proofs.keeper.Keeper.of_seat.Goals as goal
 

@@ -1,5 +1,5 @@
 use Rattle.std.proofs.Common.{◌≡◌, [], ◌∷◌, ◌++◌, rules}
-use Rattle.registry_language.proofs.Drafts.{one_command_more}
+use Rattle.registry_language.proofs.Parsing.{one_command_more}
 use Rattle.registry_language.proofs.script.Draft.add.Goals as goal
 
 pub invariant_of-self-2 : goal.invariant_of-self-2

@@ -1,6 +1,5 @@
 -- `LiveSession::give_back`: its clauses `released`, `locals` and `ended`.
-use Rattle.registry_live.proofs.Ended.{all_ended}
-use Rattle.registry_live.proofs.LetGo.{still}
+use Rattle.registry_live.proofs.Ended.{all_ended, still}
 use Rattle.registry_live.proofs.Labelled.{released_later}
 use Rattle.registry_live.proofs.session.LiveSession.give_back.Goals as goal
 

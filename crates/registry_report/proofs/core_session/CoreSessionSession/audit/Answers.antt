@@ -1,6 +1,6 @@
 use Rattle.std.proofs.Common.{◌∙◌}
 use Rattle.registry_report.proofs.calls.Done.{seen}
-use Rattle.registry_report.proofs.shows.Audited.{audit_answers}
+use Rattle.registry_report.proofs.shows.Counted.{audit_answers}
 use Rattle.registry_report.proofs.core_session.CoreSessionSession.audit.Goals as goal
 
 pub returns-clause-answer : goal.returns-clause-answer

@@ -2,7 +2,7 @@
 use Rattle.std.proofs.Common.{None, ap, sym, ◌∙◌, Ok, Some, length-set, slice_set}
 use Rattle.std.specs.Prelude.{slice_index_or}
 use Rattle.registry_report.specs.Common.{SessionState}
-use Rattle.registry_report.proofs.calls.DoneReferences.{copy_does, copy_fails, copy_taken, free_label, taken_label, told_err}
+use Rattle.registry_report.proofs.calls.Done.{copy_does, copy_fails, copy_taken, free_label, taken_label, told_err}
 use Rattle.registry_report.proofs.calls.Sessions.{cpu_known, filled_tells}
 use Rattle.protocol.specs.Common.{State}
 use Rattle.registry_report.proofs.shows.Referred.{acquire_places, same_session}

@@ -4,7 +4,7 @@ use Rattle.protocol.specs.Common.{State}
 use Rattle.registry_report.proofs.calls.Sessions.{counted_locals, cpu_known, new_live, taken_up}
 use Rattle.std.specs.Prelude.{slice_index_or}
 use Rattle.registry_report.specs.Common.{SessionState, IsSession}
-use Rattle.registry_report.proofs.calls.DoneReferences.{count_does, count_fails, free_label, taken_label, taken_leaves, told_err}
+use Rattle.registry_report.proofs.calls.Done.{count_does, count_fails, free_label, taken_label, taken_leaves, told_err}
 use Rattle.registry_report.proofs.core_session.CoreSessionSession.count.Goals as goal
 
 pub number-requires : goal.number-requires

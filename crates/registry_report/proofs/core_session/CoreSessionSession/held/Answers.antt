@@ -2,7 +2,7 @@
 use Rattle.std.proofs.Common.{None, ap, sym, ◌∙◌}
 use Rattle.std.specs.Prelude.{slice_index_or}
 use Rattle.registry_report.specs.Common.{SessionState}
-use Rattle.registry_report.proofs.calls.DoneReferences.{held_gives}
+use Rattle.registry_report.proofs.calls.Done.{held_gives}
 use Rattle.registry_report.proofs.calls.Sessions.{filled_tells}
 use Rattle.registry_report.proofs.core_session.CoreSessionSession.held.Goals as goal
 

@@ -1,4 +1,4 @@
-use Rattle.registry_report.proofs.calls.DoneReferences.{peek_leaves}
+use Rattle.registry_report.proofs.calls.Done.{peek_leaves}
 use Rattle.registry_report.proofs.core_session.CoreSessionSession.peek.Goals as goal
 
 pub returns-clause-shows : goal.returns-clause-shows

@@ -4,7 +4,7 @@ use Rattle.std.specs.Prelude.{slice_index_or}
 use Rattle.protocol.specs.Common.{State}
 use Rattle.registry_report.specs.Common.{SessionState}
 use Rattle.registry_report.proofs.calls.Sessions.{filled_tells, given_up}
-use Rattle.registry_report.proofs.calls.DoneReferences.{plug_none, plug_fails, plug_does, told_err, unfilled}
+use Rattle.registry_report.proofs.calls.Done.{plug_none, plug_fails, plug_does, told_err, unfilled}
 use Rattle.registry_report.specs.Types.{Plug}
 use Rattle.registry_report.proofs.calls.Hitches.{attach_hitch, attach_iface_refused}
 use Rattle.registry_report.proofs.core_session.CoreSessionSession.plug.Goals as goal

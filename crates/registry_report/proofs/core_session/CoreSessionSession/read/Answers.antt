@@ -1,11 +1,10 @@
 -- `CoreSessionSession::read`: its clauses `answer` and `shows`.
-use Rattle.std.proofs.Common.{None, ap, sym, ◌∙◌}
+use Rattle.std.proofs.Common.{None, ap, sym, ◌∙◌, Err, Ok}
 use Rattle.std.specs.Prelude.{slice_index_or}
 use Rattle.registry_report.specs.Common.{SessionState, read_answer}
-use Rattle.registry_report.proofs.calls.DoneReferences.{read_gives, read_leaves, told_err}
+use Rattle.registry_report.proofs.calls.Done.{read_gives, read_leaves, told_err}
 use Rattle.registry_report.proofs.calls.Sessions.{filled_tells}
-use Rattle.std.proofs.Common.{Err, Ok}
-use Rattle.registry_report.proofs.calls.Giving.{gives}
+use Rattle.registry_report.proofs.calls.Walked.{gives}
 use Rattle.registry_report.proofs.core_session.CoreSessionSession.read.Goals as goal
 
 pub returns-in_err-answer-clause-answer : goal.returns-in_err-answer-clause-answer

@@ -2,7 +2,7 @@
 use Rattle.std.proofs.Common.{None, ap, ◌∙◌}
 use Rattle.std.specs.Prelude.{slice_index_or}
 use Rattle.registry_report.specs.Common.{SessionState}
-use Rattle.registry_report.proofs.calls.DoneReferences.{free_label, reference_does}
+use Rattle.registry_report.proofs.calls.Done.{free_label, reference_does}
 use Rattle.registry_report.proofs.calls.Sessions.{cpu_known}
 use Rattle.registry_report.proofs.core_session.CoreSessionSession.reference.Goals as goal
 

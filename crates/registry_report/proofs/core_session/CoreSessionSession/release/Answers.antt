@@ -2,7 +2,7 @@
 use Rattle.std.proofs.Common.{None, ap, sym, ◌∙◌}
 use Rattle.std.specs.Prelude.{slice_index_or}
 use Rattle.registry_report.specs.Common.{SessionState}
-use Rattle.registry_report.proofs.calls.DoneReferences.{release_does, release_fails, told_err}
+use Rattle.registry_report.proofs.calls.Done.{release_does, release_fails, told_err}
 use Rattle.registry_report.proofs.calls.Sessions.{cpu_known, filled_tells}
 use Rattle.registry_report.proofs.core_session.CoreSessionSession.release.Goals as goal
 

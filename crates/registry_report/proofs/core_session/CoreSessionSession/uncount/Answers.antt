@@ -4,7 +4,7 @@ use Rattle.std.specs.Prelude.{slice_index_or}
 use Rattle.protocol.specs.Common.{State}
 use Rattle.registry_report.specs.Common.{SessionState}
 use Rattle.registry_report.proofs.calls.Sessions.{cpu_known, filled_tells, given_up, released_locals}
-use Rattle.registry_report.proofs.calls.DoneReferences.{uncount_leaves, uncount_none, unfilled}
+use Rattle.registry_report.proofs.calls.Done.{uncount_leaves, uncount_none, unfilled}
 use Rattle.registry_report.proofs.core_session.CoreSessionSession.uncount.Goals as goal
 
 pub invariant_of-self : goal.invariant_of-self

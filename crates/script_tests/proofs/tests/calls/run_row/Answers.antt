@@ -1,4 +1,4 @@
-use Rattle.registry_live.proofs.AllCpus.{new_are_all}
+use Rattle.registry_live.proofs.LiveCpus.{new_are_all}
 use Rattle.script_tests.proofs.tests.calls.run_row.Goals as goal
 
 pub run_on-requires-clause-cpus : goal.run_on-requires-clause-cpus

@@ -1,4 +1,4 @@
-use Rattle.registry_live.proofs.AllCpus.{new_are_all}
+use Rattle.registry_live.proofs.LiveCpus.{new_are_all}
 use Rattle.script_tests.proofs.tests.memory_tests.audited_and_found.Goals as goal
 
 pub run_both-requires-clause-cpus : goal.run_both-requires-clause-cpus

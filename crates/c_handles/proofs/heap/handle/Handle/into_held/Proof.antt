@@ -33,8 +33,8 @@ use Rattle.c_handles.proofs.HeapValues.{both, Held, held_good, held_in}
 use mir.Raw.{raw as bare}
 use base.Fraction.{full_share}
 use denote.Memory.{lone}
-use Rattle.c_handles.specs.heap.Handles.{token}
-use Rattle.c_handles.proofs.Holding.{either, token_tests}
+use Rattle.c_handles.specs.Heap.{token}
+use Rattle.c_handles.proofs.Lent.{either, token_tests}
 use Rattle.c_handles.specs.contracts.heap.handle.Handle as handle
 use Rattle.c_handles.specs.contracts.heap.handle.Handle.into_held as f
 use Rattle.c_handles.proofs.heap.handle.Handle.into_held.Statement.{statement}

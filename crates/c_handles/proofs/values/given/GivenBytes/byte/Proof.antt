@@ -2,7 +2,7 @@
 use Rattle.std.proofs.Common.{◌≡◌, refl}
 use base.Logic.{emp, id⊢}
 use contract.Monad.{fact, fact_i}
-use Rattle.c_handles.specs.heap.Rows.{IsWithin, number_at}
+use Rattle.c_handles.specs.Heap.{IsWithin, number_at}
 use Rattle.c_handles.proofs.ReadByte.{read}
 use Rattle.c_handles.specs.declared.values.given.GivenBytes.{GivenBytes}
 use Rattle.c_handles.specs.contracts.values.given.GivenBytes.{the_type as for_c}

@@ -3,7 +3,7 @@ use Rattle.std.proofs.Common.{◌≡◌, refl}
 use base.Logic.{emp}
 use contract.Monad.{fact_i}
 use denote.Builtin.{u8}
-use Rattle.c_handles.specs.heap.Rows.{is_nothing}
+use Rattle.c_handles.specs.Heap.{is_nothing}
 use Rattle.c_handles.proofs.LentRow.{asked}
 use Rattle.c_handles.specs.declared.values.given.GivenBytes.{GivenBytes}
 use Rattle.c_handles.specs.contracts.values.given.GivenBytes.{the_type as for_c}

@@ -1,9 +1,8 @@
 -- `value_mut` lends what the pointer is to.
 use Rattle.std.proofs.Common.{refl, Some}
 use Rattle.c_handles.specs.contracts.values.plain.CName.{the_row as name_row}
-use Rattle.c_handles.specs.heap.Handles.{is_testable}
-use Rattle.c_handles.proofs.Holding.{lent_tests}
-use Rattle.c_handles.proofs.Lent.{lent}
+use Rattle.c_handles.specs.Heap.{is_testable}
+use Rattle.c_handles.proofs.Lent.{lent_tests, lent}
 use Rattle.c_handles.specs.contracts.values.place.NamePlace.{the_type as for_c}
 use Rattle.c_handles.specs.contracts.values.place.NamePlace.value_mut as f
 use Rattle.c_handles.proofs.values.place.NamePlace.value_mut.Statement.{statement}

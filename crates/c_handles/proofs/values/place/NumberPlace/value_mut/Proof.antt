@@ -1,9 +1,8 @@
 -- `value_mut` lends what the pointer is to.
 use Rattle.std.proofs.Common.{refl, Some}
 use denote.Builtin.{u64}
-use Rattle.c_handles.specs.heap.Handles.{is_testable}
-use Rattle.c_handles.proofs.Holding.{lent_tests}
-use Rattle.c_handles.proofs.Lent.{lent}
+use Rattle.c_handles.specs.Heap.{is_testable}
+use Rattle.c_handles.proofs.Lent.{lent_tests, lent}
 use Rattle.c_handles.specs.contracts.values.place.NumberPlace.{the_type as for_c}
 use Rattle.c_handles.specs.contracts.values.place.NumberPlace.value_mut as f
 use Rattle.c_handles.proofs.values.place.NumberPlace.value_mut.Statement.{statement}

@@ -4,7 +4,7 @@ use base.Fraction.{full_share}
 use base.Logic.{emp}
 use contract.Monad.{fact_i}
 use denote.Builtin.{u8}
-use Rattle.c_handles.specs.heap.Rows.{is_nothing}
+use Rattle.c_handles.specs.Heap.{is_nothing}
 use Rattle.c_handles.proofs.LentRow.{asked}
 use Rattle.c_handles.specs.declared.values.rows.TextPlace.{TextPlace}
 use Rattle.c_handles.specs.contracts.values.rows.TextPlace.{the_type as for_c}

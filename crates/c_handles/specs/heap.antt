@@ -1,3 +1,0 @@
-pub mod Handles
-pub mod Lent
-pub mod Rows

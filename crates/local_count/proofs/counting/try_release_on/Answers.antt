@@ -1,0 +1,36 @@
+-- A CPU's data agree with its view over a release, and so do those of a reference that comes back.
+use Rattle.std.proofs.Common.{◌<◌, ◌∙◌, ap, sym, subst, arith}
+use Rattle.cpu_words.proofs.seats.Seating.{step_is_shown}
+use Rattle.passive_list.specs.Types.{Settings}
+use Rattle.passive_list.specs.declared.place.NumberedCount.{NumberedCount}
+use Rattle.passive_list.specs.Common.{OnPlainCpu, OnPlainRef}
+use Rattle.passive_list.proofs.Agreeing.{own_agrees, place_is}
+use Rattle.local_count.specs.References.{net_by}
+use Rattle.local_count.proofs.References.{same_agrees, stored_agrees, released_agrees, come_back}
+use Rattle.local_count.proofs.counting.try_release_on.Goals as goal
+
+pub count_down-word-requires-clause-place : goal.count_down-word-requires-clause-place
+count_down-word-requires-clause-place c =
+    let slot : c.reference.inside.slot < c.args.cpu.now.words.settings.slots =
+    omega (arith, c.requires.reference.1, c.reference.invariant.slot, ap (λ (o : OnPlainRef). o.reference.entry.slot) c.reference.view_is) in (
+      subst (λ (z : Settings). c.cpu.inside.id < z.cpus) (ap (λ (o : OnPlainCpu). o.words.settings) c.cpu.view_is ∙ sym c.requires.words.1) c.cpu.invariant.few,
+      subst (λ (z : Settings). c.reference.inside.slot < z.slots) (sym c.requires.words.1) slot,
+    )
+
+pub invariant_of-cpu : goal.invariant_of-cpu
+invariant_of-cpu c =
+    let back = come_back _ _ _ _ _ _ _ c.cpu.invariant.idle.hand c.join_ref.ensures.change (c.count_down-word.ensures.collected c.if-word-count.true).1 c.split_back-seat.ensures.change in
+    own_agrees _ _ _ _ _ _ _ _ _ _ _ (same_agrees _ _ _ _ _ _ _ _ _ _ _ _ _ c.cpu.invariant
+    (c.split_back-seat.ensures.step.table ∙ c.count_down-word.ensures.step.table ∙ c.join_ref.ensures.step.table) back.cpu)
+
+pub invariant_of-cpu-2 : goal.invariant_of-cpu-2
+invariant_of-cpu-2 c =
+    let counted = c.count_down-word.ensures.counted c.if-word-count.false in
+    let slot : c.reference.inside.slot < c.args.cpu.now.words.settings.slots =
+    omega (arith, c.requires.reference.1, c.reference.invariant.slot, ap (λ (o : OnPlainRef). o.reference.entry.slot) c.reference.view_is) in
+    let within = subst (λ (z : Settings). c.reference.inside.slot < z.slots) (ap (λ (o : OnPlainCpu). o.words.settings) (sym c.cpu.view_is)) slot in
+    stored_agrees _ _ _ _ _ _ _ _ _ _ _ _ _ _ c.set_net.ensures (own_agrees _ _ _ _ _ _ _ _ _ _ _
+    (released_agrees _ _ _ _ _ _ _ _ _ _ _ _ _ _ _ _ _ _ _ c.cpu.invariant (step_is_shown counted.0) c.reference.invariant within
+    (c.count_down-word.ensures.step.table ∙ c.join_ref.ensures.step.table) c.join_ref.ensures.change counted.1 c.count_down-word.ensures.floor
+    (c.net_count-count.ensures ∙ ap (λ (p : NumberedCount). net_by p c.reference.inside.number) (place_is _ c.reference.inside.slot _ c.index.ensures (omega (arith, within, c.cpu.invariant.net.size))))
+    c.count_down-word.ensures.net c.count_down-word.ensures.alone))

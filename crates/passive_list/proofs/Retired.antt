@@ -1,0 +1,363 @@
+-- An entry is retired, and a retired interface is freed: the keeper may do so, and what it has agrees with what its seat knows then.
+use Rattle.std.proofs.Common.{◌≡◌, ℕ, zero, suc, ◌+◌, ◌*◌, ◌<◌, List, [], ◌∷◌, length, set, replicate, Option, Some, None, refl, sym, ap, ◌∙◌, subst, arith, get_or-set_same, get_or-set_other, length-set, ◌≢◌, inr, ◌-◌, ◌++◌}
+use Rattle.std.proofs.lemmas.List.{map-set}
+use Rattle.std.proofs.lemmas.List.Quantifiers.{position-Some}
+use Rattle.std.proofs.Math.Seq.{map-set_same}
+use Rattle.passive_list.specs.Types.{Detach, Entry, Settings, Mark, Slot, Vacant, Live, Retired, MOST_CPUS, KeeperView, Iface, KeptSub, Done, Rest, LogItem, Keeper}
+use Rattle.registry_values.specs.Common.{live_count, slot_at, no_mark, has_number, slot_of, bias}
+use Rattle.protocol.specs.Common.{live_at, IsIn, DriversKept, total_at, kept_at}
+use Rattle.protocol.proofs.Cells.{slot_here, slot_other, total_other}
+use Rattle.protocol.proofs.History.{length-after_change}
+use Rattle.protocol.proofs.keeps.ListKeeps.{live_count_put, rows_put}
+use Rattle.protocol.proofs.keeps.Drivers.{kept_number}
+use Rattle.protocol.proofs.Occupied.{has_it, not_vacant, number_in, one_number, position_found, slot_found, slot_has}
+use Rattle.cpu_words.specs.Common.{LeadsBelow, IsBefore, MayUnpublish, HasUnpublished, keeper_after_live, keeper_after_unpublish, links_with, IsShown, IsFreedFrom, MayKeptSub, HasKeptSub, did, Makes, one_more}
+use Rattle.cpu_words.proofs.by_keeper.KeeperSteps.{seen_by_keeper}
+use Rattle.passive_list.specs.Common.{KeptSlot, row_at, states_of, AreWritten, IsAtRest, MarksAgree, RowsAgree, IsOurKeeper, with_snapshots, OnKeeper, no_row, state_of, total_or_bias, IsDrainedOn, HasFreed, kept_slot}
+use Rattle.passive_list.specs.Draining.{place_of}
+use Rattle.passive_list.proofs.Marks.{marks_written}
+use Rattle.passive_list.proofs.Rows.{state_at, live_in, row_stays, rows_set, taken_in, retired_in, IsHeldIn, held_by_slot}
+use Rattle.passive_list.proofs.Attached.{LiveIn, rows_live, live_rows, leads_on}
+use Rattle.passive_list.proofs.GivenUp.{HeldRow, held_row, row_less, less, less_rows}
+
+before_on : (xs ys : List Slot) (n : ℕ) (p : Option ℕ) → LiveIn xs ys → LiveIn ys xs → IsBefore xs n p → IsBefore ys n p
+before_on xs ys n None on back was = λ t f live. was t f (back t f live)
+before_on xs ys n (Some q) on back was = (was.0, on q was.0 was.1, was.2, λ u h live above. was.3 u h (back u h live) above)
+
+pub before_in : (a : Settings) (k : KeeperView) (rows : List KeptSlot) (n : ℕ) (p : Option ℕ) → IsAtRest a k → RowsAgree a k rows → IsBefore (states_of rows) n p → IsBefore k.slots n p
+before_in a k rows n p at agree was = before_on (states_of rows) k.slots n p (rows_live a k rows agree) (live_rows a k rows at agree) was
+
+pub leads_in : (a : Settings) (k : KeeperView) (rows : List KeptSlot) (n v : ℕ) → IsAtRest a k → RowsAgree a k rows → LeadsBelow (states_of rows) n v → LeadsBelow k.slots n v
+leads_in a k rows n v at agree was = leads_on (states_of rows) k.slots n v (rows_live a k rows agree) (live_rows a k rows at agree) was
+
+pub may_unpublish : (a : Settings) (k : KeeperView) (rows : List KeptSlot) (t : ℕ) (e : Entry) (p : Option ℕ) (v : ℕ) → IsAtRest a k → RowsAgree a k rows → (row_at rows t).state ≡ Live e
+    → IsBefore (states_of rows) e.number p → LeadsBelow (states_of rows) e.number v → live_at k.lives t ≡ 0 → MayUnpublish k t p v
+may_unpublish a k rows t e p v at agree is before link hidden = record {
+  rest = at.rest;
+  e = e;
+  live = (live_in a k rows t e agree (state_at rows t ∙ is)).1;
+  before = before_in a k rows e.number p at agree before;
+  link = leads_in a k rows e.number v at agree link;
+  hidden = hidden;
+}
+
+-- what retiring leaves, in one view
+abbrev pub snapped : KeeperView → ℕ → Entry → Option ℕ → ℕ → List Mark → KeeperView
+snapped k t e p v marks = with_snapshots (keeper_after_unpublish k t e p v) t marks
+
+pub unpublished_is : (k l : KeeperView) (t : ℕ) (e : Entry) (p : Option ℕ) (v : ℕ) → slot_at k.slots t ≡ Live e → HasUnpublished k t p v l → l ≡ keeper_after_unpublish k t e p v
+unpublished_is k l t e p v live told = told.2 ∙ ap (λ (x : Entry). keeper_after_unpublish k t x p v) (one told.0 e (sym told.1 ∙ live))
+  where
+    one : (x y : Entry) → Live x ≡ Live y → x ≡ y
+    one x y q = cc
+
+pub snapped_is : (k l m : KeeperView) (t : ℕ) (e : Entry) (p : Option ℕ) (v : ℕ) (marks : List Mark) → slot_at k.slots t ≡ Live e → HasUnpublished k t p v l → m ≡ with_snapshots l t marks
+    → m ≡ snapped k t e p v marks
+snapped_is k l m t e p v marks live told taken = taken ∙ ap (λ (x : KeeperView). with_snapshots x t marks) (unpublished_is k l t e p v live told)
+
+-- its live word is stored
+
+pub zero_stored : (lives : List ℕ) (t : ℕ) → live_at (set lives t 0) t ≡ 0
+zero_stored [] t = refl
+zero_stored (x ∷ xs) zero = refl
+zero_stored (x ∷ xs) (suc t) = zero_stored xs t
+
+stored_at_rest : (a : Settings) (k : KeeperView) (t v : ℕ) → IsAtRest a k → IsAtRest a (keeper_after_live k t v)
+stored_at_rest a k t v at = record {
+  settings = at.settings;
+  fit = at.fit;
+  rest = at.rest;
+  seated = at.seated;
+  sized = record {
+    slots = at.sized.slots;
+    marks = at.sized.marks;
+    mark_rows = at.sized.mark_rows;
+    keeps = at.sized.keeps;
+    next = at.sized.next;
+    rows = at.sized.rows;
+    totals = at.sized.totals;
+    counts = at.sized.counts;
+    count_rows = at.sized.count_rows;
+  };
+  room = at.room;
+}
+
+pub stored_keeper : (a : Settings) (k l : KeeperView) (rows : List KeptSlot) (n t v : ℕ) → IsOurKeeper a k rows n → l ≡ keeper_after_live k t v → IsShown l → IsOurKeeper a l rows n
+stored_keeper a k l rows n t v our change is_shown = record {
+  view = subst (IsAtRest a) (sym change) (stored_at_rest a k t v our.view);
+  is_shown = is_shown;
+  changes = our.changes ∙ sym (ap (λ (x : KeeperView). length x.history) change);
+  rows = subst (λ (x : KeeperView). RowsAgree a x rows) (sym change) (record {
+    size = our.rows.size;
+    each = λ u lt. let was = our.rows.each u lt in record { state = was.state; total = was.total; keeps = was.keeps; unused = was.unused };
+  });
+}
+
+links_size : (next : List ℕ) (p : Option ℕ) (v : ℕ) → length (links_with next p v) ≡ length next
+links_size next None v = refl
+links_size next (Some q) v = length-set next q v
+
+detached_at_rest : (a : Settings) (k : KeeperView) (t : ℕ) (e : Entry) (p : Option ℕ) (v : ℕ) (marks : List Mark) → IsAtRest a k → t < a.slots → slot_at k.slots t ≡ Live e → length marks ≡ MOST_CPUS
+    → IsAtRest a (snapped k t e p v marks)
+detached_at_rest a k t e p v marks at lt live size =
+    let fresh = replicate MOST_CPUS no_mark in
+    record {
+      settings = at.settings;
+      fit = at.fit;
+      rest = refl;
+      seated = at.seated;
+      sized = record {
+        slots = length-set k.slots t (Retired e) ∙ at.sized.slots;
+        marks = length-set (set k.marks t fresh) t marks ∙ (length-set k.marks t fresh ∙ at.sized.marks);
+        mark_rows = rows_put (set k.marks t fresh) t marks size (rows_put k.marks t fresh refl at.sized.mark_rows);
+        keeps = at.sized.keeps;
+        next = links_size k.next p v ∙ at.sized.next;
+        rows = at.sized.rows;
+        totals = at.sized.totals;
+        counts = at.sized.counts;
+        count_rows = at.sized.count_rows;
+      };
+      room =
+          let slots_size = at.sized.slots in
+          let less : live_count (set k.slots t (Retired e)) + 1 ≡ live_count k.slots + 0 = live_count_put k.slots t (Live e) (Retired e) (omega (arith, lt, slots_size)) live in
+          let long = length-after_change k.history (Detach e.number) in
+          let room = at.room in
+          omega (arith, less, long, room);
+    }
+
+abbrev pub row_retired : KeptSlot → Entry → KeptSlot
+row_retired r e = record { state = Retired e; total = r.total; keeps = r.keeps }
+
+pub detached_keeper : (a : Settings) (k l : KeeperView) (rows : List KeptSlot) (n t : ℕ) (e : Entry) (p : Option ℕ) (v : ℕ) (marks : List Mark) → IsOurKeeper a k rows n
+    → (row_at rows t).state ≡ Live e → length marks ≡ MOST_CPUS
+    → l ≡ snapped k t e p v marks → IsShown l → IsOurKeeper a l (set rows t (row_retired (row_at rows t) e)) (n + 1)
+detached_keeper a k l rows n t e p v marks our is marks_size change is_shown =
+    let at = our.view in
+    let live = live_in a k rows t e our.rows (state_at rows t ∙ is) in
+    let lt = live.0 in
+    let d = snapped k t e p v marks in
+    let size = at.sized.slots in
+    let had = our.rows.each t lt in
+    record {
+      view = subst (IsAtRest a) (sym change) (detached_at_rest a k t e p v marks at lt live.1 marks_size);
+      is_shown = is_shown;
+      changes = let was = our.changes in let more = length-after_change k.history (Detach e.number) in let now = ap (λ (x : KeeperView). length x.history) change in omega (arith, was, more, now);
+      rows = subst (λ (x : KeeperView). RowsAgree a x (set rows t (row_retired (row_at rows t) e))) (sym change)
+          (rows_set a k d rows t (row_retired (row_at rows t) e) lt our.rows
+          record {
+            state = slot_here k.slots t (Retired e) (omega (arith, lt, size));
+            total = had.total;
+            keeps = had.keeps;
+            unused = λ vacant. absurd (let q : Retired e ≡ Vacant = vacant in cc);
+          }
+          (λ u off was. row_stays k d u (row_at rows u) (slot_other k.slots t (Retired e) u off) refl refl was));
+    }
+
+-- and its marks with those that were taken
+pub detached_marks : (a : Settings) (k l : KeeperView) (ms ns : List Mark) (t : ℕ) (e : Entry) (p : Option ℕ) (v : ℕ) (row : List Mark) → IsAtRest a k → MarksAgree a k ms → t < a.slots
+    → AreWritten (t * a.cpus) a.cpus row ms ns → l ≡ snapped k t e p v row → MarksAgree a l ns
+detached_marks a k l ms ns t e p v row at had lt written change =
+    let fresh = replicate MOST_CPUS no_mark in
+    let wide = at.sized.marks in
+    let long = length-set k.marks t fresh in
+    subst (λ (x : KeeperView). MarksAgree a x ns) (sym change) (marks_written a k (snapped k t e p v row) ms ns t row had written
+    (get_or-set_same (set k.marks t fresh) t row [] (omega (arith, lt, wide, long)))
+    (λ u off. get_or-set_other (set k.marks t fresh) t u row [] off ∙ get_or-set_other k.marks t u fresh [] off))
+
+-- A retired interface is freed: the driver that its slot keeps has a row, the keeper may give it up, and what it has agrees with what its seat knows then.
+
+-- The driver's row
+
+-- the row that shows the number has its entry, which is in that slot
+place_told : (a : Settings) (k : KeeperView) (rows : List KeptSlot) (n u : ℕ) → RowsAgree a k rows → place_of n rows ≡ Some u → (e : Entry) × IsIn e (slot_at k.slots u) × (e.number ≡ n)
+place_told a k rows n u agree found =
+    let at = position-Some (λ (r : KeptSlot). has_number n (state_of r)) rows u no_row found in
+    let x = (row_at rows u).state in
+    let has = number_in n x at.1 in
+    let off : x ≡ Vacant → ⊥ = λ v. not_vacant has.0 x v has.1 in
+    let here = taken_in a k rows u x agree (state_at rows u) off in
+    (has.0, subst (IsIn has.0) (sym here.1) has.1, has.2)
+
+-- a number has one slot
+one_slot : (k : KeeperView) (t u : ℕ) (e f : Entry) → IsShown k → IsIn e (slot_at k.slots t) → IsIn f (slot_at k.slots u) → f.number ≡ e.number → u ≡ t
+one_slot k t u e f is_shown is also same =
+    let g = is_shown.g in
+    let slots : k.slots ≡ g.slots = (seen_by_keeper g k is_shown.good is_shown.shown).slots in
+    (one_number g.history g.slots t u e f is_shown.good.holds.slots (subst (λ (x : List Slot). IsIn e (slot_at x t)) slots is) (subst (λ (x : List Slot). IsIn f (slot_at x u)) slots also) same).0
+
+-- the row of what is held shows its number
+held_place : (a : Settings) (k : KeeperView) (rows : List KeptSlot) (u : ℕ) (f : Entry) → IsShown k → RowsAgree a k rows → HeldRow a k rows u → IsIn f (slot_at k.slots u)
+    → place_of f.number rows ≡ Some u
+held_place a k rows u f is_shown agree row is =
+    let lt = row.slot in
+    let size = agree.size in
+    let here : IsIn f (row_at rows u).state = subst (IsIn f) (sym row.shown) is in
+    let found = position_found (λ (r : KeptSlot). has_number f.number (state_of r)) no_row rows u (omega (arith, lt, size)) (has_it f.number f (row_at rows u).state here refl) in
+    let shown = place_told a k rows f.number found.0 agree found.1 in
+    found.1 ∙ ap (λ (j : ℕ). Some j) (one_slot k u found.0 f shown.0 is_shown is shown.1 shown.2)
+
+-- the slot t keeps the driver d, which is in the slot u
+pub record KeepsHeld (k : KeeperView) (t u : ℕ) : Type 0 where
+  pub d : ℕ
+  pub kept : kept_at k.keeps t ≡ Some d
+  pub of : slot_of k.slots d ≡ Some u
+  pub other : u ≢ t
+  pub held : IsHeldIn k u
+
+-- and the row of u shows the driver f
+record KeepsShown (k : KeeperView) (t u : ℕ) : Type 0 where
+  keeps : KeepsHeld k t u
+  f : Entry
+  here : IsIn f (slot_at k.slots u)
+  number : f.number ≡ keeps.d
+
+keeps_shown : (k : KeeperView) (t : ℕ) (e : Entry) → IsShown k → k.due ≡ Rest → slot_at k.slots t ≡ Retired e → e.rec.kind ≡ Iface → (u : ℕ) × KeepsShown k t u
+keeps_shown k t e is_shown rest retired kind =
+    let g = is_shown.g in
+    let seen = seen_by_keeper g k is_shown.good is_shown.shown in
+    let keeps : DriversKept k.slots k.keeps = subst (λ (x : List Slot). DriversKept x k.keeps) (sym seen.slots) (subst (DriversKept g.slots) (sym seen.keeps) is_shown.good.holds.kept_drivers) in
+    let it = kept_number k.slots k.keeps t e keeps (inr retired) kind in
+    let found = slot_found k.slots it.0 (it.2.0, it.2.1, it.2.2, it.2.3) in
+    let has = (slot_has k.slots it.0 found.0 found.1).1 in
+    let of : slot_of k.slots it.0 ≡ Some it.2.0 = found.1 ∙ ap (λ (j : ℕ). Some j) (one_slot k it.2.0 found.0 it.2.1 has.0 is_shown it.2.2 has.1 (has.2 ∙ sym it.2.3)) in (
+      it.2.0,
+      record {
+        keeps = record { d = it.0; kept = it.1; of = of; other = it.2.5; held = held_by_slot k t it.0 it.2.0 is_shown rest it.1 of };
+        f = it.2.1;
+        here = it.2.2;
+        number = it.2.3;
+      },
+    )
+
+-- the interface, as the caller has it
+abbrev IsIface : OnKeeper → ℕ → Type 0
+IsIface x t = (e : Entry) × (slot_at x.slots t ≡ Retired e) × (e.rec.kind ≡ Iface)
+
+-- so the slot is found by the rows
+pub keeps_on : {log : List LogItem} (a : Settings) (k : KeeperView) (rows : List KeptSlot) (n t : ℕ) (x : OnKeeper) → IsOurKeeper a k rows n
+    → record { view = k; slots = states_of rows; log = log } ≡ x → IsIface x t
+    → (u : ℕ) × (kept_slot (row_at rows t).keeps rows ≡ Some u) × KeepsHeld k t u
+keeps_on a k rows n t x our is iface =
+    let retired = retired_in a k rows t iface.0 our.rows (ap (λ (y : OnKeeper). slot_at y.slots t) is ∙ iface.1) in
+    let it = keeps_shown k t iface.0 our.is_shown our.view.rest retired.1 iface.2 in
+    let s = it.1 in (
+      it.0,
+      ap (λ (o : Option ℕ). kept_slot o rows) ((our.rows.each t retired.0).keeps ∙ s.keeps.kept)
+          ∙ (ap (λ (m : ℕ). place_of m rows) (sym s.number) ∙ held_place a k rows it.0 s.f our.is_shown our.rows (held_row a k rows it.0 our.view our.rows s.keeps.held) s.here),
+      s.keeps,
+    )
+
+-- where they have found u
+pub keeps_at : {log : List LogItem} (a : Settings) (k : KeeperView) (rows : List KeptSlot) (n t u : ℕ) (x : OnKeeper) → IsOurKeeper a k rows n
+    → record { view = k; slots = states_of rows; log = log } ≡ x → IsIface x t
+    → kept_slot (row_at rows t).keeps rows ≡ Some u → KeepsHeld k t u
+keeps_at a k rows n t u x our is iface found =
+    let it = keeps_on a k rows n t x our is iface in
+    let same : it.0 ≡ u = let q : ◌≡◌ {A = Option ℕ} (Some it.0) (Some u) = sym it.1 ∙ found in cc in
+    subst (KeepsHeld k t) same it.2
+
+-- and the keeper may give the driver up
+pub may_free : {log : List LogItem} (a : Settings) (k : KeeperView) (rows : List KeptSlot) (n t u : ℕ) (x : OnKeeper) → IsOurKeeper a k rows n
+    → record { view = k; slots = states_of rows; log = log } ≡ x → IsIface x t
+    → IsDrainedOn x t → KeepsHeld k t u → MayKeptSub k t u
+may_free a k rows n t u x our is iface drained keeps =
+    let d = (subst (λ (y : OnKeeper). IsDrainedOn y t) (sym is) drained).drained in
+    let retired = retired_in a k rows t iface.0 our.rows (ap (λ (y : OnKeeper). slot_at y.slots t) is ∙ iface.1) in
+    let one : d.retired.0 ≡ iface.0 = let q : Retired d.retired.0 ≡ Retired iface.0 = sym d.retired.1 ∙ retired.1 in cc in
+    record {
+      drained = d;
+      kind = ap (λ (f : Entry). f.rec.kind) one ∙ iface.2;
+      kept = (keeps.d, (keeps.kept, keeps.of));
+    }
+
+-- The view after it
+
+abbrev pub freed : KeeperView → ℕ → ℕ → ℕ → KeeperView
+freed k t d u = record k {
+  totals = set k.totals u (total_at k.totals u - 1);
+  slots = set k.slots t Vacant;
+  keeps = set k.keeps t None;
+  counts = set k.counts t (replicate MOST_CPUS 0);
+  given_up = one_more k.given_up d;
+}
+
+-- what the step tells
+pub freed_is : (k l : KeeperView) (t d u : ℕ) → kept_at k.keeps t ≡ Some d → HasKeptSub k t u l → l ≡ freed k t d u
+freed_is k l t d u kept told = told.2 ∙ ap (λ (n : ℕ). freed k t n u) (let q : ◌≡◌ {A = Option ℕ} (Some told.0) (Some d) = sym told.1.0 ∙ kept in cc)
+
+freed_at_rest : (a : Settings) (k : KeeperView) (t d u : ℕ) (e : Entry) → IsAtRest a k → t < a.slots → slot_at k.slots t ≡ Retired e → IsAtRest a (freed k t d u)
+freed_at_rest a k t d u e at lt retired = record {
+  settings = at.settings;
+  fit = at.fit;
+  rest = at.rest;
+  seated = at.seated;
+  sized = record {
+    slots = length-set k.slots t Vacant ∙ at.sized.slots;
+    marks = at.sized.marks;
+    mark_rows = at.sized.mark_rows;
+    keeps = length-set k.keeps t None ∙ at.sized.keeps;
+    next = at.sized.next;
+    rows = at.sized.rows;
+    totals = length-set k.totals u _ ∙ at.sized.totals;
+    counts = length-set k.counts t (replicate MOST_CPUS 0) ∙ at.sized.counts;
+    count_rows = rows_put k.counts t (replicate MOST_CPUS 0) refl at.sized.count_rows;
+  };
+  room =
+      let size = at.sized.slots in
+      let same : live_count (set k.slots t Vacant) + 0 ≡ live_count k.slots + 0 = live_count_put k.slots t (Retired e) Vacant (omega (arith, lt, size)) retired in
+      let room = at.room in
+      omega (arith, same, room);
+}
+
+abbrev pub row_freed : KeptSlot → KeptSlot
+row_freed r = record { state = Vacant; total = r.total; keeps = None }
+
+-- the total of the driver is one less, and then the slot is vacant
+freed_rows : (a : Settings) (k : KeeperView) (rows : List KeptSlot) (t d u v : ℕ) → IsAtRest a k → RowsAgree a k rows → IsHeldIn k u → u ≢ t → t < a.slots → total_at k.totals t ≡ bias → v ≡ total_or_bias (row_at rows u)
+    → RowsAgree a (freed k t d u) (set (set rows u (row_less (row_at rows u) v)) t (row_freed (row_at rows t)))
+freed_rows a k rows t d u v at agree held off lt total read =
+    let m = less k u k.given_up in
+    let rows' = set rows u (row_less (row_at rows u) v) in
+    let slot_size = at.sized.slots in
+    let keep_size = at.sized.keeps in
+    let had = agree.each t lt in
+    let stays : total_at m.totals t ≡ total_at k.totals t = total_other k.totals u _ t (λ same. off (sym same)) in
+    rows_set a m (freed k t d u) rows' t (row_freed (row_at rows t)) lt (less_rows a k rows u v k.given_up at agree (held_row a k rows u at agree held) read)
+    record {
+      state = slot_here k.slots t Vacant (omega (arith, lt, slot_size));
+      total = had.total ∙ sym stays;
+      keeps = sym (get_or-set_same k.keeps t None None (omega (arith, lt, keep_size)));
+      unused = λ vacant. had.total ∙ total;
+    }
+    (λ w other was. row_stays m (freed k t d u) w (row_at rows' w) (slot_other k.slots t Vacant w other) refl (get_or-set_other k.keeps t w None None other) was)
+
+pub freed_keeper : {log : List LogItem} (a : Settings) (k l : KeeperView) (rows : List KeptSlot) (n t u v : ℕ) (x : OnKeeper) → IsOurKeeper a k rows n
+    → record { view = k; slots = states_of rows; log = log } ≡ x → IsDrainedOn x t → KeepsHeld k t u
+    → HasKeptSub k t u l → IsShown l → v ≡ total_or_bias (row_at rows u) → IsOurKeeper a l (set (set rows u (row_less (row_at rows u) v)) t (row_freed (row_at rows t))) n
+freed_keeper a k l rows n t u v x our is drained keeps told is_shown read =
+    let d = subst (λ (y : OnKeeper). IsDrainedOn y t) (sym is) drained in
+    let here = retired_in a k rows t d.retired.0 our.rows d.retired.1 in
+    let change = freed_is k l t keeps.d u keeps.kept told in
+    let after = set (set rows u (row_less (row_at rows u) v)) t (row_freed (row_at rows t)) in
+    record {
+      view = subst (IsAtRest a) (sym change) (freed_at_rest a k t keeps.d u d.retired.0 our.view here.0 here.1);
+      is_shown = is_shown;
+      changes = our.changes ∙ sym (ap (λ (y : KeeperView). length y.history) change);
+      rows = subst (λ (y : KeeperView). RowsAgree a y after) (sym change) (freed_rows a k rows t keeps.d u v our.view our.rows keeps.held keeps.other here.0 d.drained.total read);
+    }
+
+-- what it leaves of the keeper
+pub has_freed : {log later : List LogItem} (a : Settings) (k l : KeeperView) (rows : List KeptSlot) (t u v : ℕ) (r q : KeptSlot) (x : OnKeeper) → state_of q ≡ state_of (row_at rows u) → record { view = k; slots = states_of rows; log = log } ≡ x
+    → RowsAgree a k rows → Makes (KeptSub t) Done (Keeper k) (Keeper l) → HasKeptSub k t u l → later ≡ log ++ did (KeptSub t) Done
+    → ((e : Entry) → slot_at k.slots t ≡ Retired e → IsFreedFrom t e.number later)
+    → HasFreed x t (record { view = l; slots = states_of (set (set rows u (row_less q v)) t (row_freed r)); log = later })
+has_freed {later} a k l rows t u v r q x state is agree made told goes_on freed =
+    let after = set (set rows u (row_less q v)) t (row_freed r) in
+    subst (λ (y : OnKeeper). HasFreed y t (record { view = l; slots = states_of after; log = later })) is record {
+      u = u;
+      made = made;
+      view = told;
+      slots = map-set state_of (set rows u (row_less q v)) t (row_freed r) ∙ ap (λ (xs : List Slot). set xs t Vacant) (map-set_same state_of rows u (row_less q v) no_row state);
+      log = goes_on;
+      freed = λ e at. freed e (retired_in a k rows t e agree at).1;
+    }

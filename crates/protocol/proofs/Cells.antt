@@ -1,0 +1,220 @@
+-- Places of rows, of slots, totals and marks after one is written: how rows grow, and which slot has the entry with a number.
+use Rattle.std.proofs.Common.{◌≡◌, ℕ, zero, suc, ◌<◌, ◌⊎◌, inl, inr, List, [], length, get_or, set, replicate, refl, sym, ap, subst, ◌∙◌, get_or-set_same, get_or-set_other, Bool, None, Some, arith, false, true, ◌∷◌, take, ◌||◌}
+use Rattle.std.proofs.lemmas.List.{set_past, get_or_past}
+use Rattle.std.proofs.lemmas.Bool.{cases_lt, cases_eq, eq-eqb, lt-ltb, and_from}
+use Rattle.std.proofs.lemmas.List.Sums.{fails_before_first}
+use Rattle.std.proofs.lemmas.Option.{none-some}
+use Rattle.std.specs.List.{position_or_len, list_all, list_any}
+use Rattle.std.specs.Prelude.{if◌then◌else◌, position}
+use Rattle.protocol.specs.Types.{Entry, Slot, Vacant, Change, Live, Retired, Mark}
+use Rattle.registry_values.specs.Common.{slot_at, has_number, slot_of, Grows, are_clear, are_collected, have_passed, is_clear, is_collected, is_passed, no_mark, is_retired}
+use Rattle.registry_values.proofs.Fit.{ranges}
+use Rattle.protocol.specs.Common.{cell, with_cell, total_at, IsIn, IsAttached, Occupies, SlotsShow, Rest, Snapshots, AllClear, AllCollected, AllPassed, MarksGrow, SameElsewhere, Holds, at_rest, State, mark_at}
+use Rattle.protocol.proofs.Occupied.{not_vacant, one_in as same_in, place_cases, written_cases, slot_has, at_rest_tells, is_retired_tells}
+use Rattle.protocol.proofs.Either.{either}
+use Rattle.protocol.proofs.History.{one_entry}
+
+-- it is the place that was written, or another
+pub by_place : (P : ℕ → Type 0) (c j : ℕ) → P c → ((j ≡ c → ⊥) → P j) → P j
+by_place P c j here other = either (cases_eq j c) (λ same. subst P (sym same) here) (λ off. other off)
+
+-- the same of a place in a row
+pub by_cell : (P : ℕ → ℕ → Type 0) (t c u j : ℕ) → P t c → ((u ≡ t → j ≡ c → ⊥) → P u j) → P u j
+by_cell P t c u j here other = either (cases_eq u t)
+    (λ same. either (cases_eq j c) (λ too. subst (λ (k : ℕ). P k j) (sym same) (subst (P t) (sym too) here)) (λ off. other (λ _ is. off is)))
+    (λ off. other (λ is _. off is))
+
+-- the row that was written, and the others
+pub row_here : {X : Type 0} (rows : List (List X)) (t c : ℕ) (x : X) → t < length rows → get_or (with_cell rows t c x) t [] ≡ set (get_or rows t []) c x
+row_here rows t c x lt = get_or-set_same rows t (set (get_or rows t []) c x) [] lt
+
+pub row_other : {X : Type 0} (rows : List (List X)) (t c : ℕ) (x : X) (u : ℕ) → (u ≡ t → ⊥) → get_or (with_cell rows t c x) u [] ≡ get_or rows u []
+row_other rows t c x u off = get_or-set_other rows t u (set (get_or rows t []) c x) [] off
+
+pub cell_here : {X : Type 0} (d : X) (rows : List (List X)) (t c : ℕ) (x : X) → t < length rows → c < length (get_or rows t []) → cell d (with_cell rows t c x) t c ≡ x
+cell_here {X} d rows t c x lt cl = ap (λ (r : List X). get_or r c d) (row_here rows t c x lt) ∙ get_or-set_same (get_or rows t []) c x d cl
+
+pub cell_other : {X : Type 0} (d : X) (rows : List (List X)) (t c : ℕ) (x : X) (u j : ℕ) → (u ≡ t → j ≡ c → ⊥) → cell d (with_cell rows t c x) u j ≡ cell d rows u j
+cell_other {X} d rows t c x u j off = either (cases_eq u t)
+    (λ same. either (cases_lt t (length rows))
+    (λ lt.
+    ap (λ (k : ℕ). cell d (with_cell rows t c x) k j) same ∙ (ap (λ (r : List X). get_or r j d) (row_here rows t c x lt)
+    ∙ (get_or-set_other (get_or rows t []) c j x d (off same) ∙ ap (λ (k : ℕ). cell d rows k j) (sym same))))
+    (λ ge. ap (λ (r : List (List X)). cell d r u j) (set_past rows t (set (get_or rows t []) c x) ge)))
+    (λ away. ap (λ (r : List X). get_or r j d) (row_other rows t c x u away))
+
+-- what was written, or what stood there
+pub cell_cases : {X : Type 0} (d : X) (rows : List (List X)) (t c : ℕ) (x : X) (u j : ℕ)
+    → ((u ≡ t) × (j ≡ c) × (cell d (with_cell rows t c x) u j ≡ x)) ⊎ (cell d (with_cell rows t c x) u j ≡ cell d rows u j)
+cell_cases {X} d rows t c x u j = either (cases_eq u t)
+    (λ same. either (cases_eq j c)
+    (λ too. either (cases_lt t (length rows))
+    (λ lt. either (cases_lt c (length (get_or rows t [])))
+    (λ cl.
+    inl (same, too, ap (λ (k : ℕ). cell d (with_cell rows t c x) k j) same ∙ (ap (λ (k : ℕ). cell d (with_cell rows t c x) t k) too ∙ cell_here d rows t c x lt cl)))
+    (λ ge.
+    inr (ap (λ (k : ℕ). cell d (with_cell rows t c x) k j) same
+    ∙ (ap (λ (r : List X). get_or r j d) (row_here rows t c x lt ∙ set_past (get_or rows t []) c x ge) ∙ ap (λ (k : ℕ). cell d rows k j) (sym same)))))
+    (λ ge. inr (ap (λ (r : List (List X)). cell d r u j) (set_past rows t (set (get_or rows t []) c x) ge))))
+    (λ off. inr (cell_other d rows t c x u j (λ _ is. off is))))
+    (λ off. inr (cell_other d rows t c x u j (λ is _. off is)))
+
+-- what holds of a place after a write: of what was written there, and of each place before
+pub place_put : {X : Type 0} (d : X) (xs : List X) (t : ℕ) (x : X) (P : ℕ → X → Type 0) (u : ℕ) → P t x → P u (get_or xs u d) → P u (get_or (set xs t x) u d)
+place_put {X} d xs t x P u here old = either (written_cases d xs t x u)
+    (λ same. subst (P u) (sym same.1) (subst (λ (k : ℕ). P k x) (sym same.0) here))
+    (λ off. subst (P u) (sym off.1) old)
+
+-- the same of a place in the list, where the others alone are asked of
+pub place_in : {X : Type 0} (d : X) (xs : List X) (t : ℕ) (x : X) (P : ℕ → X → Type 0) (u : ℕ) → t < length xs → P t x → ((u ≡ t → ⊥) → P u (get_or xs u d)) → P u (get_or (set xs t x) u d)
+place_in {X} d xs t x P u lt here other = either (place_cases d xs t x u lt)
+    (λ same. subst (P u) (sym same.1) (subst (λ (k : ℕ). P k x) (sym same.0) here))
+    (λ off. subst (P u) (sym off.1) (other off.0))
+
+-- of a place in a row
+pub cell_put : {X : Type 0} (d : X) (rows : List (List X)) (t c : ℕ) (x : X) (P : ℕ → ℕ → X → Type 0) (u j : ℕ) → P t c x → P u j (cell d rows u j) → P u j (cell d (with_cell rows t c x) u j)
+cell_put {X} d rows t c x P u j here old = either (cell_cases d rows t c x u j)
+    (λ same.
+    subst (P u j) (sym same.2) (subst (λ (k : ℕ). P k j x) (sym same.0) (subst (λ (k : ℕ). P t k x) (sym same.1) here)))
+    (λ was. subst (P u j) (sym was) old)
+
+-- a row that was written whole
+pub cell_in_new : {X : Type 0} (d : X) (rows : List (List X)) (t : ℕ) (row : List X) (j : ℕ) → t < length rows → cell d (set rows t row) t j ≡ get_or row j d
+cell_in_new {X} d rows t row j lt = ap (λ (r : List X). get_or r j d) (get_or-set_same rows t row [] lt)
+
+pub cell_in_old : {X : Type 0} (d : X) (rows : List (List X)) (t : ℕ) (row : List X) (u j : ℕ) → (u ≡ t → ⊥) → cell d (set rows t row) u j ≡ cell d rows u j
+cell_in_old {X} d rows t row u j off = ap (λ (r : List X). get_or r j d) (get_or-set_other rows t u row [] off)
+
+-- each place of such a list shows x, and so does each place past its end
+pub get_or_all : {X : Type 0} (n : ℕ) (x : X) (i : ℕ) → get_or (replicate n x) i x ≡ x
+get_or_all zero x i = refl
+get_or_all (suc n) x zero = refl
+get_or_all (suc n) x (suc i) = get_or_all n x i
+
+-- a slot has one entry
+pub one_in : (e f : Entry) (x : Slot) → IsIn e x → IsIn f x → f ≡ e
+one_in e f x first second = same_in f e x first second
+
+-- the slot that was written, and the others
+pub slot_here : (slots : List Slot) (t : ℕ) (x : Slot) → t < length slots → slot_at (set slots t x) t ≡ x
+slot_here slots t x lt = get_or-set_same slots t x Vacant lt
+
+pub slot_other : (slots : List Slot) (t : ℕ) (x : Slot) (u : ℕ) → (u ≡ t → ⊥) → slot_at (set slots t x) u ≡ slot_at slots u
+slot_other slots t x u off = get_or-set_other slots t u x Vacant off
+
+-- a slot that isn't the one made vacant
+pub not_vacated : (slots : List Slot) (t : ℕ) (u : ℕ) (f : Entry) → t < length slots → IsIn f (slot_at (set slots t Vacant) u) → u ≡ t → ⊥
+not_vacated slots t u f lt is same = not_vacant f (slot_at (set slots t Vacant) u) (ap (slot_at (set slots t Vacant)) same ∙ slot_here slots t Vacant lt) is
+
+-- the total that was written, and the others
+pub total_here : (totals : List ℕ) (t v : ℕ) → t < length totals → total_at (set totals t v) t ≡ v
+total_here totals t v lt = get_or-set_same totals t v 0 lt
+
+pub total_other : (totals : List ℕ) (t v u : ℕ) → (u ≡ t → ⊥) → total_at (set totals t v) u ≡ total_at totals u
+total_other totals t v u off = get_or-set_other totals t u v 0 off
+
+-- Which slot has the entry with a number.
+
+-- where a place passes, one is found
+pub position_passes : {X : Type 0} (p : X → Bool) (xs : List X) (k : ℕ) (d : X) → k < length xs → p (get_or xs k d) ≡ true → (i : ℕ) × (position p xs ≡ Some i)
+position_passes p xs k d lt passes = either (cases_lt (position_or_len p xs) (length xs))
+    (λ in_. (position_or_len p xs, ap (λ (b : Bool). if b then Some (position_or_len p xs) else None) (lt-ltb (position_or_len p xs) (length xs) in_)))
+    (λ out. absurd (let q : ◌≡◌ {A = Bool} true false = sym passes ∙ fails_before_first p xs k d (omega arith) in cc))
+
+-- and where none is found, no place passes
+pub position_fails : {X : Type 0} (p : X → Bool) (xs : List X) (k : ℕ) (d : X) → position p xs ≡ None → k < length xs → p (get_or xs k d) ≡ true → ⊥
+position_fails p xs k d none lt passes = let i = position_passes p xs k d lt passes in none-some i.0 (sym none ∙ i.1)
+
+-- an entry in a slot is attached, in that slot
+pub entry_attached : (h : List Change) (slots : List Slot) (e : Entry) (t : ℕ) → SlotsShow h slots → IsIn e (slot_at slots t) → IsAttached h e × (e.slot ≡ t)
+entry_attached h slots e t show is = either is
+    (λ live. let was = show.live t e live in (was.0.attached, was.1))
+    (λ gone. let was = show.retired t e gone in (was.0, was.1))
+
+-- two entries in slots with one number are one, in one slot
+pub one_number : (h : List Change) (slots : List Slot) (e f : Entry) (t u : ℕ) → SlotsShow h slots → IsIn e (slot_at slots t) → IsIn f (slot_at slots u) → e.number ≡ f.number → (e ≡ f) × (t ≡ u)
+one_number h slots e f t u show x y same =
+    let a = entry_attached h slots e t show x in
+    let b = entry_attached h slots f u show y in
+    let one : e ≡ f = one_entry h e f a.0 b.0 same in
+    (one, sym a.1 ∙ (ap (λ (g : Entry). g.slot) one ∙ b.1))
+
+-- a slot that has an entry is in range
+pub within_in : (slots : List Slot) (e : Entry) (t : ℕ) → IsIn e (slot_at slots t) → t < length slots
+within_in slots e t is = either (cases_lt t (length slots))
+    (λ lt. lt)
+    (λ ge. absurd (either is
+    (λ live. let q : Vacant ≡ Live e = sym (get_or_past slots t Vacant ge) ∙ live in cc)
+    (λ gone. let q : Vacant ≡ Retired e = sym (get_or_past slots t Vacant ge) ∙ gone in cc)))
+
+has_own : (e : Entry) (x : Slot) → IsIn e x → has_number e.number x ≡ true
+has_own e x is = either is (λ live. ap (has_number e.number) live ∙ eq-eqb e.number e.number refl) (λ gone. ap (has_number e.number) gone ∙ eq-eqb e.number e.number refl)
+
+-- the slot of an entry's number is its own
+pub slot_number : (h : List Change) (slots : List Slot) (e : Entry) (t : ℕ) → SlotsShow h slots → IsIn e (slot_at slots t) → slot_of slots e.number ≡ Some t
+slot_number h slots e t show is =
+    let found = position_passes (has_number e.number) slots t Vacant (within_in slots e t is) (has_own e (slot_at slots t) is) in
+    let there = slot_has slots e.number found.0 found.1 in
+    let one = one_number h slots there.1.0 e found.0 t show there.1.1 is there.1.2 in
+    found.1 ∙ ap (λ (k : ℕ). Some k) one.1
+
+-- a number that some slot has is found
+pub occupied_slot : (h : List Change) (slots : List Slot) (n : ℕ) → SlotsShow h slots → Occupies slots n → (t : ℕ) × (slot_of slots n ≡ Some t)
+occupied_slot h slots n show o = (o.0, ap (slot_of slots) (sym o.3) ∙ slot_number h slots o.1 o.0 show o.2)
+
+-- Rows of marks: how they grow, and what all their marks say together.
+
+pub snapshot_stands : (s : State) (t c : ℕ) → Holds s → at_rest s.due ≡ true → is_retired (slot_at s.slots t) ≡ true → c < s.settings.cpus → (w : ℕ) × ((mark_at s.marks t c).snapshot ≡ Some w)
+snapshot_stands s t c on rest gone lt =
+    let e = is_retired_tells (slot_at s.slots t) gone in
+    on.snapshots t c e.0 e.1 lt (λ due. let q : Rest ≡ Snapshots t due.0 = sym (at_rest_tells s.due rest) ∙ due.1 in cc)
+
+-- one mark of a row is written
+pub mark_written : (P : Mark → Mark → Type 0) (marks : List (List Mark)) (t c : ℕ) (m : Mark) → ((x : Mark) → P x x) → P (mark_at marks t c) m → (j : ℕ)
+    → P (mark_at marks t j) (mark_at (with_cell marks t c m) t j)
+mark_written P marks t c m same new j = cell_put no_mark marks t c m (λ v i x. v ≡ t → P (mark_at marks v i) x) t j (λ _. new) (λ _. same (mark_at marks t j)) refl
+
+pub row_elsewhere : {X : Type 0} (rows : List (List X)) (t c : ℕ) (x : X) → SameElsewhere rows (with_cell rows t c x) t
+row_elsewhere rows t c x u off = get_or-set_other rows t u (set (get_or rows t []) c x) [] off
+
+-- what is written is there
+pub mark_there : (s : State) (t c : ℕ) (m : Mark) → Holds s → t < s.settings.slots → c < s.settings.cpus → mark_at (with_cell s.marks t c m) t c ≡ m
+mark_there s t c m on ts lt =
+    let tm : t < length s.marks = omega (arith, on.shape.marks) in
+    let cm : c < length (get_or s.marks t []) = omega (arith, on.shape.mark_rows t tm, (ranges s.settings on.fit).cpus, lt) in
+    ap (λ (r : List Mark). get_or r c no_mark) (get_or-set_same s.marks t (set (get_or s.marks t []) c m) [] tm) ∙ get_or-set_same (get_or s.marks t []) c m no_mark cm
+
+all_from : (p : Mark → Bool) (n : ℕ) (row : List Mark) → ((c : ℕ) → c < n → p (get_or row c no_mark) ≡ true) → list_all p (take n row) ≡ true
+all_from p zero row each = refl
+all_from p (suc n) [] each = refl
+all_from p (suc n) (x ∷ row) each = and_from (p x) (list_all p (take n row)) (each 0 (omega arith)) (all_from p n row (λ c lt. each (suc c) (omega arith)))
+
+pub passed_from : (s : State) (t : ℕ) → AllPassed s t → have_passed s.settings.cpus (get_or s.marks t []) ≡ true
+passed_from s t all = all_from is_passed s.settings.cpus (get_or s.marks t []) all
+
+pub clear_from : (s : State) (t : ℕ) → AllClear s t → are_clear s.settings.cpus (get_or s.marks t []) ≡ true
+clear_from s t all = all_from is_clear s.settings.cpus (get_or s.marks t []) all
+
+pub collected_from : (s : State) (t : ℕ) → AllCollected s t → are_collected s.settings.cpus (get_or s.marks t []) ≡ true
+collected_from s t all = all_from is_collected s.settings.cpus (get_or s.marks t []) all
+
+pub grows_none : (m : Mark) → Grows m m
+grows_none m = record { snapshot = refl; passed = λ x. x; clear = λ x. x; collected = λ x. x }
+
+pub grows_more : (a b d : Mark) → Grows a b → Grows b d → Grows a d
+grows_more a b d x y = record { snapshot = y.snapshot ∙ x.snapshot; passed = λ p. y.passed (x.passed p); clear = λ p. y.clear (x.clear p); collected = λ p. y.collected (x.collected p) }
+
+pub marks_grow_none : (marks : List (List Mark)) (t : ℕ) → MarksGrow marks marks t
+marks_grow_none marks t = record { elsewhere = λ u off. refl; here = λ c. grows_none (mark_at marks t c) }
+
+pub marks_grow_more : (a b d : List (List Mark)) (t : ℕ) → MarksGrow a b t → MarksGrow b d t → MarksGrow a d t
+marks_grow_more a b d t x y = record { elsewhere = λ u off. y.elsewhere u off ∙ x.elsewhere u off; here = λ c. grows_more (mark_at a t c) (mark_at b t c) (mark_at d t c) (x.here c) (y.here c) }
+
+pub mark_grows : (marks : List (List Mark)) (t c : ℕ) (m : Mark) → Grows (mark_at marks t c) m → MarksGrow marks (with_cell marks t c m) t
+mark_grows marks t c m grows = record { elsewhere = row_elsewhere marks t c m; here = mark_written Grows marks t c m grows_none grows }
+
+pub any_within : {X : Type 0} (p : X → Bool) (n : ℕ) (row : List X) (d : X) (c : ℕ) → c < n → c < length row → p (get_or row c d) ≡ true → list_any p (take n row) ≡ true
+any_within p n [] d c lt within is = absurd (omega arith)
+any_within p zero (x ∷ row) d c lt within is = absurd (omega arith)
+any_within p (suc n) (x ∷ row) d zero lt within is = rw is refl
+any_within p (suc n) (x ∷ row) d (suc c) lt within is = rw (any_within p n row d c (omega arith) (omega arith) is) (elim (p x) as (λ (b : Bool). (b || true) ≡ true) [ true ↦ refl | false ↦ refl ])

@@ -1,4 +1,0 @@
-pub mod Cells
-pub mod MarkRows
-pub mod Numbers
-pub mod Occupied
