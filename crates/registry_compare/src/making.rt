@@ -1,7 +1,7 @@
 //! Scripts from random numbers.
 
 use super::comparing::Scripts;
-use super::sketch::{Effect, Line, Sketch, at};
+use super::sketch::{Effect, LABELS, Line, Sketch, at};
 use super::words::{
     COMMANDS, CPUS, FAULTY_LINES, FEW_NAMES, KINDS, MANY_NAMES, Phase, SETTINGS, SLOTS, words_of,
 };
@@ -256,13 +256,14 @@ impl Maker {
         line: &Line,
         faulty: bool,
     ) -> Result<(), AllocError> {
+        let (cpus, slots) = (self.sketch.cpus, self.sketch.slots);
         match letter {
             b'C' | b'F' | b'I' | b'O' | b'P' => {
-                let cpu = if faulty { self.sketch.cpus() } else { line.cpu };
+                let cpu = if faulty { cpus } else { line.cpu };
                 self.add_number(text, cpu)
             }
-            b'K' if !faulty => self.add_number(text, self.sketch.cpus()),
-            b'S' if !faulty => self.add_number(text, self.sketch.slots()),
+            b'K' if !faulty => self.add_number(text, cpus),
+            b'S' if !faulty => self.add_number(text, slots),
             b'R' if !faulty => self.add_number(text, self.sketch.number_in(line.slot)),
             b'D' if !faulty => {
                 text.extend_from_slice(at(KINDS, line.key % 2))?;
@@ -282,8 +283,8 @@ impl Maker {
         match letter {
             _ if faulty => self.choose(without),
             b'E' | b'U' | b'W' => at(self.names, line.key / 2),
-            b'A' | b'G' | b'N' | b'X' | b'Z' => at(within, line.label),
-            b'B' | b'Y' => at(within, line.unused),
+            b'A' | b'G' | b'N' | b'X' | b'Z' => at(within, line.label % LABELS),
+            b'B' | b'Y' => at(within, line.unused % LABELS),
             _ => self.choose(within),
         }
     }

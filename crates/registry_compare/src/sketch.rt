@@ -4,7 +4,7 @@
 use registry_values::{USUAL_CPUS, USUAL_SLOTS};
 
 /// What a command leaves.
-#[derive(Clone, Copy, PartialEq)]
+#[derive(Clone, Copy)]
 pub enum Effect {
     Attach,
     Plug,
@@ -12,17 +12,18 @@ pub enum Effect {
     Enter,
     Exit,
     Find,
-    Refer,
+    Hold,
     Copy,
-    Drop,
-    Count,
-    Uncount,
+    LetGo,
     Free,
     Nothing,
 }
 
-/// The labels of a script.
-const LABELS: usize = 3;
+/// So many labels name passive references, and as many name local ones.
+pub const LABELS: usize = 3;
+
+/// The most arguments that a letter can have: 32 names with both kinds.
+const MOST_PLACES: usize = 64;
 
 /// The arguments of a line.
 #[derive(Clone, Copy, Default)]
@@ -30,29 +31,11 @@ pub struct Line {
     pub cpu: usize,
     /// A kind and a name: twice the name's place, and one more for an interface.
     pub key: usize,
-    /// A label that is to be in use, and one that is to be free.
+    /// A label that is to be in use, and one that is to be free: passive ones first.
     pub label: usize,
     pub unused: usize,
     /// The slot whose entry has the number.
     pub slot: usize,
-}
-
-impl Line {
-    /// The line with this place for the letter.
-    fn with(self, letter: u8, place: usize) -> Line {
-        let mut line = self;
-        match letter {
-            b'C' | b'I' | b'O' | b'F' | b'P' => line.cpu = place,
-            b'D' => line.key = place,
-            b'U' => line.key = place.saturating_mul(2),
-            b'E' | b'W' => line.key = place.saturating_mul(2).saturating_add(1),
-            b'A' | b'G' | b'N' | b'X' | b'Z' => line.label = place,
-            b'B' | b'Y' => line.unused = place,
-            b'R' => line.slot = place,
-            _ => (),
-        }
-        line
-    }
 }
 
 /// A CPU's section: how deep it is, how many changes there were when it began, and the number that it has found, 0 for none.
@@ -63,7 +46,7 @@ struct Section {
     found: usize,
 }
 
-/// A passive reference: the number that it is to, 0 for none, and its CPU.
+/// What a label names: the number that the reference is to, 0 for none, and the CPU that acquired it.
 #[derive(Clone, Copy, Default)]
 struct Hold {
     number: usize,
@@ -96,15 +79,15 @@ impl Row {
 /// What the lines so far leave. Entries have their numbers, and 0 means none.
 #[derive(Clone, Copy, Drop)]
 pub struct Sketch {
-    cpus: usize,
-    slots: usize,
+    pub cpus: usize,
+    pub slots: usize,
     /// How many names the script has.
     names: usize,
     changes: usize,
     sections: [Section; USUAL_CPUS],
     rows: [Row; USUAL_SLOTS],
-    held: [Hold; LABELS],
-    counted: [usize; LABELS],
+    /// What the passive labels name, then the local ones.
+    holds: [Hold; 6],
 }
 
 fn set<T: Copy>(row: &mut [T], place: usize, value: T) {
@@ -127,18 +110,8 @@ impl Sketch {
             changes: 0,
             sections: [Section::default(); USUAL_CPUS],
             rows: [Row::default(); USUAL_SLOTS],
-            held: [Hold::default(); LABELS],
-            counted: [0; LABELS],
+            holds: [Hold::default(); 6],
         }
-    }
-
-    /// How many CPUs the script has.
-    pub fn cpus(&self) -> usize {
-        self.cpus
-    }
-
-    pub fn slots(&self) -> usize {
-        self.slots
     }
 
     /// The number of the slot's last entry.
@@ -146,25 +119,32 @@ impl Sketch {
         at(&self.rows, slot).number
     }
 
-    /// How many places there are for a letter.
-    fn places(&self, letter: u8) -> usize {
-        match letter {
-            b'C' | b'I' | b'O' | b'F' | b'P' => self.cpus,
-            b'D' => self.names.saturating_mul(2),
-            b'E' | b'U' | b'W' => self.names,
-            b'R' => self.slots,
-            _ => LABELS,
-        }
-    }
-
-    /// The line with a place for the letter, from `start` on and round again: the first of all, or the first that suits it if one does.
+    /// The line with an argument for the letter: the one at `start`, or the first from there on and round again that suits it, if one does.
     pub fn choose(&self, line: Line, letter: u8, start: usize, is_any: bool) -> Line {
-        let count = self.places(letter).max(1);
-        for n in 0..count {
-            let chosen = line.with(letter, start.wrapping_add(n) % count);
+        for n in 0..MOST_PLACES {
+            let chosen = self.with(line, letter, start.wrapping_add(n));
             if is_any || self.suits(letter, &chosen) {
                 return chosen;
             }
+        }
+        self.with(line, letter, start)
+    }
+
+    /// The line with the argument that the letter has at this place, on and round again.
+    fn with(&self, line: Line, letter: u8, place: usize) -> Line {
+        let driver = (place % self.names.max(1)).saturating_mul(2);
+        let mut line = line;
+        match letter {
+            b'C' | b'F' | b'I' | b'O' | b'P' => line.cpu = place % self.cpus.max(1),
+            b'D' => line.key = place % self.names.saturating_mul(2).max(1),
+            b'U' => line.key = driver,
+            b'E' | b'W' => line.key = driver.saturating_add(1),
+            b'A' | b'G' => line.label = place % LABELS,
+            b'N' | b'X' | b'Z' => line.label = LABELS + place % LABELS,
+            b'B' => line.unused = place % LABELS,
+            b'Y' => line.unused = LABELS + place % LABELS,
+            b'R' => line.slot = place % self.slots.max(1),
+            _ => (),
         }
         line
     }
@@ -177,28 +157,28 @@ impl Sketch {
     /// Whether the line has what the letter asks for.
     fn suits(&self, letter: u8, line: &Line) -> bool {
         let section = at(&self.sections, line.cpu);
-        let hold = at(&self.held, line.label);
-        let counted = at(&self.counted, line.label);
+        let hold = at(&self.holds, line.label);
         match letter {
             b'I' => section.depth > 0,
             b'O' => section.depth == 0,
             b'F' => section.found > 0,
-            b'P' => self
-                .held
-                .iter()
-                .any(|it| it.number > 0 && it.cpu == line.cpu),
+            b'P' => self.is_holder(line.cpu),
             b'A' => hold.number > 0 && hold.cpu == line.cpu,
-            b'G' => hold.number > 0,
-            b'B' => at(&self.held, line.unused).number == 0,
-            b'X' => counted > 0 && self.is_driver(counted),
-            b'N' => counted > 0 && !self.is_driver(counted),
-            b'Z' => counted > 0,
-            b'Y' => at(&self.counted, line.unused) == 0,
+            b'G' | b'Z' => hold.number > 0,
+            b'B' | b'Y' => at(&self.holds, line.unused).number == 0,
+            b'X' => hold.number > 0 && self.is_driver(hold.number),
+            b'N' => hold.number > 0 && !self.is_driver(hold.number),
             b'D' | b'E' => self.slot_of(line.key).is_some(),
             b'U' | b'W' => self.slot_of(line.key).is_none() && self.vacant_slot().is_some(),
             b'R' => at(&self.rows, line.slot).is_retired(),
             _ => true,
         }
+    }
+
+    /// Whether the CPU has a passive reference.
+    fn is_holder(&self, cpu: usize) -> bool {
+        let mut passive = self.holds.iter().take(LABELS);
+        passive.any(|hold| hold.number > 0 && hold.cpu == cpu)
     }
 
     fn is_driver(&self, number: usize) -> bool {
@@ -221,25 +201,22 @@ impl Sketch {
     /// Takes in what a line leaves that is carried out.
     pub fn take(&mut self, effect: Effect, line: &Line) {
         let number = at(&self.sections, line.cpu).found;
+        let hold = at(&self.holds, line.label);
+        let cpu = line.cpu;
         match effect {
-            Effect::Enter => self.enter(line.cpu),
-            Effect::Exit => self.exit(line.cpu),
+            Effect::Enter => self.enter(cpu),
+            Effect::Exit => self.exit(cpu),
             Effect::Find => self.find(line),
             Effect::Attach => self.attach(line.key, 0),
-            Effect::Plug => self.plug(line),
+            Effect::Plug => {
+                self.attach(line.key, hold.number);
+                set(&mut self.holds, line.label, Hold::default());
+            }
             Effect::Detach => self.detach(line.key),
             Effect::Free => self.free(line.slot),
-            Effect::Refer => {
-                let cpu = line.cpu;
-                set(&mut self.held, line.unused, Hold { number, cpu });
-            }
-            Effect::Copy => {
-                let hold = at(&self.held, line.label);
-                set(&mut self.held, line.unused, hold);
-            }
-            Effect::Drop => set(&mut self.held, line.label, Hold::default()),
-            Effect::Count => set(&mut self.counted, line.unused, number),
-            Effect::Uncount => set(&mut self.counted, line.label, 0),
+            Effect::Hold => set(&mut self.holds, line.unused, Hold { number, cpu }),
+            Effect::Copy => set(&mut self.holds, line.unused, hold),
+            Effect::LetGo => set(&mut self.holds, line.label, Hold::default()),
             Effect::Nothing => (),
         }
     }
@@ -288,13 +265,6 @@ impl Sketch {
         }
     }
 
-    /// An interface on the driver of the label, which is free then.
-    fn plug(&mut self, line: &Line) {
-        let driver = at(&self.counted, line.label);
-        self.attach(line.key, driver);
-        set(&mut self.counted, line.label, 0);
-    }
-
     fn detach(&mut self, key: usize) {
         let changes = self.changes.saturating_add(1);
         for row in &mut self.rows {
@@ -318,11 +288,11 @@ impl Sketch {
     fn is_let_go(&self, row: &Row) -> bool {
         let mut sections = self.sections.iter();
         let waits = sections.any(|it| it.depth > 0 && it.entered < row.ended);
-        let is_held = self.held.iter().any(|hold| hold.number == row.number);
+        let is_held = self.holds.iter().any(|it| it.number == row.number);
         let is_kept = self
             .rows
             .iter()
             .any(|it| it.is_there && it.kept == row.number);
-        !waits && !is_held && !is_kept && !self.counted.contains(&row.number)
+        !waits && !is_held && !is_kept
     }
 }

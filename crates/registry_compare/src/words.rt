@@ -5,16 +5,16 @@ use super::sketch::Effect;
 /// The lines of a script, one phase after the other.
 #[derive(Clone, Copy, PartialEq)]
 pub enum Phase {
-    /// Each slot gets a driver, in a script with many entries.
+    /// Drivers are attached until few slots are vacant or none, in a script with many entries.
     Filling,
-    /// Entries are retired and their slots given again, in a long script.
+    /// Entries are retired and their slots reused, in a long script.
     Reusing,
     /// All commands come, in each script.
     Usual,
 }
 
-/// Commands, with a capital letter for each argument. Of 100 commands of each phase how many are this one, and what it leaves. Those that are
-/// left of the 100 are audits.
+/// Commands, with a capital letter for each argument; of 100 commands how many are this one in each phase; and what it leaves. The rest of the
+/// 100 are audits.
 ///
 /// - `I` is a CPU inside its section, `O` one outside, `F` one that has found an entry, `P` one with a passive reference, `C` any.
 /// - `A` is the passive label of a reference of this CPU, `G` any in use, `B` a free one.
@@ -34,14 +34,14 @@ pub const COMMANDS: &[(&[u8], [usize; 3], Effect)] = &[
     (b"enter O", [0, 0, 5], Effect::Enter),
     (b"exit I", [0, 0, 9], Effect::Exit),
     (b"find I D", [0, 0, 7], Effect::Find),
-    (b"ref F B", [0, 0, 7], Effect::Refer),
+    (b"ref F B", [0, 0, 7], Effect::Hold),
     (b"copy P A B", [0, 0, 5], Effect::Copy),
     (b"held C G", [0, 0, 2], Effect::Nothing),
     (b"read P A", [0, 0, 2], Effect::Nothing),
-    (b"drop P A", [0, 0, 5], Effect::Drop),
-    (b"count F Y", [0, 0, 7], Effect::Count),
+    (b"drop P A", [0, 0, 5], Effect::LetGo),
+    (b"count F Y", [0, 0, 7], Effect::Hold),
     (b"peek Z", [0, 0, 2], Effect::Nothing),
-    (b"uncount C Z", [0, 0, 2], Effect::Uncount),
+    (b"uncount C Z", [0, 0, 2], Effect::LetGo),
     (b"advance R", [0, 29, 7], Effect::Free),
     (b"destroy O R T", [0, 4, 9], Effect::Free),
     (b"perform O T", [0, 0, 2], Effect::Nothing),
