@@ -1,36 +1,32 @@
 //! Scripts from random numbers.
 
 use super::comparing::Scripts;
-use super::sketch::{Effect, Line, NAMES, Sketch};
+use super::sketch::{Effect, LABELS, Line, Sketch, at};
 use super::words::{
-    ARGUMENTS, Argument, BAD_KEYS, BAD_NUMBERS, CHURN, COMMANDS, CPUS, CROWD, FAULTY_LINES,
-    SETTINGS, SLOTS, WORDS_OF_NAMES,
+    COMMANDS, CPUS, FAULTY_LINES, FEW_NAMES, KINDS, MANY_NAMES, Phase, SETTINGS, SLOTS, words_of,
 };
 use rand_core::{Rng, SeedableRng};
 use rand_xoshiro::Xoshiro256PlusPlus;
 use registry_values::USUAL_SLOTS;
 use std::alloc::{AllocError, Global};
 
-/// The lines of a script after those of the settings.
-const LINES: u32 = 48;
+/// The lines of a script in its usual phase.
+const LINES: usize = 48;
 
 /// How many commands are tried for a line that the registry should carry out.
-const TRIES: u32 = 12;
+const TRIES: usize = 12;
 
 /// One line in so many has any arguments.
 const ANY: usize = 6;
 
 /// How often a section may be nested, and once more.
-const TOO_DEEP: u32 = 256;
-
-/// The names of a usual script.
-const FEW_NAMES: usize = 3;
+const TOO_DEEP: usize = 256;
 
 /// How many slots of a registry that is to be full may be vacant still.
 const VACANT: usize = 9;
 
-/// How often a slot is reused in a long script. A greater number would make more bytes than a script may have.
-const ROUNDS: u32 = 1040;
+/// The lines of a long script in which slots are reused. With more of them it would have more bytes than a script may have.
+const REUSING: usize = 3120;
 
 /// What is odd about a script.
 #[derive(Clone, Copy, PartialEq)]
@@ -46,17 +42,6 @@ enum Twist {
     Line,
     /// A CPU enters its section once more than it may.
     Deep,
-}
-
-/// How much a script does before the lines that are chosen one by one.
-#[derive(Clone, Copy, PartialEq)]
-enum Size {
-    /// Nothing.
-    Usual,
-    /// It attaches drivers until few slots are vacant or none.
-    Crowded,
-    /// It goes on by retiring entries and giving their slots again.
-    Long,
 }
 
 /// What makes a script of each seed.
@@ -80,6 +65,7 @@ impl Scripts for Seeds {
 struct Maker {
     alloc: Global,
     rng: Xoshiro256PlusPlus,
+    names: &'static [&'static [u8]],
     sketch: Sketch,
 }
 
@@ -88,6 +74,7 @@ impl Maker {
         Maker {
             alloc,
             rng: Xoshiro256PlusPlus::seed_from_u64(seed),
+            names: FEW_NAMES,
             sketch: Sketch::new(1, 1, 1),
         }
     }
@@ -95,17 +82,11 @@ impl Maker {
     fn script(mut self) -> Result<Vec<u8>, AllocError> {
         let mut text = Vec::new(self.alloc);
         let twist = self.twist();
-        let size = self.size();
-        self.begin(&mut text, twist, size)?;
-        if size != Size::Usual {
-            self.crowd(&mut text)?;
-        }
-        if size == Size::Long {
-            self.churn(&mut text)?;
-        }
-        for _ in 0..LINES {
-            self.add_line(&mut text)?;
-        }
+        let (filling, reusing) = self.plan();
+        self.begin(&mut text, twist, filling > 0, reusing > 0)?;
+        self.add_lines(&mut text, Phase::Filling, filling)?;
+        self.add_lines(&mut text, Phase::Reusing, reusing)?;
+        self.add_lines(&mut text, Phase::Usual, LINES)?;
         self.end(&mut text, twist)?;
         Ok(text)
     }
@@ -121,68 +102,56 @@ impl Maker {
         }
     }
 
-    fn size(&mut self) -> Size {
+    /// How many lines the first two phases have.
+    fn plan(&mut self) -> (usize, usize) {
+        let filling = USUAL_SLOTS.saturating_sub(self.pick(VACANT));
         match self.pick(256) {
-            0 => Size::Long,
-            1..=31 => Size::Crowded,
-            _ => Size::Usual,
+            0 => (filling, REUSING),
+            1..=31 => (filling, 0),
+            _ => (0, 0),
         }
     }
 
     /// Adds the lines of the settings.
-    fn begin(&mut self, text: &mut Vec<u8>, twist: Twist, size: Size) -> Result<(), AllocError> {
-        let cpus = self.choose(CPUS);
-        let (slots, names) = match size {
-            Size::Usual => (self.choose(SLOTS), FEW_NAMES),
-            _ => (USUAL_SLOTS, NAMES),
-        };
-        self.sketch = Sketch::new(cpus, slots, names);
-        let line = self.sketch.any_line(0);
-        if twist == Twist::Domain {
-            self.add_command(text, b"domain K S", &line, true)?;
-        } else {
-            let domain = format!(in self.alloc; "domain {cpus} {slots}\n")?;
-            text.extend_from_slice(domain.as_bytes())?;
-        }
-        if twist == Twist::Limits {
-            self.add_command(text, b"limits H M Q Q", &line, true)?;
-        } else if size == Size::Long {
-            text.extend_from_slice(b"limits 1000000 1000000 100 100\n")?;
-        } else if self.pick(4) == 0 {
-            let limits = self.choose(SETTINGS);
-            self.add_command(text, limits, &line, false)?;
-        }
-        Ok(())
-    }
-
-    /// Attaches drivers until few slots are vacant, or none.
-    fn crowd(&mut self, text: &mut Vec<u8>) -> Result<(), AllocError> {
-        for _ in 0..USUAL_SLOTS.saturating_sub(self.pick(VACANT)) {
-            self.add_fit(text, CROWD)?;
-        }
-        Ok(())
-    }
-
-    /// Gives slots again and again.
-    fn churn(&mut self, text: &mut Vec<u8>) -> Result<(), AllocError> {
-        for _ in 0..ROUNDS {
-            for command in CHURN {
-                self.add_fit(text, *command)?;
-            }
-        }
-        Ok(())
-    }
-
-    /// Adds a line with this command, if the registry can carry it out.
-    fn add_fit(
+    fn begin(
         &mut self,
         text: &mut Vec<u8>,
-        (command, effect): (&[u8], Effect),
+        twist: Twist,
+        is_full: bool,
+        is_long: bool,
     ) -> Result<(), AllocError> {
-        let start = self.pick(1 << 20);
-        if let Some(line) = self.sketch.fit_line(command, start) {
+        let (cpus, mut slots) = (self.choose(CPUS), self.choose(SLOTS));
+        if is_full {
+            slots = USUAL_SLOTS;
+            self.names = MANY_NAMES;
+        }
+        self.sketch = Sketch::new(cpus, slots, self.names.len());
+        let line = Line::default();
+        self.add_command(text, b"domain K S", &line, twist == Twist::Domain)?;
+        let is_faulty = twist == Twist::Limits;
+        if is_long {
+            text.extend_from_slice(b"limits 1000000 1000000 100 100\n")?;
+        } else if is_faulty || self.pick(4) == 0 {
+            let limits = self.choose(SETTINGS);
+            self.add_command(text, limits, &line, is_faulty)?;
+        }
+        Ok(())
+    }
+
+    /// Adds so many lines of the phase.
+    fn add_lines(
+        &mut self,
+        text: &mut Vec<u8>,
+        phase: Phase,
+        count: usize,
+    ) -> Result<(), AllocError> {
+        for _ in 0..count {
+            let is_any = phase == Phase::Usual && self.pick(ANY) == 0;
+            let (command, effect, line) = self.next(phase, is_any);
             self.add_command(text, command, &line, false)?;
-            self.sketch.take(effect, &line);
+            if self.sketch.fits(command, &line) {
+                self.sketch.take(effect, &line);
+            }
         }
         Ok(())
     }
@@ -191,8 +160,7 @@ impl Maker {
     fn end(&mut self, text: &mut Vec<u8>, twist: Twist) -> Result<(), AllocError> {
         match twist {
             Twist::Argument => {
-                let (command, _) = self.command();
-                let line = self.sketch.any_line(0);
+                let (command, _, line) = self.draw(Phase::Usual, true);
                 self.add_command(text, command, &line, true)
             }
             Twist::Line => text.extend_from_slice(self.choose(FAULTY_LINES)),
@@ -213,46 +181,42 @@ impl Maker {
 
     /// One of the values, or none of them where there is none.
     fn choose<T: Copy + Default>(&mut self, values: &[T]) -> T {
-        let place = self.pick(values.len());
-        values.get(place).copied().unwrap_or_default()
+        at(values, self.pick(values.len()))
     }
 
-    fn command(&mut self) -> (&'static [u8], Effect) {
-        let place = self.pick(COMMANDS.len());
-        match COMMANDS.get(place) {
-            Some((command, effect)) => (*command, *effect),
-            None => (b"audit", Effect::Nothing),
-        }
-    }
-
-    /// Adds a line: one in `ANY` with any arguments, the others such that the registry can carry them out.
-    fn add_line(&mut self, text: &mut Vec<u8>) -> Result<(), AllocError> {
-        let (command, effect, line) = if self.pick(ANY) == 0 {
-            self.any_line()
-        } else {
-            self.fit_line()
-        };
-        self.add_command(text, command, &line, false)?;
-        self.sketch.take(effect, &line);
-        Ok(())
-    }
-
-    fn any_line(&mut self) -> (&'static [u8], Effect, Line) {
-        let (command, effect) = self.command();
-        let start = self.pick(1 << 20);
-        (command, effect, self.sketch.any_line(start))
-    }
-
-    /// A line that the registry can carry out, if one is met in so many tries.
-    fn fit_line(&mut self) -> (&'static [u8], Effect, Line) {
+    /// A line with any arguments, or one that the registry can carry out, if one is met in so many tries.
+    fn next(&mut self, phase: Phase, is_any: bool) -> (&'static [u8], Effect, Line) {
         for _ in 0..TRIES {
-            let (command, effect) = self.command();
-            let start = self.pick(1 << 20);
-            if let Some(line) = self.sketch.fit_line(command, start) {
+            let (command, effect, line) = self.draw(phase, is_any);
+            if is_any || self.sketch.fits(command, &line) {
                 return (command, effect, line);
             }
         }
-        self.any_line()
+        self.draw(phase, true)
+    }
+
+    /// Draws a command, and for each letter any argument or, if there is such, one that suits it.
+    fn draw(&mut self, phase: Phase, is_any: bool) -> (&'static [u8], Effect, Line) {
+        let (command, effect) = self.command(phase);
+        let mut line = Line::default();
+        for letter in command {
+            let start = self.pick(1 << 20);
+            line = self.sketch.choose(line, *letter, start, is_any);
+        }
+        (command, effect, line)
+    }
+
+    /// Draws a command by its weight.
+    fn command(&mut self, phase: Phase) -> (&'static [u8], Effect) {
+        let mut place = self.pick(100);
+        for (command, weights, effect) in COMMANDS {
+            let weight = at(weights, phase as usize);
+            if place < weight {
+                return (*command, *effect);
+            }
+            place -= weight;
+        }
+        (b"audit", Effect::Nothing)
     }
 
     /// Adds a line with an argument for each capital letter of the command. Where it is to be faulty, one of them is just out of its range.
@@ -284,7 +248,7 @@ impl Maker {
         Ok(text.push(b'\n')?)
     }
 
-    /// Adds the word for a letter: the one that the line fixes, or any.
+    /// Adds the word for a letter: the one that the line has, or any.
     fn add_argument(
         &mut self,
         text: &mut Vec<u8>,
@@ -292,13 +256,19 @@ impl Maker {
         line: &Line,
         faulty: bool,
     ) -> Result<(), AllocError> {
+        let (cpus, slots) = (self.sketch.cpus, self.sketch.slots);
         match letter {
-            b'C' | b'I' | b'O' | b'F' | b'P' if faulty => self.add_number(text, self.sketch.cpus()),
-            b'C' | b'I' | b'O' | b'F' | b'P' => self.add_number(text, line.cpu),
-            b'R' if faulty => text.extend_from_slice(self.choose(BAD_NUMBERS)),
-            b'R' => self.add_number(text, line.number),
-            b'D' if faulty => text.extend_from_slice(self.choose(BAD_KEYS)),
-            b'D' => Maker::add_key(text, line.key),
+            b'C' | b'F' | b'I' | b'O' | b'P' => {
+                let cpu = if faulty { cpus } else { line.cpu };
+                self.add_number(text, cpu)
+            }
+            b'K' if !faulty => self.add_number(text, cpus),
+            b'S' if !faulty => self.add_number(text, slots),
+            b'R' if !faulty => self.add_number(text, self.sketch.number_in(line.slot)),
+            b'D' if !faulty => {
+                text.extend_from_slice(at(KINDS, line.key % 2))?;
+                text.extend_from_slice(at(self.names, line.key / 2))
+            }
             _ => text.extend_from_slice(self.word(letter, line, faulty)),
         }
     }
@@ -308,31 +278,14 @@ impl Maker {
         text.extend_from_slice(digits.as_bytes())
     }
 
-    /// Adds the kind and the name with this key.
-    fn add_key(text: &mut Vec<u8>, key: usize) -> Result<(), AllocError> {
-        let (kind, name): (&[u8], usize) = if key < NAMES {
-            (b"driver ", key)
-        } else {
-            (b"iface ", key - NAMES)
-        };
-        text.extend_from_slice(kind)?;
-        text.extend_from_slice(WORDS_OF_NAMES.get(name).copied().unwrap_or_default())
-    }
-
     fn word(&mut self, letter: u8, line: &Line, faulty: bool) -> &'static [u8] {
-        for Argument {
-            letter: known,
-            within,
-            without,
-        } in ARGUMENTS {
-            if *known == letter {
-                return match line.place_of(letter) {
-                    _ if faulty => self.choose(without),
-                    Some(place) => within.get(place).copied().unwrap_or_default(),
-                    None => self.choose(within),
-                };
-            }
+        let (within, without) = words_of(letter);
+        match letter {
+            _ if faulty => self.choose(without),
+            b'E' | b'U' | b'W' => at(self.names, line.key / 2),
+            b'A' | b'G' | b'N' | b'X' | b'Z' => at(within, line.label % LABELS),
+            b'B' | b'Y' => at(within, line.unused % LABELS),
+            _ => self.choose(within),
         }
-        b""
     }
 }

@@ -5,7 +5,7 @@ use std::alloc::Global;
 use std::io::Write;
 
 /// The most of each thing that a script had.
-#[derive(Clone, Copy, Debug, PartialEq, Eq, Drop)]
+#[derive(Clone, Copy, Default)]
 pub struct Reach {
     /// CPUs and slots, as `domain` answers them.
     cpus: u64,
@@ -52,16 +52,6 @@ fn audited_slot(line: &[u8]) -> Option<u64> {
 }
 
 impl Reach {
-    /// No script yet.
-    pub const NOWHERE: Reach = Reach {
-        cpus: 0,
-        slots: 0,
-        slot: 0,
-        number: 0,
-        changes: 0,
-        audited: 0,
-    };
-
     /// Takes the report of a script in.
     pub fn add(&mut self, report: &[u8]) {
         let (mut changes, mut audited, mut last): (u64, u64, u64) = (0, 0, 0);
@@ -94,14 +84,8 @@ impl Reach {
 
     /// Writes how far that is.
     pub fn tell<W: Write>(&self, alloc: Global, writer: &mut W) -> Result<(), RunFault> {
-        let Reach {
-            cpus,
-            slots,
-            slot,
-            number,
-            changes,
-            audited,
-        } = *self;
+        let (cpus, slots, audited) = (self.cpus, self.slots, self.audited);
+        let (changes, slot, number) = (self.changes, self.slot, self.number);
         let text = format!(in alloc;
             "most CPUs {cpus}, slots {slots}, entries of an audit {audited}, changes {changes}\ngreatest slot {slot}, greatest number {number}\n"
         )?;

@@ -165,7 +165,7 @@ impl Tally {
             refused: 0,
             answers: [0; 88],
             faults: [0; 11],
-            reach: Reach::NOWHERE,
+            reach: Reach::default(),
         }
     }
 

@@ -1,4 +1,4 @@
-//! Sizes that no row has: references by the ten thousand, thirty-two slots (all but one retired), eight CPUs, and very many turns of a wait.
+//! Sizes that no row has: references by the ten thousand, and very many turns of a wait.
 
 ghost use Rattle.cpu_words.specs.Common.{AreWordsOf};
 ghost use Rattle.name_registry.specs.Common.{IsBlankOf};
@@ -12,12 +12,11 @@ use super::bench::{Bench, by_cpu};
 use super::readers::Reader::{Acquire, Count, Enter, Exit, Find, Forget};
 use super::readers::{Held, by_reader};
 use super::records::WM;
-use super::walks::nth;
 use cpu_words::{Domain, Words};
 use name_registry::{Blank, Registry};
-use passive_list::{Cpu, enter};
+use passive_list::Cpu;
 use passive_ref::{Psref, release};
-use registry_values::{Kind, Refusal, Settings, Stage};
+use registry_values::{Refusal, Settings, Stage};
 use std::alloc::Global;
 use std::marker::Brand;
 use std::process::Abort;
@@ -32,9 +31,6 @@ const IN_SUM: u32 = 70_001;
 /// So many local references are held at once.
 const AT_ONCE: u32 = 300;
 
-/// So many turns one wait makes in vain.
-const TURNS: u32 = 10_001;
-
 /// So often another thread takes the lock while a wait goes on.
 const MEANWHILE: u32 = 250_000;
 
@@ -42,10 +38,10 @@ const MEANWHILE: u32 = 250_000;
 const TRIES: u32 = 100_000_000;
 
 /// The words of a registry with the largest limits.
-fn largest(alloc: Global, cpus: u8, slots: u8) -> Result<Blank, Refusal> {
+fn largest(alloc: Global) -> Result<Blank, Refusal> {
     let settings = Settings {
-        cpus,
-        slots,
+        cpus: 3,
+        slots: 1,
         change_limit: 1_000_000,
         section_limit: 1 << 40,
         passive_limit: 1 << 40,
@@ -77,7 +73,7 @@ const OUTSIDE: &[(Step, Answer)] = &[(Reads(2, Exit), Done)];
 
 #[test]
 fn many_references(rt: HostRuntime) -> Result<(), Fail> {
-    counted::<Brand, _>(&rt, rt.alloc(), largest(rt.alloc(), 3, 1)?)
+    counted::<Brand, _>(&rt, rt.alloc(), largest(rt.alloc())?)
 }
 
 /// Local references by the ten thousand, as many passive ones, which stay held, and then some hundred local ones at once.
@@ -187,165 +183,13 @@ fn is_released<D: Domain>(words: &Words, cpu: &mut Cpu<D>) -> bool
 }
 
 #[test]
-fn all_slots_but_one_are_retired(rt: HostRuntime) -> Result<(), Fail> {
-    retired_and_filled::<Brand, _>(&rt, rt.alloc(), largest(rt.alloc(), 8, 32)?)
-}
-
-/// Each of eight CPUs has attached drivers, one in each of thirty-two slots. Then the last slot's entry is freed, and all others are retired under a
-/// section of CPU 7: the next attach gets the last slot, and there is no other.
-fn retired_and_filled<D: Domain, R: Wait + Abort>(
-    rt: &R,
-    alloc: Global,
-    blank: Blank,
-) -> Result<(), Fail>
-    requires { IsBlankOf blank D.table D.settings D.name D.parts }
-{
-    let mut bench = Bench::<D>::open(alloc, blank)?;
-    fill(rt, alloc, &mut bench)?;
-    let (registry, mut first, mut second, mut last) = bench.apart()?;
-    retire_last(rt, &registry, &mut first, &mut last)?;
-    retire_others(rt, &registry, &mut second)?;
-    attach_once(rt, &registry, &mut first)
-}
-
-/// Attaches a driver in each slot; an audit of all CPUs has them all.
-fn fill<D: Domain, R: Wait + Abort>(
-    rt: &R,
-    alloc: Global,
-    bench: &mut Bench<D>,
-) -> Result<(), Fail> {
-    attach_all(rt, &bench.registry, &mut bench.cpus)?;
-    let list = bench.registry.audit(rt, alloc, &mut bench.cpus)?;
-    assert_eq!(rt; list.len(), 32);
-    for (balance, slot) in list.as_slice().iter().zip(0..32u8) {
-        assert!(rt; (balance.slot, balance.held, balance.locals.len()) == (slot, 0, 8));
-    }
-    Ok(())
-}
-
-/// Attaches a driver in each slot, each on the next CPU.
-fn attach_all<D: Domain, R: Wait + Abort>(
-    rt: &R,
-    registry: &Registry<D>,
-    cpus: &mut [Cpu<D>],
-) -> Result<(), Fail> {
-    for n in 0..32u8 {
-        let Some(cpu) = cpus.get_mut(usize::from(n % 8)) else {
-            panic!(rt; "eight CPUs");
-        };
-        attach_nth(rt, registry, cpu, n)?;
-    }
-    Ok(())
-}
-
-fn attach_nth<D: Domain, R: Wait + Abort>(
-    rt: &R,
-    registry: &Registry<D>,
-    cpu: &mut Cpu<D>,
-    n: u8,
-) -> Result<(), Fail> {
-    let made = registry.attach(rt, cpu, nth(rt, n))?;
-    assert!(rt; (made.number, made.slot) == (u64::from(n) + 1, n));
-    Ok(())
-}
-
-/// The entry of the last slot is retired and freed, and CPU 7 enters a section.
-fn retire_last<D: Domain, R: Wait + Abort>(
-    rt: &R,
-    registry: &Registry<D>,
-    cpu: &mut Cpu<D>,
-    last: &mut Cpu<D>,
-) -> Result<(), Fail> {
-    retire(rt, registry, cpu, 31)?;
-    assert!(rt; registry.destroy(rt, cpu, 32, 1) == Ok(31));
-    enter(registry.words(), last)?;
-    Ok(())
-}
-
-fn retire_others<D: Domain, R: Wait + Abort>(
-    rt: &R,
-    registry: &Registry<D>,
-    cpu: &mut Cpu<D>,
-) -> Result<(), Fail> {
-    for n in 0..31 {
-        retire(rt, registry, cpu, n)?;
-    }
-    Ok(())
-}
-
-/// One more driver finds a slot, and a second one doesn't. No retired entry gets past the section of CPU 7.
-fn attach_once<D: Domain, R: Wait + Abort>(
-    rt: &R,
-    registry: &Registry<D>,
-    cpu: &mut Cpu<D>,
-) -> Result<(), Fail> {
-    let made = registry.attach(rt, cpu, nth(rt, 0))?;
-    assert!(rt; (made.number, made.slot) == (65, 31));
-    let refused = registry.attach(rt, cpu, nth(rt, 1));
-    assert!(rt; matches!(refused, Err(Refusal::NoSlot)));
-    for number in 1..32u64 {
-        assert!(rt; come(registry.advance(rt, number)) == Come(Stage::Grace(7)));
-    }
-    Ok(())
-}
-
-/// Detaches the n-th driver.
-fn retire<D: Domain, R: Wait + Abort>(
-    rt: &R,
-    registry: &Registry<D>,
-    cpu: &mut Cpu<D>,
-    n: u8,
-) -> Result<(), Fail> {
-    let gone = registry.detach(rt, cpu, Kind::Driver, &nth(rt, n).name)?;
-    assert!(rt; (gone.number, gone.slot) == (u64::from(n) + 1, n));
-    Ok(())
-}
-
-/// CPU 0 holds a local reference to the driver, which CPU 1 has retired.
-const HELD: &[(Step, Answer)] = &[
-    (By(0, Attach(WM)), At(1, 0)),
-    (Reads(0, Enter), Done),
-    (Reads(0, Find(WM)), At(1, 0)),
-    (Reads(0, Count), Done),
-    (Reads(0, Exit), Done),
-    (By(1, Detach(WM)), At(1, 0)),
-];
-
-#[test]
-fn a_wait_of_many_turns(rt: HostRuntime) -> Result<(), Fail> {
-    waited::<Brand, _>(&rt, rt.alloc(), largest(rt.alloc(), 3, 1)?)
-}
-
-/// A destroy meets the reference in each of many turns, one in a call and all in one, and is done once it is released.
-fn waited<D: Domain, R: Wait + Abort>(rt: &R, alloc: Global, blank: Blank) -> Result<(), Fail>
-    requires { IsBlankOf blank D.table D.settings D.name D.parts }
-{
-    let mut bench = Bench::<D>::open(alloc, blank)?;
-    let mut refs = Held::nothing();
-    let local = Refused(Refusal::StillHeld(Stage::Local(1)));
-    bench.follow(rt, &mut refs, "held", HELD);
-    for _ in 0..TURNS {
-        bench.follow(rt, &mut refs, "a turn", &[(By(1, Destroy(1, 1)), local)]);
-    }
-    bench.follow(rt, &mut refs, "turns", &[(By(1, Destroy(1, TURNS)), local)]);
-    bench.follow(
-        rt,
-        &mut refs,
-        "released",
-        &[(By(2, Uncount), Done), (By(1, Destroy(1, 1)), Number(0))],
-    );
-    refs.end(rt);
-    Ok(())
-}
-
-#[test]
 fn a_wait_goes_on(rt: HostRuntime) -> Result<(), Fail> {
     go_on(&rt, rt.alloc())
 }
 
 /// On a registry of its own: what the destroy answers.
 fn go_on<R: Threads + Wait + Abort + Sync>(rt: &R, alloc: Global) -> Result<(), Fail> {
-    let answer = destroyed_meanwhile::<Brand, _>(rt, alloc, largest(alloc, 3, 1)?)?;
+    let answer = destroyed_meanwhile::<Brand, _>(rt, alloc, largest(alloc)?)?;
     assert!(rt; answer == Number(0));
     Ok(())
 }

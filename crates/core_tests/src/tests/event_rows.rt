@@ -1,7 +1,7 @@
 //! Worked rows, event by event: a search over a frozen link, marks that come in their order, and a collection that overtakes a release.
 
 use super::bench::{Ask, Line, Rec, Row, Told, run, run_rows};
-use super::data::{A, ATTACH_WM, ENTER, EXIT, FIND_WM, USUAL, WM};
+use super::data::{ATTACH_WM, ENTER, EXIT, FIND_WM, USUAL, WM};
 use passive_core::{
     BIAS, Core, Counted, Event, Mark, RecordOf, Refusal, Reply, Settings, Stage, run_events,
 };
@@ -47,7 +47,7 @@ const OUTSIDE: Mark = Mark {
     ..INSIDE
 };
 
-const ROWS: [Row; 7] = [
+const ROWS: [Row; 6] = [
     // A search at an entry that is unlinked goes on over its link.
     Row {
         name: "frozen-link",
@@ -187,24 +187,6 @@ const ROWS: [Row; 7] = [
                 Ok(Told::Done),
             ),
             (0, Ask::Step(Event::Publish(0)), Ok(Told::Done)),
-        ],
-    },
-    // In a script a label stands only for a reference that its CPU holds.
-    Row {
-        name: "a reference that isn't held",
-        settings: USUAL,
-        lines: &[
-            ATTACH_WM,
-            ENTER,
-            FIND_WM,
-            (0, Ask::Acquire, Ok(Told::Psref(A))),
-            (0, Ask::Held(A), Ok(Told::Is(true))),
-            (0, Ask::Read(A), Ok(Told::Record(7))),
-            (0, Ask::Release(A), Ok(Told::Done)),
-            (0, Ask::Release(A), Err(Refusal::NotHeld)),
-            (0, Ask::Read(A), Err(Refusal::NotHeld)),
-            (0, Ask::Copy(A), Err(Refusal::NotHeld)),
-            (0, Ask::Held(A), Ok(Told::Is(false))),
         ],
     },
 ];

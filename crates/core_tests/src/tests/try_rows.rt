@@ -58,6 +58,7 @@ const ROWS: [Row; 8] = [
             (0, TAKE_BACK, Ok(Told::NotAllowed)),
             (0, Ask::Held(A), Ok(Told::Is(false))),
             (0, Ask::Read(A), Err(Refusal::NotHeld)),
+            (0, Ask::Copy(A), Err(Refusal::NotHeld)),
             (0, Ask::Release(A), Err(Refusal::NotHeld)),
             (1, Ask::Perform(1), Ok(Told::Done)),
             DETACH_WM,

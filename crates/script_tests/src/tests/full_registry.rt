@@ -155,6 +155,26 @@ const ROWS: &[Row] = &[
             (b"refused HistoryFull\n", 0, 1),
         ]),
     ),
+    // All slots but the last are retired under a section of CPU 7: the next attach gets the last slot, and there is no other.
+    (
+        "all slots but one retired",
+        &[
+            (b"domain 8 32\n", 0, 1),
+            (b"attach %c driver w%s 0\n", 0, 32),
+            (b"detach 0 driver w31\ndestroy 0 32 1\nenter 7\n", 0, 1),
+            (b"detach 1 driver w%s\n", 0, 31),
+            (b"attach 0 driver w0 0\nattach 0 driver w1 0\n", 0, 1),
+            (b"advance %n\n", 0, 31),
+        ],
+        Ok(&[
+            (b"domain 8 32\n", 0, 1),
+            (b"attached %n slot %s\n", 0, 32),
+            (b"retired 32 slot 31\ndestroyed slot 31\ninside\n", 0, 1),
+            (b"retired %n slot %s\n", 0, 31),
+            (b"attached 65 slot 31\nrefused NoSlot\n", 0, 1),
+            (b"grace cpu 7\n", 0, 31),
+        ]),
+    ),
     // Each CPU in its turn is inside: a perform, an advance and a destroy wait for it, and for no other.
     (
         "a section on each CPU",
