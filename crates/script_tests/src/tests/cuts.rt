@@ -7,6 +7,61 @@ use std::process::Abort;
 use std::sync::Wait;
 use std::test::Fail;
 
+const SCRIPT: &[u8] = b"# x\ndomain 2 2\nexit 0\nfind 1 driver wm\nadvance 7\n";
+
+const REPORT: &[u8] = b"domain 2 2\nnot inside\nnot inside\nrefused NotRetired\n";
+
+/// What is answered to the first bytes of the script, up to so many: the line and the cause of a fault, or so long a front of the report.
+const ANSWERS: &[(usize, Result<usize, (u32, Cause)>)] = &[
+    (4, Err((1, Cause::NoDomain))),
+    (9, Err((2, Cause::UnknownCommand))),
+    (13, Err((2, Cause::WrongCount))),
+    (15, Ok(11)),
+    (18, Err((3, Cause::UnknownCommand))),
+    (20, Err((3, Cause::WrongCount))),
+    (22, Ok(22)),
+    (25, Err((4, Cause::UnknownCommand))),
+    (36, Err((4, Cause::WrongCount))),
+    (39, Ok(33)),
+    (45, Err((5, Cause::UnknownCommand))),
+    (47, Err((5, Cause::WrongCount))),
+    (49, Ok(52)),
+];
+
+/// Under each engine, what is written on the front of the script, and how the run ends.
+fn is_answered<R: Wait>(
+    rt: &R,
+    alloc: Global,
+    cut: usize,
+    answer: Result<usize, (u32, Cause)>,
+) -> bool {
+    let (front, end) = match answer {
+        Ok(front) => (front, Ok(())),
+        Err((line, cause)) => (0, Err(RunFault::Script(ScriptFault { line, cause }))),
+    };
+    let (Some(script), Some(report)) = (SCRIPT.get(..cut), REPORT.get(..front)) else {
+        return false;
+    };
+    ENGINES
+        .iter()
+        .all(|engine| writes(rt, alloc, *engine, script, report, end))
+}
+
+#[test]
+fn cut_after_each_byte(rt: HostRuntime) {
+    let mut cut = 0;
+    for (last, answer) in ANSWERS {
+        for front in cut..*last + 1 {
+            assert!(rt;
+                is_answered(&rt, rt.alloc(), front, *answer),
+                "cut at {front}"
+            );
+        }
+        cut = *last + 1;
+    }
+    assert!(rt; cut == SCRIPT.len() + 1, "each cut is tried");
+}
+
 /// A line of the row all-limits: its text; how many bytes its first word has; how many of its bytes have all its
 /// words, the last one perhaps cut short; what the report says of it with its last word cut short, and whole.
 type Line = (&'static str, usize, usize, &'static str, &'static str);

@@ -1,4 +1,4 @@
-//! Readers and writers that end before they should: at each of their calls, with errors of several kinds, and in the flush.
+//! Readers and writers that end before they should: at each of their calls, with each kind of error, and in the flush.
 
 use super::ENGINES;
 use super::streams::{Drip, End, Endless, Sips};
@@ -15,15 +15,48 @@ pub(super) const SCRIPT: &[u8] =
 pub(super) const REPORT: &[u8] =
     b"domain 1 1\nlimits 10 1 1 1\nattached 1 slot 0\ninside\nrefused NothingFound\nfound 1 slot 0 value 7\nref a 1\nrefused PassiveFull\ncount x 1\npeek 1 value 7\noutside\nrefused SectionsSpent\nnot inside\nno label\ndropped a 1\nrefused NotFound\n";
 
-/// Kinds of error of a reader or a writer: those that another program might pass over or try again, and one more.
+/// The kinds of error that a reader or a writer may tell of.
 const KINDS: &[ErrorKind] = &[
-    ErrorKind::Interrupted,
-    ErrorKind::WouldBlock,
-    ErrorKind::TimedOut,
-    ErrorKind::UnexpectedEof,
-    ErrorKind::WriteZero,
+    ErrorKind::NotFound,
+    ErrorKind::PermissionDenied,
+    ErrorKind::ConnectionRefused,
+    ErrorKind::ConnectionReset,
+    ErrorKind::HostUnreachable,
+    ErrorKind::NetworkUnreachable,
+    ErrorKind::ConnectionAborted,
+    ErrorKind::NotConnected,
+    ErrorKind::AddrInUse,
+    ErrorKind::AddrNotAvailable,
+    ErrorKind::NetworkDown,
     ErrorKind::BrokenPipe,
+    ErrorKind::AlreadyExists,
+    ErrorKind::WouldBlock,
+    ErrorKind::NotADirectory,
+    ErrorKind::IsADirectory,
+    ErrorKind::DirectoryNotEmpty,
+    ErrorKind::ReadOnlyFilesystem,
+    ErrorKind::FilesystemLoop,
+    ErrorKind::StaleNetworkFileHandle,
+    ErrorKind::InvalidInput,
+    ErrorKind::InvalidData,
+    ErrorKind::TimedOut,
+    ErrorKind::WriteZero,
+    ErrorKind::StorageFull,
+    ErrorKind::NotSeekable,
+    ErrorKind::QuotaExceeded,
+    ErrorKind::FileTooLarge,
+    ErrorKind::ResourceBusy,
+    ErrorKind::ExecutableFileBusy,
+    ErrorKind::Deadlock,
+    ErrorKind::CrossesDevices,
+    ErrorKind::TooManyLinks,
+    ErrorKind::InvalidFilename,
+    ErrorKind::ArgumentListTooLong,
+    ErrorKind::Interrupted,
+    ErrorKind::Unsupported,
+    ErrorKind::UnexpectedEof,
     ErrorKind::OutOfMemory,
+    ErrorKind::InProgress,
     ErrorKind::Other,
 ];
 
