@@ -3,7 +3,6 @@ use Rattle.std.specs.Prelude.{◌≡◌, ◌<◌, ℕ, ◌+◌, ◌==◌, nat_lt
 use Rattle.passive_core.specs.Types.{Entry, Refusal, StillHeld, Stage, Grace, Passive, Local, Freed, Mark, Slot, Vacant, Retired, Waiting}
 use Rattle.registry_values.specs.Common.{bias, slot_at, slot_of, has_number, retired_slot, least_below, stage_of, is_retired}
 use Rattle.registry_values.specs.Answers as stages
-use Rattle.registry_values.specs.Answers as answers
 use Rattle.protocol.specs.Common.{MayHold, State, section_at, begin_at, mark_at, passive_at, count_at, total_at, kept_at, is_inside, held_at, passive_in, one_if, AllClear, AllCollected, AllPassed, MarksGrow, SameElsewhere}
 use Rattle.passive_core.specs.Commands.{all_seated}
 
@@ -195,7 +194,7 @@ DestroyMarks old new n (Err refusal) = HeldMarks old new n refusal
 
 -- The result of perform: whether the caller is inside a section, else the lowest-numbered CPU that is.
 abbrev pub perform_answer : State → ℕ → Result (Unit {0}) Refusal
-perform_answer s c = answers.perform_answer (is_inside s c) (least_below (is_inside s) s.settings.cpus)
+perform_answer s c = stages.perform_answer (is_inside s c) (least_below (is_inside s) s.settings.cpus)
 
 -- marks may have come to say passed, for retired entries alone
 pub record OnlyPasses (old new : State) : Type 0 where

@@ -4,7 +4,6 @@ use Rattle.registry_report.specs.Types.{Room, Entry, Record, CorePsref, Refusal,
 use Rattle.registry_values.specs.Common.{least_below, stage_of, key_of_record, is_iface, Tally}
 use Rattle.registry_values.specs.declared.refusal.Refusal.TheVariants as refusal
 use Rattle.registry_values.specs.Answers as answers
-use Rattle.registry_values.specs.Answers as stages
 use Rattle.protocol.specs.Common.{one_if, after_change, Model, put, with_passive, with_locals}
 use Rattle.registry_report.specs.declared.session.Reading.{Reading}
 use Rattle.registry_report.specs.declared.hitch.Hitch.{Hitch}
@@ -169,13 +168,13 @@ abbrev pub retired_slot : Registry → ℕ → Option ℕ
 retired_slot r n = if has_ended r.model.history n then slot_of r n else None
 
 abbrev pub stage_in : Registry → ℕ → Option ℕ → Result Stage Refusal
-stage_in r n place = stages.stage_in (first_obstacle r n) place
+stage_in r n place = answers.stage_in (first_obstacle r n) place
 
 abbrev pub advance_answer : Registry → ℕ → Result Stage Refusal
 advance_answer r n = stage_in r n (retired_slot r n)
 
 abbrev pub destroy_answer : Registry → ℕ → ℕ → Result ℕ Refusal
-destroy_answer r c n = stages.destroy_answer (is_inside r c) (advance_answer r n)
+destroy_answer r c n = answers.destroy_answer (is_inside r c) (advance_answer r n)
 
 -- whether the caller is inside a section, else the lowest-numbered CPU that is
 abbrev pub perform_answer : Registry → ℕ → Result (Unit {0}) Refusal

@@ -11,7 +11,6 @@ use Rattle.passive_core.specs.Common.{AdvanceLeaves, DestroyLeaves, IsAnswer, af
 use Rattle.passive_core.specs.Advancing as advancing
 use Rattle.passive_core.specs.Attaching as attaching
 use Rattle.passive_core.specs.Commands as entering
-use Rattle.passive_core.specs.Advancing as performing
 use Rattle.passive_core.specs.References as core
 use Rattle.passive_core.proofs.Passives.{found_slot}
 use Rattle.registry_report.specs.Common.{Hitch, advance_answer, attach_answer, destroy_answer, detach_answer, enter_answer, exit_answer, find_answer, command_answer, perform_answer, Gives, Leaves, Registry, SessionState, with_core, IsSession, Shows, after_advance, after_destroy, with_attached, with_detached, with_section_entered, with_section_exited, with_found, on_ok, NoLabel, Refused, copy_answer, count_answer, count_of_found, held_answer, plug_answer, read_answer, reference_answer, release_answer, uncount_answer, with_label, label_answer, after_plug, with_one_counted, on_some, with_attached_iface, with_reference, without_reference, with_one_uncounted}
@@ -90,7 +89,7 @@ destroy_does s v k r c n result given view is on told due left holds =
     (destroy_shows s r k c n is holds (seen s v r view on) (subst (DestroyLeaves s.core k n) due left))
 
 pub perform_does : (s v : SessionState) (k : State) (r : Registry) (c : ℕ) (result : Result (Unit {0}) Refusal) (given : Result (Unit {0}) Hitch) → s ≡ v → Shows v r → given ≡ command_answer result
-    → result ≡ performing.perform_answer s.core c → PerformLeaves s.core k result → Does given (command_answer (perform_answer r c)) (with_core s k) r
+    → result ≡ advancing.perform_answer s.core c → PerformLeaves s.core k result → Does given (command_answer (perform_answer r c)) (with_core s k) r
 perform_does s v k r c result given view on told due left =
     told_does result (perform_answer r c) given (with_core s k) r told (sym (perform_answers s r c (seen s v r view on)) ∙ sym due)
     (perform_shows s r k c (seen s v r view on) (subst (PerformLeaves s.core k) due left))

@@ -10,7 +10,6 @@ use Rattle.registry_values.specs.Common.{wait_answer, destroy_result, destroy_re
 use Rattle.protocol.specs.Common.{MarksGrow, SameElsewhere, Holds, IsIn, SlotsShow, held_at, in_hand, one_if, subtraction_due_at, put, number_in, passive_in, is_empty, State, begin_at, count_at, hand_at, kept_at, mark_at, passive_at, section_at, total_at, trying_at, trying_of}
 use Rattle.registry_values.specs.Slots as values
 use Rattle.protocol.specs.Events as events
-use Rattle.passive_core.specs.Advancing as performing
 use Rattle.registry_values.proofs.Slots.{none_below, least_none, least_agrees, retired_slot_tells}
 use Rattle.protocol.proofs.Cells.{snapshot_stands, slot_number}
 use Rattle.passive_core.proofs.Advancing.{clear_none, unclear_some}
@@ -411,7 +410,7 @@ destroy_shows s r k c n is now on left =
 
 -- Perform
 
-pub perform_answers : (s : SessionState) (r : Registry) (c : ℕ) → Shows s r → performing.perform_answer s.core c ≡ perform_answer r c
+pub perform_answers : (s : SessionState) (r : Registry) (c : ℕ) → Shows s r → core.perform_answer s.core c ≡ perform_answer r c
 perform_answers s r c on =
     let inside = sym (inside_is s r c on) in
     let cpus : s.core.settings.cpus ≡ r.settings.cpus = sym (ap (λ z. z.cpus) on.settings) in
@@ -431,5 +430,5 @@ perform_by s r k true o on left = subst (λ (x : State). Shows (with_core s x) r
 perform_by s r k false o on left = waited_shows s r k o on left
 
 -- What a perform leaves shows the registry as it was.
-pub perform_shows : (s : SessionState) (r : Registry) (k : State) (c : ℕ) → Shows s r → PerformLeaves s.core k (performing.perform_answer s.core c) → Shows (with_core s k) r
+pub perform_shows : (s : SessionState) (r : Registry) (k : State) (c : ℕ) → Shows s r → PerformLeaves s.core k (core.perform_answer s.core c) → Shows (with_core s k) r
 perform_shows s r k c on left = perform_by s r k (events.is_inside s.core c) (least_below (events.is_inside s.core) s.core.settings.cpus) on left
