@@ -187,7 +187,7 @@ Library = collections.namedtuple("Library", "files tests compiled")
 MAKES_LAYER = ["make", "-s", "-C", "netbsd", C_FLAGS, BARE]
 MAKES_BENCH = ["make", "-s", "-C", "explorer", "WARNINGS=-w", BARE]
 # The ways in which the layer's Makefile builds its programs, and whether without sanitizers.
-WAYS = {"plain": True, "small": False, "busy": True, "wide": False, "sanitized": False, "raced": False}
+WAYS = {"plain": True, "small": False, "raced_small": False, "wide": False, "sanitized": False, "raced": False}
 # The programs of the bench that see the layer, with their words.
 BENCH = {"counts": [], "drivers": [], "finds": [], "callouts": [], "failures": [], "kernel_files": [], "refusals": [], "named": [], "outcomes": ["1", "40"]}
 # The tests of waiting.c, with their words.

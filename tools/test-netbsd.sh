@@ -9,7 +9,7 @@ out=out/netbsd
 
 # A program of a way in which the Makefile builds it. Some count their cases, as stops.h does.
 try_program() {
-    if find $folder/tests -name "$1.c" -exec grep -qE 'run_cases\(|passed, %' {} +; then
+    if grep -qE 'run_cases\(|passed, %' "$folder/tests/$1.c"; then
         counted "each case of $1, $2" "$out/$2/$1"
     else
         check "$1, $2" "$out/$2/$1"
@@ -30,7 +30,7 @@ for header in $(cd $folder/include && ls kupaldiz/*.h sys/*.h net/*.h); do
 done
 counted "each line of the layer is in a test" netbsd/tests/lines.py
 counted "each name that a driver may use, for the layer and for the bench" netbsd/tests/names.py gcc
-for way in plain sanitized raced small wide busy; do
+for way in plain sanitized raced small raced_small wide; do
     check "the layer and its tests are built, no warning: $way" make -s -C $folder $way
     for test in $(make -s -C $folder list-$way); do
         try_program "$test" $way
@@ -41,8 +41,6 @@ if command -v clang >/dev/null; then
     check "the layer is built by clang, no warning" with_clang
 fi
 check "each call has an entry in a manual page" $folder/pages.py check
-check "the layer is built into a shared object that is closed" make -s -C $folder unloaded
-check "a thread ends after its layer was closed" "$out/unloaded" "$out/plugin.so"
 if command -v valgrind >/dev/null; then
     # The layer keeps what a thread may use again.
     check "model, under valgrind" watched definite "$out/plain/model" 1 300

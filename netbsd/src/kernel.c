@@ -88,7 +88,8 @@ int kpause(const char *name, bool interruptible, int ticks, kmutex_t *mutex)
 /* A thread that kthread_create has made. */
 struct kthread {
 	pthread_t id;
-	struct thread *thread;		/* NULL until it has begun */
+	struct thread *thread;
+	lwp_t **begun;			/* where its maker waits for it */
 	struct cpu_info *cpu;
 	void (*body)(void *);
 	void *arg;
@@ -98,7 +99,7 @@ struct kthread {
 };
 
 static pthread_mutex_t kthreads_lock = PTHREAD_MUTEX_INITIALIZER;
-static pthread_cond_t begun = PTHREAD_COND_INITIALIZER;
+static pthread_cond_t kthread_begun = PTHREAD_COND_INITIALIZER;
 static struct kthread *kthreads;	/* those that are joined at their end */
 
 /* Runs what it was made for, which ends by kthread_exit. */
@@ -113,32 +114,33 @@ static void *run_kthread(void *of)
 	if (kthread->cpu != NULL)
 		bind_to(me, &cpus[kthread->cpu->ci_index]);
 	pthread_mutex_lock(&kthreads_lock);
+	if (kthread->joined) {
+		kthread->next = kthreads;
+		kthreads = kthread;
+	}
 	kthread->thread = me;
-	pthread_cond_broadcast(&begun);
+	*kthread->begun = &me->lwp;
+	pthread_cond_broadcast(&kthread_begun);
 	pthread_mutex_unlock(&kthreads_lock);
 	body(arg);
 	stop_at("kthread_create", NULL, "the body returned without kthread_exit");
 }
 
-/* Starts it, and waits until it has begun. Once it is in the list, another thread may join and free it. 0 or an errno. */
-static int start_kthread(struct kthread *kthread, lwp_t **made)
+/* Starts it, and waits until it has begun. From then on another thread may join and free it, if it is to be joined. 0 or an errno. */
+static int start_kthread(struct kthread *kthread, bool joined, lwp_t **made)
 {
-	int answer = pthread_create(&kthread->id, NULL, run_kthread, kthread);
-	if (answer != 0)
-		return answer;
+	lwp_t *lwp = NULL;
+	kthread->begun = &lwp;
 	pthread_mutex_lock(&kthreads_lock);
-	while (kthread->thread == NULL)
-		pthread_cond_wait(&begun, &kthreads_lock);
-	if (made != NULL)
-		*made = &kthread->thread->lwp;
-	if (kthread->joined) {
-		kthread->next = kthreads;
-		kthreads = kthread;
-	} else {
-		pthread_detach(kthread->id);
-	}
+	int answer = pthread_create(&kthread->id, NULL, run_kthread, kthread);
+	while (answer == 0 && lwp == NULL)
+		pthread_cond_wait(&kthread_begun, &kthreads_lock);
 	pthread_mutex_unlock(&kthreads_lock);
-	return 0;
+	if (answer == 0 && !joined)
+		pthread_detach(kthread->id);
+	if (answer == 0 && made != NULL)
+		*made = lwp;
+	return answer;
 }
 
 int kthread_create(pri_t priority, int flags, struct cpu_info *cpu, void (*body)(void *), void *arg, lwp_t **made, const char *format, ...)
@@ -158,7 +160,7 @@ int kthread_create(pri_t priority, int flags, struct cpu_info *cpu, void (*body)
 	kthread->arg = arg;
 	kthread->joined = joined;
 	int waits = begin_wait();
-	int answer = start_kthread(kthread, made);
+	int answer = start_kthread(kthread, joined, made);
 	end_wait(waits);
 	if (answer != 0 || !joined)
 		free(kthread);

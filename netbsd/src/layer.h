@@ -114,14 +114,17 @@ _Static_assert((int)ALL_CPUS <= (int)REGISTRY_MOST_CPUS && (int)ROWS <= (int)REG
 #ifdef __SANITIZE_THREAD__
 void __tsan_acquire(void *address);
 void __tsan_release(void *address);
+void __tsan_write1(void *address);
 #define COMES_AFTER(edge)	__tsan_acquire(edge)
 #define COMES_BEFORE(edge)	__tsan_release(edge)
+#define USED_BY_CALL(handle)	__tsan_write1(handle)	/* a handle is used by one call at a time */
 #ifndef __clang__
 #pragma GCC diagnostic ignored "-Wtsan"
 #endif
 #else
 #define COMES_AFTER(edge)	((void)(edge))
 #define COMES_BEFORE(edge)	((void)(edge))
+#define USED_BY_CALL(handle)	((void)(handle))
 #endif
 
 /* What is told of an object that nobody uses, but that stays as it is: the address sanitizer, or the bench. */
@@ -166,7 +169,6 @@ bool lock_tryacquire(uintptr_t *word, struct thread *me);
 void lock_acquire(uintptr_t *word, struct thread *me, report_fn *reporter);
 void lock_release(uintptr_t *word, struct thread *me);
 void lock_hand_over(uintptr_t *word, struct thread *to);
-void lock_wait(uintptr_t *word, struct thread *me);
 struct thread *lock_owner(const uintptr_t *word);
 
 /* A place to wait in, for an address: many addresses share one. */
@@ -255,7 +257,6 @@ static inline const char *pop_place(void)
 }
 
 void init_cond(pthread_cond_t *cond);
-struct thread *new_thread(const char *call);
 struct thread *named_thread(const char *call, const char *name);
 void end_of_thread(struct thread *me);
 void reuse_thread(struct thread *ended);
@@ -274,7 +275,7 @@ static inline struct thread *begin_plain(const char *call)
 {
 	struct thread *me = kupaldiz_self;
 	if (me == NULL)
-		me = new_thread(call);
+		me = named_thread(call, "");
 	me->call = call;
 	me->place = NULL;
 	return me;
@@ -369,7 +370,7 @@ static inline struct thread *sleepable(struct thread *me)
 #define NAME_OF(thread)	name_of(thread, (char[64]){""}, 64)
 #define AT_PLACE(place)	at_place(place, (char[256]){""}, 256)
 
-/* ---- bank.c: registries. ---- */
+/* ---- registries.c ---- */
 
 /* What is kept of the entry in one slot of a bank. */
 struct row {

@@ -196,25 +196,13 @@ void lock_release(uintptr_t *word, struct thread *me)
 	sleepq_unlock(sleepq);
 }
 
-/* Makes another thread the owner. That one waits for it by lock_acquire or lock_wait, or will. */
+/* Makes another thread the owner. That one waits for it by lock_acquire, or will. */
 void lock_hand_over(uintptr_t *word, struct thread *to)
 {
 	struct sleepq *sleepq = &lock_sleepqs[place_of(word)];
 	sleepq_lock(sleepq);
 	hand_over(sleepq, word, to);
 	sleepq_unlock(sleepq);
-}
-
-/* Waits until it is passed back. */
-void lock_wait(uintptr_t *word, struct thread *me)
-{
-	struct sleepq *sleepq = &lock_sleepqs[place_of(word)];
-	int waits = begin_wait();
-	sleepq_lock(sleepq);
-	while (lock_owner(word) != me)
-		pthread_cond_wait(&me->cond, &sleepq->mutex);
-	sleepq_unlock(sleepq);
-	end_wait(waits);
 }
 
 /* ---- The pauses of a wait, between two looks at what it waits for. ---- */

@@ -133,16 +133,10 @@ void release_mutex(struct thread *me, kmutex_t *mutex)
 
 bool has_mutex(const struct thread *me, const kmutex_t *mutex) { return lock_owner(&mutex->mtx_word) == me; }
 
-/* Stops where a soft interrupt takes a lock that isn't for it. */
-static void require_for_softint(const struct thread *me, const kmutex_t *mutex)
+void enter_mutex(struct thread *me, kmutex_t *mutex)
 {
 	if (me->softint && mutex->mtx_made == A_MUTEX && !mutex->mtx_spins && mutex->mtx_level == IPL_NONE)
 		stop(me, "in a soft interrupt, and the lock is of IPL_NONE");
-}
-
-void enter_mutex(struct thread *me, kmutex_t *mutex)
-{
-	require_for_softint(me, mutex);
 	acquire_mutex(me, mutex);
 }
 

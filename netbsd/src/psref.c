@@ -186,27 +186,19 @@ static uint32_t count_one(struct thread *me, struct found_row at, uint32_t via, 
 	return answer;
 }
 
-/* Acquires a reference to the entry of a row. The registry's CPU that counts it. */
-static uint32_t acquire(struct thread *me, struct found_row at)
+/* Counts one more reference to the entry of a row by a CPU of the registry's, or by the other one of this thread's and the writers'. Which one. */
+static uint32_t count_more(struct thread *me, struct found_row at, uint32_t via, bool is_copy)
 {
-	uint32_t via = me->cpu->info.ci_index, answer = count_one(me, at, via, false);
-	if (is_full(answer))
-		answer = count_one(me, at, via = WRITERS, false);
+	uint32_t other = via == WRITERS ? me->cpu->info.ci_index : WRITERS, answer = count_one(me, at, via, is_copy);
+	if (is_full(answer)) {
+		uint32_t second = count_one(me, at, other, is_copy);
+		if (second == REGISTRY_DONE)
+			return other;
+		/* A copy of one that is being destroyed is right. */
+		answer = is_copy ? answer : second;
+	}
 	if (answer == REGISTRY_NOT_FOUND)
 		stop(me, "the target is being destroyed");
-	must_succeed(me, answer);
-	return via;
-}
-
-/* One more of those that this thread has: it is counted where the first one is, or by the other CPU. */
-static uint32_t copy(struct thread *me, struct found_row at, uint32_t via)
-{
-	uint32_t answer = count_one(me, at, via, true);
-	if (is_full(answer)) {
-		via = via == WRITERS ? me->cpu->info.ci_index : WRITERS;
-		if (count_one(me, at, via, true) == REGISTRY_DONE)
-			return via;
-	}
 	must_succeed(me, answer);
 	return via;
 }
@@ -226,7 +218,7 @@ void psref_acquire(struct psref *psref, const struct psref_target *target, struc
 	struct found_row at = target_row(me, target, psref_class);
 	hold_cpu(me);
 	require_unheld(me, psref);
-	note_reference(me, psref, target, acquire(me, at));
+	note_reference(me, psref, target, count_more(me, at, me->cpu->info.ci_index, false));
 	leave_cpu(me);
 }
 
@@ -254,7 +246,7 @@ void psref_copy(struct psref *to, const struct psref *from, struct psref_class *
 	struct reference *reference = own_reference(me, from);
 	require_unheld(me, to);
 	struct found_row at = target_row(me, from->psref_target, psref_class);
-	note_reference(me, to, from->psref_target, copy(me, at, reference->via));
+	note_reference(me, to, from->psref_target, count_more(me, at, reference->via, true));
 	leave_cpu(me);
 }
 

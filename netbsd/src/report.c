@@ -14,8 +14,7 @@ static void write_line(const char *call, const char *place, const char *format, 
 {
 	char reason[320], line[512];
 	vsnprintf(reason, sizeof(reason), format, words);
-	int length = place == NULL ? snprintf(line, sizeof(line), "%s: %s\n", call, reason)
-				   : snprintf(line, sizeof(line), "%s: %s, at %s\n", call, reason, place);
+	int length = snprintf(line, sizeof(line), "%s: %s%s%s\n", call, reason, place == NULL ? "" : ", at ", place == NULL ? "" : place);
 	if (length >= (int)sizeof(line)) {
 		length = sizeof(line) - 1;
 		line[length - 1] = '\n';

@@ -59,30 +59,21 @@ static void rw_acquire(struct thread *me, krwlock_t *rw, krw_t how)
 	struct timespec tells = patience();
 	bool told = false;
 	rw->rw_wanted += how == RW_WRITER;
-	for (;;) {
-		rw->rw_wanted -= how == RW_WRITER;
-		if (rw_tryacquire(me, rw, how))
-			return;
-		rw->rw_wanted += how == RW_WRITER;
+	while (!rw_tryacquire(me, rw, how)) {
 		if (sleepq_wait(sleepq_of(rw), rw, me, told ? NULL : &tells) || told)
 			continue;
 		told = report_wait(me, rw);
 		tells = patience();
 	}
-}
-
-/* Stops where the thread mustn't wait for it. */
-static void require_free_of(struct thread *me, const krwlock_t *rw)
-{
-	require_blockable(me);
-	if (rw->rw_writer == (uintptr_t)me)
-		stop(me, "the thread has the lock already");
+	rw->rw_wanted -= how == RW_WRITER;
 }
 
 void rw_enter(krwlock_t *rw, const krw_t how)
 {
 	struct thread *me = lock_rw(begin_call(__func__), rw);
-	require_free_of(me, rw);
+	require_blockable(me);
+	if (rw->rw_writer == (uintptr_t)me)
+		stop(me, "the thread has the lock already");
 	if (rw_tryacquire(me, rw, how)) {
 		sleepq_unlock(sleepq_of(rw));
 		return;

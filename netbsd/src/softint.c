@@ -164,18 +164,13 @@ void *softint_establish(unsigned flags, void (*handler)(void *), void *arg)
 	return FAILS() ? NULL : make_softint(flags, handler, arg);
 }
 
-/* Whether it is established. The caller has the list. */
-static bool is_established(const struct softint *softint)
-{
-	for (struct softint *at = softints; at != NULL; at = at->next)
-		if (at == softint)
-			return !at->dead;
-	return false;
-}
-
+/* Stops where it isn't established. The caller has the list. */
 static void require_established(const struct thread *me, const struct softint *softint)
 {
-	if (!is_established(softint))
+	const struct softint *at = softints;
+	while (at != NULL && at != softint)
+		at = at->next;
+	if (at == NULL || at->dead)
 		stop(me, "the soft interrupt is not established");
 }
 

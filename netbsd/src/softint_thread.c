@@ -132,7 +132,7 @@ void lend_cpu(struct thread *me)
 		next->lender = me;
 		lock_hand_over(&me->cpu->hold, next);
 		wake_threads();
-		lock_wait(&me->cpu->hold, me);
+		lock_acquire(&me->cpu->hold, me, NULL);
 	}
 }
 

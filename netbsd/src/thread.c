@@ -103,8 +103,6 @@ struct thread *named_thread(const char *call, const char *name)
 	return me;
 }
 
-struct thread *new_thread(const char *call) { return named_thread(call, ""); }
-
 /* Stops where the thread has passive references. */
 static void require_unreferring(const struct thread *me)
 {
@@ -158,17 +156,11 @@ void move_to(struct thread *me, struct cpu *cpu)
 	me->lwp.l_cpu = &cpu->info;
 }
 
-/* A CPU for a thread that never had one. */
-static struct cpu *first_cpu(void)
-{
-	return &cpus[__atomic_fetch_add(&next_cpu, 1, __ATOMIC_RELAXED) % KUPALDIZ_CPUS];
-}
-
-/* The CPU where the thread is, or was last. */
+/* The CPU where the thread is, or was last; where it never had one, the next of all. */
 struct cpu *cpu_of(struct thread *me)
 {
 	if (me->cpu == NULL)
-		move_to(me, first_cpu());
+		move_to(me, &cpus[__atomic_fetch_add(&next_cpu, 1, __ATOMIC_RELAXED) % KUPALDIZ_CPUS]);
 	return me->cpu;
 }
 

@@ -23,22 +23,15 @@ static void await_seen(unsigned more)
 		sleep_for(20);
 }
 
-/* What a thread saw in its turn. If it saw nothing, it gives others time. */
-static void note_seen(bool is_some)
-{
-	atomic_fetch_add(&seen, is_some);
-	sleep_for(is_some ? 1 : 20);
-}
-
 /* ---- bridge.c ---- */
 
 static void send_member(void *sum, unsigned index) { sleep_for(10); *(unsigned *)sum += index; }
 
-static void broadcast(unsigned turn)
+static bool broadcast(unsigned turn)
 {
 	unsigned sum = 0, sent = bridge_broadcast(send_member, &sum);
 	EXPECT(sum >= sent && sum <= 8 * sent);
-	note_seen(sent > turn % 2);
+	return sent > turn % 2;
 }
 
 static void change_members(unsigned round)
@@ -59,7 +52,7 @@ static void begin_interfaces(void)
 }
 
 static void send_one(unsigned index) { sleep_for(10); EXPECT(index > 0); }
-static void transmit(unsigned turn) { note_seen(if_transmit(turn * 3 % 70, send_one)); }
+static bool transmit(unsigned turn) { return if_transmit(turn * 3 % 70, send_one); }
 
 static void change_interfaces(unsigned round)
 {
@@ -89,11 +82,11 @@ static void begin_devices(void)
 	EXPECT(devsw_attach(0, &device) == 0 && devsw_attach(1, &device) == 0 && devsw_attach(1, &device) == EEXIST);
 }
 
-static void open_device(unsigned turn)
+static bool open_device(unsigned turn)
 {
 	int opened = cdev_open(turn % 2, turn % 2), closed = cdev_close(turn % 2, turn % 2);
 	EXPECT((opened == 0 || opened == ENXIO) && (closed == 0 || closed == ENXIO));
-	note_seen(opened == 0);
+	return opened == 0;
 }
 
 static void change_devices(unsigned round)
@@ -105,12 +98,12 @@ static void end_devices(void) { devsw_fini(); EXPECT(cdev_open(0, 0) == ENXIO); 
 
 /* ---- ioctl.c ---- */
 
-static void get_entry(unsigned turn)
+static bool get_entry(unsigned turn)
 {
 	struct entry_request request = {.er_key = turn % 6};
 	int error = entry_ioctl(ENTRYGET, &request);
 	EXPECT(error == ENOENT || (error == 0 && request.er_value % 6 == turn % 6 && strcmp(request.er_name, "entry") == 0));
-	note_seen(error == 0);
+	return error == 0;
 }
 
 static void change_entries(unsigned round)
@@ -128,7 +121,7 @@ static void *listener;
 
 static void input(void *arg, unsigned packet) { EXPECT(packet < 7); atomic_fetch_add((atomic_uint *)arg, 1); }
 static void begin_packets(void) { EXPECT(rx_init() == 0); listener = rx_listen(input, &received); }
-static void interrupt(unsigned turn) { rx_interrupt(turn % 7); atomic_fetch_add(&sent, 1); note_seen(turn % 16 != 0); }
+static bool interrupt(unsigned turn) { rx_interrupt(turn % 7); atomic_fetch_add(&sent, 1); return turn % 16 != 0; }
 
 /* Another one listens for a while, whose memory goes. */
 static void change_listeners(unsigned round)
@@ -154,12 +147,12 @@ static void end_packets(void)
 
 static atomic_uint adds;
 
-static void add(unsigned turn)
+static bool add(unsigned turn)
 {
 	counters_add(COUNT_IN, 1);
 	counters_add(COUNT_OUT, 3);
 	atomic_fetch_add(&adds, 1);
-	note_seen(turn % 64 != 0);
+	return turn % 64 != 0;
 }
 
 static void look_at_sums(unsigned round)
@@ -186,12 +179,12 @@ int kupaldiz_ticker_modcmd(modcmd_t command, void *opaque);
 static void load(void) { EXPECT(kupaldiz_ticker_modcmd(MODULE_CMD_INIT, NULL) == 0); }
 static void unload(void) { EXPECT(kupaldiz_ticker_modcmd(MODULE_CMD_FINI, NULL) == 0 && kupaldiz_ticker_modcmd(MODULE_CMD_STAT, NULL) == ENOTTY); }
 
-static void call_hook(unsigned turn)
+static bool call_hook(unsigned turn)
 {
 	unsigned answer = 0;
 	int error = ticker_call(turn, &answer);
 	EXPECT(error == ENXIO || (error == 0 && answer == turn + 1));
-	note_seen(error == 0 && turn % 8 != 0);
+	return error == 0 && turn % 8 != 0;
 }
 
 static void reload(unsigned round) { sleep_for(round % 20 == 0 ? 25000 : 0); unload(); load(); }
@@ -200,7 +193,7 @@ static void reload(unsigned round) { sleep_for(round % 20 == 0 ? 25000 : 0); unl
 
 static const struct driver {
 	void (*init)(void);
-	void (*use)(unsigned turn);
+	bool (*use)(unsigned turn);	/* whether it saw something */
 	void (*change)(unsigned round);
 	void (*fini)(void);
 } drivers[] = {
@@ -213,8 +206,11 @@ static const struct driver *driver;
 
 static void *use_driver(void *number)
 {
-	for (unsigned turn = *(unsigned *)number; !atomic_load(&over); turn++)
-		driver->use(turn);
+	for (unsigned turn = *(unsigned *)number; !atomic_load(&over); turn++) {
+		bool saw = driver->use(turn);
+		atomic_fetch_add(&seen, saw);
+		sleep_for(saw ? 1 : 20);	/* gives others time */
+	}
 	return number;
 }
 

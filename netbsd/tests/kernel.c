@@ -75,19 +75,36 @@ static void test_mutexes(void)
 
 /* ---- kmem(9), pool(9), pool_cache(9). ---- */
 
+enum { BLOCK = 200 };
+
+/* A block of zeros, over bytes that may be any, which are left to the next one. */
+static void *dirtied(unsigned char *block)
+{
+	for (unsigned at = 0; at < BLOCK; at++)
+		EXPECT(block[at] == 0);
+	return memset(block, 0xa5, BLOCK);
+}
+
+static void test_zeros(void)
+{
+	struct pool pool;
+	pool_init(&pool, BLOCK, 8, 0, 0, "zeropl", NULL, IPL_NONE);
+	for (unsigned turn = 0; turn < 3; turn++) {
+		kmem_free(dirtied(kmem_zalloc(BLOCK, KM_SLEEP)), BLOCK);
+		kmem_intr_free(dirtied(kmem_intr_zalloc(BLOCK, KM_NOSLEEP)), BLOCK);
+		pool_put(&pool, dirtied(pool_get(&pool, PR_WAITOK | PR_ZERO)));
+	}
+	pool_destroy(&pool);
+}
+
 static void test_memory(void)
 {
-	const km_flag_t flags = KM_NOSLEEP;
-	struct pool pool;
+	const km_flag_t flags = KM_SLEEP;
 	size_t size = 0;
-	kmem_intr_free(kmem_intr_zalloc(40, flags), 40);
-	char *text = kmem_strdup("bridge0", KM_SLEEP), *sized = kmem_strdupsize("bridge", &size, KM_SLEEP);
+	char *text = kmem_strdup("bridge0", flags), *sized = kmem_strdupsize("bridge", &size, flags);
 	EXPECT(strcmp(text, "bridge0") == 0 && size == 7 && strcmp(sized, "bridge") == 0);
 	kmem_strfree(text);
 	kmem_strfree(sized);
-	pool_init(&pool, 24, 8, 0, 0, "thingpl", NULL, IPL_NONE);
-	pool_put(&pool, pool_get(&pool, PR_NOWAIT | PR_ZERO));
-	pool_destroy(&pool);
 }
 
 static int made, ended;
@@ -138,24 +155,23 @@ struct aligned {
 /* A type that begins a line does so in kmem's blocks, and in a pool's objects; a pool aligns any object as it is asked to. */
 static void test_alignment(void)
 {
-	struct pool pool, small;
-	struct aligned *blocks[16], *objects[16];
-	char *smalls[16];
-	pool_init(&pool, sizeof(struct aligned), 0, 0, 0, "linepl", NULL, IPL_NONE);
-	pool_init(&small, 24, 128, 0, 0, "smallpl", NULL, IPL_NONE);
+	struct pool pools[2];
+	void *blocks[16][3];
+	pool_init(&pools[0], sizeof(struct aligned), 0, 0, 0, "linepl", NULL, IPL_NONE);
+	pool_init(&pools[1], 24, 128, 0, 0, "smallpl", NULL, IPL_NONE);
 	for (unsigned i = 0; i < 16; i++) {
-		blocks[i] = kmem_zalloc(sizeof(*blocks[i]), KM_SLEEP);
-		objects[i] = pool_get(&pool, PR_WAITOK);
-		smalls[i] = pool_get(&small, PR_WAITOK);
-		EXPECT((uintptr_t)blocks[i] % 64 == 0 && (uintptr_t)objects[i] % 64 == 0 && (uintptr_t)smalls[i] % 128 == 0);
+		blocks[i][0] = pool_get(&pools[0], PR_WAITOK);
+		blocks[i][1] = pool_get(&pools[1], PR_WAITOK);
+		blocks[i][2] = kmem_zalloc(sizeof(struct aligned), KM_SLEEP);
+		EXPECT((uintptr_t)blocks[i][0] % 64 == 0 && (uintptr_t)blocks[i][1] % 128 == 0 && (uintptr_t)blocks[i][2] % 64 == 0);
 	}
 	for (unsigned i = 0; i < 16; i++) {
-		kmem_free(blocks[i], sizeof(*blocks[i]));
-		pool_put(&pool, objects[i]);
-		pool_put(&small, smalls[i]);
+		pool_put(&pools[0], blocks[i][0]);
+		pool_put(&pools[1], blocks[i][1]);
+		kmem_free(blocks[i][2], sizeof(struct aligned));
 	}
-	pool_destroy(&pool);
-	pool_destroy(&small);
+	pool_destroy(&pools[0]);
+	pool_destroy(&pools[1]);
 }
 
 /* ---- percpu(9), xcall(9), and counters. ---- */
@@ -170,18 +186,11 @@ static void sum_up(void *own, void *arg, struct cpu_info *cpu)
 	sums[STAT_OUT] += counters[STAT_OUT];
 }
 
-static void count_visit(void *visits, void *bound)
-{
-	*(unsigned *)visits += bound == NULL && (curlwp->l_pflag & LP_BOUND) != 0;
-}
-
 static void test_counters(void)
 {
 	const percpu_callback_t look = sum_up;
-	const xcfunc_t visit = count_visit;
 	percpu_t *stats = percpu_alloc(STATS * sizeof(uint64_t));
 	uint64_t sums[STATS] = {0}, *own;
-	unsigned visits = 0;
 	_NET_STATINC(stats, STAT_IN);
 	_NET_STATADD(stats, STAT_OUT, 7);
 	_NET_STATDEC(stats, STAT_OUT);
@@ -192,8 +201,34 @@ static void test_counters(void)
 	percpu_foreach(stats, look, sums);
 	EXPECT(sums[STAT_IN] == 2 && sums[STAT_OUT] == 10 && !kpreempt_disabled());
 	percpu_free(stats, STATS * sizeof(uint64_t));
-	xc_wait(xc_broadcast(XC_HIGHPRI_IPL(IPL_SOFTNET), visit, &visits, NULL));
-	EXPECT(visits == KUPALDIZ_CPUS);
+}
+
+/* How often parts were visited. */
+static unsigned looks;
+
+/* Looks at a CPU's part, once it was found to be zeros. It begins a line, and the parts lie apart: each has its CPU's number in all bytes. */
+static void look_at_part(void *own, void *size, struct cpu_info *cpu)
+{
+	unsigned char *part = own, wanted = looks < KUPALDIZ_CPUS ? 0 : (unsigned char)(cpu_index(cpu) + 1);
+	EXPECT((uintptr_t)part % 64 == 0 && cpu_index(cpu) == looks++ % KUPALDIZ_CPUS);
+	for (size_t at = 0; at < *(size_t *)size; at++)
+		EXPECT(part[at] == wanted);
+	memset(part, (int)cpu_index(cpu) + 1, *(size_t *)size);
+}
+
+/* Each CPU's part is made, looked at and ended once. */
+static void test_parts(void)
+{
+	static size_t sizes[] = {1, 64, 65, BLOCK};
+	for (unsigned at = 0; at < __arraycount(sizes); at++) {
+		looks = 0;
+		percpu_t *percpu = percpu_create(sizes[at], look_at_part, look_at_part, &sizes[at]);
+		percpu_foreach(percpu, look_at_part, &sizes[at]);
+		percpu_foreach_xcall(percpu, 0, look_at_part, &sizes[at]);
+		EXPECT(looks == 3 * KUPALDIZ_CPUS);
+		percpu_free(percpu, sizes[at]);
+		EXPECT(looks == 4 * KUPALDIZ_CPUS);
+	}
 }
 
 /* How often each CPU was visited. */
@@ -211,9 +246,10 @@ static void visit_cpu(void *high, void *other)
 /* With high priority the function has its CPU, at a level; without it may sleep. The thread is where it was once it has run, bound or not. */
 static void test_calls(void)
 {
+	const xcfunc_t visit = visit_cpu;
 	kupaldiz_bind(3);
 	for (unsigned turn = 0; turn < 2; turn++) {
-		xc_wait(xc_broadcast(turn == 0 ? 0 : XC_HIGHPRI, visit_cpu, turn == 0 ? NULL : &visited, NULL));
+		xc_wait(xc_broadcast(turn == 0 ? 0 : XC_HIGHPRI_IPL(IPL_SOFTNET), visit, turn == 0 ? NULL : &visited, NULL));
 		EXPECT(cpu_number() == 3 && curlwp->l_cpu == kupaldiz_cpu(3) && (curlwp->l_pflag & LP_BOUND) != 0 && !kpreempt_disabled());
 	}
 	for (unsigned cpu = 0; cpu < KUPALDIZ_CPUS; cpu++)
@@ -251,7 +287,7 @@ static void test_depth(void)
 	end_things();
 }
 
-/* ---- kthread(9), callout(9), workqueue(9), time, and copies. ---- */
+/* ---- kthread(9), workqueue(9), time, and copies. ---- */
 
 BODY(run_once)
 {
@@ -260,7 +296,7 @@ BODY(run_once)
 	kthread_exit(0);
 }
 
-/* Of threads that ended before each is joined once, by its own name. */
+/* Of threads that ended before each is joined once, by its own name. One isn't joined. */
 static void test_threads(void)
 {
 	static const int kinds[] = {KTHREAD_INTR, KTHREAD_TS, KTHREAD_IDLE, KTHREAD_MPSAFE};
@@ -275,27 +311,9 @@ static void test_threads(void)
 	}
 	for (unsigned at = 0; at < __arraycount(kinds); at++)
 		EXPECT(kthread_join(threads[at]) == 0);
-	EXPECT(runs == __arraycount(kinds));
-}
-
-static callout_t callout;
-static unsigned fired;
-
-HANDLER(fire, EXPECT(arg == &fired && cpu_softintr_p() && callout_invoking(&callout)); callout_ack(&callout); atomic_inc_uint(&fired))
-
-static void test_callout(void)
-{
-	callout_init(&callout, CALLOUT_MPSAFE);
-	callout_reset(&callout, 1, fire, &fired);
-	while (atomic_load_acquire(&fired) == 0)
-		(void)kpause("callout", false, 1, NULL);
-	EXPECT(callout_expired(&callout) && !callout_pending(&callout) && !callout_invoking(&callout));
-	EXPECT(callout_stop(&callout) && !callout_expired(&callout));
-	callout_setfunc(&callout, fire, &fired);
-	callout_schedule(&callout, 100000);
-	(void)callout_halt(&callout, NULL);	/* in the bench its time may have come */
-	EXPECT(!callout_pending(&callout) && !callout_active(&callout));
-	callout_destroy(&callout);
+	EXPECT(kthread_create(PRI_NONE, KTHREAD_MPSAFE, kupaldiz_cpu(4), run_once, &runs, NULL, "kind") == 0);
+	while (atomic_load_relaxed(&runs) == __arraycount(kinds))
+		(void)kpause("end", false, 1, NULL);
 }
 
 struct job {
@@ -398,24 +416,18 @@ static int call_sum(int one, int two)
 
 HANDLER(tell, atomic_inc_uint(arg))
 
-static void test_void_hook(void)
+static void test_hooks(void)
 {
 	unsigned calls = 0, missed = 0;
-	MODULE_HOOK_CALL_VOID(tell_hook, (&calls), missed++);
-	EXPECT(missed == 1 && calls == 0);
-	MODULE_HOOK_SET(tell_hook, tell);
-	MODULE_HOOK_CALL_VOID(tell_hook, (&calls), missed++);
-	EXPECT(missed == 1 && calls == 1);
-	MODULE_HOOK_UNSET(tell_hook);
-}
-
-static void test_hook(void)
-{
 	for (unsigned turn = 0; turn < 3; turn++) {
-		EXPECT(call_sum(2, 3) == -1);
+		MODULE_HOOK_CALL_VOID(tell_hook, (&calls), missed++);
+		EXPECT(call_sum(2, 3) == -1 && missed == turn + 1 && calls == turn);
 		MODULE_HOOK_SET(sum_hook, sum);
-		EXPECT(call_sum(2, 3) == 5);
+		MODULE_HOOK_SET(tell_hook, tell);
+		MODULE_HOOK_CALL_VOID(tell_hook, (&calls), missed++);
+		EXPECT(call_sum(2, 3) == 5 && missed == turn + 1 && calls == turn + 1);
 		MODULE_HOOK_UNSET(sum_hook);
+		MODULE_HOOK_UNSET(tell_hook);
 	}
 }
 
@@ -423,8 +435,8 @@ static void test_queue(void) { test_works(WQ_MPSAFE); }
 static void test_queues(void) { test_works(WQ_MPSAFE | WQ_PERCPU | WQ_FPU); }
 
 static void (*const kernel_tests[])(void) = {
-	test_levels, test_mutexes, test_memory, test_cache, test_looked_at, test_alignment, test_counters, test_calls, test_cpus, test_depth, test_threads,
-	test_callout, test_queue, test_queues, test_time, test_copies, test_empty_copies, test_hook, test_void_hook,
+	test_levels, test_mutexes, test_memory, test_zeros, test_cache, test_looked_at, test_alignment, test_counters, test_parts, test_calls, test_cpus, test_depth,
+	test_threads, test_queue, test_queues, test_time, test_copies, test_empty_copies, test_hooks,
 };
 
 #ifndef KUPALDIZ_BENCH

@@ -146,7 +146,6 @@ static void run_nothing(void *arg, void *nobody) { (void)nobody; nothing(arg); }
 
 static char beyond[64];
 
-STOPS("pserialize_read_exit: outside any read section, at PLACE", kupaldiz_unbind(); pserialize_read_exit(0))
 STOPS("psref_acquire: the thread is not bound to a CPU, at PLACE", kupaldiz_unbind(); psref_acquire(&psref, &target, things))
 STOPS("psref_held: the thread is not bound to a CPU, at PLACE", kupaldiz_unbind(); psref_held(&target, things))
 STOPS("kupaldiz_unbind: the thread is not bound to a CPU, at PLACE", kupaldiz_unbind(); kupaldiz_unbind())
@@ -156,15 +155,12 @@ STOPS(beyond, kupaldiz_unbind(); kupaldiz_bind(KUPALDIZ_CPUS))
 /* Inside a section the thread has a CPU, if it isn't bound, too. */
 STOPS("kupaldiz_bind: inside a read section, entered at PLACE, at PLACE", kupaldiz_unbind(); pserialize_read_enter(); kupaldiz_bind(1))
 STOPS("kupaldiz_unbind: inside a read section, entered at PLACE, at PLACE", pserialize_read_enter(); kupaldiz_unbind())
-STOPS("kupaldiz_unbind: the thread has passive references, at PLACE", acquire(); kupaldiz_unbind())
 STOPS("curlwp_bindx: the thread has passive references, at PLACE", acquire(); curlwp_bindx(0))
 
 /* ---- What threads, handlers and functions leave behind. ---- */
 
 THREAD(end_inside, kupaldiz_bind(1); pserialize_read_enter())
 STOPS("pthread_exit: inside a read section", on_thread(end_inside))
-THREAD(end_holding, kupaldiz_bind(1); acquire())
-STOPS("pthread_exit: the thread has passive references", on_thread(end_holding))
 /* The thread isn't bound: it acquires while it has its CPU. */
 THREAD(end_holding_unbound, kpreempt_disable(); psref_acquire(&psref, &target, things); kpreempt_enable())
 STOPS("pthread_exit: the thread has passive references", on_thread(end_holding_unbound))
@@ -179,22 +175,13 @@ STOPS("softint: the handler returned with a lock", as_softint(stay_locked))
 STOPS("softint: the handler returned with a lock", as_softint(stay_spinning))
 STOPS("softint: the handler returned with preemption disabled", as_softint(stay_bound))
 STOPS("softint: the handler returned at a raised level", as_softint(stay_raised))
-STOPS("softint: the handler returned at a raised level", callout_reset(&callout, 1, stay_raised, NULL); sleep_for(20000000))
 STOPS("softint: the handler returned with a passive reference", as_softint(stay_holding))
-/* It releases one reference of two. */
-HANDLER(stay_copied, psref_acquire(&psref, &target, things); psref_copy(&second, &psref, things); release())
-STOPS("softint: the handler returned with a passive reference", as_softint(stay_copied))
 STOPS("xc_broadcast: the function returned with a passive reference, at PLACE", xc_broadcast(0, function_stays_holding, NULL, NULL))
-STOPS("xc_broadcast: the function returned inside a read section, at PLACE", broadcast(0, stay_inside))
 STOPS("xc_unicast: the function returned inside a read section",
     void (*stay)(void *) = stay_inside; xc_wait(xc_unicast(XC_HIGHPRI, run_handler, &stay, NULL, kupaldiz_cpu(3))))
 STOPS("xc_broadcast: the function returned with a lock, at PLACE", broadcast(0, stay_locked))
-STOPS("xc_broadcast: the function returned with a lock, at PLACE", broadcast(XC_HIGHPRI, stay_spinning))
-STOPS("xc_broadcast: the function returned with preemption disabled, at PLACE", broadcast(0, stay_bound))
 STOPS("xc_broadcast: the function returned at a raised level, at PLACE", broadcast(0, stay_raised))
 STOPS("xc_broadcast: the function returned at a raised level, at PLACE", broadcast(XC_HIGHPRI, stay_raised))
-HANDLER(alloc_asleep, kmem_alloc(8, KM_SLEEP))
-STOPS("kmem_alloc: at a raised level, at PLACE", broadcast(XC_HIGHPRI, alloc_asleep))
 
 /* ---- pserialize(9). ---- */
 
@@ -212,24 +199,13 @@ STOPS("pserialize_destroy: a thread performs with it, at PLACE",
 /* ---- psref(9). ---- */
 
 THREAD(release_on_0, kupaldiz_bind(0); release())
-THREAD(copy_on_0, kupaldiz_bind(0); psref_copy(&second, &psref, things))
 THREAD(release_on_1, kupaldiz_bind(1); release())
-THREAD(copy_on_1, kupaldiz_bind(1); psref_copy(&second, &psref, things))
 THREAD(destroy_target, psref_target_destroy(&target, things))
 STOPS("psref_release: the reference is of thread \"misuses\", acquired at PLACE, at PLACE", acquire(); on_thread(release_on_0))
-STOPS("psref_copy: the reference is of thread \"misuses\", acquired at PLACE, at PLACE", acquire(); on_thread(copy_on_0))
 STOPS("psref_release: the reference is of CPU 0, and this is CPU 1, at PLACE", acquire(); on_thread(release_on_1))
-STOPS("psref_copy: the reference is of CPU 0, and this is CPU 1, at PLACE", acquire(); on_thread(copy_on_1))
 STOPS("psref_release: the reference is not held, at PLACE", release())
-STOPS("psref_release: the reference is not held, at PLACE", acquire(); release(); release())
 /* A reference that was copied by its bytes is one reference all the same. */
 STOPS("psref_release: the reference is not held, at PLACE", acquire(); struct psref bytes = psref; release(); psref_release(&bytes, &target, things))
-/* While the first one is held, its bytes elsewhere are none. */
-STOPS("psref_release: the reference was moved by its bytes: it was acquired elsewhere at PLACE, at PLACE",
-    acquire(); struct psref bytes = psref; psref_release(&bytes, &target, things))
-STOPS("psref_copy: the reference was moved by its bytes: it was acquired elsewhere at PLACE, at PLACE",
-    acquire(); struct psref bytes = psref; psref_copy(&second, &bytes, things))
-STOPS("psref_acquire: the reference is held already, at PLACE", acquire(); acquire())
 /* The table of the CPU is asked, and not the storage. */
 STOPS("psref_acquire: the reference is held already, at PLACE", acquire(); memset(&psref, 0, sizeof(psref)); acquire())
 STOPS("psref_copy: the reference is held already, at PLACE", acquire(); psref_copy(&second, &psref, things); psref_copy(&second, &psref, things))
@@ -243,21 +219,16 @@ STOPS("psref_release: the reference was written over, at PLACE", acquire(); psre
 STOPS("psref_release: the reference is to another target, at PLACE",
     psref_target_init(&other, things); acquire(); psref_release(&psref, &other, things))
 STOPS("psref_copy: the reference is not held, at PLACE", psref_copy(&second, &psref, things))
-STOPS("psref_copy: the reference is held already, at PLACE", acquire(); psref_copy(&psref, &psref, things))
-STOPS("psref_copy: the reference is not held, at PLACE", acquire(); release(); psref_copy(&second, &psref, things))
-STOPS("psref_copy: the reference is not held, at PLACE", acquire(); struct psref bytes = psref; release(); psref_copy(&second, &bytes, things))
-STOPS("psref_acquire: the target is not live, at PLACE", pserialize_read_enter(); psref_acquire(&psref, &other, things))
 STOPS("psref_acquire: the target is not live, at PLACE", psref_target_destroy(&target, things); acquire())
 STOPS("psref_acquire: the target is not live, at PLACE", struct psref_target copied = target; psref_acquire(&psref, &copied, things))
 /* The bytes of its life before. */
 STOPS("psref_acquire: the target is not live, at PLACE",
     struct psref_target before = target; psref_target_destroy(&target, things); psref_target_init(&target, things); target = before;
     psref_acquire(&psref, &target, things))
-/* Bytes of anything name a row far beyond any registry; the first row of one that isn't there; one that no target ever had; and a count's. */
+/* Bytes of anything name a row far beyond any registry; the first row of one that isn't there; and a count's. */
 STOPS("psref_acquire: the target is not live, at PLACE", memset(&target, 0xa5, sizeof(target)); psref_acquire(&psref, &target, things))
 STOPS("psref_acquire: the target is not live, at PLACE",
     other.prt_serial = target.prt_serial; other.prt_row = ROWS; psref_acquire(&psref, &other, things))
-STOPS("psref_acquire: the target is not live, at PLACE", target.prt_row = ROWS - 1; psref_acquire(&psref, &target, things))
 STOPS("psref_acquire: the target is not live, at PLACE", target.prt_row = count.lc_row; psref_acquire(&psref, &target, things))
 /* A thread destroys the target and waits for a reference of CPU 0, which goes on acquiring. */
 STOPS("psref_acquire: the target is being destroyed, at PLACE",
@@ -268,9 +239,7 @@ STOPS("psref_acquire: the target is being destroyed, at PLACE",
     })
 STOPS("psref_target_destroy: another thread waits for it already, at PLACE", acquire(); on_two_threads(destroy_target))
 STOPS("psref_target_destroy: the target is not live, at PLACE", psref_target_destroy(&target, things); psref_target_destroy(&target, things))
-STOPS("psref_target_destroy: the target is not live, at PLACE", psref_target_destroy(&other, things))
 STOPS("psref_target_destroy: this thread has a reference to the target, acquired at PLACE, at PLACE", acquire(); psref_target_destroy(&target, things))
-STOPS("psref_target_init: it is live already, at PLACE", psref_target_init(&target, things))
 /* It is live, and the only one. Its bytes are gone. */
 STOPS("psref_target_init: it is live already, at PLACE",
     drain_count(); localcount_fini(&count); memset(&target, 0, sizeof(target)); psref_target_init(&target, things))
@@ -300,6 +269,7 @@ STOPS("psref_target_destroy: this thread has a reference to the target, acquired
     psref_target_init(&other, things); acquire_at("the first call", &psref, &other); acquire_at("the second call", &second, &target);
     acquire_at("the third call", &third, &target); psref_release(&second, &target, things); kupaldiz_at("the last call");
     (psref_target_destroy)(&target, things))
+/* While the first one is held, its bytes elsewhere are none. */
 STOPS("psref_release: the reference was moved by its bytes: it was acquired elsewhere at the second call, at the last call",
     acquire_at("the first call", &psref, &target); acquire_at("the second call", &second, &target); struct psref bytes = second;
     kupaldiz_at("the last call"); (psref_release)(&bytes, &target, things))
@@ -307,25 +277,16 @@ STOPS("psref_release: the reference was moved by its bytes: it was acquired else
 /* ---- localcount(9). ---- */
 
 THREAD(keep_lock, mutex_enter(&lock); atomic_store(&ready, true); sleep_for(20000000))
-STOPS("localcount_drain: the count is not live, at PLACE", mutex_enter(&lock); localcount_drain(&other_count, &cv, &lock))
 STOPS("localcount_drain: the count is not live, at PLACE", drain_count(); mutex_enter(&lock); localcount_drain(&count, &cv, &lock))
 STOPS("localcount_drain: another thread waits for it already, at PLACE", count_in(); on_two_threads(drain_beside))
-STOPS("localcount_drain: the thread does not have the interlock, at PLACE", localcount_drain(&count, &cv, &lock))
 STOPS("localcount_drain: the thread does not have the interlock, at PLACE", count_in(); start(keep_lock); localcount_drain(&count, &cv, &lock))
 STOPS("localcount_drain: the interlock differs from the one before, at PLACE",
     count_in(); count_out(); mutex_enter(&wrong_lock); localcount_drain(&count, &cv, &wrong_lock))
-STOPS("localcount_drain: the condition variable differs from the one before, at PLACE",
-    count_in(); count_out(); mutex_enter(&lock); localcount_drain(&count, &wrong_cv, &lock))
-STOPS("localcount_fini: the count is not drained, at PLACE", localcount_fini(&count))
 STOPS("localcount_fini: the count is not drained, at PLACE", localcount_fini(&other_count))
-STOPS("localcount_fini: the count is not drained, at PLACE", count_in(); start(drain_beside); localcount_fini(&count))
 STOPS("localcount_fini: the count is not drained, at PLACE", drain_count(); localcount_fini(&count); localcount_fini(&count))
-/* The bytes say that it was drained, while it is live: that is what a drain leaves there. Then its serial is written over. */
+/* The bytes say that it was drained, while it is live: that is what a drain leaves there. */
 STOPS("localcount_fini: the count is not drained, at PLACE", count.lc_row = 1; localcount_fini(&count))
-STOPS("localcount_fini: the count is not drained, at PLACE", drain_count(); count.lc_serial = 7; localcount_fini(&count))
 STOPS("localcount_acquire: the count is not live, at PLACE", drain_count(); count_in())
-STOPS("localcount_acquire: the count is not live, at PLACE", memset(&count, 0xa5, sizeof(count)); localcount_acquire(&count))
-STOPS("localcount_acquire: the count is not live, at PLACE", count.lc_row = ROWS; localcount_acquire(&count))
 /* A drain waits for a reference of this thread's, which goes on acquiring. */
 STOPS("localcount_acquire: the count is being drained, at PLACE",
     count_in(); start_alone(drain_beside);
@@ -336,29 +297,21 @@ STOPS("localcount_acquire: the count is being drained, at PLACE",
 STOPS("localcount_release: no reference to the count is held, at PLACE", count_in(); count_out(); count_out())
 STOPS("localcount_release: the count is not live, at PLACE", drain_count(); count_out())
 STOPS("localcount_release: the thread has the interlock, at PLACE", count_in(); start(drain_beside); mutex_enter(&lock); count_out())
-STOPS("localcount_release: the interlock differs from the one before, at PLACE",
-    count_in(); count_in(); count_out(); localcount_release(&count, &cv, &wrong_lock))
 STOPS("localcount_release: the condition variable differs from the one before, at PLACE",
     count_in(); count_in(); count_out(); localcount_release(&count, &wrong_cv, &lock))
-STOPS("localcount_init: it is live already, at PLACE", localcount_init(&count))
 STOPS("localcount_init: it is live already, at PLACE",
     psref_target_destroy(&target, things); memset(&count, 0, sizeof(count)); localcount_init(&count))
 
 /* ---- mutex(9), spl(9). ---- */
 
-STOPS("mutex_enter: the thread has the lock already, taken at PLACE, at PLACE", mutex_enter(&lock); mutex_enter(&lock))
 STOPS("mutex_enter: the thread has the lock already, taken at PLACE, at PLACE", mutex_enter(&spin); mutex_enter(&spin))
-STOPS("mutex_enter: inside a read section, entered at PLACE, at PLACE", pserialize_read_enter(); mutex_enter(&lock))
 STOPS("mutex_enter: with a spin lock, and this lock does not spin, at PLACE", mutex_enter(&spin); mutex_enter(&lock))
 STOPS("mutex_enter: with preemption disabled, at PLACE", kpreempt_disable(); mutex_enter(&lock))
 HANDLER(take_softly, mutex_enter(&lock))
 STOPS("mutex_enter: in a soft interrupt, and the lock is of IPL_NONE, at PLACE", as_softint(take_softly))
-STOPS("mutex_exit: the thread does not have the lock, at PLACE", mutex_exit(&lock))
 STOPS("mutex_exit: the thread does not have the lock, at PLACE", start(keep_lock); mutex_exit(&lock))
-STOPS("mutex_exit: the thread does not have the lock, at PLACE", mutex_enter(&lock); mutex_exit(&lock); mutex_exit(&lock))
 STOPS("mutex_spin_exit: the thread does not have the lock, at PLACE", mutex_spin_exit(&spin))
 STOPS("mutex_destroy: the lock is held: thread \"misuses\" took it at PLACE, at PLACE", start(keep_lock); mutex_destroy(&lock))
-STOPS("mutex_destroy: the lock is held: thread \"misuses\" took it at PLACE, at PLACE", mutex_enter(&spin); mutex_destroy(&spin))
 /* The lock stays while there is another reference. */
 STOPS("mutex_obj_free: the lock is held: thread \"misuses\" took it at PLACE, at PLACE",
     kmutex_t *counted = mutex_obj_alloc(MUTEX_DEFAULT, IPL_NONE); mutex_obj_hold(counted); mutex_enter(counted);
@@ -381,21 +334,16 @@ STOPS("xc_barrier: inside a read section, entered at the second call, at the thi
 
 /* ---- condvar(9). ---- */
 
-STOPS("cv_wait: the thread does not have the lock, at PLACE", cv_wait(&cv, &lock))
 STOPS("cv_timedwait: the thread does not have the lock, at PLACE", start(keep_lock); cv_timedwait(&cv, &lock, 1))
 THREAD(wait_for_it, mutex_enter(&lock); atomic_store(&ready, true); cv_wait(&cv, &lock))
 STOPS("cv_destroy: a thread waits for count, at PLACE", start(wait_for_it); mutex_enter(&lock); cv_destroy(&cv))
 
 /* A lock that spins is given back by a wait, but nothing else. */
-#define MORE(how) how ": the thread has more than this spin lock, at PLACE"
-STOPS(MORE("cv_wait"), mutex_enter(&other_spin); mutex_enter(&spin); cv_wait(&cv, &spin))
-STOPS(MORE("cv_wait"), mutex_enter(&spin); pserialize_read_enter(); cv_wait(&cv, &spin))
-STOPS(MORE("cv_wait"), splsoftnet(); mutex_enter(&spin); cv_wait(&cv, &spin))
-STOPS(MORE("cv_wait"), kpreempt_disable(); mutex_enter(&spin); cv_wait(&cv, &spin))
-STOPS(MORE("cv_timedwait"), mutex_enter(&spin); pserialize_read_enter(); cv_timedwait(&cv, &spin, 1))
-STOPS(MORE("cv_timedwait"), mutex_enter(&other_spin); mutex_enter(&spin); cv_timedwait(&cv, &spin, 1))
-STOPS(MORE("cv_timedwait"), splsoftnet(); mutex_enter(&spin); cv_timedwait(&cv, &spin, 1))
-STOPS(MORE("cv_timedwait"), kpreempt_disable(); mutex_enter(&spin); cv_timedwait(&cv, &spin, 1))
+#define MORE	"cv_timedwait: the thread has more than this spin lock, at PLACE"
+STOPS(MORE, mutex_enter(&spin); pserialize_read_enter(); cv_timedwait(&cv, &spin, 1))
+STOPS(MORE, mutex_enter(&other_spin); mutex_enter(&spin); cv_timedwait(&cv, &spin, 1))
+STOPS(MORE, splsoftnet(); mutex_enter(&spin); cv_timedwait(&cv, &spin, 1))
+STOPS(MORE, kpreempt_disable(); mutex_enter(&spin); cv_timedwait(&cv, &spin, 1))
 HANDLER(wait_spinning, mutex_enter(&spin); cv_timedwait(&cv, &spin, 1))
 STOPS("cv_timedwait: in a soft interrupt, at PLACE", as_softint(wait_spinning))
 STOPS("cv_timedwait: at a raised level, at PLACE", mutex_enter(&spin); splhigh(); cv_timedwait(&cv, &spin, 1))
@@ -404,31 +352,21 @@ STOPS("cv_timedwait: at a raised level, at PLACE", mutex_enter(&softspin); splso
 STOPS("panic: the wait ended, at PLACE",
     mutex_enter(&softspin); splx(splsoftserial()); cv_timedwait(&cv, &softspin, 1); EXPECT(mutex_owned(&softspin)); mutex_exit(&softspin);
     EXPECT(!kpreempt_disabled()); panic("the wait ended"))
-/* If a wait for ever goes on, another thread gets the lock. */
-THREAD(take_lock, mutex_enter(&lock); panic("the lock was given back"))
-STOPS("cv_wait: inside a read section, entered at PLACE, at PLACE",
-    mutex_enter(&lock); pserialize_read_enter(); start_alone(take_lock); cv_wait(&cv, &lock))
-STOPS("cv_wait: with preemption disabled, at PLACE", mutex_enter(&lock); kpreempt_disable(); start_alone(take_lock); cv_wait(&cv, &lock))
 
 /* ---- rwlock(9). ---- */
 
 THREAD(write_it, rw_enter(&rw, RW_WRITER); atomic_store(&ready, true); sleep_for(20000000))
 THREAD(read_it, rw_enter(&rw, RW_READER); atomic_store(&ready, true); sleep_for(20000000))
 STOPS("rw_enter: inside a read section, entered at PLACE, at PLACE", pserialize_read_enter(); rw_enter(&rw, RW_READER))
-STOPS("rw_enter: with a spin lock, and this lock does not spin, at PLACE", mutex_enter(&spin); rw_enter(&rw, RW_READER))
-STOPS("rw_enter: with preemption disabled, at PLACE", kpreempt_disable(); rw_enter(&rw, RW_READER))
 STOPS("rw_exit: nobody has the lock, at PLACE", rw_exit(&rw))
-STOPS("rw_exit: nobody has the lock, at PLACE", mutex_enter(&lock); rw_enter(&rw, RW_READER); rw_exit(&rw); rw_exit(&rw))
 STOPS("rw_exit: another thread has the lock as its writer, at PLACE", start(write_it); rw_exit(&rw))
 STOPS("rw_exit: the thread does not have the lock, at PLACE", start(read_it); rw_exit(&rw))
-STOPS("rw_enter: the thread has the lock already, at PLACE", rw_enter(&rw, RW_WRITER); rw_enter(&rw, RW_WRITER))
 STOPS("rw_enter: the thread has the lock already, at PLACE", rw_enter(&rw, RW_WRITER); rw_enter(&rw, RW_READER))
 STOPS("rw_destroy: the lock is held, at PLACE", rw_enter(&rw, RW_READER); rw_destroy(&rw))
 STOPS("rw_destroy: the lock is held, at PLACE", rw_enter(&rw, RW_WRITER); rw_destroy(&rw))
 STOPS("rw_tryupgrade: nobody has the lock", rw_tryupgrade(&rw))
 STOPS("rw_tryupgrade: the thread does not have the lock", start(read_it); rw_tryupgrade(&rw))
 STOPS("rw_downgrade: the thread is not the lock's writer", rw_enter(&rw, RW_READER); rw_downgrade(&rw))
-STOPS("rw_downgrade: the thread is not the lock's writer", rw_downgrade(&rw))
 
 /* ---- kmem(9), pool(9), percpu(9). ---- */
 
@@ -442,14 +380,11 @@ STOPS("kmem_zalloc: a block of no bytes, at PLACE", kmem_zalloc(0, KM_SLEEP))
 STOPS("kmem_alloc: neither KM_SLEEP nor KM_NOSLEEP alone, at PLACE", kmem_alloc(8, 0))
 STOPS("kmem_alloc: neither KM_SLEEP nor KM_NOSLEEP alone, at PLACE", kmem_alloc(8, KM_SLEEP | KM_NOSLEEP))
 STOPS("kmem_free: 64 bytes are given back of a block of 32, at PLACE", kmem_free(kmem_alloc(32, KM_SLEEP), 64))
-STOPS("kmem_free: 1 bytes are given back of a block of 2097152, at PLACE", kmem_free(kmem_alloc(1 << 21, KM_SLEEP), 1))
-STOPS("kmem_intr_free: 31 bytes are given back of a block of 32, at PLACE", kmem_intr_free(kmem_intr_zalloc(32, KM_NOSLEEP), 31))
 STOPS("kmem_free: no block, at PLACE", kmem_free(NULL, 8))
 STOPS("kmem_free: no block of kmem's, or one that was given back, at PLACE", static uint64_t words[8]; kmem_free(&words[4], 8))
 STOPS("pool_destroy: 1 objects of thingpl are in use, at PLACE", (void)pool_get(&pool, PR_WAITOK); pool_destroy(&pool))
 STOPS("pool_cache_destroy: 1 objects of thingpl are in use, at PLACE", (void)pool_cache_get(cache, PR_WAITOK); pool_cache_destroy(cache))
 STOPS("pool_put: no object of otherpl, or one that was given back, at PLACE", pool_put(&other_pool, pool_get(&pool, PR_WAITOK)))
-STOPS("pool_put: no object of thingpl, or one that was given back, at PLACE", pool_put(&pool, kmem_alloc(24, KM_SLEEP)))
 STOPS("kmem_free: no block of kmem's, or one that was given back, at PLACE", kmem_free(pool_get(&pool, PR_WAITOK), 24))
 /* What isn't of the cache isn't ended either. */
 static void end_object(void *arg, void *object) { (void)arg; (void)object; panic("of another cache"); }
@@ -473,7 +408,6 @@ STOPS("callout_halt: inside a read section, entered at PLACE, at PLACE",
 STOPS("callout_halt: the thread does not have the lock, at PLACE", callout_halt(&callout, &lock))
 STOPS("callout_destroy: the callout is pending, at PLACE", callout_reset(&callout, 1000, nothing, NULL); callout_destroy(&callout))
 STOPS("callout_schedule: the callout has no function", callout_schedule(&callout, 1))
-STOPS("xc_wait: no such call", xc_wait(77))
 STOPS("xc_wait: no such call", xc_wait(0))
 /* The first call of all was there, and the third one wasn't. */
 STOPS("panic: it has run, at PLACE", xc_wait(xc_unicast(0, run_nothing, NULL, NULL, kupaldiz_cpu(1))); panic("it has run"))
@@ -516,20 +450,17 @@ struct no_hook_t no_hook;
 
 STOPS("module_hook_set: the hook is set already, at PLACE", MODULE_HOOK_SET(no_hook, nothing); MODULE_HOOK_SET(no_hook, nothing))
 STOPS("module_hook_unset: the hook is not set, at PLACE", MODULE_HOOK_UNSET(no_hook))
-STOPS("module_hook_unset: the hook is not set, at PLACE", MODULE_HOOK_SET(no_hook, nothing); MODULE_HOOK_UNSET(no_hook); MODULE_HOOK_UNSET(no_hook))
 STOPS("module_hook_unset: inside a read section, entered at PLACE, at PLACE",
     MODULE_HOOK_SET(no_hook, nothing); pserialize_read_enter(); MODULE_HOOK_UNSET(no_hook))
 
 /* ---- Threads, assertions, pauses. ---- */
 
-STOPS("kthread_exit: kthread_create did not make this thread, at PLACE", kthread_exit(0))
 /* It isn't a thread's end to return. */
 STOPS("kthread_create: the body returned without kthread_exit", make_worker(KTHREAD_MUSTJOIN, nothing); kthread_join(worker))
 /* The layer keeps of it what it kept of a thread of kthread_create's before. */
 THREAD(exit_it, kthread_exit(0))
 STOPS("kthread_exit: kthread_create did not make this thread, at PLACE",
     make_worker(KTHREAD_MUSTJOIN, exit_at_once); EXPECT(kthread_join(worker) == 0); on_thread(exit_it))
-STOPS("kthread_join: no thread that was made with KTHREAD_MUSTJOIN, at PLACE", kthread_join(curlwp))
 STOPS("kthread_join: no thread that was made with KTHREAD_MUSTJOIN, at PLACE",
     make_worker(KTHREAD_MUSTJOIN, exit_at_once); EXPECT(kthread_join(worker) == 0); kthread_join(worker))
 STOPS("kthread_join: no thread that was made with KTHREAD_MUSTJOIN, at PLACE", make_worker(0, stay_long); kthread_join(worker))
@@ -568,14 +499,10 @@ SLEEPS(PLACED, psref_target_destroy, (&target, things))
 SLEEPS(PLACED, localcount_init, (&other_count))
 SLEEPS(PLACED, localcount_drain, (&count, &cv, &softlock))
 SLEEPS(PLACED, cv_wait, (&cv, &softlock))
-SLEEPS(PLACED, cv_wait_sig, (&cv, &softlock))
 SLEEPS(PLACED, cv_timedwait, (&cv, &softlock, 1))
-SLEEPS(PLACED, cv_timedwait_sig, (&cv, &softlock, 1))
 SLEEPS(BARE, mutex_obj_alloc, (MUTEX_DEFAULT, IPL_NONE))
 SLEEPS(PLACED, kmem_alloc, (8, KM_SLEEP))
-SLEEPS(PLACED, kmem_zalloc, (8, KM_SLEEP))
 SLEEPS(PLACED, kmem_intr_alloc, (8, KM_SLEEP))
-SLEEPS(PLACED, kmem_intr_zalloc, (8, KM_SLEEP))
 SLEEPS(BARE, kmem_strdupsize, ("text", NULL, KM_SLEEP))
 SLEEPS(PLACED, pool_get, (&pool, PR_WAITOK))
 SLEEPS(BARE, pool_cache_init, (8, 0, 0, 0, "otherpl", NULL, IPL_NONE, NULL, NULL, NULL))
@@ -586,9 +513,7 @@ SLEEPS(PLACED, kpause, ("wait", false, 1, NULL))
 SLEEPS(BARE, kthread_create, (PRI_NONE, 0, NULL, nothing, NULL, NULL, "worker"))
 SLEEPS(PLACED, kthread_join, (curlwp))
 SLEEPS(PLACED, copyin, (here, there, sizeof(there)))
-SLEEPS(PLACED, copyout, (here, there, sizeof(there)))
 SLEEPS(BARE, copyinstr, (here, there, sizeof(there), NULL))
-SLEEPS(BARE, copyoutstr, (here, there, sizeof(there), NULL))
 SLEEPS(PLACED, xc_broadcast, (0, NULL, NULL, NULL))
 SLEEPS(BARE, xc_unicast, (0, NULL, NULL, NULL, kupaldiz_cpu(1)))
 SLEEPS(BARE, xc_wait, (1))
@@ -650,9 +575,7 @@ USES(A_LOCK, PLACED, cv_wait, (&cv, &no_lock))
 USES(A_LOCK, PLACED, kpause, ("wait", false, 1, &no_lock))
 USES(A_VARIABLE, PLACED, cv_destroy, (&no_cv))
 USES(A_VARIABLE, PLACED, cv_wait, (&no_cv, &softlock))
-USES(A_VARIABLE, PLACED, cv_wait_sig, (&no_cv, &softlock))
 USES(A_VARIABLE, PLACED, cv_timedwait, (&no_cv, &softlock, 1))
-USES(A_VARIABLE, PLACED, cv_timedwait_sig, (&no_cv, &softlock, 1))
 USES(A_VARIABLE, PLACED, cv_signal, (&no_cv))
 USES(A_VARIABLE, PLACED, cv_broadcast, (&no_cv))
 USES(AN_RWLOCK, PLACED, rw_destroy, (&no_rw))
@@ -668,9 +591,6 @@ USES(A_CALLOUT, BARE, callout_schedule, (&no_callout, 1000))
 USES(A_CALLOUT, BARE, callout_stop, (&no_callout))
 USES(A_CALLOUT, PLACED, callout_halt, (&no_callout, NULL))
 USES(A_CALLOUT, BARE, callout_pending, (&no_callout))
-USES(A_CALLOUT, BARE, callout_expired, (&no_callout))
-USES(A_CALLOUT, BARE, callout_active, (&no_callout))
-USES(A_CALLOUT, BARE, callout_invoking, (&no_callout))
 USES(A_CALLOUT, BARE, callout_ack, (&no_callout))
 
 static void destroy_lock(void) { mutex_init(&no_lock, MUTEX_DEFAULT, IPL_NONE); mutex_destroy(&no_lock); }

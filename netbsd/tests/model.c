@@ -34,9 +34,9 @@ static _Atomic(struct object *) objects[OBJECTS];
 static atomic_bool entered[KUPALDIZ_CPUS];	/* a thread's section: no other one of this CPU is */
 static struct actor actors[THREADS];
 static _Atomic(struct object *) handed[HANDED];	/* local references on their way to whoever releases them */
-static atomic_uint performs, destroys, drains, copies, interrupts;
+static atomic_uint copies, interrupts;
 static unsigned steps;
-static void *cookie;
+static void *cookies[SOFTINT_SERIAL + 1];
 
 /* The next number of an actor's, below a bound. */
 static unsigned below(struct actor *actor, unsigned bound)
@@ -178,7 +178,7 @@ static void read_for_a_while(struct actor *actor)
 	int s = enter(actor);
 	struct object *object = meet(actor);
 	if (below(actor, 4) == 0)
-		softint_schedule(cookie);
+		softint_schedule(cookies[below(actor, SOFTINT_SERIAL + 1)]);
 	if (below(actor, 8) == 0)
 		sleep_for(20);
 	if (object != NULL)
@@ -186,10 +186,12 @@ static void read_for_a_while(struct actor *actor)
 	leave(actor, s);
 }
 
-/* A soft interrupt is a reader of its own. */
+/* A soft interrupt is a reader of its own. It waits for a lock that others have. */
 BODY(interrupt)
 {
 	struct psref psref;
+	mutex_enter(&lock);
+	mutex_exit(&lock);
 	int s = pserialize_read_enter();
 	EXPECT(s == 0);
 	struct object *object = atomic_load_explicit(&objects[cpu_number() % OBJECTS], memory_order_acquire);
@@ -227,7 +229,6 @@ static void perform(struct actor *actor)
 	pserialize_perform(psz);
 	for (unsigned i = 0; i < THREADS; i++)
 		EXPECT(&actors[i] == actor || before[i] % 2 == 0 || atomic_load(&actors[i].section) != before[i]);
-	atomic_fetch_add(&performs, 1);
 }
 
 /* Waits for both kinds of reference, in either order, and frees the object. */
@@ -239,11 +240,9 @@ static void end_object(struct actor *actor, struct object *object)
 			drain(&object->count);
 			localcount_fini(&object->count);
 			EXPECT(atomic_load(&object->local) == 0);
-			atomic_fetch_add(&drains, 1);
 		} else {
 			psref_target_destroy(&object->target, things);
 			EXPECT(atomic_load(&object->passive) == 0 && object->target.prt_class == NULL);
-			atomic_fetch_add(&destroys, 1);
 		}
 	}
 	object->state = FREED;
@@ -332,9 +331,10 @@ static void end_all(struct actor *actor)
 
 static void begin(uint64_t seed)
 {
-	make_things(IPL_NONE);
+	make_things(IPL_SOFTSERIAL);
 	mutex_init(&writer_lock, MUTEX_DEFAULT, IPL_NONE);
-	cookie = softint_establish(SOFTINT_NET, interrupt, NULL);
+	for (unsigned level = 0; level <= SOFTINT_SERIAL; level++)
+		cookies[level] = softint_establish(level, interrupt, NULL);
 	for (unsigned i = 0; i < OBJECTS; i++)
 		atomic_store(&objects[i], new_object(i));
 	for (unsigned i = 0; i < THREADS; i++) {
@@ -353,12 +353,12 @@ int main(int argc, char **argv)
 		start_thread(&threads[i], act, &actors[i]);
 	for (unsigned i = 0; i < THREADS; i++)
 		end_thread(threads[i]);
-	softint_disestablish(cookie);
+	for (unsigned level = 0; level <= SOFTINT_SERIAL; level++)
+		softint_disestablish(cookies[level]);
 	end_all(&actors[0]);
 	mutex_destroy(&writer_lock);
 	end_things();
-	EXPECT(atomic_load(&copies) > 0 && atomic_load(&destroys) == atomic_load(&drains));
-	printf("%u performs, %u destroys, %u copies, %u soft interrupts: as the model says\n", atomic_load(&performs), atomic_load(&destroys),
-	    atomic_load(&copies), atomic_load(&interrupts));
+	EXPECT(atomic_load(&copies) > 0 && atomic_load(&interrupts) > 0);
+	printf("%u copies, %u soft interrupts: as the model says\n", atomic_load(&copies), atomic_load(&interrupts));
 	return 0;
 }

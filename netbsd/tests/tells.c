@@ -2,12 +2,9 @@
  * tells - a wait that lasts names who it waits for, once, by one line; a count that is full stops: over a layer whose patience is short, and whose limits
  * are low
  *
- * Each case runs in a child, which ends well. What is waited for ends once the line was written: the linker leads write here (--wrap), and what
- * acquires and releases a local reference in the archive, which may last. It leads here, too, open and nanosleep, in which a destroyer lets others have a CPU
- * that it would look at, and registry_get: a thread may be told that its CPU counts no more references. The last line counts the cases.
+ * Each case runs in a child, which ends well. What is waited for ends once the line was written: the linker leads write here (--wrap), open, and what
+ * acquires and releases a local reference in the archive, which may last. The last line counts the cases.
  */
-#include <fcntl.h>
-#include <stdarg.h>
 #include <sys/prctl.h>
 
 #include "stops.h"
@@ -16,6 +13,8 @@
 #include "wraps.h"
 
 #include "things.h"
+
+#include "src/layer.h"
 
 static kmutex_t spin;
 static krwlock_t rw;
@@ -112,9 +111,7 @@ WAITS("pserialize_perform: waits for CPU 3", BESIDE("acquirer", acquire_long, ps
 
 /* ---- References. ---- */
 
-static struct psref first, second, first_beside, second_beside;
-static struct psref_target next;
-static atomic_bool joined;
+static struct psref first, second;
 
 HOLDER(refer_long, psref_acquire(&first, &target, things); keep(); psref_release(&first, &target, things))
 WAITS("psref_target_destroy: waits for CPU 3, whose thread \"bridge_input\" holds one reference, acquired at PLACE",
@@ -124,18 +121,6 @@ HOLDER(refer_twice,
     psref_release(&second, &target, things))
 WAITS("psref_target_destroy: waits for CPU 3, whose thread \"bridge_output\" holds 2 references, one of them acquired at PLACE",
     BESIDE("bridge_output", refer_twice, psref_target_destroy(&target, things)))
-
-/* Has a reference to each of two targets, with the first one's CPU. Only what the thread has to this target counts. */
-THREAD(refer_beside,
-    kupaldiz_bind(3); psref_acquire(&first_beside, &target, things); psref_acquire(&second_beside, &next, things); atomic_store(&joined, true);
-    await(&told); psref_release(&first_beside, &target, things); psref_release(&second_beside, &next, things))
-HOLDER(refer_to_two,
-    pthread_t beside; psref_target_init(&next, things); psref_acquire(&first, &target, things); psref_acquire(&second, &next, things);
-    start_thread(&beside, refer_beside, NULL);
-    await_flag(&joined);
-    keep(); psref_release(&first, &target, things); psref_release(&second, &next, things); end_thread(beside))
-WAITS("psref_target_destroy: waits for CPU 3, whose thread \"bridge_ioctl\" holds one reference, acquired at PLACE",
-    BESIDE("bridge_ioctl", refer_to_two, psref_target_destroy(&target, things)))
 
 HOLDER(count_long, localcount_acquire(&count); keep(); release_count())
 WAITS("localcount_drain: waits for 1 reference, acquired at PLACE", BESIDE("open", count_long, drain(&count)))
@@ -187,114 +172,77 @@ WAITS("kthread_join: waits for thread \"worker\" to end",
 
 /* ---- How psref_target_destroy finds the reference that it waits for, in the tables of CPUs that other threads have. ---- */
 
-enum { LAST = KUPALDIZ_CPUS - 1, NOBODY = KUPALDIZ_CPUS, A_LOOK = 1000000 };
+enum { LAST = KUPALDIZ_CPUS - 1 };
 
-/* Whether a CPU is free: a thread that isn't bound takes a CPU that is, first that where it was last. */
-static void *take_one(void *of)
-{
-	unsigned cpu = *(unsigned *)of;
-	kupaldiz_bind(cpu);
-	kupaldiz_unbind();
-	kpreempt_disable();
-	*(unsigned *)of = cpu_number();
-	kpreempt_enable();
-	return of;
-}
+static unsigned looked_at = KUPALDIZ_CPUS;	/* the CPU in whose table the thread is that is asked for its name, if that is known */
 
-static bool is_free(unsigned cpu)
-{
-	pthread_t other;
-	unsigned got = cpu;
-	start_thread(&other, take_one, &got);
-	end_thread(other);
-	return got == cpu;
-}
-
-static atomic_bool lets_go, may_go, gone;
-static atomic_uint holding;
-static _Thread_local bool counts_elsewhere, destroys;
-static unsigned looked_at = NOBODY;	/* what the destroyer looks at as it asks for a thread's name */
+static bool has_cpu(unsigned cpu) { return lock_owner(&cpus[cpu].hold) == kupaldiz_self; }
 
 /* The system has a thread's name in a file. Nobody else has the CPU whose table the thread was found in. */
-int __wrap_open(const char *path, int flags, ...)
+int __wrap_open(const char *path, int how, ...)
 {
-	va_list words;
-	va_start(words, flags);
-	const unsigned mode = (flags & O_CREAT) != 0 ? va_arg(words, unsigned) : 0;
-	va_end(words);
-	if (destroys && looked_at != NOBODY)
-		EXPECT(!is_free(looked_at));
-	return __real_open(path, flags, mode);
+	EXPECT(looked_at == KUPALDIZ_CPUS || has_cpu(looked_at));
+	return __real_open(path, how);
 }
 
-/* Between two looks at a CPU that is taken whoever has it lets it go, if that is what it does. No other pause of a wait is as long. */
-int __wrap_nanosleep(const struct timespec *time, struct timespec *left)
-{
-	if (destroys && atomic_load(&lets_go) && time->tv_sec == 0 && time->tv_nsec >= A_LOOK) {
-		atomic_store(&may_go, true);
-		while (!atomic_load(&gone))
-			__real_nanosleep(time, left);
-	}
-	return __real_nanosleep(time, left);
-}
-
-uint32_t __wrap_registry_get(struct registry_cpu *cpu, uint64_t kind, const struct registry_name *name, struct registry_entry *found)
-{
-	if (counts_elsewhere) {
-		counts_elsewhere = false;
-		return REGISTRY_PASSIVE_FULL;
-	}
-	return __real_registry_get(cpu, kind, name, found);
-}
-
-/* A thread on a CPU. It may have a reference to the target, which may be counted elsewhere, and its CPU: until it lets it go, or until the line is there. */
+/* A thread on a CPU. It may have a reference to the target, which may be counted elsewhere; and until the line is there its CPU: now and then, or always. */
 struct holder {
 	const char *name;
 	unsigned cpu;
-	bool refers, elsewhere;
+	enum { NONE, ITS_OWN, ELSEWHERE } counted;
 	enum { FREES, LETS_GO, KEEPS } cpu_is;
 	pthread_t thread;
+	atomic_bool holds;
 };
 
+static void hold_cpu_of(struct holder *holder)
+{
+	kpreempt_disable();
+	atomic_store(&holder->holds, true);
+	do
+		sleep_for(8000);
+	while (holder->cpu_is == KEEPS && !atomic_load(&told));
+	/* Nobody took the CPU away meanwhile. */
+	EXPECT(has_cpu(holder->cpu));
+	kpreempt_enable();
+	sleep_for(2000);
+}
+
+static struct psref_target next;
+
+/* Only the last one is counted elsewhere, since the CPU counts as many as it may. A reference to another target is none. */
 static void *hold_one(void *of)
 {
-	const struct holder *holder = of;
-	struct psref psref;
+	struct holder *holder = of;
+	struct psref other;
+	unsigned beside = holder->counted == ELSEWHERE ? KUPALDIZ_REFERENCES : 0;
+	struct psref *held = calloc(beside + 1, sizeof(*held));
 	prctl(PR_SET_NAME, holder->name);
 	kupaldiz_bind(holder->cpu);
-	counts_elsewhere = holder->elsewhere;
-	if (holder->refers)
-		psref_acquire(&psref, &target, things);
-	if (holder->cpu_is != FREES)
-		kpreempt_disable();
-	atomic_store(&lets_go, holder->cpu_is == LETS_GO);
-	atomic_fetch_add(&holding, 1);
-	if (holder->cpu_is == LETS_GO) {
-		await(&may_go);
-		kpreempt_enable();
-		atomic_store(&gone, true);
-	}
+	psref_acquire(&other, &next, things);
+	for (unsigned i = 0; holder->counted != NONE && i <= beside; i++)
+		psref_acquire(&held[i], &target, things);
+	for (unsigned i = 0; i < beside; i++)
+		psref_release(&held[i], &target, things);
+	while (holder->cpu_is != FREES && !atomic_load(&told))
+		hold_cpu_of(holder);
+	atomic_store(&holder->holds, true);
 	await(&told);
-	if (holder->cpu_is == KEEPS) {
-		/* Nobody took the CPU away meanwhile. */
-		EXPECT(!is_free(holder->cpu));
-		kpreempt_enable();
-	}
-	if (holder->refers)
-		psref_release(&psref, &target, things);
+	if (holder->counted != NONE)
+		psref_release(&held[beside], &target, things);
+	psref_release(&other, &next, things);
+	free(held);
 	return of;
 }
 
 static void destroy_beside(struct holder *holders, unsigned all)
 {
+	psref_target_init(&next, things);
 	for (unsigned at = 0; at < all; at++) {
 		start_thread(&holders[at].thread, hold_one, &holders[at]);
-		while (atomic_load(&holding) == at)
-			sleep_for(100);
+		await_flag(&holders[at].holds);
 	}
-	destroys = true;
 	psref_target_destroy(&target, things);
-	destroys = false;
 	for (unsigned at = 0; at < all; at++)
 		end_thread(holders[at].thread);
 }
@@ -304,16 +252,19 @@ static void destroy_beside(struct holder *holders, unsigned all)
 	destroy_beside(holders, sizeof(holders) / sizeof(holders[0]))
 #define HOLDS_ONE(cpu, name)	"psref_target_destroy: waits for CPU " cpu ", whose thread \"" name "\" holds one reference, acquired at PLACE"
 
-WAITS(HOLDS_ONE("0", "first"), looked_at = 0; HOLDERS({"first", 0, true, true, FREES, 0}))
+WAITS(HOLDS_ONE("0", "first"), looked_at = 0; HOLDERS({.name = "first", .cpu = 0, .counted = ELSEWHERE}))
+/* What another thread has with the same CPU isn't its own. */
+WAITS(HOLDS_ONE("2", "one"), HOLDERS({.name = "one", .cpu = 2, .counted = ITS_OWN}, {.name = "two", .cpu = 2, .counted = ITS_OWN}))
 /* A CPU before it is another thread's all the time. */
 static char of_last[160];
-WAITS(of_last, looked_at = LAST; HOLDERS({"last", LAST, true, true, FREES, 0}, {"keeper", 0, false, false, KEEPS, 0}))
+WAITS(of_last,
+    looked_at = LAST; HOLDERS({.name = "last", .cpu = LAST, .counted = ELSEWHERE}, {.name = "keeper", .cpu = 0, .cpu_is = KEEPS}))
 /* Whoever has the reference has its CPU, too. */
 WAITS("psref_target_destroy: waits for CPU 3, which holds a reference",
-    HOLDERS({"kept", 3, true, false, KEEPS, 0}, {"other", 4, true, false, FREES, 0}))
-WAITS("psref_target_destroy: waits for a reference", HOLDERS({"kept", 3, true, true, KEEPS, 0}))
-/* The CPU is free at the second look. */
-WAITS(HOLDS_ONE("3", "lets_go"), looked_at = 3; HOLDERS({"lets_go", 3, true, false, LETS_GO, 0}))
+    HOLDERS({.name = "kept", .cpu = 3, .counted = ITS_OWN, .cpu_is = KEEPS}, {.name = "other", .cpu = 4, .counted = ITS_OWN}))
+WAITS("psref_target_destroy: waits for a reference", HOLDERS({.name = "kept", .cpu = 3, .counted = ELSEWHERE, .cpu_is = KEEPS}))
+/* The CPU is free now and then. */
+WAITS(HOLDS_ONE("3", "lets_go"), looked_at = 3; HOLDERS({.name = "lets_go", .cpu = 3, .counted = ITS_OWN, .cpu_is = LETS_GO}))
 
 /* ---- What the layer can't count any more stops with its line: a hundred registries of four rows, two thousand references of a CPU to one entry. ---- */
 

@@ -41,15 +41,6 @@ static inline void spoil(void *block, size_t size)
 	__asm__ volatile("" : : "r"(block) : "memory");
 }
 
-/* Whether this thread ends where it is cancelled. */
-static inline bool is_cancellable(void)
-{
-	int before;
-	pthread_setcancelstate(PTHREAD_CANCEL_DISABLE, &before);
-	pthread_setcancelstate(before, NULL);
-	return before == PTHREAD_CANCEL_ENABLE;
-}
-
 static inline void start_thread(pthread_t *thread, void *(*body)(void *), void *arg)
 {
 	EXPECT(pthread_create(thread, NULL, body, arg) == 0);

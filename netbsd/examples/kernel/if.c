@@ -1,4 +1,4 @@
-/* if.c - interfaces in the idiom of if.c and if_vlan.c: found by name and by index, kept by psref(9), their link's state by workqueue(9) */
+/* if.c - interfaces in the idiom of if.c and if_vlan.c: found by name, kept by psref(9), their link's state by workqueue(9) */
 #include <sys/cdefs.h>
 __KERNEL_RCSID(0, "$NetBSD$");
 
@@ -47,11 +47,6 @@ static struct workqueue		*ifnet_link_state_wq __read_mostly;
 
 #define if_statinc(ifp, x) _NET_STATINC((ifp)->if_stats, (x))
 
-void		if_acquire(struct ifnet *, struct psref *);
-void		if_put(const struct ifnet *, struct psref *);
-struct ifnet	*if_get(const char *, struct psref *);
-struct ifnet	*if_get_byindex(u_int, struct psref *);
-
 static void
 if_link_state_change_work(struct work *work, void *arg)
 {
@@ -67,7 +62,6 @@ if_link_state_change_work(struct work *work, void *arg)
 void
 if_link_state_change(struct ifnet *ifp)
 {
-
 	if (atomic_swap_uint(&ifp->if_link_scheduled, 1) == 0)
 		workqueue_enqueue(ifnet_link_state_wq, &ifp->if_link_work, NULL);
 }
@@ -75,7 +69,6 @@ if_link_state_change(struct ifnet *ifp)
 void
 ifinit1(void)
 {
-
 	mutex_init(&ifnet_mtx, MUTEX_DEFAULT, IPL_NONE);
 	ifnet_psz = pserialize_create();
 	ifnet_psref_class = psref_class_create("ifnet", IPL_SOFTNET);
@@ -116,7 +109,6 @@ if_attach(struct ifnet *ifp)
 void
 if_acquire(struct ifnet *ifp, struct psref *psref)
 {
-
 	KASSERT(ifp->if_index != 0);
 	psref_acquire(psref, &ifp->if_psref, ifnet_psref_class);
 }
@@ -124,14 +116,12 @@ if_acquire(struct ifnet *ifp, struct psref *psref)
 bool
 if_held(struct ifnet *ifp)
 {
-
 	return psref_held(&ifp->if_psref, ifnet_psref_class);
 }
 
 void
 if_put(const struct ifnet *ifp, struct psref *psref)
 {
-
 	if (ifp == NULL)
 		return;
 	psref_release(psref, &ifp->if_psref, ifnet_psref_class);
@@ -157,25 +147,9 @@ out:
 	return ifp;
 }
 
-struct ifnet *
-if_get_byindex(u_int idx, struct psref *psref)
-{
-	struct ifnet *ifp = NULL;
-	int s;
-
-	s = pserialize_read_enter();
-	if (__predict_true(idx < IF_MAXINDEX))
-		ifp = atomic_load_consume(&ifindex2ifnet[idx]);
-	if (__predict_true(ifp != NULL))
-		if_acquire(ifp, psref);
-	pserialize_read_exit(s);
-	return ifp;
-}
-
 void
 if_detach(struct ifnet *ifp)
 {
-
 	mutex_enter(&ifnet_mtx);
 	atomic_store_relaxed(&ifp->if_dead, true);
 	atomic_store_release(&ifindex2ifnet[ifp->if_index], NULL);
@@ -215,7 +189,6 @@ if_output_byname(const char *name)
 void
 ifnet_fini(void)
 {
-
 	workqueue_destroy(ifnet_link_state_wq);
 	PSLIST_DESTROY(&ifnet_pslist);
 	psref_class_destroy(ifnet_psref_class);

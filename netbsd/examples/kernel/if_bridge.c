@@ -293,7 +293,6 @@ bridge_init(void)
 void
 bridge_start(void)
 {
-
 	callout_schedule(&bridge.sc_brcallout, BRIDGE_RTABLE_PRUNE * hz);
 }
 

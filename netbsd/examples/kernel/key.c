@@ -50,14 +50,12 @@ static u_int	unrefs;
 static void
 key_sa_ref(struct secasvar *sav)
 {
-
 	localcount_acquire(&sav->localcount);
 }
 
 static void
 key_sa_unref(struct secasvar *sav)
 {
-
 	KDASSERT(mutex_ownable(&key_sad.lock));
 	localcount_release(&sav->localcount, &key_sad.cv_lc, &key_sad.lock);
 }
@@ -82,7 +80,6 @@ key_lookup_sa(uint32_t spi)
 static void
 key_sad_pserialize_perform(void)
 {
-
 	KASSERT(mutex_owned(&key_sad.lock));
 	while (key_sad.psz_performing)
 		cv_wait(&key_sad.cv_psz, &key_sad.lock);
@@ -99,7 +96,6 @@ key_sad_pserialize_perform(void)
 static void
 key_unlink_sav(struct secasvar *sav)
 {
-
 	KASSERT(mutex_owned(&key_sad.lock));
 	KASSERT(sav->state == SADB_SASTATE_DEAD);
 	PSLIST_WRITER_REMOVE(sav, pslist_entry);
@@ -110,7 +106,6 @@ key_unlink_sav(struct secasvar *sav)
 static void
 key_destroy_sav(struct secasvar *sav)
 {
-
 	mutex_enter(&key_sad.lock);
 	atomic_store_relaxed(&sav->state, SADB_SASTATE_DEAD);
 	key_unlink_sav(sav);
@@ -172,7 +167,6 @@ key_receive(uint32_t spi)
 void
 key_init(void)
 {
-
 	mutex_init(&key_sad.lock, MUTEX_DEFAULT, IPL_NONE);
 	cv_init(&key_sad.cv_lc, "key_sa_lc");
 	cv_init(&key_sad.cv_psz, "key_sa_psz");
@@ -183,7 +177,6 @@ key_init(void)
 void
 key_fini(void)
 {
-
 	if (key_input_si != NULL)
 		softint_disestablish(key_input_si);
 	PSLIST_DESTROY(&key_sad.savlist);

@@ -34,7 +34,6 @@ static pserialize_t		device_psz;
 void
 devsw_init(void)
 {
-
 	mutex_init(&device_lock, MUTEX_DEFAULT, IPL_NONE);
 	cv_init(&device_cv, "devsw");
 	device_psz = pserialize_create();
@@ -138,7 +137,6 @@ out:
 static void
 cdevsw_release(const struct cdevsw *cdev, struct localcount *lc)
 {
-
 	KASSERT(cdev != NULL);
 	localcount_release(lc, &device_cv, &device_lock);
 }
@@ -161,7 +159,6 @@ cdev_open(devmajor_t cmajor, devminor_t cminor)
 void
 devsw_fini(void)
 {
-
 	if (cdevsw != cdevsw0)
 		kmem_free(cdevsw, MAXDEVSW * sizeof(cdevsw[0]));
 	if (cdevswref != NULL)

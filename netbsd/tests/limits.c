@@ -1,19 +1,26 @@
 /*
  * limits - more than one registry takes: over a layer whose registries have four rows, forty changes, twenty thousand sections of a CPU and two
- * thousand references. With `full` over the true limits, as far as a test comes to them: more than two million changes, and hundreds of live targets.
+ * thousand references. With `full` over the true limits, as far as a test comes to them: more than two million changes, and hundreds of live targets. At
+ * the end all registries are closed; for that the test looks into the layer.
  */
 #include <sched.h>
 
+#include "registry.h"
 #include "test.h"
 #include "things.h"
 
-enum { MOST_LIVE = 300, READERS = 4, MANY = 300000, MANY_CHANGES = 2200000, REFERENCES = 3501 };	/* no multiple of 7 */
+#ifdef KUPALDIZ_SECTIONS
+#define IS_SMALL
+#endif
+#include "src/layer.h"
+
+enum { MOST_LIVE = 300, READERS = 4, MANY = 300000, MANY_CHANGES = 2200000, COUNTS = 2100, REFERENCES = 3501 };	/* no multiple of 7 */
 
 static struct psref_target targets[MOST_LIVE];
 static struct localcount counts[MOST_LIVE];
 static atomic_bool over;
 static _Atomic(int *) shown;
-static atomic_uint sections, step, performed;
+static atomic_uint sections;
 
 /* Many are live at once. Each can be referred to, and each ends. */
 static void test_live(unsigned live)
@@ -38,7 +45,8 @@ static void test_live(unsigned live)
 	}
 }
 
-/* One target after another, beside one that stays. With `full` they are more than a million, and none has its name. */
+/* One target after another, beside one that stays, and then one count after another: more than there are registries for, unless some are opened anew. With
+ * `full` there are more than a million targets, and none has another one's name. */
 static void test_changes(unsigned changes)
 {
 	struct psref kept, psref;
@@ -55,6 +63,11 @@ static void test_changes(unsigned changes)
 	}
 	psref_release(&kept, &stays, things);
 	psref_target_destroy(&stays, things);
+	for (unsigned i = 0; i < COUNTS; i++) {
+		localcount_init(&counts[0]);
+		drain(&counts[0]);
+		localcount_fini(&counts[0]);
+	}
 }
 
 /* More references of one CPU to one target than it counts: a CPU of the layer's own counts the others, and copies of those. They are released in the order
@@ -79,7 +92,7 @@ static void test_references(unsigned references, unsigned stride)
 	psref_target_destroy(&targets[0], things);
 }
 
-#ifdef KUPALDIZ_SECTIONS
+#ifdef IS_SMALL
 /* The CPU's sections in a registry are used up: what it acquires there is counted elsewhere from the first. */
 static void test_spent(void)
 {
@@ -102,6 +115,18 @@ static void test_spent(void)
 	EXPECT(!psref_held(&targets[0], things));
 	psref_target_destroy(&targets[0], things);
 	psref_target_destroy(&targets[1], things);
+}
+
+/* Uses up the CPU's sections in more registries than there are: one that no CPU has its sections in any more is opened anew. */
+static void test_hosts(void)
+{
+	for (unsigned turn = 0; turn < 110 * KUPALDIZ_SECTIONS; turn++) {
+		pserialize_read_exit(pserialize_read_enter());
+		if (turn % KUPALDIZ_SECTIONS != 0)
+			continue;
+		psref_target_init(&targets[0], things);
+		psref_target_destroy(&targets[0], things);
+	}
 }
 #endif
 
@@ -171,33 +196,57 @@ static void test_sections(unsigned rounds)
 	free(atomic_load(&shown));
 }
 
-static void *read_moved(void *arg)
+/* ---- The end of all registries, as the bench comes to it after each run: whatever was left, each handle is closed, and each reference forgotten. ---- */
+
+enum { LIVE = 2 * ROWS + 1, LEFT = 3 };
+
+static struct found_row found[LIVE];
+static atomic_bool inside;
+
+static void *stay_inside(void *arg)
 {
-	kupaldiz_bind(3);
-	for (unsigned turn = 0; turn < MANY; turn++)
-		pserialize_read_exit(pserialize_read_enter());
-	int s = pserialize_read_enter();
-	atomic_store(&step, 1);
-	await_least(&step, 2);
-	pserialize_read_exit(s);
+	kupaldiz_bind(4);
+	(void)pserialize_read_enter();
+	(void)pserialize_read_enter();
+	atomic_store(&inside, true);
+	for (;;)
+		sleep_for(1000000);
 	return arg;
 }
 
-THREAD(perform_it, pserialize_perform(psz); atomic_fetch_add(&performed, 1))
-
-/* A reader whose CPU takes another registry for its sections than the others: a perform waits for it. */
-static void test_moved(void)
+/* Leaves counts live with references, in first rows and in others, and two CPUs inside sections: one is in there twice, as a call of the archive nests. */
+static void leave_all(void)
 {
-	pthread_t reader, performer;
-	start_thread(&reader, read_moved, NULL);
-	await_least(&step, 1);
-	start_thread(&performer, perform_it, NULL);
-	sleep_for(20000);
-	EXPECT(atomic_load(&performed) == 0);
-	atomic_store(&step, 2);
-	end_thread(reader);
-	end_thread(performer);
-	EXPECT(atomic_load(&performed) == 1);
+	pthread_t thread;
+	for (unsigned i = 0; i < LIVE; i++) {
+		localcount_init(&counts[i]);
+		for (unsigned turn = 0; turn < LEFT; turn++)
+			localcount_acquire(&counts[i]);
+		EXPECT(find_row(&counts[i], counts[i].lc_serial, counts[i].lc_row, &found[i]));
+	}
+	start_thread(&thread, stay_inside, NULL);
+	await_flag(&inside);
+	for (unsigned turn = 0; turn < 2; turn++)
+		EXPECT(registry_enter(&cpus[0].bank->cpus[0].cpu) == REGISTRY_DONE);
+}
+
+/* The handles of a count's registry are empty, and so are those of its references. */
+static void require_closed(struct found_row at)
+{
+	EXPECT(registry_close_keeper(&at.bank->keeper) == REGISTRY_EMPTY_HANDLE);
+	for (unsigned cpu = 0; cpu < ALL_CPUS; cpu++)
+		EXPECT(registry_close_cpu(&at.bank->cpus[cpu].cpu) == REGISTRY_EMPTY_HANDLE);
+	for (unsigned place = 0; place < LEFT; place++)
+		EXPECT(registry_local_forget(&at.row->held[place].local) == REGISTRY_EMPTY_HANDLE);
+}
+
+static void test_close(void)
+{
+	struct thread nobody = {.call = "closing"};
+	leave_all();
+	close_banks(&nobody);
+	for (unsigned i = 0; i < LIVE; i++)
+		require_closed(found[i]);
 }
 
 int main(int argc, char **argv)
@@ -206,19 +255,19 @@ int main(int argc, char **argv)
 	make_things(IPL_NONE);
 	kupaldiz_bind(1);
 	test_live(full ? MOST_LIVE : 40);
-	test_changes(full ? MANY_CHANGES : 2000);
+	test_changes(full ? MANY_CHANGES : 6000);
 	test_references(REFERENCES, 1);
 	test_references(REFERENCES, 7);
-#ifdef KUPALDIZ_SECTIONS
+#ifdef IS_SMALL
 	test_spent();
+	test_hosts();
 #endif
-	if (!full) {
-		test_moved();
+	if (!full)
 		test_one_way(3000);
-	}
 	test_sections(full ? 2000 : 150);
 	test_live(full ? MOST_LIVE : 40);
 	end_things();
+	test_close();
 	puts(full ? "more than two million changes" : "more than each registry takes");
 	return 0;
 }

@@ -76,12 +76,6 @@ static void test_mutexes(void)
 	mutex_spin_exit(&spin);
 	EXPECT(!kpreempt_disabled());
 	test_levels_in_spin_locks();
-	kmutex_t *counted = mutex_obj_alloc(MUTEX_DEFAULT, IPL_NONE);
-	mutex_obj_hold(counted);
-	EXPECT(!mutex_obj_free(counted));
-	mutex_enter(counted);
-	mutex_exit(counted);
-	EXPECT(mutex_obj_free(counted));
 }
 
 /* Both words are the same to whoever reads, and are changed by one alone. */
@@ -135,7 +129,7 @@ static void *wait_and_count(void *arg)
 	return arg;
 }
 
-/* A signal wakes one, in the order of arrival; a broadcast wakes all. */
+/* A broadcast wakes all. A spin lock is had again, at its level. */
 static void test_condvars(void)
 {
 	pthread_t threads[THREADS];
@@ -145,10 +139,6 @@ static void test_condvars(void)
 	await_least(&waiting, THREADS);
 	mutex_enter(&lock);
 	EXPECT(cv_has_waiters(&cv) && cv_is_valid(&cv));
-	cv_signal(&cv);
-	while (plain == 0)
-		EXPECT(cv_timedwait(&cv, &lock, 1) == EWOULDBLOCK);
-	EXPECT(cv_timedwait(&cv, &lock, 1) == EWOULDBLOCK && plain == 1);
 	cv_broadcast(&cv);
 	while (plain < THREADS)
 		EXPECT(cv_timedwait_sig(&cv, &lock, 1) == EWOULDBLOCK);
@@ -164,36 +154,33 @@ static void test_condvars(void)
 
 /* ---- The queue of a condition variable. ---- */
 
-enum { WAITERS = 3 };
+enum { WAITERS = 4, LONG = 20 };
 
 static kcondvar_t other_cv;
 static unsigned leaver, queued, order;	/* under the lock */
-static bool queued_last;
+static bool has_left;
 
-/* The time of the leaver's wait is over again and again. Once all have come it waits behind them. */
-static void wait_last(void)
-{
-	for (bool all = false; !all;) {
-		all = queued == WAITERS;
-		EXPECT(cv_timedwait(&cv, &lock, 1) == EWOULDBLOCK);
-	}
-	queued_last = true;
-}
-
+/* Waits until it is woken; the leaver, until its time is over. */
 static void *wait_in_order(void *of)
 {
 	unsigned number = *(unsigned *)of;
 	mutex_enter(&lock);
 	queued++;
-	if (number == leaver)
-		wait_last();
-	EXPECT(cv_timedwait(&cv, &lock, 1000) == 0);
-	order = order * 10 + number;
+	if (number == leaver) {
+		EXPECT(cv_timedwait(&cv, &lock, LONG) == EWOULDBLOCK);
+		has_left = true;
+	} else {
+		EXPECT(cv_timedwait(&cv, &lock, 1000) == 0);
+		order = order * 10 + number;
+	}
 	mutex_exit(&lock);
 	return of;
 }
 
-/* Each signal wakes whoever waits longest. Whose time is over leaves the queue, from its beginning, its middle or its end. */
+/* Lets others have the lock for a while. */
+static void wait_a_tick(void) { EXPECT(cv_timedwait(&other_cv, &lock, 1) == EWOULDBLOCK); }
+
+/* Each signal wakes one, who waits longest. Whose time is over leaves the queue, from its beginning, its middle or its end; the last one comes afterwards. */
 static void test_order(unsigned of, unsigned wanted)
 {
 	pthread_t threads[WAITERS];
@@ -201,20 +188,22 @@ static void test_order(unsigned of, unsigned wanted)
 	mutex_enter(&lock);
 	leaver = of;
 	queued = order = 0;
-	queued_last = false;
+	has_left = false;
 	for (unsigned i = 0; i < WAITERS; i++) {
+		while (i == WAITERS - 1 && !has_left)
+			wait_a_tick();
 		numbers[i] = i + 1;
 		start_thread(&threads[i], wait_in_order, &numbers[i]);
 		while (queued == i)
-			EXPECT(cv_timedwait(&other_cv, &lock, 1) == EWOULDBLOCK);
+			wait_a_tick();
 	}
-	while (!queued_last)
-		EXPECT(cv_timedwait(&other_cv, &lock, 1) == EWOULDBLOCK);
 	for (unsigned woken = 1; woken <= wanted; woken *= 10) {
 		EXPECT(cv_has_waiters(&cv));
 		cv_signal(&cv);
-		while (order < woken)
-			EXPECT(cv_timedwait(&other_cv, &lock, 1) == EWOULDBLOCK);
+		do
+			wait_a_tick();
+		while (order < woken);
+		EXPECT(order < 10 * woken);
 	}
 	EXPECT(order == wanted && !cv_has_waiters(&cv));
 	/* The time that is left may be over already. */
@@ -230,61 +219,48 @@ static void test_order(unsigned of, unsigned wanted)
 enum { CROWD = 80 };
 
 static struct member {
+	pthread_t thread;
 	kmutex_t lock;
 	kcondvar_t cv;
 	bool called;		/* under the lock */
-	atomic_bool gone;
 } crowd[CROWD];
-static atomic_uint came, left;
 
 static void *wait_in_crowd(void *of)
 {
 	struct member *member = of;
-	atomic_fetch_add(&came, 1);
 	mutex_enter(&member->lock);
 	while (!member->called)
 		cv_wait(&member->cv, &member->lock);
 	mutex_exit(&member->lock);
-	atomic_store(&member->gone, true);
-	atomic_fetch_add(&left, 1);
 	return of;
 }
 
-/* One goes, and no other. */
+/* One goes: it gets its signal, and no other does. */
 static void call_member(struct member *member)
 {
-	unsigned before = atomic_load(&left);
 	mutex_enter(&member->lock);
 	member->called = true;
 	cv_signal(&member->cv);
 	mutex_exit(&member->lock);
-	await_flag(&member->gone);
-	while (atomic_load(&left) == before)
-		sleep_for(50);
-	EXPECT(atomic_load(&left) == before + 1);
+	end_thread(member->thread);
+	cv_destroy(&member->cv);
+	mutex_destroy(&member->lock);
 }
 
 static void test_crowd(void)
 {
-	pthread_t threads[CROWD];
 	for (unsigned i = 0; i < CROWD; i++) {
 		mutex_init(&crowd[i].lock, MUTEX_DEFAULT, IPL_NONE);
 		cv_init(&crowd[i].cv, "crowd");
 		mutex_enter(&crowd[i].lock);
-		start_thread(&threads[i], wait_in_crowd, &crowd[i]);
+		start_thread(&crowd[i].thread, wait_in_crowd, &crowd[i]);
 	}
-	await_least(&came, CROWD);
 	sleep_for(20000);
 	for (unsigned i = 0; i < CROWD; i++)
 		mutex_exit(&crowd[i * 7 % CROWD].lock);
 	sleep_for(20000);
 	for (unsigned i = 0; i < CROWD; i++)
 		call_member(&crowd[i * 3 % CROWD]);
-	for (unsigned i = 0; i < CROWD; i++) {
-		end_thread(threads[i]);
-		cv_destroy(&crowd[i].cv);
-		mutex_destroy(&crowd[i].lock);
-	}
 }
 
 int main(void)
@@ -296,9 +272,9 @@ int main(void)
 	test_mutexes();
 	test_rwlocks();
 	test_condvars();
-	test_order(1, 231);
-	test_order(2, 132);
-	test_order(3, 123);
+	test_order(1, 234);
+	test_order(2, 134);
+	test_order(3, 124);
 	test_crowd();
 	cv_destroy(&other_cv);
 	EXPECT(cv_is_valid(&cv) && !cv_is_valid(&other_cv));

@@ -46,29 +46,26 @@ static void test_runs(bool is_inside)
 	softint_disestablish(cookie);
 }
 
+static const int levels[] = {[SOFTINT_CLOCK] = IPL_SOFTCLOCK, [SOFTINT_BIO] = IPL_SOFTBIO, [SOFTINT_NET] = IPL_SOFTNET, [SOFTINT_SERIAL] = IPL_SOFTSERIAL};
 static atomic_int level_found;
 
 /* A handler is at its own level, and is back at it once a higher one is over. */
-static void note_level(void *arg)
+BODY(note_level)
 {
 	int s = splnet();
 	EXPECT(splhigh() == IPL_NET);
 	splx(s);
 	EXPECT(splsoftclock() == s);
-	atomic_store((atomic_int *)arg, s);
+	atomic_store(&level_found, s);
 }
 
 static void test_own_level(void)
 {
-	static const struct {
-		unsigned flags;
-		int level;
-	} each[] = {{SOFTINT_CLOCK, IPL_SOFTCLOCK}, {SOFTINT_BIO, IPL_SOFTBIO}, {SOFTINT_NET, IPL_SOFTNET}, {SOFTINT_SERIAL, IPL_SOFTSERIAL}};
-	for (unsigned i = 0; i < 4; i++) {
-		void *cookie = softint_establish(each[i].flags | SOFTINT_MPSAFE, note_level, &level_found);
+	for (unsigned flags = SOFTINT_CLOCK; flags <= SOFTINT_SERIAL; flags++) {
+		void *cookie = softint_establish(flags | SOFTINT_MPSAFE, note_level, NULL);
 		int s = pserialize_read_enter();
 		softint_schedule(cookie);
-		EXPECT(atomic_load(&level_found) == each[i].level);
+		EXPECT(atomic_load(&level_found) == levels[flags]);
 		pserialize_read_exit(s);
 		softint_disestablish(cookie);
 	}
@@ -76,7 +73,7 @@ static void test_own_level(void)
 
 HANDLER(note, order[ordered++] = *(unsigned *)arg)
 
-/* A level keeps off what isn't above it. What waits runs once the level is lower, the highest first. */
+/* A level keeps off what isn't above it. What waits runs once the level is lower, the highest first; once, however often it was scheduled. */
 static void test_levels(void)
 {
 	static unsigned clock = SOFTINT_CLOCK, net = SOFTINT_NET, serial = SOFTINT_SERIAL;
@@ -84,8 +81,10 @@ static void test_levels(void)
 	void *high = softint_establish(SOFTINT_SERIAL, note, &serial);
 	int s = splsoftnet();
 	EXPECT(s == IPL_NONE);
-	softint_schedule(low);
-	softint_schedule(middle);
+	for (unsigned turn = 0; turn < 3; turn++) {
+		softint_schedule(low);
+		softint_schedule(middle);
+	}
 	EXPECT(ordered == 0);
 	softint_schedule(high);
 	EXPECT(ordered == 1 && order[0] == SOFTINT_SERIAL);
@@ -100,67 +99,12 @@ static void test_levels(void)
 	softint_disestablish(high);
 }
 
-/* It is scheduled three times before it can run, and runs once: kept off by a level, or by a spin lock, up to whose level no other one runs. */
-static void test_once(unsigned flags, bool spins)
-{
-	void *cookie = softint_establish(flags, handle, &runs);
-	unsigned before = atomic_load(&runs);
-	int s = spins ? mutex_enter(&spin), IPL_NONE : splnet();
-	for (unsigned i = 0; i < 3; i++)
-		softint_schedule(cookie);
-	EXPECT(atomic_load(&runs) == before && mutex_owned(&spin) == spins);
-	kpreempt_disable();
-	if (spins)
-		mutex_exit(&spin);
-	else
-		splx(s);
-	EXPECT(atomic_load(&runs) == before + 1);
-	kpreempt_enable();
-	softint_disestablish(cookie);
-}
-
 static void handle_locked(void *arg)
 {
 	atomic_fetch_add(&waits, 1);
 	mutex_enter(&lock);
 	atomic_fetch_add((atomic_uint *)arg, 1);
 	mutex_exit(&lock);
-}
-
-static atomic_bool blocked_over;
-
-/* Others come and go meanwhile, on another CPU. */
-static void *establish_others(void *arg)
-{
-	kupaldiz_bind(4);
-	while (!atomic_load(&blocked_over)) {
-		softint_disestablish(softint_establish(SOFTINT_BIO, handle, &runs));
-		sleep_for(20);
-	}
-	return arg;
-}
-
-/* The thread that is interrupted has the lock that the handler waits for: it goes on, and the handler runs on once it has given the lock back. */
-static void test_blocked(void)
-{
-	pthread_t other;
-	atomic_uint done = 0;
-	void *cookie = softint_establish(SOFTINT_NET, handle_locked, &done);
-	start_thread(&other, establish_others, NULL);
-	for (unsigned round = 0; round < 50; round++) {
-		mutex_enter(&lock);
-		int s = pserialize_read_enter();
-		softint_schedule(cookie);
-		EXPECT(atomic_load(&waits) == round + 1 && atomic_load(&done) == round);
-		pserialize_read_exit(s);
-		sleep_for(20);
-		EXPECT(atomic_load(&done) == round);
-		mutex_exit(&lock);
-		await_least(&done, round + 1);
-	}
-	atomic_store(&blocked_over, true);
-	end_thread(other);
-	softint_disestablish(cookie);
 }
 
 HANDLER(count_run, atomic_fetch_add((atomic_uint *)arg, 1))
@@ -190,14 +134,17 @@ static void test_levels_apart(void)
 	softint_disestablish(cookie);
 }
 
-/* The thread gives the lock back, and keeps its CPU: the handler goes on between two of its calls, once the level is below the handler's. */
+/* The thread that is interrupted has the lock that the handler waits for, and goes on. It gives the lock back, and keeps its CPU: the handler goes on between
+ * two of its calls, once the level is below the handler's. */
 static void test_blocked_inside(void)
 {
 	atomic_uint done = 0;
+	unsigned before = atomic_load(&waits);
 	void *cookie = softint_establish(SOFTINT_NET, handle_locked, &done);
 	mutex_enter(&lock);
 	int s = pserialize_read_enter();
 	softint_schedule(cookie);
+	EXPECT(atomic_load(&waits) == before + 1 && atomic_load(&done) == 0);
 	int level = splsoftnet();
 	mutex_exit(&lock);
 	for (unsigned turn = 0; turn < 30; turn++) {
@@ -253,107 +200,77 @@ static void test_raised(void)
 	rw_destroy(&rw);
 }
 
-enum { STORMERS = 12, STORM = 200 };
-
-static void *cookies[4];
-static atomic_uint stormed;
-
-HANDLER(storm_handler, handle(arg); mutex_enter(&lock); atomic_fetch_add(&stormed, 1); mutex_exit(&lock))
-
-/* Threads of all CPUs read, lock, and schedule. */
-static void *storm(void *arg)
-{
-	int bound = curlwp_bind();
-	for (unsigned round = 0; round < STORM; round++) {
-		int s = pserialize_read_enter();
-		softint_schedule(cookies[round % 4]);
-		pserialize_read_exit(s);
-		mutex_enter(&lock);
-		softint_schedule(cookies[(round + 1) % 4]);
-		mutex_exit(&lock);
-	}
-	curlwp_bindx(bound);
-	return arg;
-}
-
-static void test_storm(void)
-{
-	pthread_t threads[STORMERS];
-	for (unsigned i = 0; i < 4; i++)
-		cookies[i] = softint_establish(i, storm_handler, &runs);
-	for (unsigned i = 0; i < STORMERS; i++)
-		start_thread(&threads[i], storm, NULL);
-	for (unsigned i = 0; i < STORMERS; i++)
-		end_thread(threads[i]);
-	await_least(&stormed, 1);
-	for (unsigned i = 0; i < 4; i++)
-		softint_disestablish(cookies[i]);
-}
-
 /* ---- Each call at whose end a thread that goes on with its CPU offers it to the soft interrupts that wait. ---- */
-
-enum { MOST = 200 };
 
 static percpu_t *percpu;
 static callout_t callout;
 static void *other;
-static atomic_uint fired;
-static struct psref held, psrefs[MOST];
-static int sections[MOST];
-static unsigned made;	/* calls so far: so many references or sections are there */
+static atomic_bool fired;
+static struct psref held, psref;
+static int section;
 
-HANDLER(fire, atomic_store((atomic_uint *)arg, 1))
+HANDLER(fire, atomic_store(&fired, true))
 HANDLER(nothing, (void)0)
 
-/* The calls, and what undoes them. */
-static void enter_section(void) { sections[made++] = pserialize_read_enter(); }
-static void exit_section(void) { pserialize_read_exit(sections[--made]); }
-static void acquire(void) { psref_acquire(&psrefs[made++], &target, things); }
-static void release(void) { psref_release(&psrefs[--made], &target, things); }
-static void copy(void) { psref_copy(&psrefs[made++], &held, things); }
-static void ask(void) { EXPECT(psref_held(&target, things)); }
-static void count_in(void) { localcount_acquire(&count), made++; }
-static void count_out(void) { localcount_release(&count, &cv, &lock), made--; }
-static void signal_cv(void) { cv_signal(&cv); }
-static void broadcast_cv(void) { cv_broadcast(&cv); }
-static void schedule(void) { softint_schedule(other); }
-static void exit_mutex(void) { mutex_enter(&spin), mutex_exit(&spin); }
-static void exit_spin_mutex(void) { mutex_spin_enter(&spin), mutex_spin_exit(&spin); }
-static void lower(void) { splx(splsoftserial()); }
-static void enable_preemption(void) { kpreempt_disable(), kpreempt_enable(); }
-static void put_percpu(void) { (void)percpu_getref(percpu), percpu_putref(percpu); }
-
-/* A call, and what goes before it MOST times, or undoes it afterwards. */
-static const struct offer {
+static struct offer {
 	const char *name;
-	void (*call)(void), (*before)(void), (*undo)(void);
-} offers[] = {
-    {"pserialize_read_enter", enter_section, NULL, exit_section}, {"pserialize_read_exit", exit_section, enter_section, exit_section},
-    {"psref_acquire", acquire, NULL, release}, {"psref_release", release, acquire, release}, {"psref_copy", copy, NULL, release},
-    {"psref_held", ask, NULL, NULL}, {"localcount_acquire", count_in, NULL, count_out}, {"localcount_release", count_out, count_in, count_out},
-    {"cv_signal", signal_cv, NULL, NULL}, {"cv_broadcast", broadcast_cv, NULL, NULL}, {"softint_schedule", schedule, NULL, NULL},
-    {"mutex_exit", exit_mutex, NULL, NULL}, {"mutex_spin_exit", exit_spin_mutex, NULL, NULL}, {"splx", lower, NULL, NULL},
-    {"kpreempt_enable", enable_preemption, NULL, NULL}, {"percpu_putref", put_percpu, NULL, NULL},
-};
+	void (*before)(void), (*call)(void), (*after)(void);
+} offers[20];
+static unsigned offer_count;
 
-/* Makes the call until the callout has run. Between two calls the clock has time to find it due. */
+/* A call, with what comes before it and after it. */
+#define OFFERS(name, earlier, made, later) \
+	static void before_##name(void) { earlier; } \
+	static void call_##name(void) { made; } \
+	static void after_##name(void) { later; } \
+	__attribute__((constructor)) static void add_##name(void) \
+	{ \
+		offers[offer_count++] = (struct offer){#name, before_##name, call_##name, after_##name}; \
+	}
+
+OFFERS(pserialize_read_enter, (void)0, section = pserialize_read_enter(), pserialize_read_exit(section))
+OFFERS(pserialize_read_exit, section = pserialize_read_enter(), pserialize_read_exit(section), (void)0)
+OFFERS(psref_acquire, (void)0, psref_acquire(&psref, &target, things), psref_release(&psref, &target, things))
+OFFERS(psref_release, psref_acquire(&psref, &target, things), psref_release(&psref, &target, things), (void)0)
+OFFERS(psref_copy, (void)0, psref_copy(&psref, &held, things), psref_release(&psref, &target, things))
+OFFERS(psref_held, (void)0, EXPECT(psref_held(&target, things)), (void)0)
+OFFERS(localcount_acquire, (void)0, localcount_acquire(&count), localcount_release(&count, &cv, &lock))
+OFFERS(localcount_release, localcount_acquire(&count), localcount_release(&count, &cv, &lock), (void)0)
+OFFERS(cv_signal, (void)0, cv_signal(&cv), (void)0)
+OFFERS(cv_broadcast, (void)0, cv_broadcast(&cv), (void)0)
+OFFERS(softint_schedule, (void)0, softint_schedule(other), (void)0)
+OFFERS(mutex_exit, (void)0, mutex_enter(&spin); mutex_exit(&spin), (void)0)
+OFFERS(mutex_spin_exit, (void)0, mutex_spin_enter(&spin); mutex_spin_exit(&spin), (void)0)
+OFFERS(splx, (void)0, splx(splsoftserial()), (void)0)
+OFFERS(kpreempt_enable, (void)0, kpreempt_disable(); kpreempt_enable(), (void)0)
+OFFERS(percpu_putref, (void)0, (void)percpu_getref(percpu); percpu_putref(percpu), (void)0)
+
+/* Whether a callout that is due runs by the end of the call, and not before it. */
+static bool offers_cpu(const struct offer *offer)
+{
+	atomic_store(&fired, false);
+	offer->before();
+	callout_reset(&callout, 1, fire, NULL);
+	sleep_for(20000);
+	bool early = atomic_load(&fired);
+	offer->call();
+	bool offered = !early && atomic_load(&fired);
+	offer->after();
+	return offered;
+}
+
+/* The clock may be late: it has some turns. */
 static void test_offer(const struct offer *offer)
 {
-	atomic_store(&fired, 0);
+	bool offered = false;
 	int s = pserialize_read_enter();
-	while (offer->before != NULL && made < MOST)
-		offer->before();
-	callout_reset(&callout, 1, fire, &fired);
-	for (unsigned turn = 0; turn < MOST && atomic_load(&fired) == 0; turn++) {
-		sleep_for(5000);
-		offer->call();
-	}
-	if (atomic_load(&fired) == 0)
-		fprintf(stderr, "%s offers the CPU to nobody\n", offer->name);
-	EXPECT(atomic_load(&fired) == 1);
-	while (made > 0)
-		offer->undo();
+	for (unsigned turn = 0; turn < 50 && !offered; turn++)
+		offered = offers_cpu(offer);
+	callout_stop(&callout);
 	pserialize_read_exit(s);
+	if (!offered)
+		fprintf(stderr, "%s offers the CPU to nobody\n", offer->name);
+	EXPECT(offered);
 }
 
 static void test_offers(void)
@@ -362,7 +279,8 @@ static void test_offers(void)
 	callout_init(&callout, CALLOUT_MPSAFE);
 	other = softint_establish(SOFTINT_CLOCK, nothing, NULL);
 	psref_acquire(&held, &target, things);
-	for (unsigned place = 0; place < sizeof(offers) / sizeof(offers[0]); place++)
+	EXPECT(offer_count == 16);
+	for (unsigned place = 0; place < offer_count; place++)
 		test_offer(&offers[place]);
 	psref_release(&held, &target, things);
 	callout_destroy(&callout);
@@ -379,13 +297,9 @@ int main(void)
 	test_runs(false);
 	test_own_level();
 	test_levels();
-	test_once(SOFTINT_NET, false);
-	test_once(SOFTINT_SERIAL, true);
-	test_blocked();
 	test_levels_apart();
 	test_blocked_inside();
 	test_raised();
-	test_storm();
 	test_offers();
 	mutex_destroy(&spin);
 	end_things();

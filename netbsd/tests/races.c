@@ -2,26 +2,16 @@
  * races - what orders the threads that have passive references, as the detector of races sees it: the CPU that two share, and the release that a destroy
  * waits for
  *
- * The threads wait for each other by steps that order nothing. The linker leads registry_get here (--wrap): a CPU may count no references.
+ * The threads wait for each other by steps that order nothing. Over a layer whose registries have four rows, forty changes and two thousand references.
  */
 #include "test.h"
-
-#include "registry.h"
-#include "wraps.h"
-
 #include "things.h"
 
-static struct psref_target other;
-static bool counts_none;
-static _Thread_local bool is_refused;
+enum { FULL = KUPALDIZ_REFERENCES, ROWS = KUPALDIZ_ROWS, CHANGES = KUPALDIZ_CHANGES };
+
+static struct psref_target other, last;
 static atomic_uint step;
 static unsigned used;	/* plain */
-
-uint32_t __wrap_registry_get(struct registry_cpu *cpu, uint64_t kind, const struct registry_name *name, struct registry_entry *found)
-{
-	is_refused = counts_none && !is_refused;
-	return is_refused ? REGISTRY_PASSIVE_FULL : __real_registry_get(cpu, kind, name, found);
-}
 
 static void await_step(unsigned wanted)
 {
@@ -44,24 +34,25 @@ static void *refer_first(void *arg)
 }
 
 /*
- * psref_held looks into the table of its CPU while the thread has that CPU. It asks for a reference that is counted elsewhere, and looks at the place
- * of the other thread's first, which that one writes afterwards.
+ * psref_held looks into the table of its CPU while the thread has that CPU. It asks for a reference that is counted elsewhere, as its CPU is full, and looks at
+ * the place of the other thread's first, which that one writes afterwards.
  */
 static void test_asked(void)
 {
+	static struct psref psrefs[FULL + 1];
 	pthread_t thread;
-	struct psref psref;
-	counts_none = true;
 	kupaldiz_bind(3);
 	start_thread(&thread, refer_first, NULL);
 	await_step(1);
-	psref_acquire(&psref, &target, things);
+	for (unsigned i = 0; i <= FULL; i++)
+		psref_acquire(&psrefs[i], &target, things);
+	for (unsigned i = 0; i < FULL; i++)
+		psref_release(&psrefs[i], &target, things);
 	EXPECT(psref_held(&target, things));
 	take_step();
 	end_thread(thread);
-	psref_release(&psref, &target, things);
+	psref_release(&psrefs[FULL], &target, things);
 	kupaldiz_unbind();
-	counts_none = false;
 }
 
 /* Uses what its reference keeps until its release, and does nothing else then that orders it. */
@@ -69,25 +60,36 @@ static void *use(void *arg)
 {
 	struct psref psref;
 	kupaldiz_bind(4);
-	psref_acquire(&psref, &target, things);
+	psref_acquire(&psref, &last, things);
 	take_step();
 	used++;
-	psref_release(&psref, &target, things);
+	psref_release(&psref, &last, things);
 	await_step(4);
 	return arg;
 }
 
-/* What came before the last release is over when the destroy returns. */
+/* What came before the last release is over when the destroy returns. The target is the only one in a registry that is used up, which the destroy opens anew:
+ * so the release has returned, too. The other registries are full. */
 static void test_destroyed(void)
 {
+	static struct psref_target full[ROWS + 1], passing;
 	pthread_t thread;
+	for (unsigned i = 0; i <= ROWS; i++)
+		psref_target_init(&full[i], things);
+	psref_target_init(&last, things);
+	for (unsigned i = 0; i < CHANGES; i++) {
+		psref_target_init(&passing, things);
+		psref_target_destroy(&passing, things);
+	}
 	start_thread(&thread, use, NULL);
 	await_step(3);
-	psref_target_destroy(&target, things);
+	psref_target_destroy(&last, things);
 	used++;
 	take_step();
 	end_thread(thread);
 	EXPECT(used == 2);
+	for (unsigned i = 0; i <= ROWS; i++)
+		psref_target_destroy(&full[i], things);
 }
 
 int main(void)
@@ -97,7 +99,7 @@ int main(void)
 	test_asked();
 	test_destroyed();
 	psref_target_destroy(&other, things);
-	psref_class_destroy(things);
+	end_things();
 	puts("no thread met what another one was writing");
 	return 0;
 }

@@ -1,4 +1,4 @@
-/* bank.c - registries and their rows, and the sections and waits that go over all of them */
+/* registries.c - registries and their rows, and the sections and waits that go over all of them */
 #include <errno.h>
 #include <stdio.h>
 #include <stdlib.h>
@@ -16,13 +16,16 @@ static uint64_t serials;
 
 void enter_interlock(void) { pthread_mutex_lock(&interlock); }
 void exit_interlock(void) { pthread_mutex_unlock(&interlock); }
-struct registry_cpu *writers(struct bank *bank) { return &bank->cpus[WRITERS].cpu; }
 
-/* The handle of this thread's CPU in a bank. The thread has its CPU. */
-struct registry_cpu *handle_of(struct thread *me, struct bank *bank)
+/* The handle of a CPU in a bank. The thread has that CPU. */
+static struct registry_cpu *handle(struct bank *bank, unsigned cpu)
 {
-	return &bank->cpus[me->cpu->info.ci_index].cpu;
+	USED_BY_CALL(&bank->cpus[cpu].cpu);
+	return &bank->cpus[cpu].cpu;
 }
+
+struct registry_cpu *writers(struct bank *bank) { return handle(bank, WRITERS); }
+struct registry_cpu *handle_of(struct thread *me, struct bank *bank) { return handle(bank, me->cpu->info.ci_index); }
 
 /* ---- Opening. ---- */
 

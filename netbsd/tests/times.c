@@ -1,0 +1,105 @@
+/*
+ * times - time by the system's clock: which tick it is, and that delays, pauses and waits for a condition variable last as long as they say, whatever second
+ * begins meanwhile, and although signals come to the process
+ */
+#include <signal.h>
+
+#include "test.h"
+#include "things.h"
+
+#define TICK	INT64_C(10000000)
+
+enum { MOST_LATE = 30 };	/* seconds, on a busy machine */
+
+/* The clock that nobody sets, in nanoseconds. */
+static int64_t now(void)
+{
+	struct timespec time;
+	EXPECT(clock_gettime(CLOCK_MONOTONIC, &time) == 0);
+	return (int64_t)time.tv_sec * 1000000000 + time.tv_nsec;
+}
+
+/* A tick lasts ten milliseconds. */
+static void test_ticks(void)
+{
+	int64_t before = now() / TICK;
+	unsigned ticks = (unsigned)getticks();
+	int64_t after = now() / TICK;
+	EXPECT(ticks - (unsigned)before <= (unsigned)(after - before));
+	EXPECT(getuptime() - now() / 1000000000 <= 1);
+}
+
+/* So much time has gone by since then, and not much more. */
+static void require_gone(int64_t from, int64_t nanoseconds)
+{
+	EXPECT(now() - from >= nanoseconds && now() - from < nanoseconds + MOST_LATE * INT64_C(1000000000));
+}
+
+static void test_delays(void)
+{
+	static const unsigned microseconds[] = {1, 1000, 30000};
+	for (unsigned at = 0; at < sizeof(microseconds) / sizeof(microseconds[0]); at++) {
+		int64_t from = now();
+		delay(microseconds[at]);
+		require_gone(from, microseconds[at] * INT64_C(1000));
+	}
+}
+
+/* A pause without the lock, or a wait for the condition variable. */
+static void test_wait(bool pauses, int ticks)
+{
+	int64_t from = now();
+	mutex_enter(&lock);
+	EXPECT((pauses ? kpause("times", false, ticks, &lock) : cv_timedwait(&cv, &lock, ticks)) == EWOULDBLOCK && mutex_owned(&lock));
+	mutex_exit(&lock);
+	require_gone(from, ticks * TICK);
+}
+
+/* Of two that last longer than a second together one begins in one second and ends in the next. */
+static void test_waits(void)
+{
+	test_wait(false, 1);
+	test_wait(false, 60);
+	test_wait(false, 60);
+	test_wait(true, 1);
+	test_wait(true, 101);
+}
+
+static void catch(int signal) { EXPECT(signal == SIGUSR1); }
+static atomic_bool begun, over;
+
+/* Nobody has the lock meanwhile. */
+THREAD(pause_long,
+    mutex_enter(&lock); atomic_store(&begun, true); int64_t from = now(); EXPECT(kpause("times", true, 100, &lock) == EWOULDBLOCK);
+    require_gone(from, 100 * TICK); mutex_exit(&lock); atomic_store(&over, true))
+
+/* A pause that signals end too early goes on with what is left: it ends though they go on coming. */
+static void test_signals(void)
+{
+	const struct sigaction action = {.sa_handler = catch};
+	pthread_t thread;
+	EXPECT(sigaction(SIGUSR1, &action, NULL) == 0);
+	start_thread(&thread, pause_long, NULL);
+	await_flag(&begun);
+	mutex_enter(&lock);
+	mutex_exit(&lock);
+	EXPECT(!atomic_load(&over));
+	for (unsigned turn = 0; turn < 400 && !atomic_load(&over); turn++) {
+		sleep_for(20000);
+		(void)pthread_kill(thread, SIGUSR1);
+	}
+	EXPECT(atomic_load(&over));
+	end_thread(thread);
+}
+
+int main(void)
+{
+	make_things(IPL_NONE);
+	test_ticks();
+	test_delays();
+	test_waits();
+	test_signals();
+	end_things();
+	puts("ticks, delays, pauses and waits lasted as long as they say");
+	return 0;
+}
