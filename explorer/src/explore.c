@@ -82,8 +82,7 @@ static void keep_names(void)
 	search->ended = 0;
 	for (unsigned number = 0; number < run.count; number++) {
 		const struct routine *at = &run.routines[number];
-		const char *name = at->name != NULL ? at->name : at->self != NULL ? at->self->name : "?";
-		snprintf(search->names[number], sizeof(search->names[number]), "%s", name);
+		snprintf(search->names[number], sizeof(search->names[number]), "%s", name_of_routine(at));
 		search->ended |= (uint32_t)at->ended << number;
 	}
 	snprintf(search->names[CLOCK], sizeof(search->names[0]), "clock");
@@ -107,7 +106,7 @@ static void keep_outcome(void)
 	made->count = 1;
 }
 
-static enum end run_here(void)
+static void run_here(void)
 {
 	struct thread nobody = {.call = "bench_explore"};
 	restore_state();
@@ -125,11 +124,10 @@ static enum end run_here(void)
 	}
 	search->found.cut += search->end == CUT;
 	close_banks(&nobody);
-	return search->end;
 }
 
-/* Executes one in a process of its own, and ends as that one does where it crashes. */
-static enum end run_apart(void)
+/* Does something in a process of its own. That one's status. */
+static int status_of(void (*body)(void))
 {
 	int status;
 	fflush(NULL);
@@ -137,23 +135,39 @@ static enum end run_apart(void)
 	if (child < 0)
 		refuse("no process is left");
 	if (child == 0) {
-		run_here();
+		body();
+		fflush(NULL);
 		_exit(0);
 	}
 	if (waitpid(child, &status, 0) != child)
 		refuse("the child is gone");
+	return status;
+}
+
+/* Executes one in a process of its own, and ends as that one does where it crashes. */
+static void run_apart(void)
+{
+	int status = status_of(run_here);
 	if (WIFSIGNALED(status)) {
 		signal(WTERMSIG(status), SIG_DFL);
 		raise(WTERMSIG(status));
 	}
 	if (status != 0)
 		_exit(WIFEXITED(status) ? WEXITSTATUS(status) : 1);
-	return search->end;
 }
 
-static enum end run_once(void)
+static void run_once(void)
 {
-	return search->apart ? run_apart() : run_here();
+	if (search->apart)
+		run_apart();
+	else
+		run_here();
+}
+
+/* Whether the last one was wrong. */
+static bool is_wrong(void)
+{
+	return search->end == FAILED || search->end == UNFIT;
 }
 
 /* ---- The next schedule. ---- */
@@ -190,18 +204,13 @@ static void begin_search(enum mode mode, uint64_t limit, unsigned bound)
 static bool run_all(void)
 {
 	for (; search->limit > 0; search->limit--) {
-		enum end end = run_once();
-		if (end == FAILED || end == UNFIT)
+		run_once();
+		if (is_wrong())
 			return false;
 		if (!next_schedule())
 			return true;
 	}
 	return false;
-}
-
-static bool is_wrong(void)
-{
-	return search->end == FAILED || search->end == UNFIT;
 }
 
 static void run_bounded(void)
@@ -281,30 +290,29 @@ static void search_below(void)
 		search->limit--;
 }
 
-/* Does something in a child. How its last run ended. */
-static enum end in_child(void (*body)(void), bool silent)
+static void (*search_body)(void);
+static bool silent;	/* it says nothing on standard error */
+
+static void search_in_child(void)
 {
-	int status;
+	if (silent && freopen("/dev/null", "w", stderr) == NULL)
+		_exit(2);
+	/* The memory of a run's registry is the next one's: the system gets none of it back meanwhile. */
+	mallopt(M_MMAP_THRESHOLD, 1 << 25);
+	mallopt(M_TRIM_THRESHOLD, -1);
+	save_state();
+	search_body();
+	search->over = true;
+}
+
+/* Does something in a child. How its last run ended. */
+static enum end in_child(void (*body)(void), bool is_silent)
+{
+	search_body = body;
+	silent = is_silent;
 	search->over = false;
 	search->end = ENDED_WELL;
-	fflush(NULL);
-	pid_t child = fork();
-	if (child < 0)
-		refuse("no process is left");
-	if (child == 0) {
-		if (silent && freopen("/dev/null", "w", stderr) == NULL)
-			_exit(2);
-		/* The memory of a run's registry is the next one's: the system gets none of it back meanwhile. */
-		mallopt(M_MMAP_THRESHOLD, 1 << 25);
-		mallopt(M_TRIM_THRESHOLD, -1);
-		save_state();
-		body();
-		search->over = true;
-		fflush(NULL);
-		_exit(0);
-	}
-	if (waitpid(child, &status, 0) != child)
-		refuse("the child is gone");
+	int status = status_of(search_in_child);
 	if (search->over)
 		return search->end;
 	if (WIFEXITED(status) && WEXITSTATUS(status) == 2)
@@ -327,12 +335,6 @@ static void keep_schedule(struct bench_found *found)
 	write_schedule(found->schedule, sizeof(found->schedule));
 	write_failures(found->schedule, sizeof(found->schedule));
 	snprintf(found->failed, sizeof(found->failed), "%s", failure_text());
-}
-
-/* Runs the schedule of the fault once more, so that the steps are its own. */
-static void replay_once(void)
-{
-	run_once();
 }
 
 /* Looks for a schedule with at most so many preemptions and switches that goes wrong by the same line. Whether there is one, which is kept then. */
@@ -394,7 +396,7 @@ static void read_schedule(const char *text)
 static void replay(struct bench_found *found)
 {
 	read_schedule(options.replay);
-	enum end end = in_child(replay_once, false);
+	enum end end = in_child(run_once, false);
 	*found = search->found;
 	if (end == UNFIT)
 		refuse("%s", found->line);
@@ -416,7 +418,7 @@ static void explore(struct bench_found *found)
 	cut_down(found);
 	/* The steps that are shown are those of the schedule that is told. */
 	read_schedule(found->schedule);
-	in_child(replay_once, true);
+	in_child(run_once, true);
 }
 
 static void fill_options(const struct bench_options *given)

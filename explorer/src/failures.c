@@ -111,11 +111,9 @@ static bool fails_here(void)
 /* Tells of a failpoint that was taken, the call that the thread is in. */
 static void note_failure(const char *how)
 {
-	const struct routine *me = run.current;
-	const struct thread *self = kupaldiz_self;
 	size_t length = strlen(plans->told);
-	snprintf(plans->told + length, sizeof(plans->told) - length, "%s%s%s%s %s in thread \"%s\"", length > 0 ? "; " : "", self->call,
-	    self->place == NULL ? "" : " at ", self->place == NULL ? "" : self->place, how, me->name == NULL ? self->name : me->name);
+	snprintf(plans->told + length, sizeof(plans->told) - length, "%s%s%s %s in thread \"%s\"", length > 0 ? "; " : "", kupaldiz_self->call,
+	    AT_PLACE(kupaldiz_self->place), how, name_of_routine(run.current));
 }
 
 const char *failure_text(void)

@@ -99,14 +99,6 @@ bool is_live(const void *at)
 	return block == NULL || block->live;
 }
 
-static const char *at_or_nothing(const char *place, char *text, size_t room)
-{
-	if (place == NULL)
-		return "";
-	snprintf(text, room, " at %s", place);
-	return text;
-}
-
 static bool is_within(const struct block *block, const volatile void *at, size_t size)
 {
 	return block->live && (const volatile unsigned char *)at + size <= block->at + block->size;
@@ -114,11 +106,10 @@ static bool is_within(const struct block *block, const volatile void *at, size_t
 
 static _Noreturn void report_use(const char *what, const char *place, const struct block *block)
 {
-	char where[256], freed[256];
 	if (block->live)
-		fail("%s%s: beyond a block of %zu bytes", what, at_or_nothing(place, where, sizeof(where)), block->size);
-	fail("%s%s: use of freed memory: thread \"%s\" gave it back by %s%s", what, at_or_nothing(place, where, sizeof(where)),
-	    run.routines[block->freed_by].name, block->freed_call, at_or_nothing(block->freed_place, freed, sizeof(freed)));
+		fail("%s%s: beyond a block of %zu bytes", what, AT_PLACE(place), block->size);
+	fail("%s%s: use of freed memory: thread \"%s\" gave it back by %s%s", what, AT_PLACE(place), run.routines[block->freed_by].name, block->freed_call,
+	    AT_PLACE(block->freed_place));
 }
 
 /* Stops where the memory was given back, or lies beyond its block. That it is used comes before or after its end. */
@@ -156,14 +147,12 @@ static bool is_filled(const unsigned char *at, size_t size, unsigned char byte)
 /* Stops where something was written behind a block, or into one that was given back. */
 static void check_block(const struct block *block)
 {
-	char where[256];
 	allow(block->at, block->size + FENCE);
 	if (!is_filled(block->at + block->size, FENCE, BEHIND))
-		fail("something was written behind a block of %zu bytes, taken by %s%s", block->size, block->call,
-		    at_or_nothing(block->place, where, sizeof(where)));
+		fail("something was written behind a block of %zu bytes, taken by %s%s", block->size, block->call, AT_PLACE(block->place));
 	if (!block->live && !block->hidden && !is_filled(block->at, block->size, FREED))
 		fail("something was written to freed memory: thread \"%s\" gave it back by %s%s", run.routines[block->freed_by].name, block->freed_call,
-		    at_or_nothing(block->freed_place, where, sizeof(where)));
+		    AT_PLACE(block->freed_place));
 	forbid(block->at + (block->live ? block->size : 0), FENCE + (block->live ? 0 : block->size));
 }
 
@@ -221,7 +210,6 @@ void *bench_realloc(void *address, size_t size)
 /* Stops where more is left than may be, or something was written where nothing may. */
 void check_heap(void)
 {
-	char where[256];
 	unsigned left = 0;
 	const struct block *first = NULL, *rows = rows_of(BLOCKS);
 	for (size_t place = 0; place < run.rows[BLOCKS]; place++) {
@@ -233,6 +221,5 @@ void check_heap(void)
 		first = block;
 	}
 	if (left > options.left)
-		fail("%u blocks of memory are left at the end, one of them taken by %s%s", left, first->call,
-		    at_or_nothing(first->place, where, sizeof(where)));
+		fail("%u blocks of memory are left at the end, one of them taken by %s%s", left, first->call, AT_PLACE(first->place));
 }

@@ -60,7 +60,7 @@ struct set {
 /* ---- A run: it is begun anew with the program's memory. ---- */
 
 /* What grows with the code: its rows lie in memory that stays, and each run fills it anew. */
-enum table { BLOCKS, SYNCS, PLAIN, MADE, MISSED, RELEASED, TABLES };
+enum table { BLOCKS, SYNCS, PLAIN, THINGS, TABLES };
 
 struct routine;
 typedef bool guard_fn(const struct routine *routine);
@@ -135,22 +135,12 @@ struct keyed {
 	uint32_t next;
 };
 
-/* By a lock, a callout or a work: the call that has made it. */
-struct made {
+/* By what the code works on. */
+struct thing {
 	struct keyed by;
-	const char *call;	/* NULL once it was ended */
-};
-
-/* By a condition variable: the last wake-up that nobody waited for. */
-struct missed {
-	struct keyed by;
-	const char *call, *place;	/* NULL where somebody did */
-};
-
-/* By a target: how often a reference to it was released. */
-struct released {
-	struct keyed by;
-	uint64_t count;
+	const char *made;	/* the call that has made a lock, a callout or a work; NULL once it was ended */
+	const char *missed, *missed_at;	/* the last wake-up at a condition variable; NULL where somebody waited for it */
+	uint64_t releases;	/* of references to a target or a count */
 };
 
 /* ---- The search: it lies in memory that the parent shares. ---- */
@@ -349,7 +339,7 @@ void track_ended(const void *lock);
 void check_none_made(const char *call, const void *from, size_t size);
 void check_none_left(void);
 void track_wake(const char *call, const char *place, const void *cv, bool waited);
-const struct missed *lost_wakeup_at(const void *cv);
+const struct thing *lost_wakeup_at(const void *cv);
 
 /* ---- What guards are: locks.c. ---- */
 
@@ -425,6 +415,7 @@ int64_t next_time(void);
 
 /* ---- stuck.c ---- */
 
+const char *name_of_routine(const struct routine *routine);
 void report_stuck(void);
 
 /* ---- explore.c, show.c ---- */

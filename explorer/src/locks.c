@@ -221,8 +221,8 @@ bool has_ended_section(const struct routine *me)
 
 uint64_t *releases_of(const void *target)
 {
-	struct released *row = row_for(RELEASED, (uintptr_t)target);
-	return &row->count;
+	struct thing *row = row_for(THINGS, (uintptr_t)target);
+	return &row->releases;
 }
 
 bool was_released(const struct routine *me)

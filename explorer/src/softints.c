@@ -10,12 +10,6 @@
 static struct routine *softints[KUPALDIZ_CPUS][LEVELS];
 static char names[KUPALDIZ_CPUS][sizeof("softint/4294967295")];
 
-/* What a thread runs the handlers of. */
-struct queue {
-	struct cpu *cpu;
-	int level;
-};
-
 /* The thread that has a CPU; NULL where none does. */
 static struct thread *owner_of(const struct cpu *cpu)
 {
@@ -87,8 +81,9 @@ static void run_waiting(struct thread *me, unsigned number, int level)
 
 static void run_handlers(void *of)
 {
-	const struct queue queue = *(struct queue *)of;
-	struct cpu *cpu = queue.cpu;
+	unsigned place = (unsigned)((struct routine **)of - &softints[0][0]);
+	int level = (int)(place % LEVELS);
+	struct cpu *cpu = &cpus[place / LEVELS];
 	struct routine *routine = run.current;
 	char *name = names[cpu->info.ci_index];
 	snprintf(name, sizeof(names[0]), "softint/%u", cpu->info.ci_index);
@@ -99,13 +94,13 @@ static void run_handlers(void *of)
 	me->lwp.l_pflag = LP_BOUND | LP_INTR;
 	routine->name = name;
 	for (;;) {
-		routine->noted = (uint64_t)queue.level;
+		routine->noted = (uint64_t)level;
 		point("softint", NULL, can_begin, cpu);
-		run_waiting(me, cpu->info.ci_index, queue.level);
+		run_waiting(me, cpu->info.ci_index, level);
 	}
 }
 
-/* The thread of a CPU's level, which is made where there is none. */
+/* The thread of a CPU's level, which is made where there is none. Its place says both. */
 void ensure_softint_thread(struct thread *me, struct cpu *cpu, int level)
 {
 	struct routine **softint = &softints[cpu->info.ci_index][level];
@@ -114,9 +109,7 @@ void ensure_softint_thread(struct thread *me, struct cpu *cpu, int level)
 	touch(ON_PENDING, NULL, cpu->info.ci_index, WRITES | RELEASES);
 	if (*softint != NULL)
 		return;
-	struct queue *queue = bench_allocate(sizeof(*queue), 16, false);
-	*queue = (struct queue){cpu, level};
-	*softint = make_routine("softint", run_handlers, queue, true);
+	*softint = make_routine("softint", run_handlers, softint, true);
 	start_routines();
 }
 
