@@ -264,7 +264,7 @@ static void run_random(void)
 
 static bool search_orders(void)
 {
-	begin_search(options.whole ? WHOLE : REDUCED, options.schedules, 0);
+	begin_search(options.whole ? BOUNDED : REDUCED, options.schedules, UINT_MAX);
 	return run_all();
 }
 
@@ -393,26 +393,21 @@ static void read_schedule(const char *text)
 	search->fresh = 0;
 }
 
-static void replay(struct bench_found *found)
+/* Whether the run goes wrong that such a search comes to last. */
+static bool goes_wrong(void (*body)(void), struct bench_found *found)
 {
-	read_schedule(options.replay);
-	enum end end = in_child(run_once, false);
+	enum end end = in_child(body, false);
 	*found = search->found;
 	if (end == UNFIT)
 		refuse("%s", found->line);
-	found->first = end == FAILED;
-	keep_schedule(found);
+	found->first = end == FAILED ? search->runs : 0;
+	return end == FAILED;
 }
 
 static void explore(struct bench_found *found)
 {
-	enum end end = in_child(search_all, false);
-	*found = search->found;
-	if (end == UNFIT)
-		refuse("%s", found->line);
-	if (end != FAILED)
+	if (!goes_wrong(search_all, found))
 		return;
-	found->first = search->runs;
 	found->complete = found->exhausted = false;
 	keep_schedule(found);
 	cut_down(found);
@@ -464,10 +459,13 @@ int bench_explore(void (*setup)(void), const struct bench_options *given)
 	prepare = setup;
 	make_search();
 	struct bench_found *found = &search->told;
-	if (options.replay != NULL)
-		replay(found);
-	else
+	if (options.replay != NULL) {
+		read_schedule(options.replay);
+		goes_wrong(run_once, found);
+		keep_schedule(found);
+	} else {
 		explore(found);
+	}
 	if (!options.quiet)
 		show(stdout, found);
 	if (options.picture != NULL && found->first != 0 && !draw(options.picture, found))

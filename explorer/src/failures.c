@@ -34,8 +34,7 @@ static struct plans {
 /* Of each thread, in this run. */
 static struct {
 	uint16_t failpoints;
-	bool may_end;		/* the wait that it is in, or that comes next */
-	enum ending as, ending;	/* how that may end, and how the last one did */
+	enum ending as, ending;	/* how the wait may end that it is in, or that comes next; and how the last one did */
 } threads[THREADS];
 
 void prepare_failures(bool maps)

@@ -10,9 +10,6 @@
 
 #include "inside.h"
 
-void __asan_poison_memory_region(const volatile void *at, size_t size) __attribute__((weak));
-void __asan_unpoison_memory_region(const volatile void *at, size_t size) __attribute__((weak));
-
 enum { PART = 4 * 1024 * 1024, SMALLEST = 16, FENCE = 32, NEW = 0xa5, FREED = 0xdf, BEHIND = 0xfd };
 
 static size_t used[THREADS];
@@ -25,18 +22,6 @@ void map_heap(void)
 	parts = map_pages((size_t)THREADS * PART, MAP_PRIVATE);
 	owners = map_pages((size_t)THREADS * PART / SMALLEST * sizeof(*owners), MAP_PRIVATE);
 	scratch = map_pages(sizeof(*scratch), MAP_PRIVATE);
-}
-
-static void forbid(const void *at, size_t size)
-{
-	if (__asan_poison_memory_region != NULL)
-		__asan_poison_memory_region(at, size);
-}
-
-static void allow(const void *at, size_t size)
-{
-	if (__asan_unpoison_memory_region != NULL)
-		__asan_unpoison_memory_region(at, size);
 }
 
 static const char *call_of(const struct thread *self)
@@ -65,10 +50,8 @@ void *bench_allocate(size_t size, size_t align, bool judged)
 	unsigned number = run.current == NULL ? 0 : run.current->number;
 	const struct thread *self = kupaldiz_self;
 	unsigned char *at = reserve_room(number, size, align < SMALLEST ? SMALLEST : align);
-	allow(at, size + FENCE);
 	memset(at, NEW, size);
 	memset(at + size, BEHIND, FENCE);
-	forbid(at + size, FENCE);
 	*(struct block *)new_row(BLOCKS) = (struct block){.at = at, .size = size, .live = true, .judged = judged, .by = number,
 	    .made_at = run.routines[number].clock[number], .call = call_of(self), .place = self == NULL ? NULL : self->place};
 	for (size_t from = 0; from < size + FENCE; from += SMALLEST)
@@ -147,13 +130,11 @@ static bool is_filled(const unsigned char *at, size_t size, unsigned char byte)
 /* Stops where something was written behind a block, or into one that was given back. */
 static void check_block(const struct block *block)
 {
-	allow(block->at, block->size + FENCE);
 	if (!is_filled(block->at + block->size, FENCE, BEHIND))
 		fail("something was written behind a block of %zu bytes, taken by %s%s", block->size, block->call, AT_PLACE(block->place));
 	if (!block->live && !block->hidden && !is_filled(block->at, block->size, FREED))
 		fail("something was written to freed memory: thread \"%s\" gave it back by %s%s", run.routines[block->freed_by].name, block->freed_call,
 		    AT_PLACE(block->freed_place));
-	forbid(block->at + (block->live ? block->size : 0), FENCE + (block->live ? 0 : block->size));
 }
 
 static void end_block(struct block *block)
@@ -175,7 +156,6 @@ void bench_free(void *address)
 	check_block(block);
 	end_block(block);
 	memset(block->at, FREED, block->size);
-	forbid(block->at, block->size);
 }
 
 /* An object of a cache that nobody uses: no call may, until it is got again. */
@@ -184,7 +164,6 @@ void bench_hide(void *at)
 	struct block *block = block_at(at);
 	end_block(block);
 	block->hidden = true;
-	forbid(at, block->size - (size_t)((unsigned char *)at - block->at));
 }
 
 void bench_unhide(void *at)
@@ -192,7 +171,6 @@ void bench_unhide(void *at)
 	struct block *block = block_at(at);
 	block->live = true;
 	block->hidden = false;
-	allow(at, block->size - (size_t)((unsigned char *)at - block->at));
 }
 
 void *bench_realloc(void *address, size_t size)

@@ -161,7 +161,7 @@ struct step {
 	const struct set *sleep_sets[THREADS];
 };
 
-enum mode { REDUCED, WHOLE, BOUNDED, RANDOM, REPLAYED };
+enum mode { REDUCED, BOUNDED, RANDOM, REPLAYED };
 enum end { ENDED_WELL, CUT, FAILED, UNFIT, DIED };
 
 /* An instruction, and the text of its place. */

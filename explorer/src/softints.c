@@ -10,16 +10,10 @@
 static struct routine *softints[KUPALDIZ_CPUS][LEVELS];
 static char names[KUPALDIZ_CPUS][sizeof("softint/4294967295")];
 
-/* The thread that has a CPU; NULL where none does. */
-static struct thread *owner_of(const struct cpu *cpu)
-{
-	return lock_owner(&cpu->hold);
-}
-
 /* Whether a soft interrupt of a level may have the CPU now. */
 static bool may_have(const struct cpu *cpu, int level)
 {
-	const struct thread *owner = owner_of(cpu);
+	const struct thread *owner = lock_owner(&cpu->hold);
 	return owner == NULL || (!owner->softint && owner->level < level);
 }
 
@@ -48,7 +42,7 @@ static bool can_go_on(const struct routine *me)
 
 static void acquire_cpu(struct thread *me)
 {
-	me->lender = owner_of(me->cpu);
+	me->lender = lock_owner(&me->cpu->hold);
 	me->cpu->hold = (uintptr_t)me;
 	/* Whoever has the CPU needn't have given it. */
 	touch(ON_LOCK, &me->cpu->hold, 0, WRITES);

@@ -12,6 +12,9 @@
 #include "../../netbsd/tests/bodies.h"
 #include "../bench.h"
 
+/* What a test's own books say is no access of its threads. */
+#define UNSEEN	__attribute__((noinline, no_sanitize("thread")))
+
 static inline bool has_outcome(const struct bench_found *found, const char *text)
 {
 	for (unsigned at = 0; at < found->outcomes; at++)

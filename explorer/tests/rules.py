@@ -4,6 +4,7 @@
     rules.py FOLDER LINK.. -- COMPILE..    compiles the sources in a folder, links `outcomes` with them, and runs that
 
 First those of RULES. Then, for each place of the sources where a step says what it touches: the step doesn't say it; or it says that it reads what it writes.
+At last no fault: steps say no more than two things that they touch, and commute with nothing if they touch more. So the outcomes are still the same.
 `outcomes` shows what the search with the reduction comes to. A fault is told where that differs from what it comes to without one: in an outcome or a fault,
 or at least in the number of runs. The last line is 'N passed, M failed'.
 """
@@ -111,6 +112,15 @@ def run(program, planted=0):
     return [(re.findall(r"reduced: \d+", each), re.sub(r"reduced: \d+", "", each)) for each in re.split(r"^program", ran.stdout, flags=re.M)]
 
 
+def holds_with_small_sets(folder, link, words):
+    """Whether the outcomes are the same with the reduction and without it where most sets are full."""
+    for file in SOURCES.glob("*.[ch]"):
+        (folder / file.name).write_text(file.read_text().replace("ACCESSES = 12", "ACCESSES = 2"))
+    ran = subprocess.run([build(folder, link, words), "1", "0"], stdout=subprocess.PIPE, text=True, check=False)
+    print(f"{'holds  ' if ran.returncode == 0 else 'WRONG  '} with small sets: {ran.stdout.strip()}")
+    return ran.returncode == 0
+
+
 def judge(name, right, said):
     """Prints by which program a fault is told. Whether it is."""
     pairs = list(zip_longest(said, right, fillvalue=("", "")))
@@ -140,6 +150,7 @@ def main():
     with ThreadPoolExecutor(os.cpu_count()) as pool:
         for name, said in zip(names, pool.map(lambda number: run(program, number), range(1, len(names) + 1))):
             passed.append(judge(name, right, said))
+    passed.append(holds_with_small_sets(prepared("small sets"), link, compiles))
     print(f"{sum(passed)} passed, {len(passed) - sum(passed)} failed")
     sys.exit(not all(passed))
 

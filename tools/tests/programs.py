@@ -112,43 +112,30 @@ def points():
     return Case("points", [], real(TOLD_BY, SHOWN, "explorer/src/*.c"), [TOLD_BY, "points"], faults)
 
 
-TABLES, FOUND_FAULTS = "explorer/README.md", "explorer/tests/faults.txt"
+TABLES = "explorer/README.md"
 TOLD = """# The explorer
 
 | Case | Threads | Schedules | Cut short | Points |
 |---|---|---|---|---|
 | bridge | a packet; a member is deleted | 57 | 0 | 2,251 |
 | growth | a packet; the table grows | 5 | 0 | 237 |
-
-| Driver | Fault | Explorer: run | Switches | Preemptions | Real threads |
-|---|---|---|---|---|---|
-| bridge | a perform forgotten | 34 | 2 | 1 | run 23,064 |
 """
 PRINTED = """bridge: 57 schedules, 0 cut short, 40 states, 2251 points, 300 switches
 growth: 5 schedules, 0 cut short, 4 states, 237 points, 30 switches
 """
-FOUND = "found  bridge  a perform forgotten   run     34, switches 2, preemptions 1: use of freed memory\n"
 
 
-def table(kind, printed, faults):
-    """A table beside what was printed."""
-    tree = {**real(TOLD_BY), TABLES: TOLD, FOUND_FAULTS: TOLD, "printed": printed, "compare": f"#!/bin/sh\nexec {TOLD_BY} {kind} <printed\n"}
-    return Case(f"table of {kind}", [], tree, ["./compare"], faults)
-
-
-def tables():
-    drivers = (
+def table():
+    """The table beside what was printed."""
+    tree = {**real(TOLD_BY), TABLES: TOLD, "printed": PRINTED, "compare": f"#!/bin/sh\nexec {TOLD_BY} drivers <printed\n"}
+    faults = (
         Fault("schedules that are cut short", "only the run says: growth, 5, 1, 237", (("printed", "5 schedules, 0 cut", "5 schedules, 1 cut"),)),
         Fault("another number of points", "only the table says: bridge, 57, 0, 2252", ((TABLES, "2,251", "2,252"),)),
         Fault("a driver that isn't run", "only the table says: growth, 5, 0, 237", (("printed", "growth", "no growth"),)),
         Fault("a driver that isn't told", "only the run says: growth, 5, 0, 237", ((TABLES, "| growth | a packet; the table grows | 5 | 0 | 237 |\n", ""),)),
         Fault("nothing is printed", "only the table says", (("printed", None, ""),)),
     )
-    planted = (
-        Fault("a fault that isn't found", "only the table says: bridge, a perform forgotten, 34, 2, 1", (("printed", "found ", "missed"),)),
-        Fault("another run", "only the run says: bridge, a perform forgotten, 35, 2, 1", (("printed", "34", "35"),)),
-    )
-    return table("drivers", PRINTED, drivers), table("faults", FOUND, planted)
+    return Case("table of drivers", [], tree, ["./compare"], faults)
 
 
 SOURCE = "crates/one/src/lib.rt"
@@ -186,4 +173,4 @@ def before_gate():
 
 def cases():
     program = [test_program(PROVED)] if PROVED.is_file() else []
-    return [conformance_run(), *program, lines(), names(), points(), *tables(), before_gate()]
+    return [conformance_run(), *program, lines(), names(), points(), table(), before_gate()]
