@@ -493,9 +493,8 @@ static void run_body(void *of)
 
 void bench_thread(const char *name, void (*body)(void *), void *arg)
 {
-	struct routine *me = here(__func__);
+	(void)here(__func__);
 	struct body *made = bench_allocate(sizeof(*made), 16, false);
-	(void)me;
 	if (body == NULL)
 		refuse("bench_thread without a body");
 	*made = (struct body){body, arg, name};

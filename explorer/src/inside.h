@@ -310,7 +310,6 @@ uint32_t enabled_now(void);
 		return answer; \
 	}
 
-struct cpu *cpu_here(const struct routine *me);
 void at_call(const char *call);
 void at_thing(const char *call, enum kind kind, const void *thing, size_t size, unsigned how);
 void at_live(const char *call, const void *thing, size_t size);

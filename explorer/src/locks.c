@@ -411,11 +411,6 @@ int bench_cond_wait(const void *cond, const struct timespec *deadline, const voi
 	return woken ? 0 : ETIMEDOUT;
 }
 
-void bench_cond_broadcast(const void *cond)
-{
-	sleepq_wake_all(NULL, cond);
-}
-
 void sleep_until(int64_t time)
 {
 	set_deadline(run.current, time);
@@ -442,12 +437,6 @@ static char line[BENCH_LINE];
 void *bench_calloc(size_t count, size_t size)
 {
 	return memset(bench_allocate(count * size, 16, kupaldiz_self != NULL && !run.own_memory), 0, count * size);
-}
-
-int bench_aligned(void **block, size_t align, size_t size)
-{
-	*block = bench_allocate(size, align, false);
-	return 0;
 }
 
 ssize_t bench_write(const void *text, size_t length)

@@ -91,10 +91,10 @@ static void touch_bound(const struct cpu *cpu)
 int curlwp_bind(void)
 {
 	struct routine *me = here(__func__);
-	if (me->self != NULL && (me->self->lwp.l_pflag & LP_BOUND) == 0 && cpu_here(me)->bound > 0)
+	if (me->self != NULL && (me->self->lwp.l_pflag & LP_BOUND) == 0 && me->self->cpu->bound > 0)
 		touch(ON_BOUND, NULL, ANY, 0);
 	int bound = layer_curlwp_bind();
-	touch_bound(cpu_here(here(__func__)));
+	touch_bound(here(__func__)->self->cpu);
 	return bound;
 }
 
@@ -102,18 +102,18 @@ void curlwp_bindx(int bound)
 {
 	struct routine *me = here(__func__);
 	if (!bound && me->self != NULL)
-		touch_bound(cpu_here(me));
+		touch_bound(me->self->cpu);
 	layer_curlwp_bindx(bound);
 }
 
 WRAPPED(void, kupaldiz_bind, (unsigned cpu), (cpu), (void)here(__func__); if (cpu < KUPALDIZ_CPUS) touch_bound(&cpus[cpu]))
-WRAPPED(void, kupaldiz_unbind, (void), (), struct routine *me = here(__func__); if (me->self != NULL) touch_bound(cpu_here(me)))
+WRAPPED(void, kupaldiz_unbind, (void), (), struct routine *me = here(__func__); if (me->self != NULL) touch_bound(me->self->cpu))
 WRAPPED(void, kpreempt_disable, (void), (), at_cpu(__func__))
 WRAPPED(void, kpreempt_enable, (void), (), at_call(__func__))
 
 /* A new level lets soft interrupts of the CPU go on, or keeps them off. */
-WRAPPED(int, kupaldiz_splraise, (int level), (level), at_cpu("splraise"); acquire_clock(ON_LOCK, &cpu_here(run.current)->hold, 0))
-WRAPPED(void, splx, (int level), (level), at_call(__func__); release_clock(ON_LOCK, &cpu_here(run.current)->hold, 0))
+WRAPPED(int, kupaldiz_splraise, (int level), (level), at_cpu("splraise"); acquire_clock(ON_LOCK, &run.current->self->cpu->hold, 0))
+WRAPPED(void, splx, (int level), (level), at_call(__func__); release_clock(ON_LOCK, &run.current->self->cpu->hold, 0))
 WRAPPED(void, softint_schedule, (void *cookie), (cookie), at_cpu(__func__))
 
 LAYER(void, softint_disestablish, (void *cookie));

@@ -21,7 +21,6 @@ void bench_dequeued(const void *work);
 void bench_hide(void *at);
 void bench_unhide(void *at);
 void bench_yield(void);
-int bench_aligned(void **block, size_t align, size_t size);
 int bench_create(pthread_t *id, void *(*body)(void *), void *arg, const char *file);
 int bench_join(pthread_t id);
 /* The end of a thread is told by the thread itself. */
@@ -42,7 +41,6 @@ void bench_exit(void) __attribute__((noreturn));
 void bench_mutex_lock(const void *watched);
 void bench_mutex_unlock(const void *watched);
 int bench_cond_wait(const void *cond, const struct timespec *deadline, const void *watched);
-void bench_cond_broadcast(const void *cond);
 int bench_sleep(const struct timespec *time);
 ssize_t bench_write(const void *text, size_t length);
 void bench_abort(void) __attribute__((noreturn));

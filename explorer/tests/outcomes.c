@@ -5,8 +5,8 @@
  *
  *     outcomes [FIRST COUNT]        the random programs with these seeds
  *     outcomes for SECONDS FIRST    short ones, from this seed on, as many as there is time for
- *     outcomes print FIRST COUNT    each program with each outcome, a line each: for a comparison with real threads
  *     outcomes reduced FIRST COUNT  what the search with the reduction comes to, for a comparison with a reduction that has a fault
+ *     outcomes print FIRST COUNT    the same of those that real threads may be compared with
  */
 #include <string.h>
 #include <sys/atomic.h>
@@ -39,8 +39,8 @@ static char texts[MOST][LONGEST];
 static unsigned words[2];	/* by atomic accesses */
 static unsigned plains[2];	/* by plain ones */
 static bool racy;		/* a data race is no fault, and what it decides is an outcome */
-static bool prints;		/* the outcomes, instead of comparing them */
-static bool reduced_alone;	/* shows what it comes to */
+static bool reduced_alone;	/* shows what it comes to, instead of comparing that */
+static bool prints;		/* the same, for real threads */
 static kmutex_t locks[2], spin, *shared;
 static krwlock_t rw;
 static bool has_rw[MOST];
@@ -522,7 +522,7 @@ static struct bench_found explore(bool whole)
 static void show(const struct bench_found *found, const char *which)
 {
 	printf("%s: %llu schedules, %u outcomes, %s%s\n", which, (unsigned long long)(found->schedules + found->cut), found->outcomes, found->line,
-	    is_tried(found) ? "" : " (not tried)");
+	    is_tried(found) || found->states == 0 ? "" : " (not tried)");
 	for (unsigned at = 0; at < found->outcomes; at++)
 		printf("    %s\n", found->outcome[at].text);
 }
@@ -541,16 +541,6 @@ static bool agree(const struct bench_found *whole, const struct bench_found *red
 static unsigned long long wholes, reduceds;
 static unsigned compared, faults, begun, skipped;
 
-static void print_outcomes(void)
-{
-	struct bench_found found = explore(false);
-	bool whole = found.first == 0 && (is_tried(&found) || found.states == 0);
-	for (unsigned at = 0; at < found.outcomes && whole; at++)
-		printf("%s|%s|%s: %s\n", texts[0], texts[1], texts[2], found.outcome[at].text);
-	if (!whole)
-		printf("%s|%s|%s: LEFT OUT\n", texts[0], texts[1], texts[2]);
-}
-
 static void show_program(const char *head)
 {
 	printf("%s%s, ticks %u: %s | %s | %s | %s\n", head, racy ? ", racy" : "", ticks, texts[0], texts[1], texts[2], texts[3]);
@@ -559,16 +549,14 @@ static void show_program(const char *head)
 /* Compares the two ways of the search for the program that is written. */
 static void compare(void)
 {
-	if (reduced_alone) {
+	if (prints && uses(NOT_BESIDE))
+		return;
+	if (reduced_alone || prints) {
 		struct bench_found found = explore(false);
 		show_program("program");
 		show(&found, "reduced");
 		return;
 	}
-	if (prints && !uses(NOT_BESIDE))
-		print_outcomes();
-	if (prints)
-		return;
 	struct bench_found whole = explore(true), reduced = explore(false);
 	bool all = is_tried(&whole) || whole.first != 0;
 	if (whole.others > 0 || (!all && !is_tried(&reduced) && reduced.first == 0)) {

@@ -29,7 +29,8 @@ class Rule(NamedTuple):
 
 RULES = [
     Rule("commute", "a write conflicts with a read", "((one->how | other->how) & WRITES) == 0", "((one->how & other->how) & WRITES) == 0"),
-    Rule("commute", "memory conflicts by its bytes", "return overlap(one, other);", "return one->address == other->address && one->size == other->size;"),
+    Rule("commute", "memory conflicts by its bytes", "one->address < other->address + other->size && other->address < one->address + one->size",
+         "one->address == other->address && one->size == other->size"),
     Rule("commute", "what touches any CPU touches each", " || one->cpu == ANY || other->cpu == ANY", ""),
     Rule("commute", "an initial comes after no other step", " && !has_earlier(list, count, at)", ""),
     Rule("commute", "each race has an initial of its own among the backtrack points",
