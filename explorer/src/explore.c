@@ -57,7 +57,6 @@ static void check_end(void)
 static void run_setup(void *arg)
 {
 	(void)arg;
-	kupaldiz_self = named_thread("bench_explore", "setup");
 	prepare();
 	if (run.count == 1)
 		refuse("setup has made no thread");
@@ -110,7 +109,7 @@ static void run_here(void)
 {
 	struct thread nobody = {.call = "bench_explore"};
 	restore_state();
-	forget_failures();
+	search->failed[0] = '\0';
 	search->end = DIED;
 	search->length = 0;
 	search->stuck = false;
@@ -279,7 +278,7 @@ static void search_all(void)
 	}
 	while (!is_wrong() && next_failure())
 		search->found.complete &= search_orders();
-	search->found.complete &= has_all_failures();
+	search->found.complete &= !search->plans_left_out;
 	search->found.exhausted = search->found.complete && search->found.throttled == 0 && search->found.hurried == 0;
 }
 
@@ -334,7 +333,7 @@ static void keep_schedule(struct bench_found *found)
 	found->changes = search->length == 0 ? 0 : last->switches;
 	write_schedule(found->schedule, sizeof(found->schedule));
 	write_failures(found->schedule, sizeof(found->schedule));
-	snprintf(found->failed, sizeof(found->failed), "%s", failure_text());
+	memcpy(found->failed, search->failed, sizeof(found->failed));
 }
 
 /* Looks for a schedule with at most so many preemptions and switches that goes wrong by the same line. Whether there is one, which is kept then. */
@@ -435,8 +434,7 @@ static void make_search(void)
 {
 	/* A process that was forked doesn't search in its parent's memory. */
 	static pid_t mapped_by;
-	bool maps = mapped_by != getpid();
-	if (maps) {
+	if (mapped_by != getpid()) {
 		mapped_by = getpid();
 		search = map_pages(sizeof(*search), MAP_SHARED);
 		map_stacks();
@@ -445,7 +443,8 @@ static void make_search(void)
 	memset(search, 0, offsetof(struct search, steps));
 	search->found.bound = -1;
 	search->seed = options.seed * 0x9e3779b97f4a7c15;
-	prepare_failures(maps);
+	search->plans[0] = (struct plan){0};
+	search->plan_count = 1;
 }
 
 int bench_explore(void (*setup)(void), const struct bench_options *given)
@@ -477,28 +476,12 @@ int bench_explore(void (*setup)(void), const struct bench_options *given)
 
 /* ---- What a test calls. ---- */
 
-struct body {
-	void (*body)(void *);
-	void *arg;
-	const char *name;
-};
-
-static void run_body(void *of)
-{
-	const struct body body = *(const struct body *)of;
-	kupaldiz_self = named_thread("bench_thread", body.name);
-	body.body(body.arg);
-	end_self();
-}
-
 void bench_thread(const char *name, void (*body)(void *), void *arg)
 {
 	(void)here(__func__);
-	struct body *made = bench_allocate(sizeof(*made), 16, false);
 	if (body == NULL)
 		refuse("bench_thread without a body");
-	*made = (struct body){body, arg, name};
-	make_routine(name, run_body, made, false);
+	make_routine(name, body, arg, false);
 	if (run.phase != SETTING_UP)
 		start_routines();
 }

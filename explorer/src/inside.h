@@ -86,6 +86,7 @@ struct routine {
 	unsigned number;
 	const char *name;
 	void (*body)(void *);
+	void *(*start)(void *);	/* of one that the layer makes */
 	void *arg;
 	struct thread *self;
 	struct places places;
@@ -103,6 +104,8 @@ struct routine {
 	kmutex_t *relock;	/* the lock that it takes when it was woken */
 	const void *target;	/* of the call that it is in */
 	int made_at;		/* the step; -1 for none */
+	uint16_t failpoints;	/* that it has met */
+	enum ending may_end, last_ending;	/* how the wait may end that it is in, or that comes next; and how the last one did */
 	uint64_t sections[ALL_CPUS];	/* of each CPU the one that its wait waits for; 0 for none */
 	clocks clock, released, pending;
 };
@@ -170,7 +173,17 @@ struct spot {
 	char text[128];
 };
 
-enum { SPOTS = 256 };
+/* A call that fails or a wait that ends early, by its thread and its number there; and those of a run. */
+struct failpoint {
+	uint16_t thread, number;
+};
+
+struct plan {
+	unsigned count;
+	struct failpoint of[BENCH_FAILURES];	/* in order */
+};
+
+enum { SPOTS = 256, MOST_PLANS = 4096 };
 
 struct search {
 	enum mode mode;
@@ -191,8 +204,12 @@ struct search {
 	char names[THREADS][32];
 	uint32_t ended;		/* a bit for each thread that has */
 	bool stuck;		/* the others can't go on */
+	unsigned plan, plan_count;	/* of failures: the one that is tried, and how many there are */
+	bool plans_left_out;	/* there was no room for one */
+	char failed[BENCH_LINE];	/* what has failed in the run */
 	/* A later search finds these as they are. */
 	struct step steps[POINTS + 1];
+	struct plan plans[MOST_PLANS];
 	struct spot spots[SPOTS];	/* those that were asked for last */
 	unsigned spot_count;
 };
@@ -321,20 +338,14 @@ void at_cpu(const char *call);
 
 /* ---- failures.c: calls that fail, and waits that end early. ---- */
 
-void prepare_failures(bool maps);
 bool next_failure(void);
-bool has_all_failures(void);
-bool ends_early(const struct routine *routine);
 void note_ending(struct routine *me, bool early);
-const char *failure_text(void);
 void write_failures(char *text, size_t room);
 bool read_failures(const char *text);
-void forget_failures(void);
 
 /* ---- made.c: what is initialised and must be ended, and wake-ups that came too early. ---- */
 
 void track_made(const char *call, const void *lock);
-void track_ended(const void *lock);
 void check_none_made(const char *call, const void *from, size_t size);
 void check_none_left(void);
 void track_wake(const char *call, const char *place, const void *cv, bool waited);

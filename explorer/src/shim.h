@@ -39,7 +39,7 @@
 #define FAILS()				bench_fails()
 #define MAY_END_EARLY(signals)		bench_may_end_early(signals)
 #define LAST_ENDING()			bench_last_ending()
-#define DEQUEUED(work)			bench_dequeued(work)
+#define DEQUEUED(work)			track_ended(work)
 
 #define HIDE(at, size)			bench_hide(at)
 #define UNHIDE(at, size)		bench_unhide(at)

@@ -8,7 +8,6 @@
 #include "inside.h"
 
 static struct routine *softints[KUPALDIZ_CPUS][LEVELS];
-static char names[KUPALDIZ_CPUS][sizeof("softint/4294967295")];
 
 /* Whether a soft interrupt of a level may have the CPU now. */
 static bool may_have(const struct cpu *cpu, int level)
@@ -78,17 +77,15 @@ static void run_handlers(void *of)
 	unsigned place = (unsigned)((struct routine **)of - &softints[0][0]);
 	int level = (int)(place % LEVELS);
 	struct cpu *cpu = &cpus[place / LEVELS];
-	struct routine *routine = run.current;
-	char *name = names[cpu->info.ci_index];
-	snprintf(name, sizeof(names[0]), "softint/%u", cpu->info.ci_index);
+	char name[sizeof("softint/4294967295")];
+	snprintf(name, sizeof(name), "softint/%u", cpu->info.ci_index);
 	struct thread *me = named_thread("softint", name);
 	me->softint = true;
 	me->cpu = cpu;
 	me->lwp.l_cpu = &cpu->info;
 	me->lwp.l_pflag = LP_BOUND | LP_INTR;
-	routine->name = name;
 	for (;;) {
-		routine->noted = (uint64_t)level;
+		run.current->noted = (uint64_t)level;
 		point("softint", NULL, can_begin, cpu);
 		run_waiting(me, cpu->info.ci_index, level);
 	}
@@ -103,7 +100,7 @@ void ensure_softint_thread(struct thread *me, struct cpu *cpu, int level)
 	touch(ON_PENDING, NULL, cpu->info.ci_index, WRITES | RELEASES);
 	if (*softint != NULL)
 		return;
-	*softint = make_routine("softint", run_handlers, softint, true);
+	*softint = make_routine(NULL, run_handlers, softint, true);
 	start_routines();
 }
 

@@ -17,7 +17,7 @@ void bench_free(void *block);
 bool bench_fails(void);
 void bench_may_end_early(bool signals);
 int bench_last_ending(void);
-void bench_dequeued(const void *work);
+void track_ended(const void *thing);
 void bench_hide(void *at);
 void bench_unhide(void *at);
 void bench_yield(void);

@@ -120,23 +120,9 @@ static void test_throttled(void)
 }
 
 /* Two pauses: with one early end in a run orders are left out, and the verdict says so. With two nothing is. */
-BODY(pause_twice)
-{
-	(void)kpause("pauses", false, 1, NULL);
-	(void)kpause("pauses", false, 1, NULL);
-}
-
-BODY(look_at_time)
-{
-	(void)getticks();
-	(void)getticks();
-}
-
-static void make_pauses(void)
-{
-	bench_thread("pauses", pause_twice, NULL);
-	bench_thread("looks", look_at_time, NULL);
-}
+HANDLER(pause_twice, (void)kpause("pauses", false, 1, NULL); (void)kpause("pauses", false, 1, NULL))
+HANDLER(look_at_time, (void)getticks(); (void)getticks())
+static void make_pauses(void) { bench_thread("pauses", pause_twice, NULL); bench_thread("looks", look_at_time, NULL); }
 
 static void test_hurried(void)
 {

@@ -377,12 +377,10 @@ HANDLER(come_first, atomic_store_relaxed(&other_word, 1))
 
 /* ---- What is left at the end. ---- */
 
-
 /* More than one registry takes. Only the last is left. */
 enum { SOME = 32 + 8 };
 
 static struct psref_target targets[SOME];
-static struct localcount locals[SOME];
 
 static void make_targets(void)
 {
@@ -393,17 +391,8 @@ static void make_targets(void)
 		psref_target_destroy(&targets[at], things);
 }
 
-static void make_counts(void)
-{
-	for (unsigned at = 0; at < SOME; at++)
-		localcount_init(&locals[at]);
-	mutex_enter(&one);
-	for (unsigned at = 0; at + 1 < SOME; at++)
-		localcount_drain(&locals[at], &cv, &one);
-	mutex_exit(&one);
-}
-
-HANDLER(count_last, localcount_acquire(&locals[SOME - 1]))
+HANDLER(count_in, localcount_acquire(&local))
+static void left_count(void) { localcount_init(&local); }
 
 static void left_object(void) { (void)mutex_obj_alloc(MUTEX_DEFAULT, IPL_NONE); }
 
@@ -521,8 +510,7 @@ static const struct find finds[] = {
 	{"a lock object that is left", "taken by mutex_obj_alloc", write_once, write_once, .make = left_object},
 	{"the last of many targets that is left", "a target or a local count is left at the end",
 	    write_once, write_once, .make = make_targets},
-	{"the last of many counts with references that are left", "a local count with 2 references is left at the end",
-	    count_last, count_last, .make = make_counts},
+	{"a count with references that are left", "a local count with 2 references is left at the end", count_in, count_in, .make = left_count},
 	{"a lock that is held at the end", "pthread_exit: with a lock", write_once, write_once, .finish = end_locked},
 	{"one variable under two locks", "data race: thread \"first\" writes at finds.c:*, and thread \"second\" reads at finds.c:",
 	    write_under_one, read_under_two},

@@ -16,9 +16,6 @@
 #include "../../netbsd/tests/child.h"
 #include "cases.h"
 
-/* A row leaves out what its case doesn't have. */
-#pragma GCC diagnostic ignored "-Wmissing-field-initializers"
-
 struct find {
 	const char *name, *line;	/* NULL where nothing is wrong */
 	void (*first)(void *), (*second)(void *), (*third)(void *);

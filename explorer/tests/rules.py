@@ -46,7 +46,7 @@ RULES = [
     Rule("schedule", "the clock that is disabled writes the time", "{.size = 1, .kind = ON_TIME, .how = WRITES}", "{.size = 1, .kind = ON_TIME}"),
     Rule("schedule", "a soft interrupt waits for its queue", ".kind = ON_PENDING, .cpu = cpu", ".kind = ON_NOTHING, .cpu = cpu"),
     Rule("schedule", "a tick may change places, as long as the clock may jump", "if (run.ticks == options.ticks)\n		make_barrier();", "make_barrier();"),
-    Rule("locks", "a wake-up may come to a waiter whose time is over", "is_late(me) || ends_early(me) ? 0 : ACQUIRES", "ACQUIRES"),
+    Rule("locks", "a wake-up may come to a waiter whose time is over", "is_late(me) || me->may_end != IN_TIME ? 0 : ACQUIRES", "ACQUIRES"),
 ]
 
 # What no program tells: the later step of each waits until the earlier one is made, so no order is lost. But it acquires the clock that the other releases.
