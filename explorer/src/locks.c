@@ -236,18 +236,13 @@ bool has_ended_handler(const struct routine *me)
 	return run.handlers != me->noted;
 }
 
-static void await_section(struct routine *me, unsigned cpu)
-{
-	me->noted = run.ends[cpu];
-	wait_here(has_ended_section, (const void *)(uintptr_t)cpu);
-}
-
 bool pause_longer(struct pauses *pauses, const struct registry_stage *met)
 {
 	struct routine *me = run.current;
 	(void)pauses;
 	if (met != NULL && met->stage == REGISTRY_GRACE) {
-		await_section(me, (unsigned)met->what);
+		me->noted = run.ends[met->what];
+		wait_here(has_ended_section, (const void *)(uintptr_t)met->what);
 		return false;
 	}
 	me->noted = met == NULL ? run.handlers : *releases_of(me->target);

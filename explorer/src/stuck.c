@@ -46,13 +46,6 @@ __attribute__((format(printf, 2, 3))) static void append(char *text, const char 
 	va_end(words);
 }
 
-static void append_wakeup(char *text, const struct thing *cv)
-{
-	append(text, "a wake-up that nobody is left to give");
-	if (cv != NULL)
-		append(text, "; %s%s came while nobody waited", cv->missed, AT_PLACE(cv->missed_at));
-}
-
 /* What a thread waits for, and whose that is; NULL where no thread can be told. */
 static const struct routine *append_cause(char *text, const struct routine *me)
 {
@@ -78,7 +71,10 @@ static const struct routine *append_cause(char *text, const struct routine *me)
 		return stuck_softint();
 	}
 	if (me->guard == was_woken && !me->woken && run.time < me->deadline) {
-		append_wakeup(text, lost_wakeup_at(me->queue));
+		const struct thing *cv = lost_wakeup_at(me->queue);
+		append(text, "a wake-up that nobody is left to give");
+		if (cv != NULL)
+			append(text, "; %s%s came while nobody waited", cv->missed, AT_PLACE(cv->missed_at));
 		return NULL;
 	}
 	const uintptr_t *word = me->guard == was_woken ? &me->relock->mtx_word : me->of;
