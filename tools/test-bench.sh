@@ -9,7 +9,7 @@ out=out/bench
 
 # The picture of the README, made again: an XML parser takes it.
 is_picture() {
-    "$out/plain/picture" "$room/picture.svg" >/dev/null
+    "$out/plain/finds" "$room/picture.svg" >/dev/null
     diff "$folder/deadlock.svg" "$room/picture.svg" && python3 -c 'import sys, xml.dom.minidom; xml.dom.minidom.parse(sys.argv[1])' "$room/picture.svg"
 }
 
@@ -29,14 +29,9 @@ compares_outcomes() {
     grep -q ' have the same outcomes by 5764 schedules as by 536252; ' "$log.said"
 }
 
-# The table of the README and that of tests/faults.txt say what was printed.
+# The table of the README says what was printed.
 drivers_as_told() {
     "$out/plain/drivers" | "$folder/tests/told.py" drivers
-}
-
-faults_as_told() {
-    make -s -C "$folder" faults | tee "$room/faults" | "$folder/tests/told.py" faults
-    tail -n 60 "$room/faults"
 }
 
 run_example() {
@@ -94,7 +89,7 @@ check "bench.h alone, in four C standards" header_alone bench.h -DKUPALDIZ_BENCH
 counted "each call has a point, or a reason for none" $folder/tests/told.py points
 for way in plain sanitized; do
     check "the bench and its tests are built, no warning: $way" make -s -C $folder $way
-    counted "counts, and each answer to a question, $way" "$out/$way/counts"
+    check "counts of schedules, and verdicts, $way" "$out/$way/counts"
     [ "$way" = plain ] || check "the seven drivers in every order, $way" "$out/$way/drivers"
     counted "what it finds, data races too, $way" "$out/$way/finds"
     counted "callouts, $way" "$out/$way/callouts"
@@ -113,7 +108,7 @@ check "the same with sanitizers" "$out/sanitized/outcomes" 61 4
 counted "faults in the reduction's rules and touches are told by programs that are written there" make -s -C $folder rules
 check "the outcomes of real threads are among the bench's" make -s -C $folder beside
 counted "each misuse of the layer's tests by the same line" make -s -C $folder misuses
-counted "faults in the seven drivers, as the table says" faults_as_told
+counted "faults in the seven drivers, each by the run that is told" make -s -C $folder faults
 if command -v clang >/dev/null; then
     check "the bench is built by clang, no warning, and counts" with_clang
 fi

@@ -9,11 +9,6 @@
 
 #include "inside.h"
 
-struct cpu *cpu_here(const struct routine *me)
-{
-	return me->self->cpu;
-}
-
 void at_call(const char *call)
 {
 	point(call, NULL, NULL, NULL);
@@ -36,15 +31,10 @@ void at_thing(const char *call, enum kind kind, const void *thing, size_t size, 
 void at_cpu(const char *call)
 {
 	struct routine *me = here(call);
-	point(call, NULL, me->self->holds == 0 ? is_free : NULL, &cpu_here(me)->hold);
+	point(call, NULL, me->self->holds == 0 ? is_free : NULL, &me->self->cpu->hold);
 }
 
 /* ---- mutex(9). ---- */
-
-static bool is_mutex(const kmutex_t *mutex)
-{
-	return is_live(mutex) && mutex->mtx_made == A_MUTEX;
-}
 
 /* Whether the thread has its CPU, as a soft interrupt has, and gives it back where it waits for the mutex. */
 static bool steps_off(const struct routine *me, const kmutex_t *mutex)
@@ -56,7 +46,7 @@ static bool steps_off(const struct routine *me, const kmutex_t *mutex)
 bool can_take(const struct routine *me)
 {
 	const kmutex_t *mutex = me->of;
-	if (!is_mutex(mutex) || mutex->mtx_word == (uintptr_t)me->self || steps_off(me, mutex))
+	if (!is_live(mutex) || mutex->mtx_made != A_MUTEX || mutex->mtx_word == (uintptr_t)me->self || steps_off(me, mutex))
 		return true;
 	const uintptr_t *hold = &me->self->cpu->hold;
 	return mutex->mtx_word == 0 && (!mutex->mtx_spins || me->self->holds > 0 || *hold == 0);
@@ -150,7 +140,7 @@ static void at_reference(const char *call, const void *target, size_t size, unsi
 	struct routine *me = here(call);
 	at_cpu(call);
 	check_live(call, target, size);
-	touch(ON_REFERENCES, target, cpu_here(me)->info.ci_index, how);
+	touch(ON_REFERENCES, target, me->self->cpu->info.ci_index, how);
 	touch(ON_TARGET, target, 0, 0);
 }
 

@@ -21,18 +21,13 @@
 
 #include "inside.h"
 
-static bool overlap(const struct access *one, const struct access *other)
-{
-	return one->address < other->address + other->size && other->address < one->address + one->size;
-}
-
 /* Whether two accesses are of the same thing, and one of them writes it. */
 static bool clash(const struct access *one, const struct access *other)
 {
 	if (one->kind != other->kind || ((one->how | other->how) & WRITES) == 0)
 		return false;
 	if (one->kind == ON_MEMORY)
-		return overlap(one, other);
+		return one->address < other->address + other->size && other->address < one->address + one->size;
 	return one->address == other->address && (one->cpu == other->cpu || one->cpu == ANY || other->cpu == ANY);
 }
 

@@ -57,7 +57,6 @@ static void check_end(void)
 static void run_setup(void *arg)
 {
 	(void)arg;
-	kupaldiz_self = named_thread("bench_explore", "setup");
 	prepare();
 	if (run.count == 1)
 		refuse("setup has made no thread");
@@ -82,8 +81,7 @@ static void keep_names(void)
 	search->ended = 0;
 	for (unsigned number = 0; number < run.count; number++) {
 		const struct routine *at = &run.routines[number];
-		const char *name = at->name != NULL ? at->name : at->self != NULL ? at->self->name : "?";
-		snprintf(search->names[number], sizeof(search->names[number]), "%s", name);
+		snprintf(search->names[number], sizeof(search->names[number]), "%s", name_of_routine(at));
 		search->ended |= (uint32_t)at->ended << number;
 	}
 	snprintf(search->names[CLOCK], sizeof(search->names[0]), "clock");
@@ -107,11 +105,11 @@ static void keep_outcome(void)
 	made->count = 1;
 }
 
-static enum end run_here(void)
+static void run_here(void)
 {
 	struct thread nobody = {.call = "bench_explore"};
 	restore_state();
-	forget_failures();
+	search->failed[0] = '\0';
 	search->end = DIED;
 	search->length = 0;
 	search->stuck = false;
@@ -125,11 +123,10 @@ static enum end run_here(void)
 	}
 	search->found.cut += search->end == CUT;
 	close_banks(&nobody);
-	return search->end;
 }
 
-/* Executes one in a process of its own, and ends as that one does where it crashes. */
-static enum end run_apart(void)
+/* Does something in a process of its own. That one's status. */
+static int status_of(void (*body)(void))
 {
 	int status;
 	fflush(NULL);
@@ -137,23 +134,39 @@ static enum end run_apart(void)
 	if (child < 0)
 		refuse("no process is left");
 	if (child == 0) {
-		run_here();
+		body();
+		fflush(NULL);
 		_exit(0);
 	}
 	if (waitpid(child, &status, 0) != child)
 		refuse("the child is gone");
+	return status;
+}
+
+/* Executes one in a process of its own, and ends as that one does where it crashes. */
+static void run_apart(void)
+{
+	int status = status_of(run_here);
 	if (WIFSIGNALED(status)) {
 		signal(WTERMSIG(status), SIG_DFL);
 		raise(WTERMSIG(status));
 	}
 	if (status != 0)
 		_exit(WIFEXITED(status) ? WEXITSTATUS(status) : 1);
-	return search->end;
 }
 
-static enum end run_once(void)
+static void run_once(void)
 {
-	return search->apart ? run_apart() : run_here();
+	if (search->apart)
+		run_apart();
+	else
+		run_here();
+}
+
+/* Whether the last one was wrong. */
+static bool is_wrong(void)
+{
+	return search->end == FAILED || search->end == UNFIT;
 }
 
 /* ---- The next schedule. ---- */
@@ -190,18 +203,13 @@ static void begin_search(enum mode mode, uint64_t limit, unsigned bound)
 static bool run_all(void)
 {
 	for (; search->limit > 0; search->limit--) {
-		enum end end = run_once();
-		if (end == FAILED || end == UNFIT)
+		run_once();
+		if (is_wrong())
 			return false;
 		if (!next_schedule())
 			return true;
 	}
 	return false;
-}
-
-static bool is_wrong(void)
-{
-	return search->end == FAILED || search->end == UNFIT;
 }
 
 static void run_bounded(void)
@@ -255,7 +263,7 @@ static void run_random(void)
 
 static bool search_orders(void)
 {
-	begin_search(options.whole ? WHOLE : REDUCED, options.schedules, 0);
+	begin_search(options.whole ? BOUNDED : REDUCED, options.schedules, UINT_MAX);
 	return run_all();
 }
 
@@ -270,7 +278,7 @@ static void search_all(void)
 	}
 	while (!is_wrong() && next_failure())
 		search->found.complete &= search_orders();
-	search->found.complete &= has_all_failures();
+	search->found.complete &= !search->plans_left_out;
 	search->found.exhausted = search->found.complete && search->found.throttled == 0 && search->found.hurried == 0;
 }
 
@@ -281,30 +289,29 @@ static void search_below(void)
 		search->limit--;
 }
 
-/* Does something in a child. How its last run ended. */
-static enum end in_child(void (*body)(void), bool silent)
+static void (*search_body)(void);
+static bool silent;	/* it says nothing on standard error */
+
+static void search_in_child(void)
 {
-	int status;
+	if (silent && freopen("/dev/null", "w", stderr) == NULL)
+		_exit(2);
+	/* The memory of a run's registry is the next one's: the system gets none of it back meanwhile. */
+	mallopt(M_MMAP_THRESHOLD, 1 << 25);
+	mallopt(M_TRIM_THRESHOLD, -1);
+	save_state();
+	search_body();
+	search->over = true;
+}
+
+/* Does something in a child. How its last run ended. */
+static enum end in_child(void (*body)(void), bool is_silent)
+{
+	search_body = body;
+	silent = is_silent;
 	search->over = false;
 	search->end = ENDED_WELL;
-	fflush(NULL);
-	pid_t child = fork();
-	if (child < 0)
-		refuse("no process is left");
-	if (child == 0) {
-		if (silent && freopen("/dev/null", "w", stderr) == NULL)
-			_exit(2);
-		/* The memory of a run's registry is the next one's: the system gets none of it back meanwhile. */
-		mallopt(M_MMAP_THRESHOLD, 1 << 25);
-		mallopt(M_TRIM_THRESHOLD, -1);
-		save_state();
-		body();
-		search->over = true;
-		fflush(NULL);
-		_exit(0);
-	}
-	if (waitpid(child, &status, 0) != child)
-		refuse("the child is gone");
+	int status = status_of(search_in_child);
 	if (search->over)
 		return search->end;
 	if (WIFEXITED(status) && WEXITSTATUS(status) == 2)
@@ -326,13 +333,7 @@ static void keep_schedule(struct bench_found *found)
 	found->changes = search->length == 0 ? 0 : last->switches;
 	write_schedule(found->schedule, sizeof(found->schedule));
 	write_failures(found->schedule, sizeof(found->schedule));
-	snprintf(found->failed, sizeof(found->failed), "%s", failure_text());
-}
-
-/* Runs the schedule of the fault once more, so that the steps are its own. */
-static void replay_once(void)
-{
-	run_once();
+	memcpy(found->failed, search->failed, sizeof(found->failed));
 }
 
 /* Looks for a schedule with at most so many preemptions and switches that goes wrong by the same line. Whether there is one, which is kept then. */
@@ -391,32 +392,27 @@ static void read_schedule(const char *text)
 	search->fresh = 0;
 }
 
-static void replay(struct bench_found *found)
+/* Whether the run goes wrong that such a search comes to last. */
+static bool goes_wrong(void (*body)(void), struct bench_found *found)
 {
-	read_schedule(options.replay);
-	enum end end = in_child(replay_once, false);
+	enum end end = in_child(body, false);
 	*found = search->found;
 	if (end == UNFIT)
 		refuse("%s", found->line);
-	found->first = end == FAILED;
-	keep_schedule(found);
+	found->first = end == FAILED ? search->runs : 0;
+	return end == FAILED;
 }
 
 static void explore(struct bench_found *found)
 {
-	enum end end = in_child(search_all, false);
-	*found = search->found;
-	if (end == UNFIT)
-		refuse("%s", found->line);
-	if (end != FAILED)
+	if (!goes_wrong(search_all, found))
 		return;
-	found->first = search->runs;
 	found->complete = found->exhausted = false;
 	keep_schedule(found);
 	cut_down(found);
 	/* The steps that are shown are those of the schedule that is told. */
 	read_schedule(found->schedule);
-	in_child(replay_once, true);
+	in_child(run_once, true);
 }
 
 static void fill_options(const struct bench_options *given)
@@ -438,8 +434,7 @@ static void make_search(void)
 {
 	/* A process that was forked doesn't search in its parent's memory. */
 	static pid_t mapped_by;
-	bool maps = mapped_by != getpid();
-	if (maps) {
+	if (mapped_by != getpid()) {
 		mapped_by = getpid();
 		search = map_pages(sizeof(*search), MAP_SHARED);
 		map_stacks();
@@ -448,7 +443,8 @@ static void make_search(void)
 	memset(search, 0, offsetof(struct search, steps));
 	search->found.bound = -1;
 	search->seed = options.seed * 0x9e3779b97f4a7c15;
-	prepare_failures(maps);
+	search->plans[0] = (struct plan){0};
+	search->plan_count = 1;
 }
 
 int bench_explore(void (*setup)(void), const struct bench_options *given)
@@ -462,10 +458,13 @@ int bench_explore(void (*setup)(void), const struct bench_options *given)
 	prepare = setup;
 	make_search();
 	struct bench_found *found = &search->told;
-	if (options.replay != NULL)
-		replay(found);
-	else
+	if (options.replay != NULL) {
+		read_schedule(options.replay);
+		goes_wrong(run_once, found);
+		keep_schedule(found);
+	} else {
 		explore(found);
+	}
 	if (!options.quiet)
 		show(stdout, found);
 	if (options.picture != NULL && found->first != 0 && !draw(options.picture, found))
@@ -477,29 +476,12 @@ int bench_explore(void (*setup)(void), const struct bench_options *given)
 
 /* ---- What a test calls. ---- */
 
-struct body {
-	void (*body)(void *);
-	void *arg;
-	const char *name;
-};
-
-static void run_body(void *of)
-{
-	const struct body body = *(const struct body *)of;
-	kupaldiz_self = named_thread("bench_thread", body.name);
-	body.body(body.arg);
-	end_self();
-}
-
 void bench_thread(const char *name, void (*body)(void *), void *arg)
 {
-	struct routine *me = here(__func__);
-	struct body *made = bench_allocate(sizeof(*made), 16, false);
-	(void)me;
+	(void)here(__func__);
 	if (body == NULL)
 		refuse("bench_thread without a body");
-	*made = (struct body){body, arg, name};
-	make_routine(name, run_body, made, false);
+	make_routine(name, body, arg, false);
 	if (run.phase != SETTING_UP)
 		start_routines();
 }

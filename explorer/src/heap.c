@@ -10,9 +10,6 @@
 
 #include "inside.h"
 
-void __asan_poison_memory_region(const volatile void *at, size_t size) __attribute__((weak));
-void __asan_unpoison_memory_region(const volatile void *at, size_t size) __attribute__((weak));
-
 enum { PART = 4 * 1024 * 1024, SMALLEST = 16, FENCE = 32, NEW = 0xa5, FREED = 0xdf, BEHIND = 0xfd };
 
 static size_t used[THREADS];
@@ -25,18 +22,6 @@ void map_heap(void)
 	parts = map_pages((size_t)THREADS * PART, MAP_PRIVATE);
 	owners = map_pages((size_t)THREADS * PART / SMALLEST * sizeof(*owners), MAP_PRIVATE);
 	scratch = map_pages(sizeof(*scratch), MAP_PRIVATE);
-}
-
-static void forbid(const void *at, size_t size)
-{
-	if (__asan_poison_memory_region != NULL)
-		__asan_poison_memory_region(at, size);
-}
-
-static void allow(const void *at, size_t size)
-{
-	if (__asan_unpoison_memory_region != NULL)
-		__asan_unpoison_memory_region(at, size);
 }
 
 static const char *call_of(const struct thread *self)
@@ -65,10 +50,8 @@ void *bench_allocate(size_t size, size_t align, bool judged)
 	unsigned number = run.current == NULL ? 0 : run.current->number;
 	const struct thread *self = kupaldiz_self;
 	unsigned char *at = reserve_room(number, size, align < SMALLEST ? SMALLEST : align);
-	allow(at, size + FENCE);
 	memset(at, NEW, size);
 	memset(at + size, BEHIND, FENCE);
-	forbid(at + size, FENCE);
 	*(struct block *)new_row(BLOCKS) = (struct block){.at = at, .size = size, .live = true, .judged = judged, .by = number,
 	    .made_at = run.routines[number].clock[number], .call = call_of(self), .place = self == NULL ? NULL : self->place};
 	for (size_t from = 0; from < size + FENCE; from += SMALLEST)
@@ -99,14 +82,6 @@ bool is_live(const void *at)
 	return block == NULL || block->live;
 }
 
-static const char *at_or_nothing(const char *place, char *text, size_t room)
-{
-	if (place == NULL)
-		return "";
-	snprintf(text, room, " at %s", place);
-	return text;
-}
-
 static bool is_within(const struct block *block, const volatile void *at, size_t size)
 {
 	return block->live && (const volatile unsigned char *)at + size <= block->at + block->size;
@@ -114,11 +89,10 @@ static bool is_within(const struct block *block, const volatile void *at, size_t
 
 static _Noreturn void report_use(const char *what, const char *place, const struct block *block)
 {
-	char where[256], freed[256];
 	if (block->live)
-		fail("%s%s: beyond a block of %zu bytes", what, at_or_nothing(place, where, sizeof(where)), block->size);
-	fail("%s%s: use of freed memory: thread \"%s\" gave it back by %s%s", what, at_or_nothing(place, where, sizeof(where)),
-	    run.routines[block->freed_by].name, block->freed_call, at_or_nothing(block->freed_place, freed, sizeof(freed)));
+		fail("%s%s: beyond a block of %zu bytes", what, AT_PLACE(place), block->size);
+	fail("%s%s: use of freed memory: thread \"%s\" gave it back by %s%s", what, AT_PLACE(place), run.routines[block->freed_by].name, block->freed_call,
+	    AT_PLACE(block->freed_place));
 }
 
 /* Stops where the memory was given back, or lies beyond its block. That it is used comes before or after its end. */
@@ -156,15 +130,11 @@ static bool is_filled(const unsigned char *at, size_t size, unsigned char byte)
 /* Stops where something was written behind a block, or into one that was given back. */
 static void check_block(const struct block *block)
 {
-	char where[256];
-	allow(block->at, block->size + FENCE);
 	if (!is_filled(block->at + block->size, FENCE, BEHIND))
-		fail("something was written behind a block of %zu bytes, taken by %s%s", block->size, block->call,
-		    at_or_nothing(block->place, where, sizeof(where)));
+		fail("something was written behind a block of %zu bytes, taken by %s%s", block->size, block->call, AT_PLACE(block->place));
 	if (!block->live && !block->hidden && !is_filled(block->at, block->size, FREED))
 		fail("something was written to freed memory: thread \"%s\" gave it back by %s%s", run.routines[block->freed_by].name, block->freed_call,
-		    at_or_nothing(block->freed_place, where, sizeof(where)));
-	forbid(block->at + (block->live ? block->size : 0), FENCE + (block->live ? 0 : block->size));
+		    AT_PLACE(block->freed_place));
 }
 
 static void end_block(struct block *block)
@@ -186,7 +156,6 @@ void bench_free(void *address)
 	check_block(block);
 	end_block(block);
 	memset(block->at, FREED, block->size);
-	forbid(block->at, block->size);
 }
 
 /* An object of a cache that nobody uses: no call may, until it is got again. */
@@ -195,7 +164,6 @@ void bench_hide(void *at)
 	struct block *block = block_at(at);
 	end_block(block);
 	block->hidden = true;
-	forbid(at, block->size - (size_t)((unsigned char *)at - block->at));
 }
 
 void bench_unhide(void *at)
@@ -203,7 +171,6 @@ void bench_unhide(void *at)
 	struct block *block = block_at(at);
 	block->live = true;
 	block->hidden = false;
-	allow(at, block->size - (size_t)((unsigned char *)at - block->at));
 }
 
 void *bench_realloc(void *address, size_t size)
@@ -221,7 +188,6 @@ void *bench_realloc(void *address, size_t size)
 /* Stops where more is left than may be, or something was written where nothing may. */
 void check_heap(void)
 {
-	char where[256];
 	unsigned left = 0;
 	const struct block *first = NULL, *rows = rows_of(BLOCKS);
 	for (size_t place = 0; place < run.rows[BLOCKS]; place++) {
@@ -233,6 +199,5 @@ void check_heap(void)
 		first = block;
 	}
 	if (left > options.left)
-		fail("%u blocks of memory are left at the end, one of them taken by %s%s", left, first->call,
-		    at_or_nothing(first->place, where, sizeof(where)));
+		fail("%u blocks of memory are left at the end, one of them taken by %s%s", left, first->call, AT_PLACE(first->place));
 }

@@ -60,7 +60,7 @@ struct set {
 /* ---- A run: it is begun anew with the program's memory. ---- */
 
 /* What grows with the code: its rows lie in memory that stays, and each run fills it anew. */
-enum table { BLOCKS, SYNCS, PLAIN, MADE, MISSED, RELEASED, TABLES };
+enum table { BLOCKS, SYNCS, PLAIN, THINGS, TABLES };
 
 struct routine;
 typedef bool guard_fn(const struct routine *routine);
@@ -86,6 +86,7 @@ struct routine {
 	unsigned number;
 	const char *name;
 	void (*body)(void *);
+	void *(*start)(void *);	/* of one that the layer makes */
 	void *arg;
 	struct thread *self;
 	struct places places;
@@ -103,6 +104,8 @@ struct routine {
 	kmutex_t *relock;	/* the lock that it takes when it was woken */
 	const void *target;	/* of the call that it is in */
 	int made_at;		/* the step; -1 for none */
+	uint16_t failpoints;	/* that it has met */
+	enum ending may_end, last_ending;	/* how the wait may end that it is in, or that comes next; and how the last one did */
 	uint64_t sections[ALL_CPUS];	/* of each CPU the one that its wait waits for; 0 for none */
 	clocks clock, released, pending;
 };
@@ -135,22 +138,12 @@ struct keyed {
 	uint32_t next;
 };
 
-/* By a lock, a callout or a work: the call that has made it. */
-struct made {
+/* By what the code works on. */
+struct thing {
 	struct keyed by;
-	const char *call;	/* NULL once it was ended */
-};
-
-/* By a condition variable: the last wake-up that nobody waited for. */
-struct missed {
-	struct keyed by;
-	const char *call, *place;	/* NULL where somebody did */
-};
-
-/* By a target: how often a reference to it was released. */
-struct released {
-	struct keyed by;
-	uint64_t count;
+	const char *made;	/* the call that has made a lock, a callout or a work; NULL once it was ended */
+	const char *missed, *missed_at;	/* the last wake-up at a condition variable; NULL where somebody waited for it */
+	uint64_t releases;	/* of references to a target or a count */
 };
 
 /* ---- The search: it lies in memory that the parent shares. ---- */
@@ -171,7 +164,7 @@ struct step {
 	const struct set *sleep_sets[THREADS];
 };
 
-enum mode { REDUCED, WHOLE, BOUNDED, RANDOM, REPLAYED };
+enum mode { REDUCED, BOUNDED, RANDOM, REPLAYED };
 enum end { ENDED_WELL, CUT, FAILED, UNFIT, DIED };
 
 /* An instruction, and the text of its place. */
@@ -180,7 +173,17 @@ struct spot {
 	char text[128];
 };
 
-enum { SPOTS = 256 };
+/* A call that fails or a wait that ends early, by its thread and its number there; and those of a run. */
+struct failpoint {
+	uint16_t thread, number;
+};
+
+struct plan {
+	unsigned count;
+	struct failpoint of[BENCH_FAILURES];	/* in order */
+};
+
+enum { SPOTS = 256, MOST_PLANS = 4096 };
 
 struct search {
 	enum mode mode;
@@ -201,8 +204,12 @@ struct search {
 	char names[THREADS][32];
 	uint32_t ended;		/* a bit for each thread that has */
 	bool stuck;		/* the others can't go on */
+	unsigned plan, plan_count;	/* of failures: the one that is tried, and how many there are */
+	bool plans_left_out;	/* there was no room for one */
+	char failed[BENCH_LINE];	/* what has failed in the run */
 	/* A later search finds these as they are. */
 	struct step steps[POINTS + 1];
+	struct plan plans[MOST_PLANS];
 	struct spot spots[SPOTS];	/* those that were asked for last */
 	unsigned spot_count;
 };
@@ -320,7 +327,6 @@ uint32_t enabled_now(void);
 		return answer; \
 	}
 
-struct cpu *cpu_here(const struct routine *me);
 void at_call(const char *call);
 void at_thing(const char *call, enum kind kind, const void *thing, size_t size, unsigned how);
 void at_live(const char *call, const void *thing, size_t size);
@@ -332,24 +338,18 @@ void at_cpu(const char *call);
 
 /* ---- failures.c: calls that fail, and waits that end early. ---- */
 
-void prepare_failures(bool maps);
 bool next_failure(void);
-bool has_all_failures(void);
-bool ends_early(const struct routine *routine);
 void note_ending(struct routine *me, bool early);
-const char *failure_text(void);
 void write_failures(char *text, size_t room);
 bool read_failures(const char *text);
-void forget_failures(void);
 
 /* ---- made.c: what is initialised and must be ended, and wake-ups that came too early. ---- */
 
 void track_made(const char *call, const void *lock);
-void track_ended(const void *lock);
 void check_none_made(const char *call, const void *from, size_t size);
 void check_none_left(void);
 void track_wake(const char *call, const char *place, const void *cv, bool waited);
-const struct missed *lost_wakeup_at(const void *cv);
+const struct thing *lost_wakeup_at(const void *cv);
 
 /* ---- What guards are: locks.c. ---- */
 
@@ -425,6 +425,7 @@ int64_t next_time(void);
 
 /* ---- stuck.c ---- */
 
+const char *name_of_routine(const struct routine *routine);
 void report_stuck(void);
 
 /* ---- explore.c, show.c ---- */

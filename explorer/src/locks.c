@@ -116,7 +116,7 @@ void sleepq_unlock(struct sleepq *sleepq)
 /* Whether it was woken, or its time is over, and the lock is free that it takes then. */
 bool was_woken(const struct routine *me)
 {
-	if (!me->woken && !is_late(me) && !ends_early(me))
+	if (!me->woken && !is_late(me) && me->may_end == IN_TIME)
 		return false;
 	return me->relock == NULL || !is_live(me->relock) || me->relock->mtx_word == 0;
 }
@@ -131,7 +131,7 @@ static void set_deadline(struct routine *me, int64_t deadline)
 /* The wake-up alone has enabled it, unless its time is over or it might end early. */
 static void leave_queue(struct routine *me, const void *of)
 {
-	touch(ON_WAKE, me, 0, is_late(me) || ends_early(me) ? 0 : ACQUIRES);
+	touch(ON_WAKE, me, 0, is_late(me) || me->may_end != IN_TIME ? 0 : ACQUIRES);
 	note_ending(me, !me->woken && !is_late(me));
 	if (me->woken)
 		acquire_clock(ON_WAKE, me, 0);
@@ -221,8 +221,8 @@ bool has_ended_section(const struct routine *me)
 
 uint64_t *releases_of(const void *target)
 {
-	struct released *row = row_for(RELEASED, (uintptr_t)target);
-	return &row->count;
+	struct thing *row = row_for(THINGS, (uintptr_t)target);
+	return &row->releases;
 }
 
 bool was_released(const struct routine *me)
@@ -236,18 +236,13 @@ bool has_ended_handler(const struct routine *me)
 	return run.handlers != me->noted;
 }
 
-static void await_section(struct routine *me, unsigned cpu)
-{
-	me->noted = run.ends[cpu];
-	wait_here(has_ended_section, (const void *)(uintptr_t)cpu);
-}
-
 bool pause_longer(struct pauses *pauses, const struct registry_stage *met)
 {
 	struct routine *me = run.current;
 	(void)pauses;
 	if (met != NULL && met->stage == REGISTRY_GRACE) {
-		await_section(me, (unsigned)met->what);
+		me->noted = run.ends[met->what];
+		wait_here(has_ended_section, (const void *)(uintptr_t)met->what);
 		return false;
 	}
 	me->noted = met == NULL ? run.handlers : *releases_of(me->target);
@@ -331,11 +326,6 @@ uint32_t bench_perform_turn(struct registry_keeper *keeper, struct registry_cpu 
 
 /* ---- The C library's threads and time. ---- */
 
-struct start {
-	void *(*body)(void *);
-	void *arg;
-};
-
 /* The end of the thread that runs: it isn't bound any more. */
 void end_self(void)
 {
@@ -344,18 +334,13 @@ void end_self(void)
 	end_of_thread(kupaldiz_self);
 }
 
-static void run_start(void *of)
+static void run_start(void *arg)
 {
-	struct start start = *(struct start *)of;
-	start.body(start.arg);
-	if (kupaldiz_self != NULL)
-		end_self();
+	run.current->start(arg);
 }
 
 int bench_create(pthread_t *id, void *(*body)(void *), void *arg, const char *file)
 {
-	struct start *start = bench_allocate(sizeof(*start), 16, false);
-	*start = (struct start){body, arg};
 	bool callout = strstr(file, "callout") != NULL, works = strstr(file, "workqueue") != NULL;
 	/* It may be bound as it begins. */
 	if (!callout)
@@ -363,7 +348,8 @@ int bench_create(pthread_t *id, void *(*body)(void *), void *arg, const char *fi
 	/* Its CPU goes by its number. */
 	if (works)
 		touch(ON_THREAD, NULL, 0, WRITES);
-	struct routine *made = make_routine(callout ? "callout" : NULL, run_start, start, callout || works);
+	struct routine *made = make_routine(callout ? "callout" : NULL, run_start, arg, callout || works);
+	made->start = body;
 	*id = (pthread_t)made->number;
 	start_routines();
 	return 0;
@@ -411,11 +397,6 @@ int bench_cond_wait(const void *cond, const struct timespec *deadline, const voi
 	return woken ? 0 : ETIMEDOUT;
 }
 
-void bench_cond_broadcast(const void *cond)
-{
-	sleepq_wake_all(NULL, cond);
-}
-
 void sleep_until(int64_t time)
 {
 	set_deadline(run.current, time);
@@ -442,12 +423,6 @@ static char line[BENCH_LINE];
 void *bench_calloc(size_t count, size_t size)
 {
 	return memset(bench_allocate(count * size, 16, kupaldiz_self != NULL && !run.own_memory), 0, count * size);
-}
-
-int bench_aligned(void **block, size_t align, size_t size)
-{
-	*block = bench_allocate(size, align, false);
-	return 0;
 }
 
 ssize_t bench_write(const void *text, size_t length)

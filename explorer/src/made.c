@@ -7,37 +7,35 @@
 void track_made(const char *call, const void *lock)
 {
 	if (run.current != NULL)
-		((struct made *)row_for(MADE, (uintptr_t)lock))->call = call;
+		((struct thing *)row_for(THINGS, (uintptr_t)lock))->made = call;
 }
 
 void track_ended(const void *lock)
 {
-	struct made *row = row_with(MADE, (uintptr_t)lock);
+	struct thing *row = row_with(THINGS, (uintptr_t)lock);
 	if (row != NULL)
-		row->call = NULL;
+		row->made = NULL;
 }
 
 /* Stops where a lock lies in memory that is given back. */
 void check_none_made(const char *call, const void *from, size_t size)
 {
-	const struct made *rows = rows_of(MADE);
-	for (size_t at = 0; at < run.rows[MADE]; at++) {
-		if (rows[at].call != NULL && rows[at].by.key - (uintptr_t)from < size)
-			fail("%s%s%s: what %s has made lies in it and was never destroyed", call, run.current->place == NULL ? "" : " at ",
-			    run.current->place == NULL ? "" : run.current->place, rows[at].call);
-	}
+	const struct thing *rows = rows_of(THINGS);
+	for (size_t at = 0; at < run.rows[THINGS]; at++)
+		if (rows[at].made != NULL && rows[at].by.key - (uintptr_t)from < size)
+			fail("%s%s: what %s has made lies in it and was never destroyed", call, AT_PLACE(run.current->place), rows[at].made);
 }
 
 void check_none_left(void)
 {
 	unsigned left = 0;
 	const char *call = NULL;
-	const struct made *rows = rows_of(MADE);
-	for (size_t at = 0; at < run.rows[MADE]; at++) {
-		if (rows[at].call == NULL)
+	const struct thing *rows = rows_of(THINGS);
+	for (size_t at = 0; at < run.rows[THINGS]; at++) {
+		if (rows[at].made == NULL)
 			continue;
 		left++;
-		call = rows[at].call;
+		call = rows[at].made;
 	}
 	if (left > 0)
 		fail("%u locks, condition variables or callouts are left at the end, one of them made by %s", left, call);
@@ -52,14 +50,14 @@ WRAPPED(void, rw_init, (krwlock_t *rw), (rw), track_made(__func__, rw))
 
 void track_wake(const char *call, const char *place, const void *cv, bool waited)
 {
-	struct missed *row = row_for(MISSED, (uintptr_t)cv);
-	row->call = waited ? NULL : call;
-	row->place = place;
+	struct thing *row = row_for(THINGS, (uintptr_t)cv);
+	row->missed = waited ? NULL : call;
+	row->missed_at = place;
 }
 
 /* The last wake-up, where nobody waited for it; else NULL. */
-const struct missed *lost_wakeup_at(const void *cv)
+const struct thing *lost_wakeup_at(const void *cv)
 {
-	const struct missed *row = row_with(MISSED, (uintptr_t)cv);
-	return row != NULL && row->call != NULL ? row : NULL;
+	const struct thing *row = row_with(THINGS, (uintptr_t)cv);
+	return row != NULL && row->missed != NULL ? row : NULL;
 }

@@ -79,41 +79,35 @@ void percpu_foreach(percpu_t *percpu, percpu_callback_t look, void *arg)
 
 /* ---- CPUs, softint(9). ---- */
 
-LAYER(int, curlwp_bind, (void));
-LAYER(void, curlwp_bindx, (int bound));
-
 static void touch_bound(const struct cpu *cpu)
 {
 	touch(ON_BOUND, NULL, cpu->info.ci_index, WRITES);
 }
 
-/* These have no point. A thread looks for a CPU with fewer bound threads only if its own has some. */
-int curlwp_bind(void)
+/* A thread looks for a CPU with fewer bound threads only if its own has some. */
+static void look_for_cpu(const struct thread *self)
 {
-	struct routine *me = here(__func__);
-	if (me->self != NULL && (me->self->lwp.l_pflag & LP_BOUND) == 0 && cpu_here(me)->bound > 0)
+	if (self != NULL && !is_bound(self) && self->cpu->bound > 0)
 		touch(ON_BOUND, NULL, ANY, 0);
-	int bound = layer_curlwp_bind();
-	touch_bound(cpu_here(here(__func__)));
-	return bound;
 }
 
-void curlwp_bindx(int bound)
+static void end_bound(const struct thread *self)
 {
-	struct routine *me = here(__func__);
-	if (!bound && me->self != NULL)
-		touch_bound(cpu_here(me));
-	layer_curlwp_bindx(bound);
+	if (self != NULL)
+		touch_bound(self->cpu);
 }
 
+/* These have no point. */
+ANSWERED(int, curlwp_bind, (void), (), look_for_cpu(here(__func__)->self), touch_bound(here(__func__)->self->cpu))
+WRAPPED(void, curlwp_bindx, (int bound), (bound), const struct routine *me = here(__func__); if (!bound) end_bound(me->self))
 WRAPPED(void, kupaldiz_bind, (unsigned cpu), (cpu), (void)here(__func__); if (cpu < KUPALDIZ_CPUS) touch_bound(&cpus[cpu]))
-WRAPPED(void, kupaldiz_unbind, (void), (), struct routine *me = here(__func__); if (me->self != NULL) touch_bound(cpu_here(me)))
+WRAPPED(void, kupaldiz_unbind, (void), (), end_bound(here(__func__)->self))
 WRAPPED(void, kpreempt_disable, (void), (), at_cpu(__func__))
 WRAPPED(void, kpreempt_enable, (void), (), at_call(__func__))
 
 /* A new level lets soft interrupts of the CPU go on, or keeps them off. */
-WRAPPED(int, kupaldiz_splraise, (int level), (level), at_cpu("splraise"); acquire_clock(ON_LOCK, &cpu_here(run.current)->hold, 0))
-WRAPPED(void, splx, (int level), (level), at_call(__func__); release_clock(ON_LOCK, &cpu_here(run.current)->hold, 0))
+WRAPPED(int, kupaldiz_splraise, (int level), (level), at_cpu("splraise"); acquire_clock(ON_LOCK, &run.current->self->cpu->hold, 0))
+WRAPPED(void, splx, (int level), (level), at_call(__func__); release_clock(ON_LOCK, &run.current->self->cpu->hold, 0))
 WRAPPED(void, softint_schedule, (void *cookie), (cookie), at_cpu(__func__))
 
 LAYER(void, softint_disestablish, (void *cookie));
@@ -175,11 +169,6 @@ WRAPPED(int, copyoutstr, (const void *kernel, void *user, size_t length, size_t 
 /* Memory with a work isn't given back before the work's function is called. */
 AROUND(void, workqueue_enqueue, (struct workqueue *queue, struct work *work, struct cpu_info *cpu), (queue, work, cpu),
     at_live(__func__, queue, 1); check_live(__func__, work, sizeof(*work)), track_made(__func__, work))
-
-void bench_dequeued(const void *work)
-{
-	track_ended(work);
-}
 
 WRAPPED(void, workqueue_wait, (struct workqueue *queue, struct work *work), (queue, work),
     at_live(__func__, queue, 1))

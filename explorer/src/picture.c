@@ -1,4 +1,5 @@
 /* picture.c - a schedule as a picture: a row for each thread, time to the right, and the steps underneath */
+#include <stdarg.h>
 #include <stdio.h>
 #include <string.h>
 
@@ -49,8 +50,13 @@ static void escape(FILE *to, const char *text)
 	}
 }
 
-static void text_at(FILE *to, double x, double y, const char *kind, const char *text)
+__attribute__((format(printf, 5, 6))) static void text_at(FILE *to, double x, double y, const char *kind, const char *format, ...)
 {
+	char text[256];
+	va_list words;
+	va_start(words, format);
+	vsnprintf(text, sizeof(text), format, words);
+	va_end(words);
 	fprintf(to, "<text x=\"%.1f\" y=\"%.1f\" class=\"%s\">", x, y, kind);
 	escape(to, text);
 	fputs("</text>", to);
@@ -127,16 +133,13 @@ static void draw_each(FILE *to, void (*draw_step)(FILE *, unsigned))
 static void draw_rows(FILE *to)
 {
 	uint32_t seen = 0;
-	char cpu[16];
 	for (unsigned at = 0; at < search->length; at++) {
 		unsigned thread = search->steps[at].chosen;
 		double y = TOP + row_of(thread) * ROW;
 		if ((seen & UINT32_C(1) << thread) == 0) {
-			text_at(to, 14, y + 4, "row", search->names[thread]);
-			if (search->steps[at].cpu != NOBODY) {
-				snprintf(cpu, sizeof(cpu), "CPU %u", search->steps[at].cpu);
-				text_at(to, 14, y + 18, "faint", cpu);
-			}
+			text_at(to, 14, y + 4, "row", "%s", search->names[thread]);
+			if (search->steps[at].cpu != NOBODY)
+				text_at(to, 14, y + 18, "faint", "CPU %u", search->steps[at].cpu);
 			fprintf(to, "<line class=\"base\" x1=\"%d\" y1=\"%.1f\" x2=\"%d\" y2=\"%.1f\"/>\n", LEFT, y, WIDE - RIGHT, y);
 		}
 		seen |= UINT32_C(1) << thread;
@@ -145,18 +148,11 @@ static void draw_rows(FILE *to)
 
 static void draw_steps(FILE *to)
 {
-	char number[16];
 	for (unsigned at = 0; at < search->length; at++) {
 		double x = x_of(at), y = TOP + row_of(search->steps[at].chosen) * ROW;
-		fprintf(to, "<circle class=\"step\" cx=\"%.1f\" cy=\"%.1f\" r=\"3\"><title>", x, y);
-		fprintf(to, "%u ", at + 1);
-		escape(to, search->steps[at].call);
-		fputc(' ', to);
-		escape(to, place_of_step(&search->steps[at]));
-		fputs("</title></circle>", to);
-		snprintf(number, sizeof(number), "%u", at + 1);
+		fprintf(to, "<circle class=\"step\" cx=\"%.1f\" cy=\"%.1f\" r=\"3\"/>", x, y);
 		if (search->length <= 45 || (at + 1) % 5 == 0)
-			text_at(to, x - 4, y - 12, "faint", number);
+			text_at(to, x - 4, y - 12, "faint", "%u", at + 1);
 		fputc('\n', to);
 	}
 }
@@ -172,14 +168,12 @@ static void draw_fault(FILE *to)
 /* The steps, one a line. Where the list ends. */
 static double list_steps(FILE *to, double y)
 {
-	char line[256];
 	for (unsigned at = 0; at < search->length; at++, y += LINE_HIGH) {
 		const struct step *step = &search->steps[at];
-		snprintf(line, sizeof(line), "%3u  ", at + 1);
-		text_at(to, 14, y, "faint", line);
-		text_at(to, 50, y, at == 0 || search->steps[at - 1].chosen != step->chosen ? "" : "faint", search->names[step->chosen]);
-		text_at(to, 180, y, "", step->call);
-		text_at(to, 380, y, "", place_of_step(step));
+		text_at(to, 14, y, "faint", "%3u  ", at + 1);
+		text_at(to, 50, y, at == 0 || search->steps[at - 1].chosen != step->chosen ? "" : "faint", "%s", search->names[step->chosen]);
+		text_at(to, 180, y, "", "%s", step->call);
+		text_at(to, 380, y, "", "%s", place_of_step(step));
 		fputc('\n', to);
 	}
 	return y;
@@ -198,11 +192,9 @@ static size_t length_of_line(const char *text)
 
 static void write_lines(FILE *to, double y, const char *text)
 {
-	char line[LETTERS + 1];
 	while (*text != '\0') {
 		size_t cut = length_of_line(text);
-		snprintf(line, sizeof(line), "%.*s", (int)cut, text);
-		text_at(to, 14, y, "said", line);
+		text_at(to, 14, y, "said", "%.*s", (int)cut, text);
 		fputc('\n', to);
 		text += cut + (text[cut] == ' ');
 		y += LINE_HIGH;
@@ -215,7 +207,7 @@ static void draw_legend(FILE *to)
 	double x = 430;
 	for (unsigned at = 0; at < sizeof(kinds) / sizeof(kinds[0]); at++, x += 92) {
 		fprintf(to, "<rect class=\"%s\" x=\"%.1f\" y=\"14\" width=\"16\" height=\"9\" rx=\"1\"/>", kinds[at], x);
-		text_at(to, x + 21, 23, "", kinds[at]);
+		text_at(to, x + 21, 23, "", "%s", kinds[at]);
 		fputc('\n', to);
 	}
 }
@@ -231,7 +223,7 @@ bool draw(const char *name, const struct bench_found *found)
 	    WIDE, high);
 	escape(to, found->line);
 	fprintf(to, "</title>\n<style>%s</style>\n<rect class=\"paper\" width=\"100%%\" height=\"100%%\"/>\n", style);
-	text_at(to, 14, 24, "title", options.name);
+	text_at(to, 14, 24, "title", "%s", options.name);
 	draw_legend(to);
 	draw_rows(to);
 	draw_each(to, draw_wait);

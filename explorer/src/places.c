@@ -1,4 +1,5 @@
 /* places.c - the place of an instruction: its file and line, as far as the program has them for addr2line(1), or its function */
+#include <dlfcn.h>
 #include <link.h>
 #include <stdio.h>
 #include <string.h>
@@ -6,36 +7,16 @@
 
 #include "inside.h"
 
-/* The file that an instruction lies in, and where it lies in it. */
-struct origin {
-	const void *pc;
-	char file[256];
-	unsigned long at;
-};
-
-static int find_origin(struct dl_phdr_info *object, size_t size, void *of)
+/* The file that an instruction lies in. Where it lies in that. */
+static unsigned long find_origin(const void *pc, char *file, size_t room)
 {
-	struct origin *origin = of;
-	(void)size;
-	for (unsigned at = 0; at < object->dlpi_phnum; at++) {
-		const ElfW(Phdr) *part = &object->dlpi_phdr[at];
-		uintptr_t from = object->dlpi_addr + part->p_vaddr;
-		if (part->p_type != PT_LOAD || (uintptr_t)origin->pc < from || (uintptr_t)origin->pc >= from + part->p_memsz)
-			continue;
-		origin->at = (uintptr_t)origin->pc - object->dlpi_addr - 1;
-		if (object->dlpi_name[0] == '\0')
-			snprintf(origin->file, sizeof(origin->file), "/proc/%d/exe", (int)getpid());
-		else
-			snprintf(origin->file, sizeof(origin->file), "%s", object->dlpi_name);
-		return 1;
-	}
-	return 0;
-}
-
-/* Takes the text to its first blank or line's end. */
-static void cut_at_blank(char *text)
-{
-	text[strcspn(text, " \n")] = '\0';
+	Dl_info info;
+	struct link_map *object = NULL;
+	if (dladdr1(pc, &info, (void **)&object, RTLD_DL_LINKMAP) != 0 && object != NULL && object->l_name[0] != '\0')
+		snprintf(file, room, "%s", object->l_name);
+	else
+		snprintf(file, room, "/proc/%d/exe", (int)getpid());
+	return (uintptr_t)pc - (object == NULL ? 0 : object->l_addr) - 1;
 }
 
 static bool is_header(const char *place)
@@ -45,12 +26,12 @@ static bool is_header(const char *place)
 }
 
 /* Reads what addr2line says: a function and a place in turn, from the inlined one outwards. The place is the first that lies in no header. */
-static void read_place(FILE *from, const struct origin *origin, struct spot *spot)
+static void read_place(FILE *from, unsigned long at, struct spot *spot)
 {
 	char function[96], place[sizeof(spot->text)];
 	while (fgets(function, sizeof(function), from) != NULL && fgets(place, sizeof(place), from) != NULL) {
-		cut_at_blank(function);
-		cut_at_blank(place);
+		function[strcspn(function, " \n")] = '\0';
+		place[strcspn(place, " \n")] = '\0';
 		if (spot->text[0] != '\0' && place[0] == '?')
 			return;
 		if (place[0] != '?')
@@ -61,20 +42,19 @@ static void read_place(FILE *from, const struct origin *origin, struct spot *spo
 			break;
 	}
 	if (spot->text[0] == '\0')
-		snprintf(spot->text, sizeof(spot->text), "instruction %#lx", origin->at);
+		snprintf(spot->text, sizeof(spot->text), "instruction %#lx", at);
 }
 
 static void find_place(const void *pc, struct spot *spot)
 {
-	char command[512];
-	struct origin origin = {.pc = pc};
+	char command[512], file[256];
+	unsigned long at = find_origin(pc, file, sizeof(file));
 	*spot = (struct spot){.pc = pc};
-	dl_iterate_phdr(find_origin, &origin);
-	snprintf(command, sizeof(command), "addr2line -f -s -i -e '%s' %#lx 2>/dev/null", origin.file, origin.at);
+	snprintf(command, sizeof(command), "addr2line -f -s -i -e '%s' %#lx 2>/dev/null", file, at);
 	FILE *said = popen(command, "r");
 	if (said == NULL)
 		refuse("no process is left");
-	read_place(said, &origin, spot);
+	read_place(said, at, spot);
 	pclose(said);
 }
 

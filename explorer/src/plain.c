@@ -30,18 +30,13 @@ static bool covers(const struct plain *one, const struct plain *other)
 	return (other->bytes & ~one->bytes) == 0 && one->use.writes >= other->use.writes && one->use.atomic <= other->use.atomic;
 }
 
-/* Whether the thread has used the bytes so since others may last have heard of it. */
-static bool is_repeated(const struct plain *old, const struct plain *now)
-{
-	return old->thread == now->thread && old->at == now->at && covers(old, now);
-}
-
 /* A use of some of eight bytes: it takes the row of one that it replaces from now on. */
 static void record(const struct routine *me, struct plain now)
 {
 	struct plain *row = NULL;
 	for (struct plain *old = row_with(PLAIN, now.by.key); old != NULL; old = row_after(PLAIN, old)) {
-		if (is_repeated(old, &now))
+		/* It has used the bytes so since others may last have heard of it. */
+		if (old->thread == now.thread && old->at == now.at && covers(old, &now))
 			return;
 		check_ordered(old, &now, me);
 		if (is_before(old, me) && covers(&now, old))

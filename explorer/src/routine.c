@@ -146,11 +146,16 @@ void leave_run(enum end end)
 
 /* ---- The life of a thread. ---- */
 
+/* What has a name already is the test's. */
 static void begin_routine(void)
 {
 	struct routine *me = run.current;
 	come_to_stack(NULL, me->number == 0 ? &home_bottom : NULL, me->number == 0 ? &home_size : NULL);
+	if (me->name != NULL && !me->daemon)
+		kupaldiz_self = named_thread(me->number == 0 ? "bench_explore" : "bench_thread", me->name);
 	me->body(me->arg);
+	if (kupaldiz_self != NULL)
+		end_self();
 	end_routine();
 }
 

@@ -34,12 +34,12 @@
 #define realloc(block, size)		bench_realloc(block, size)
 #define free(block)			bench_free(block)
 #define aligned_alloc(align, size)	bench_allocate(size, align, true)
-#define posix_memalign(block, align, size)	bench_aligned(block, align, size)
+#define posix_memalign(block, align, size)	(*(block) = bench_allocate(size, align, false), 0)
 
 #define FAILS()				bench_fails()
 #define MAY_END_EARLY(signals)		bench_may_end_early(signals)
 #define LAST_ENDING()			bench_last_ending()
-#define DEQUEUED(work)			bench_dequeued(work)
+#define DEQUEUED(work)			track_ended(work)
 
 #define HIDE(at, size)			bench_hide(at)
 #define UNHIDE(at, size)		bench_unhide(at)
@@ -51,7 +51,7 @@
 #define pthread_cond_init(cond, attributes)	((void)(cond), (void)(attributes))
 #define pthread_cond_wait(cond, mutex)	bench_cond_wait(cond, NULL, WATCHED(mutex))
 #define pthread_cond_timedwait(cond, mutex, deadline)	bench_cond_wait(cond, deadline, WATCHED(mutex))
-#define pthread_cond_broadcast(cond)	bench_cond_broadcast(cond)
+#define pthread_cond_broadcast(cond)	sleepq_wake_all(NULL, cond)
 #define pthread_condattr_init(attributes)	((void)(attributes))
 #define pthread_condattr_setclock(attributes, clock)	((void)(attributes))
 #define pthread_condattr_destroy(attributes)	((void)(attributes))

@@ -8,24 +8,11 @@
 #include "inside.h"
 
 static struct routine *softints[KUPALDIZ_CPUS][LEVELS];
-static char names[KUPALDIZ_CPUS][sizeof("softint/4294967295")];
-
-/* What a thread runs the handlers of. */
-struct queue {
-	struct cpu *cpu;
-	int level;
-};
-
-/* The thread that has a CPU; NULL where none does. */
-static struct thread *owner_of(const struct cpu *cpu)
-{
-	return lock_owner(&cpu->hold);
-}
 
 /* Whether a soft interrupt of a level may have the CPU now. */
 static bool may_have(const struct cpu *cpu, int level)
 {
-	const struct thread *owner = owner_of(cpu);
+	const struct thread *owner = lock_owner(&cpu->hold);
 	return owner == NULL || (!owner->softint && owner->level < level);
 }
 
@@ -54,7 +41,7 @@ static bool can_go_on(const struct routine *me)
 
 static void acquire_cpu(struct thread *me)
 {
-	me->lender = owner_of(me->cpu);
+	me->lender = lock_owner(&me->cpu->hold);
 	me->cpu->hold = (uintptr_t)me;
 	/* Whoever has the CPU needn't have given it. */
 	touch(ON_LOCK, &me->cpu->hold, 0, WRITES);
@@ -87,25 +74,24 @@ static void run_waiting(struct thread *me, unsigned number, int level)
 
 static void run_handlers(void *of)
 {
-	const struct queue queue = *(struct queue *)of;
-	struct cpu *cpu = queue.cpu;
-	struct routine *routine = run.current;
-	char *name = names[cpu->info.ci_index];
-	snprintf(name, sizeof(names[0]), "softint/%u", cpu->info.ci_index);
+	unsigned place = (unsigned)((struct routine **)of - &softints[0][0]);
+	int level = (int)(place % LEVELS);
+	struct cpu *cpu = &cpus[place / LEVELS];
+	char name[sizeof("softint/4294967295")];
+	snprintf(name, sizeof(name), "softint/%u", cpu->info.ci_index);
 	struct thread *me = named_thread("softint", name);
 	me->softint = true;
 	me->cpu = cpu;
 	me->lwp.l_cpu = &cpu->info;
 	me->lwp.l_pflag = LP_BOUND | LP_INTR;
-	routine->name = name;
 	for (;;) {
-		routine->noted = (uint64_t)queue.level;
+		run.current->noted = (uint64_t)level;
 		point("softint", NULL, can_begin, cpu);
-		run_waiting(me, cpu->info.ci_index, queue.level);
+		run_waiting(me, cpu->info.ci_index, level);
 	}
 }
 
-/* The thread of a CPU's level, which is made where there is none. */
+/* The thread of a CPU's level, which is made where there is none. Its place says both. */
 void ensure_softint_thread(struct thread *me, struct cpu *cpu, int level)
 {
 	struct routine **softint = &softints[cpu->info.ci_index][level];
@@ -114,9 +100,7 @@ void ensure_softint_thread(struct thread *me, struct cpu *cpu, int level)
 	touch(ON_PENDING, NULL, cpu->info.ci_index, WRITES | RELEASES);
 	if (*softint != NULL)
 		return;
-	struct queue *queue = bench_allocate(sizeof(*queue), 16, false);
-	*queue = (struct queue){cpu, level};
-	*softint = make_routine("softint", run_handlers, queue, true);
+	*softint = make_routine(NULL, run_handlers, softint, true);
 	start_routines();
 }
 

@@ -7,7 +7,6 @@
 #include <link.h>
 #include <string.h>
 #include <sys/mman.h>
-#include <unistd.h>
 
 #include "inside.h"
 
@@ -26,7 +25,7 @@ static unsigned count;
 #define UNSEEN	__attribute__((no_sanitize_address, optimize("no-tree-loop-distribute-patterns")))
 #endif
 
-/* Copies without the sanitizer's look at what lies between two variables. */
+/* Copies what differs, without the sanitizer's look at what lies between two variables. So it writes nothing that the loader has made read-only. */
 UNSEEN static void copy(char *to, const char *from, size_t size)
 {
 	uint64_t *to_words = (uint64_t *)(void *)to;
@@ -47,11 +46,6 @@ static void add_part(uintptr_t from, uintptr_t to)
 	parts[count++] = (struct part){.at = (char *)from, .kept = map_pages(to - from, MAP_PRIVATE), .size = to - from};
 }
 
-static uintptr_t page_of(uintptr_t address)
-{
-	return address & ~((uintptr_t)sysconf(_SC_PAGESIZE) - 1);
-}
-
 /* Whether an address lies in one of an object's parts. */
 static bool has_address(const struct dl_phdr_info *object, uintptr_t address)
 {
@@ -64,34 +58,14 @@ static bool has_address(const struct dl_phdr_info *object, uintptr_t address)
 	return false;
 }
 
-/* What of an object the loader has made read-only. */
-static void find_closed(const struct dl_phdr_info *object, uintptr_t *from, uintptr_t *to)
-{
-	*from = *to = 0;
-	for (unsigned at = 0; at < object->dlpi_phnum; at++) {
-		const ElfW(Phdr) *part = &object->dlpi_phdr[at];
-		if (part->p_type == PT_GNU_RELRO) {
-			*from = page_of(object->dlpi_addr + part->p_vaddr);
-			*to = page_of(object->dlpi_addr + part->p_vaddr + part->p_memsz);
-		}
-	}
-}
-
-/* Adds the writable parts of an object, without that. */
+/* Adds the writable parts of an object. */
 static void add_object(const struct dl_phdr_info *object)
 {
-	uintptr_t closed_from, closed_to;
-	find_closed(object, &closed_from, &closed_to);
 	for (unsigned at = 0; at < object->dlpi_phnum; at++) {
 		const ElfW(Phdr) *part = &object->dlpi_phdr[at];
-		uintptr_t from = object->dlpi_addr + part->p_vaddr, to = from + part->p_memsz;
-		if (part->p_type != PT_LOAD || (part->p_flags & PF_W) == 0)
-			continue;
-		if (closed_from < to && closed_to > from) {
-			add_part(from, closed_from > from ? closed_from : from);
-			from = closed_to;
-		}
-		add_part(from, to);
+		uintptr_t from = object->dlpi_addr + part->p_vaddr;
+		if (part->p_type == PT_LOAD && (part->p_flags & PF_W) != 0)
+			add_part(from, from + part->p_memsz);
 	}
 }
 

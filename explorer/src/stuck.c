@@ -1,10 +1,11 @@
 /* stuck.c - what is wrong where no thread can go on */
+#include <stdarg.h>
 #include <stdio.h>
 #include <string.h>
 
 #include "inside.h"
 
-static const char *name_of_routine(const struct routine *routine)
+const char *name_of_routine(const struct routine *routine)
 {
 	return routine->name != NULL ? routine->name : routine->self != NULL ? routine->self->name : "?";
 }
@@ -36,63 +37,59 @@ static const struct routine *stuck_softint(void)
 	return NULL;
 }
 
-struct waiting {
-	const struct routine *on;	/* NULL where no thread can be told */
-	char what[320];
-};
-
-static struct waiting waits_for(const struct routine *me)
-{
-	struct waiting found = {NULL, "something"};
-	if (me->guard == has_ended_section) {
-		found.on = routine_of(lock_owner(&cpus[(uintptr_t)me->of].hold));
-		snprintf(found.what, sizeof(found.what), "CPU %u", (unsigned)(uintptr_t)me->of);
-	} else if (me->guard == was_released) {
-		found.on = holder_on((unsigned)(uintptr_t)me->of, me->target);
-		snprintf(found.what, sizeof(found.what), "a reference of CPU %u", (unsigned)(uintptr_t)me->of);
-	} else if (me->guard == is_xcall_complete) {
-		found.on = xcaller();
-		snprintf(found.what, sizeof(found.what), "the call");
-	} else if (me->guard == has_ended) {
-		found.on = me->of;
-		snprintf(found.what, sizeof(found.what), "its end");
-	} else if (me->guard == has_ended_handler || (me->guard == was_woken && me->relock == NULL && stuck_softint() != NULL)) {
-		found.on = stuck_softint();
-		snprintf(found.what, sizeof(found.what), "the handler");
-	} else if (me->guard == was_woken && (me->woken || run.time >= me->deadline)) {
-		found.on = routine_of(lock_owner(&me->relock->mtx_word));
-		snprintf(found.what, sizeof(found.what), "the lock");
-	} else if (me->guard == was_woken) {
-		const struct missed *missed = lost_wakeup_at(me->queue);
-		snprintf(found.what, sizeof(found.what), "a wake-up that nobody is left to give%s%s%s%s%s", missed == NULL ? "" : "; ",
-		    missed == NULL ? "" : missed->call, missed == NULL || missed->place == NULL ? "" : " at ",
-		    missed == NULL || missed->place == NULL ? "" : missed->place, missed == NULL ? "" : " came while nobody waited");
-	} else if (me->of != NULL) {
-		found.on = routine_of(lock_owner(me->of));
-		snprintf(found.what, sizeof(found.what), "the lock");
-	}
-	return found;
-}
-
-static void append(char *text, size_t room, const char *more)
+__attribute__((format(printf, 2, 3))) static void append(char *text, const char *format, ...)
 {
 	size_t length = strlen(text);
-	snprintf(text + length, room - length, "%s", more);
+	va_list words;
+	va_start(words, format);
+	vsnprintf(text + length, BENCH_LINE - length, format, words);
+	va_end(words);
+}
+
+/* What a thread waits for, and whose that is; NULL where no thread can be told. */
+static const struct routine *append_cause(char *text, const struct routine *me)
+{
+	unsigned cpu = (unsigned)(uintptr_t)me->of;
+	if (me->guard == has_ended_section) {
+		append(text, "CPU %u", cpu);
+		return routine_of(lock_owner(&cpus[cpu].hold));
+	}
+	if (me->guard == was_released) {
+		append(text, "a reference of CPU %u", cpu);
+		return holder_on(cpu, me->target);
+	}
+	if (me->guard == is_xcall_complete) {
+		append(text, "the call");
+		return xcaller();
+	}
+	if (me->guard == has_ended) {
+		append(text, "its end");
+		return me->of;
+	}
+	if (me->guard == has_ended_handler || (me->guard == was_woken && me->relock == NULL && stuck_softint() != NULL)) {
+		append(text, "the handler");
+		return stuck_softint();
+	}
+	if (me->guard == was_woken && !me->woken && run.time < me->deadline) {
+		const struct thing *cv = lost_wakeup_at(me->queue);
+		append(text, "a wake-up that nobody is left to give");
+		if (cv != NULL)
+			append(text, "; %s%s came while nobody waited", cv->missed, AT_PLACE(cv->missed_at));
+		return NULL;
+	}
+	const uintptr_t *word = me->guard == was_woken ? &me->relock->mtx_word : me->of;
+	append(text, word == NULL ? "something" : "the lock");
+	return word == NULL ? NULL : routine_of(lock_owner(word));
 }
 
 /* Where a thread waits, and who it waits for. */
-static const struct routine *report_wait(const struct routine *me, char *text, size_t room)
+static const struct routine *report_wait(const struct routine *me, char *text)
 {
-	char more[512];
-	const struct waiting found = waits_for(me);
-	snprintf(more, sizeof(more), "thread \"%s\" waits in %s%s%s for %s", name_of_routine(me), me->call, me->place == NULL ? "" : " at ",
-	    me->place == NULL ? "" : me->place, found.what);
-	append(text, room, more);
-	if (found.on != NULL && found.on != me) {
-		snprintf(more, sizeof(more), " of thread \"%s\"", name_of_routine(found.on));
-		append(text, room, more);
-	}
-	return found.on;
+	append(text, "thread \"%s\" waits in %s%s for ", name_of_routine(me), me->call, AT_PLACE(me->place));
+	const struct routine *on = append_cause(text, me);
+	if (on != NULL && on != me)
+		append(text, " of thread \"%s\"", name_of_routine(on));
+	return on;
 }
 
 /* The first thread that isn't the layer's and hasn't ended. */
@@ -114,8 +111,8 @@ void report_stuck(void)
 	while (at != NULL && (told & UINT32_C(1) << at->number) == 0) {
 		told |= UINT32_C(1) << at->number;
 		if (text[0] != '\0')
-			append(text, sizeof(text), "; ");
-		at = report_wait(at, text, sizeof(text));
+			append(text, "; ");
+		at = report_wait(at, text);
 	}
 	fail("%s: %s", at == NULL ? "nobody can go on" : "deadlock", text);
 }

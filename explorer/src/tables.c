@@ -10,9 +10,7 @@ static const size_t sizes[TABLES] = {
     [BLOCKS] = sizeof(struct block),
     [SYNCS] = sizeof(struct sync),
     [PLAIN] = sizeof(struct plain),
-    [MADE] = sizeof(struct made),
-    [MISSED] = sizeof(struct missed),
-    [RELEASED] = sizeof(struct released),
+    [THINGS] = sizeof(struct thing),
 };
 
 /* Pages of zeros: MAP_PRIVATE, or MAP_SHARED with the processes that are made later. */

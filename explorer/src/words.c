@@ -56,19 +56,9 @@ void kupaldiz_from(const char *place)
 		run.current->from = place;
 }
 
-static const char *name_of_access(unsigned how)
-{
-	switch (how & (KUPALDIZ_LOADS | KUPALDIZ_STORES)) {
-	case 0:
-		return "membar";
-	case KUPALDIZ_LOADS:
-		return "atomic load";
-	case KUPALDIZ_STORES:
-		return "atomic store";
-	default:
-		return "atomic change";
-	}
-}
+/* What an access is called, by whether it loads and whether it stores. */
+static const char *const accesses[] = {"membar", [KUPALDIZ_LOADS] = "atomic load", [KUPALDIZ_STORES] = "atomic store",
+    [KUPALDIZ_LOADS | KUPALDIZ_STORES] = "atomic change"};
 
 /* What a barrier makes of the relaxed accesses before and after it. */
 static void pass_barrier(struct routine *me, unsigned how)
@@ -100,7 +90,7 @@ static void order_access(struct routine *me, const volatile void *address, unsig
 /* An atomic access, or a barrier where there is no address. */
 void access_atomically(const volatile void *address, size_t size, unsigned how, const char *place, const void *pc)
 {
-	const char *call = name_of_access(how);
+	const char *call = accesses[how & (KUPALDIZ_LOADS | KUPALDIZ_STORES)];
 	struct routine *me = here(call);
 	const char *from = me->from;
 	bool writes = (how & KUPALDIZ_STORES) != 0;

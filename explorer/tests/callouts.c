@@ -6,23 +6,12 @@
  */
 #include <errno.h>
 #include <limits.h>
-#include <sys/atomic.h>
-#include <sys/callout.h>
-#include <sys/intr.h>
 #include <sys/kernel.h>
-#include <sys/kmem.h>
-#include <sys/lwp.h>
-#include <sys/mutex.h>
 #include <sys/proc.h>
-#include <sys/pserialize.h>
-#include <sys/systm.h>
 
 #include "finds.h"
 
-/* What a program's own books say is no access of it. */
-#define UNSEEN	__attribute__((noinline, no_sanitize("thread")))
-
-enum { TIMERS = 4 };
+enum { TIMERS = 5 };
 
 /* A callout, and of its runs: how many, when and where the last one was, and how many of all came before it. */
 static struct timer {
@@ -139,30 +128,32 @@ BODY(meet)
 	bench_outcome("%u, ", atomic_load_relaxed(&met));
 }
 
-/* Those of one CPU whose times have come run in the order of their times. A CPU that is kept keeps no other one's off. */
+/* Those of one CPU whose times have come run in the order of their times, and of one time in that in which they were set. A CPU that is kept keeps no
+ * other one's off. */
 UNSEEN BODY(keep_cpu)
 {
-	static const int ticks[] = {3, 1, 2};
+	static const struct {
+		int ticks;
+		unsigned after;
+	} each[] = {{3, 4}, {1, 1}, {2, 2}, {2, 3}};
 	int from = getticks();
-	set_on(5, &timers[3], 2);
+	set_on(5, &timers[4], 2);
 	int until = getticks();
 	kupaldiz_bind(2);
 	int s = splhigh();
-	for (unsigned at = 0; at < 3; at++)
-		callout_reset(&timers[at].callout, ticks[at], note_run, &timers[at]);
+	for (unsigned at = 0; at < 4; at++)
+		callout_reset(&timers[at].callout, each[at].ticks, note_run, &timers[at]);
 	bool at_once = getticks() == until;
 	delay(60000);
-	while (runs_of(&timers[3]) == 0)
+	while (runs_of(&timers[4]) == 0)
 		delay(10000);
-	KASSERT(timers[3].ran_at - from >= 2);
-	late |= timers[3].ran_at - until > 2;
-	for (unsigned at = 0; at < 3; at++)
-		KASSERT(timers[at].runs == 0);
+	KASSERT(timers[4].ran_at - from >= 2 && all_runs == 1);
+	late |= timers[4].ran_at - until > 2;
 	splx(s);
-	while (all_runs < 4)
+	while (all_runs < TIMERS)
 		delay(10000);
-	for (unsigned at = 0; at < 3; at++)
-		KASSERT(timers[at].runs == 1 && timers[at].cpu == 2 && (!at_once || timers[at].after == (unsigned)ticks[at]));
+	for (unsigned at = 0; at < 4; at++)
+		KASSERT(timers[at].runs == 1 && timers[at].cpu == 2 && (!at_once || timers[at].after == each[at].after));
 	kupaldiz_unbind();
 }
 
@@ -188,15 +179,13 @@ BODY(use_inside)
 
 static bool stays;
 
-UNSEEN static bool has_stayed(void) { return stays; }
-
 /* Stays for long, sets itself, and stays until its time has come. */
 UNSEEN static void stay_and_set(void *of)
 {
 	struct timer *timer = of;
 	if (timer->runs++ > 0)
 		return;
-	stays = true;
+	atomic_store_relaxed(&stays, true);
 	delay(1000000);
 	callout_schedule(&timer->callout, 1);
 	delay(20000);
@@ -208,7 +197,7 @@ BODY(halt_staying)
 	kupaldiz_bind(1);
 	callout_reset(&timers[0].callout, 1, stay_and_set, &timers[0]);
 	kupaldiz_unbind();
-	while (!has_stayed())
+	while (!atomic_load_relaxed(&stays))
 		(void)kpause("callouts", false, 1, NULL);
 	callout_halt(&timers[0].callout, NULL);
 	KASSERT(!callout_active(&timers[0].callout));
@@ -269,40 +258,11 @@ BODY(set_meanwhile)
 	note_set();
 }
 
-/* ---- A body that two CPUs run. ---- */
-
-static void (*end_it)(callout_t *);
-
-static void halt_it(callout_t *callout) { (void)callout_halt(callout, NULL); }
-
-/* On CPU 1 it ends its callout once CPU 4 runs it, too. */
-UNSEEN static void end_beside(void *of)
-{
-	struct timer *timer = of;
-	timer->runs++;
-	while (cpu_number() != 1 || timer->runs < 2)
-		delay(10000);
-	end_it(&timer->callout);
-}
-
-BODY(run_beside)
-{
-	for (unsigned cpu = 1; cpu <= 4; cpu += 3) {
-		kupaldiz_bind(cpu);
-		callout_reset(&timers[0].callout, 1, end_beside, &timers[0]);
-		kupaldiz_unbind();
-		(void)kpause("callouts", false, 2, NULL);
-	}
-	(void)kpause("callouts", false, 100, NULL);
-}
-
 /* ---- All of them. ---- */
 
 static void make_things(void) { mutex_init(&lock, MUTEX_DEFAULT, IPL_SOFTCLOCK); }
 static void end_lock(void) { mutex_destroy(&lock); }
 static void end_all(void) { end_timers(); end_lock(); bench_outcome(late ? "late" : "exact"); }
-static void begin_destroyed(void) { begin_timers(); end_it = callout_destroy; }
-static void begin_halted(void) { begin_timers(); end_it = halt_it; }
 
 static const struct find finds[] = {
 	{"each time", NULL, set_each, .make = begin_timers, .finish = end_all, .outcome = "exact"},
@@ -314,12 +274,9 @@ static const struct find finds[] = {
 	{"a body that sets itself", NULL, halt_staying, .make = begin_timers, .finish = end_all},
 	{"a body that ends its callout", NULL, set_to_end, .finish = end_lock},
 	{"set while a halt waits", NULL, halt_locked, set_meanwhile, .make = begin_timers, .finish = end_all},
-	{"destroyed while another CPU runs it", "callout_destroy: the callout runs", run_beside, .make = begin_destroyed},
-	{"halted while another CPU runs it", "callout_halt: in a soft interrupt", run_beside, .make = begin_halted},
 };
 
-int main(int count, char **words)
+int main(void)
 {
-	(void)words;
-	return run_finds(finds, sizeof(finds) / sizeof(finds[0]), count > 1, 0);
+	return run_finds(finds, sizeof(finds) / sizeof(finds[0]));
 }

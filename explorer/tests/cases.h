@@ -12,6 +12,12 @@
 #include "../../netbsd/tests/bodies.h"
 #include "../bench.h"
 
+/* A row leaves out what its case doesn't have. */
+#pragma GCC diagnostic ignored "-Wmissing-field-initializers"
+
+/* What a test's own books say is no access of its threads. */
+#define UNSEEN	__attribute__((noinline, no_sanitize("thread")))
+
 static inline bool has_outcome(const struct bench_found *found, const char *text)
 {
 	for (unsigned at = 0; at < found->outcomes; at++)
@@ -24,9 +30,23 @@ struct driver_case {
 	const char *name;
 	void (*setup)(void);
 	void (*finish)(void);
+	struct {
+		const char *name;
+		void (*body)(void *);
+		void *arg;
+	} threads[4];	/* beside those that the setup makes */
 	unsigned left;	/* blocks that the driver keeps for ever */
 	bool reliable;	/* no call fails */
 };
+
+static const struct driver_case *case_now;
+
+static inline void begin_case(void)
+{
+	case_now->setup();
+	for (unsigned at = 0; at < 4 && case_now->threads[at].name != NULL; at++)
+		bench_thread(case_now->threads[at].name, case_now->threads[at].body, case_now->threads[at].arg);
+}
 
 /* Whether all was tried except schedules in which time goes on early more often than it may. */
 static inline bool is_tried(const struct bench_found *found)
@@ -45,7 +65,8 @@ static inline int try_cases(const struct driver_case *cases, unsigned all, int c
 		if (count > 1 && strcmp(words[1], it->name) != 0)
 			continue;
 		tried++;
-		EXPECT(bench_explore(it->setup, &options) == 0 && (is_tried(&found) || options.replay != NULL));
+		case_now = it;
+		EXPECT(bench_explore(begin_case, &options) == 0 && (is_tried(&found) || options.replay != NULL));
 	}
 	EXPECT(tried > 0);
 	printf("%u cases were tried\n", tried);

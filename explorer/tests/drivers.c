@@ -25,16 +25,12 @@ HANDLER(delete_member, KASSERT(bridge_delete(*(unsigned *)arg) == 0))
 
 static unsigned first = 1;
 
-static void begin_bridge(void)
+static void make_bridge(void)
 {
 	bridge_init();
 	(void)bridge_add(2);
 	(void)bridge_add(1);
-	bench_thread("broadcast", broadcast, NULL);
-	bench_thread("delete", delete_member, &first);
 }
-
-static void begin_bridge_wide(void) { begin_bridge(); bench_thread("another", broadcast, NULL); }
 
 /* ---- ifindex.c: a packet goes by an interface while that is detached, or while the table grows. ---- */
 
@@ -48,22 +44,7 @@ HANDLER(transmit, (void)if_transmit(1, transmit_one))
 HANDLER(detach_one, KASSERT(if_detach(1) == 0))
 HANDLER(attach_one, (void)if_attach())
 
-static void begin_interface(void)
-{
-	ifindex_init();
-	(void)if_attach();
-	bench_thread("transmit", transmit, NULL);
-}
-
-static void begin_ifindex(void) { begin_interface(); bench_thread("detach", detach_one, NULL); }
-static void begin_growth(void) { begin_interface(); bench_thread("attach", attach_one, NULL); }
-
-static void begin_ifindex_wide(void)
-{
-	begin_ifindex();
-	bench_thread("another", transmit, NULL);
-	bench_thread("attach", attach_one, NULL);
-}
+static void make_interface(void) { ifindex_init(); (void)if_attach(); }
 
 /* ---- devsw.c: a device is opened while its driver is detached. ---- */
 
@@ -87,15 +68,7 @@ static const struct devsw device = {open_it, close_it};
 HANDLER(open_device, int error = cdev_open(0, 0); KASSERT(error == 0 || error == ENXIO))
 HANDLER(detach_device, KASSERT(devsw_detach(0) == 0); KASSERT(users == 0))
 
-static void begin_devsw(void)
-{
-	devsw_init();
-	(void)devsw_attach(0, &device);
-	bench_thread("open", open_device, NULL);
-	bench_thread("detach", detach_device, NULL);
-}
-
-static void begin_devsw_wide(void) { begin_devsw(); bench_thread("another", open_device, NULL); }
+static void make_device(void) { devsw_init(); (void)devsw_attach(0, &device); }
 
 /* ---- ioctl.c: an entry is read while it is replaced and deleted. ---- */
 
@@ -118,18 +91,12 @@ BODY(set_entry)
 	KASSERT(entry_ioctl(ENTRYSET, &request) == 0);
 }
 
-static void begin_entry(void)
+static void make_entry(void)
 {
 	struct entry_request request = {.er_key = 1, .er_value = 5};
 	entry_init();
 	(void)entry_ioctl(ENTRYSET, &request);
-	bench_thread("get", get_entry, NULL);
 }
-
-static void begin_ioctl(void) { begin_entry(); bench_thread("delete", delete_entry, NULL); }
-static void begin_replace(void) { begin_entry(); bench_thread("set", set_entry, NULL); }
-
-static void begin_replace_wide(void) { begin_replace(); bench_thread("another", get_entry, NULL); }
 
 /* ---- rxintr.c: a packet comes in while a listener goes. ---- */
 
@@ -155,17 +122,13 @@ BODY(unlisten)
 		rx_unlisten(listener);
 }
 
-static void begin_rxintr(void)
+static void make_listener(void)
 {
 	rx_error = rx_init();
 	KASSERT(rx_error == 0 || rx_error == ENOMEM);
 	if (rx_error == 0)
 		listener = rx_listen(input, &received);
-	bench_thread("interrupt", interrupt, NULL);
-	bench_thread("unlisten", unlisten, NULL);
 }
-
-static void begin_rxintr_wide(void) { begin_rxintr(); bench_thread("another", interrupt, NULL); }
 
 static void end_rxintr(void)
 {
@@ -184,13 +147,6 @@ BODY(sum_up)
 	counters_sum(sums);
 	KASSERT(sums[COUNT_IN] == 0 || sums[COUNT_IN] == 1 || sums[COUNT_IN] == 3);
 	bench_outcome("%u", (unsigned)sums[COUNT_IN]);
-}
-
-static void begin_counters(void)
-{
-	counters_init();
-	bench_thread("count", count_twice, NULL);
-	bench_thread("sum", sum_up, NULL);
 }
 
 static void end_counters(void)
@@ -226,20 +182,20 @@ static void begin_unload(void)
 /* ---- All of them. ---- */
 
 const struct driver_case driver_cases[] = {
-	{"bridge", begin_bridge, bridge_fini, 0, false},
-	{"ifindex", begin_ifindex, ifindex_fini, 0, false},
-	{"growth", begin_growth, ifindex_fini, 0, false},
-	{"devsw", begin_devsw, devsw_fini, 0, false},
-	{"ioctl", begin_ioctl, entry_fini, 0, false},
-	{"replace", begin_replace, entry_fini, 0, false},
-	{"rxintr", begin_rxintr, end_rxintr, 0, false},
-	{"counters", begin_counters, end_counters, 0, false},
-	{"bridge-wide", begin_bridge_wide, bridge_fini, 0, false},
-	{"ifindex-wide", begin_ifindex_wide, ifindex_fini, 0, false},
-	{"devsw-wide", begin_devsw_wide, devsw_fini, 0, false},
-	{"replace-wide", begin_replace_wide, entry_fini, 0, false},
-	{"rxintr-wide", begin_rxintr_wide, end_rxintr, 0, false},
-	{"unload", begin_unload, NULL, 1, false},	/* the hook is there before and after the module */
+	{"bridge", make_bridge, bridge_fini, {{"broadcast", broadcast}, {"delete", delete_member, &first}}},
+	{"ifindex", make_interface, ifindex_fini, {{"transmit", transmit}, {"detach", detach_one}}},
+	{"growth", make_interface, ifindex_fini, {{"transmit", transmit}, {"attach", attach_one}}},
+	{"devsw", make_device, devsw_fini, {{"open", open_device}, {"detach", detach_device}}},
+	{"ioctl", make_entry, entry_fini, {{"get", get_entry}, {"delete", delete_entry}}},
+	{"replace", make_entry, entry_fini, {{"get", get_entry}, {"set", set_entry}}},
+	{"rxintr", make_listener, end_rxintr, {{"interrupt", interrupt}, {"unlisten", unlisten}}},
+	{"counters", counters_init, end_counters, {{"count", count_twice}, {"sum", sum_up}}},
+	{"bridge-wide", make_bridge, bridge_fini, {{"broadcast", broadcast}, {"delete", delete_member, &first}, {"another", broadcast}}},
+	{"ifindex-wide", make_interface, ifindex_fini, {{"transmit", transmit}, {"detach", detach_one}, {"another", transmit}, {"attach", attach_one}}},
+	{"devsw-wide", make_device, devsw_fini, {{"open", open_device}, {"detach", detach_device}, {"another", open_device}}},
+	{"replace-wide", make_entry, entry_fini, {{"get", get_entry}, {"set", set_entry}, {"another", get_entry}}},
+	{"rxintr-wide", make_listener, end_rxintr, {{"interrupt", interrupt}, {"unlisten", unlisten}, {"another", interrupt}}},
+	{"unload", begin_unload, .left = 1},	/* the hook is there before and after the module */
 };
 const unsigned driver_case_count = sizeof(driver_cases) / sizeof(driver_cases[0]);
 

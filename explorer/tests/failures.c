@@ -1,20 +1,13 @@
 /*
- * failures - calls that fail, waits that end early, and works, callouts and hooks: what the bench finds by them, and that it tries each
+ * failures - calls that fail, waits that end early, and works, hooks, soft interrupts and the parts of CPUs: what the bench finds by them, and that it
+ * tries each
  *
  * The last line counts the cases.
  */
 #include <errno.h>
-#include <sys/atomic.h>
-#include <sys/callout.h>
-#include <sys/condvar.h>
-#include <sys/container_of.h>
-#include <sys/intr.h>
-#include <sys/kmem.h>
-#include <sys/kthread.h>
 #include <sys/module_hook.h>
-#include <sys/mutex.h>
+#include <sys/percpu.h>
 #include <sys/pool.h>
-#include <sys/systm.h>
 #include <sys/workqueue.h>
 
 #include "finds.h"
@@ -29,13 +22,6 @@ static void end_lock(void) { cv_destroy(&cv); mutex_destroy(&lock); }
 HANDLER(nothing, (void)0)
 
 /* ---- Calls that fail. ---- */
-
-BODY(use_block)
-{
-	unsigned *block = kmem_alloc(sizeof(*block), KM_NOSLEEP);
-	KASSERT(block != NULL);
-	kmem_free(block, sizeof(*block));
-}
 
 BODY(use_object)
 {
@@ -130,7 +116,6 @@ HANDLER(make_ready, mutex_enter(&lock); ready = true; cv_signal(&cv); mutex_exit
 struct softc {
 	callout_t callout;
 	struct work work;
-	kmutex_t lock;
 };
 
 static struct workqueue *queue;
@@ -215,10 +200,72 @@ HANDLER(unset_hook, MODULE_HOOK_UNSET(touch_hook); kmem_free(hooked, sizeof(*hoo
 /* It forgets the calls that are under way. */
 HANDLER(free_early, kmem_free(hooked, sizeof(*hooked)); MODULE_HOOK_UNSET(touch_hook))
 
+/* ---- What a thread asks another one, or a handler, may change at the same time: each answer is come to. ---- */
+
+static unsigned word;
+static void *softint, *other_softint;
+static percpu_t *parts;
+
+HANDLER(tell_word, bench_outcome("%u", atomic_load_relaxed(&word)))
+static void establish(void) { softint = softint_establish(SOFTINT_NET | SOFTINT_MPSAFE, tell_word, NULL); }
+
+/* The handler runs before the change, after it, or never: disestablishing it takes it off the queue. */
+HANDLER(schedule_and_end, softint_schedule(softint); atomic_store_relaxed(&word, 1); softint_disestablish(softint))
+
+BODY(go_again)
+{
+	bench_outcome("g");
+	if (atomic_inc_uint_nv(&word) < 4)
+		softint_schedule(softint);
+}
+
+HANDLER(tell, bench_outcome("2"))
+
+static void establish_greedy(void)
+{
+	softint = softint_establish(SOFTINT_BIO, go_again, NULL);
+	other_softint = softint_establish(SOFTINT_BIO, tell, NULL);
+}
+
+/* Soft interrupts of one level run in the order in which they were scheduled. One that schedules itself doesn't keep its peers off. */
+BODY(schedule_greedy)
+{
+	kupaldiz_bind(0);
+	int before = splnet();
+	softint_schedule(softint);
+	softint_schedule(other_softint);
+	softint_schedule(softint);
+	splx(before);
+	kupaldiz_unbind();
+}
+
+static void end_greedy(void) { softint_disestablish(softint); softint_disestablish(other_softint); end_lock(); }
+
+/* Adds to the part of CPU 0, and then to that of CPU 1. */
+BODY(add_to_parts)
+{
+	for (unsigned cpu = 0; cpu < 2; cpu++) {
+		kupaldiz_bind(cpu);
+		atomic_inc_uint(percpu_getref(parts));
+		percpu_putref(parts);
+		kupaldiz_unbind();
+	}
+}
+
+static void look_at(void *own, void *arg, struct cpu_info *cpu)
+{
+	(void)arg;
+	if (cpu_index(cpu) < 2)
+		bench_outcome("%u", atomic_load_relaxed((unsigned *)own));
+}
+
+HANDLER(ask_parts, percpu_foreach(parts, look_at, arg))
+static void make_parts(void) { parts = percpu_alloc(sizeof(unsigned)); }
+static void end_parts(void) { percpu_free(parts, sizeof(unsigned)); end_lock(); }
+
 /* ---- The cases: a fault by its line, and what had failed before; or outcomes. ---- */
 
 static const struct find cases[] = {
-	{"block", "KASSERT: not so: block != NULL, at PLACE", use_block, .failures = 1, .failed = "kmem_alloc at PLACE fails in thread \"first\""},
 	{"object", "KASSERT: not so: object != NULL, at PLACE", use_object, .failures = 1, .failed = "pool_get at PLACE fails in thread \"first\""},
 	{"thread", "KASSERT: not so: kthread_create(PRI_NONE, KTHREAD_MPSAFE, NULL, end_at_once, NULL, NULL, \"made\") == 0, at PLACE", make_thread,
 	    .failures = 1, .failed = "kthread_create fails in thread \"first\""},
@@ -244,6 +291,9 @@ static const struct find cases[] = {
 	{"again", NULL, wait_again, .make = repeat_works, .finish = end_queue, .outcomes = {"3"}},
 	{"each", NULL, enqueue_on_0, enqueue_on_1, .make = work_on_each, .finish = end_works, .outcomes = {"01", "10"}},
 	{"a hook's call", NULL, call_hook, unset_hook, .make = hook_it, .outcomes = {"-1", "1"}},
+	{"a handler that is ended", NULL, schedule_and_end, .make = establish, .finish = end_lock, .outcomes = {"", "0", "1"}},
+	{"a greedy handler", NULL, schedule_greedy, .make = establish_greedy, .finish = end_greedy, .outcomes = {"g2ggg"}},
+	{"parts", NULL, add_to_parts, ask_parts, .make = make_parts, .finish = end_parts, .outcomes = {"00", "01", "10", "11"}},
 };
 
 /* So many runs are enough without a failure, and not with one: the search isn't exhausted. */
@@ -259,9 +309,8 @@ static bool tells_what_is_left_out(void)
 	return right && !goes_wrong(&timed, options, 1, &found) && !found.complete && found.failures > 0;
 }
 
-int main(int count_of_words, char **words)
+int main(void)
 {
-	(void)words;
 	EXPECT(tells_what_is_left_out());
-	return run_finds(cases, sizeof(cases) / sizeof(cases[0]), count_of_words > 1, 0);
+	return run_finds(cases, sizeof(cases) / sizeof(cases[0]));
 }

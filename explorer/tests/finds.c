@@ -1,20 +1,12 @@
 /*
  * finds - one small piece of code for each thing that the bench finds, data races too, and what it says; and for each order that makes none
  *
- * The last line counts the cases.
+ *     finds            the last line counts the cases
+ *     finds PICTURE    writes the picture of the first one, explorer/deadlock.svg, which has the numbers of its lines
  */
-#include <string.h>
-#include <sys/atomic.h>
-#include <sys/condvar.h>
-#include <sys/intr.h>
-#include <sys/kmem.h>
-#include <sys/kthread.h>
 #include <sys/localcount.h>
-#include <sys/mutex.h>
-#include <sys/pserialize.h>
 #include <sys/psref.h>
 #include <sys/rwlock.h>
-#include <sys/systm.h>
 #include <sys/xcall.h>
 #include <xmmintrin.h>
 
@@ -30,6 +22,43 @@ static unsigned word, other_word;
 static bool flag;
 static unsigned *block;
 
+/* ---- A destroy with a lock that the holder of a reference waits for. ---- */
+
+BODY(hold)
+{
+	struct psref psref;
+	int bound = curlwp_bind(), s = pserialize_read_enter();
+	bool found = !atomic_load_acquire(&flag);
+	if (found)
+		psref_acquire(&psref, &target, things);
+	pserialize_read_exit(s);
+	if (found) {
+		mutex_enter(&one);
+		mutex_exit(&one);
+		psref_release(&psref, &target, things);
+	}
+	curlwp_bindx(bound);
+}
+
+BODY(destroy)
+{
+	mutex_enter(&one);
+	atomic_store_release(&flag, true);
+	pserialize_perform(psz);
+	psref_target_destroy(&target, things);
+	mutex_exit(&one);
+}
+
+static void begin_destroy(void)
+{
+	mutex_init(&one, MUTEX_DEFAULT, IPL_NONE);
+	psz = pserialize_create();
+	things = psref_class_create("thing", IPL_SOFTNET);
+	psref_target_init(&target, things);
+	bench_thread("hold", hold, NULL);
+	bench_thread("destroy", destroy, NULL);
+}
+
 static void make_things(void)
 {
 	mutex_init(&one, MUTEX_DEFAULT, IPL_NONE);
@@ -41,9 +70,7 @@ static void make_things(void)
 /* ---- Locks. ---- */
 
 HANDLER(one_two, mutex_enter(&one); mutex_enter(&two); mutex_exit(&two); mutex_exit(&one))
-HANDLER(two_one, mutex_enter(&two); mutex_enter(&one); mutex_exit(&one); mutex_exit(&two))
 HANDLER(read_twice, rw_enter(&rw, RW_READER); rw_enter(&rw, RW_READER); rw_exit(&rw); rw_exit(&rw))
-HANDLER(read_again, for (unsigned turn = 0; turn < 2; turn++) { rw_enter(&rw, RW_READER); rw_exit(&rw); })
 HANDLER(write_once, rw_enter(&rw, RW_WRITER); rw_exit(&rw))
 
 /* A writer that becomes a reader lets those go on that wait to read. */
@@ -81,17 +108,6 @@ HANDLER(free_block, kmem_free(block, sizeof(*block)))
 static void make_block(void) { block = kmem_zalloc(sizeof(*block), KM_SLEEP); }
 HANDLER(change_own_late, free_block(arg); use_block(arg))
 
-static kmutex_t *locked_block;
-
-HANDLER(lock_block, mutex_enter(locked_block); mutex_exit(locked_block))
-HANDLER(free_locked, mutex_destroy(locked_block); kmem_free(locked_block, sizeof(*locked_block)))
-
-static void freed_lock(void)
-{
-	locked_block = kmem_alloc(sizeof(*locked_block), KM_SLEEP);
-	mutex_init(locked_block, MUTEX_DEFAULT, IPL_NONE);
-}
-
 BODY(forget_lock)
 {
 	kmutex_t *lock = kmem_alloc(sizeof(*lock), KM_SLEEP);
@@ -99,16 +115,12 @@ BODY(forget_lock)
 	kmem_free(lock, sizeof(*lock));
 }
 
-/* The compiler tells nothing of this access. */
-#define UNSEEN	__attribute__((noinline, no_sanitize("thread")))
-
 UNSEEN static void write_unseen(unsigned *at)
 {
 	*at = 1;
 }
 
 HANDLER(write_behind, write_unseen(block + 1); kmem_free(block, sizeof(*block)))
-HANDLER(write_freed, kmem_free(block, sizeof(*block)); write_unseen(block))
 
 enum { LONG = 4096 };
 
@@ -116,40 +128,6 @@ static void make_long_block(void) { block = kmem_zalloc(LONG, KM_SLEEP); }
 HANDLER(write_last_freed, kmem_free(block, LONG); write_unseen(block + LONG / sizeof(*block) - 1))
 
 /* ---- References and sections. ---- */
-
-static void make_target(void)
-{
-	psz = pserialize_create();
-	things = psref_class_create("thing", IPL_SOFTNET);
-	psref_target_init(&target, things);
-}
-
-BODY(hold_and_lock)
-{
-	struct psref psref;
-	int bound = curlwp_bind(), s = pserialize_read_enter();
-	bool found = !atomic_load_acquire(&flag);
-	if (found)
-		psref_acquire(&psref, &target, things);
-	pserialize_read_exit(s);
-	if (found) {
-		mutex_enter(&one);
-		mutex_exit(&one);
-		psref_release(&psref, &target, things);
-	}
-	curlwp_bindx(bound);
-}
-
-BODY(destroy_locked)
-{
-	mutex_enter(&one);
-	atomic_store_release(&flag, true);
-	pserialize_perform(psz);
-	psref_target_destroy(&target, things);
-	mutex_exit(&one);
-	psref_class_destroy(things);
-	pserialize_destroy(psz);
-}
 
 BODY(never_ends)
 {
@@ -238,13 +216,6 @@ static void use_argument(void *arg, void *other)
 
 /* The call may still be made on some CPU. */
 HANDLER(wait_never, (void)xc_broadcast(0, use_argument, block, NULL); kmem_free(block, sizeof(*block)))
-
-BODY(wait_for_call)
-{
-	xc_wait(xc_broadcast(0, use_argument, block, NULL));
-	KASSERT(atomic_load_relaxed(block) == KUPALDIZ_CPUS);
-	kmem_free(block, sizeof(*block));
-}
 
 /* NetBSD's key.c releases so: a kernel takes the lock, and sleeps if it must. */
 HANDLER(release_in_handler, localcount_release(&local, &cv, &one))
@@ -353,7 +324,6 @@ HANDLER(read_second_state, KASSERT(atomic_load_acquire(&state) != 2 || word == 1
 /* ---- Data races: atomics and barriers. ---- */
 
 HANDLER(read_word, KASSERT(!atomic_load_acquire(&flag) || word < 2))
-HANDLER(write_word_early, atomic_store_relaxed(&flag, true); word = 1)
 HANDLER(write_word_relaxed, word = 1; atomic_store_relaxed(&flag, true))
 HANDLER(write_word_released, word = 1; atomic_store_release(&flag, true))
 HANDLER(write_word_fenced, word = 1; membar_release(); atomic_store_relaxed(&flag, true))
@@ -375,15 +345,6 @@ BODY(use_given_block)
 HANDLER(write_behind_seen, *(volatile unsigned *)(block + 1) = 1)
 
 /* ---- Faults whose schedules are cut down to the fewest switches. ---- */
-
-/* A change is lost where the other thread changes the word in between. */
-BODY(add_slowly)
-{
-	unsigned before = atomic_load_relaxed(&word);
-	atomic_store_relaxed(&word, before + 1);
-	atomic_inc_uint(&other_word);
-	KASSERT(atomic_load_relaxed(&other_word) < 2 || atomic_load_relaxed(&word) == 2);
-}
 
 /* The search comes first to an order in which each thread is left in the middle. */
 BODY(step_up)
@@ -416,42 +377,26 @@ HANDLER(come_first, atomic_store_relaxed(&other_word, 1))
 
 /* ---- What is left at the end. ---- */
 
-static void left_class(void) { (void)psref_class_create("left", IPL_SOFTNET); }
-static void left_pserialize(void) { psz = pserialize_create(); }
-HANDLER(count_in, localcount_acquire(&local))
-static void left_count(void) { localcount_init(&local); }
-
 /* More than one registry takes. Only the last is left. */
 enum { SOME = 32 + 8 };
 
 static struct psref_target targets[SOME];
-static struct localcount locals[SOME];
 
 static void make_targets(void)
 {
-	make_target();
+	things = psref_class_create("thing", IPL_SOFTNET);
 	for (unsigned at = 0; at < SOME; at++)
 		psref_target_init(&targets[at], things);
-	psref_target_destroy(&target, things);
 	for (unsigned at = 0; at + 1 < SOME; at++)
 		psref_target_destroy(&targets[at], things);
 }
 
-static void make_counts(void)
-{
-	for (unsigned at = 0; at < SOME; at++)
-		localcount_init(&locals[at]);
-	mutex_enter(&one);
-	for (unsigned at = 0; at + 1 < SOME; at++)
-		localcount_drain(&locals[at], &cv, &one);
-	mutex_exit(&one);
-}
-
-HANDLER(count_last, localcount_acquire(&locals[SOME - 1]))
+HANDLER(count_in, localcount_acquire(&local))
+static void left_count(void) { localcount_init(&local); }
 
 static void left_object(void) { (void)mutex_obj_alloc(MUTEX_DEFAULT, IPL_NONE); }
 
-/* What ends a test, which takes down what make_things has made: all of it, all but one lock, or with a lock held. */
+/* What ends a test, which takes down what make_things has made, or ends with a lock held. */
 static void destroy_things(void)
 {
 	mutex_destroy(&one);
@@ -460,7 +405,6 @@ static void destroy_things(void)
 	cv_destroy(&cv);
 }
 
-static void destroy_some(void) { mutex_destroy(&one); rw_destroy(&rw); cv_destroy(&cv); }
 static void end_locked(void) { mutex_enter(&one); }
 
 /* ---- What a thread sets of its processor is its own. ---- */
@@ -538,28 +482,19 @@ static void make_many_locks(void)
 /* ---- What is found. ---- */
 
 static const struct find finds[] = {
-	{"two orders", "deadlock: thread \"first\" waits in mutex_enter at", one_two, two_one},
 	{"a reader that enters again behind a writer", "nobody can go on: thread \"first\" waits in rw_enter",
 	    read_twice, write_once},
 	{"a downgrade", NULL, downgrade, read_beside, .finish = destroy_things},
-	{"a writer between two readers", NULL, read_again, write_once, .finish = destroy_things},
 	{"a lost wake-up", "came while nobody waited", wait_carelessly, wake, .switches = 2},
 	{"freed memory", "data race: thread \"first\" writes at finds.c:*, and thread \"second\" frees at *finds.c:",
 	    use_block, free_block, .make = make_block},
 	{"freed memory by an atomic change of the thread itself", "atomic change at finds.c:*: use of freed memory: thread \"first\" gave it back",
 	    change_own_late, write_once, .make = make_block},
-	{"a lock that is freed in use", "mutex_", lock_block, free_locked, .make = freed_lock},
 	{"freed twice", "use of freed memory", free_block, free_block, .make = make_block},
-	{"a leak", "1 blocks of memory are left at the end, one of them taken by kmem_zalloc at",
-	    use_block, use_block, .make = make_block},
 	{"a lock that is never destroyed", "what mutex_init has made lies in it and was never destroyed",
 	    forget_lock, write_once},
 	{"a write behind a block", "written behind a block of", write_behind, write_once, .make = make_block},
-	{"a write to freed memory", "something was written to freed memory", write_freed, write_once, .make = make_block},
 	{"a write to the last bytes of freed memory", "something was written to freed memory", write_last_freed, .make = make_long_block},
-	{"a destroy with the holder's lock", "waits in psref_target_destroy at",
-	    hold_and_lock, destroy_locked, .make = make_target},
-	{"a target that is left", "a target or a local count is left at the end", write_once, write_once, .make = make_target},
 	{"a thread that never ends", "the run doesn't end", never_ends, write_once},
 	{"a crash", "the code ends by signal 11", crash, set_word},
 	{"a thread that isn't joined", "taken by kthread_create", join_never, write_once},
@@ -568,22 +503,14 @@ static const struct find finds[] = {
 	{"an attach that a drain loses", "KASSERT: not so: !attached || slot == 2",
 	    clear_after_drain, attach_meanwhile, .make = cleared_after_drain},
 	{"a cross call that isn't waited for", "use of freed memory", wait_never, write_once, .make = make_block},
-	{"a cross call that is", NULL, wait_for_call, write_once, .make = make_block},
 	{"a release in a soft interrupt", NULL, schedule_release, drain_local, .make = released_in_handler},
 	{"a drain beside another waiter", NULL, wait_beside, drain_and_wake, release_last, .make = acquire_one},
 	{"a higher level's handler that waits", NULL, wait_for_level, write_once, .make = higher_waits},
 	{"a lower level's handler that waits", NULL, wait_for_level, write_once, .make = lower_waits},
-	{"a class that is left", "taken by psref_class_create", write_once, write_once, .make = left_class},
-	{"a pserialize that is left", "taken by pserialize_create", write_once, write_once, .make = left_pserialize},
 	{"a lock object that is left", "taken by mutex_obj_alloc", write_once, write_once, .make = left_object},
-	{"a count with a reference that is left", "a local count with 1 references is left at the end",
-	    count_in, write_once, .make = left_count},
 	{"the last of many targets that is left", "a target or a local count is left at the end",
 	    write_once, write_once, .make = make_targets},
-	{"the last of many counts with references that are left", "a local count with 2 references is left at the end",
-	    count_last, count_last, .make = make_counts},
-	{"a lock that is left", "1 locks, condition variables or callouts are left at the end, one of them made by mutex_init",
-	    write_once, write_once, .finish = destroy_some},
+	{"a count with references that are left", "a local count with 2 references is left at the end", count_in, count_in, .make = left_count},
 	{"a lock that is held at the end", "pthread_exit: with a lock", write_once, write_once, .finish = end_locked},
 	{"one variable under two locks", "data race: thread \"first\" writes at finds.c:*, and thread \"second\" reads at finds.c:",
 	    write_under_one, read_under_two},
@@ -594,7 +521,6 @@ static const struct find finds[] = {
 	{"bytes side by side", NULL, write_first_byte, write_second_byte},
 	{"atomics of the language", NULL, give_by_language, take_by_language},
 	{"a release that another store ends", "data race: ", store_state, end_release, .third = read_second_state},
-	{"plain accesses without an order", "data race: ", read_word, write_word_early},
 	{"a relaxed store where a release is needed", "data race: ", read_word, write_word_relaxed},
 	{"a release", NULL, read_word, write_word_released},
 	{"a barrier", NULL, read_word, write_word_fenced},
@@ -606,21 +532,22 @@ static const struct find finds[] = {
 	    take_block, use_given_block},
 	{"an access behind a block", "plain write at finds.c:*: beyond a block of ",
 	    write_behind_seen, write_once, .make = make_block},
-	{"a change that is lost", "KASSERT", add_slowly, add_slowly, .switches = 2},
 	{"a look between two steps", "KASSERT", look_twice, step_up, .switches = 3},
-	{"a step, and two locks in two orders", "deadlock", step_one_two, step_two_one, .switches = 1},
+	{"a step, and two locks in two orders", "deadlock: thread \"first\" waits in mutex_enter at", step_one_two, step_two_one, .switches = 1},
 	{"the last of many words", "data race: ", write_many, write_last},
 	{"the last of many releases", "data race: ", release_many, acquire_another},
-	{"one of many locks that is left", "1 locks, condition variables or callouts are left at the end", write_once, .make = make_many_locks,
-	    .finish = destroy_all_but_one},
+	{"one of many locks that is left", "1 locks, condition variables or callouts are left at the end, one of them made by mutex_init", write_once,
+	    .make = make_many_locks, .finish = destroy_all_but_one},
 	{"a thread's own way to round", NULL, round_up, round_to_nearest},
 	{"a fault by two ways", "KASSERT", change_and_back, look, come_first, .switches = 1},
 };
 
 int main(int count, char **words)
 {
-	(void)words;
+	const struct bench_options pictured = {.name = "picture", .picture = words[1], .left = 4};
+	if (count > 1)
+		return bench_explore(begin_destroy, &pictured);
 	snprintf(counted_twice, sizeof(counted_twice), "data race: thread \"first\" writes at finds.c:%d, and thread \"second\" * at finds.c:%d", COUNTED_AT,
 	    COUNTED_AT);
-	return run_finds(finds, sizeof(finds) / sizeof(finds[0]), count > 1, 0);
+	return run_finds(finds, sizeof(finds) / sizeof(finds[0]));
 }

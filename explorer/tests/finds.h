@@ -3,14 +3,18 @@
 #define BENCH_FINDS_H
 
 #include <fnmatch.h>
-#include <stdio.h>
-#include <string.h>
+#include <sys/atomic.h>
+#include <sys/callout.h>
+#include <sys/condvar.h>
+#include <sys/intr.h>
+#include <sys/kmem.h>
+#include <sys/kthread.h>
+#include <sys/mutex.h>
+#include <sys/pserialize.h>
+#include <sys/systm.h>
 
 #include "../../netbsd/tests/child.h"
 #include "cases.h"
-
-/* A row leaves out what its case doesn't have. */
-#pragma GCC diagnostic ignored "-Wmissing-field-initializers"
 
 struct find {
 	const char *name, *line;	/* NULL where nothing is wrong */
@@ -98,21 +102,19 @@ static inline bool is_found(const struct find *find)
 	    goes_wrong(find, (struct bench_options){.quiet = true, .replay = found.schedule}, find->failures, &again) && strcmp(found.line, again.line) == 0;
 }
 
-/* Runs the cases, and shows those that fail, or with `all` each. How many fail: the last line counts them, and those that passed before. */
-static inline int run_finds(const struct find *finds, size_t count, bool all, unsigned passed)
+/* Runs the cases, and shows those that fail. The last line counts them. Whether there are any. */
+static inline int run_finds(const struct find *finds, size_t count)
 {
-	unsigned failed = 0;
+	size_t failed = 0;
 	for (const struct find *find = finds; find < &finds[count]; find++) {
 		struct bench_found found;
-		bool right = is_found(find);
-		passed += right;
-		failed += !right;
-		if (!right || all) {
-			printf("%s %s\n", right ? "ok" : "FAILED", find->name);
-			goes_wrong(find, (struct bench_options){.name = find->name}, find->failures, &found);
-		}
+		if (is_found(find))
+			continue;
+		failed++;
+		printf("FAILED %s\n", find->name);
+		goes_wrong(find, (struct bench_options){.name = find->name}, find->failures, &found);
 	}
-	printf("%u passed, %u failed\n", passed, failed);
+	printf("%zu passed, %zu failed\n", count - failed, failed);
 	return failed != 0;
 }
 

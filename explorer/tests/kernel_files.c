@@ -27,8 +27,6 @@ static void begin_if(void)
 	wm0 = kmem_zalloc(sizeof(*wm0), KM_SLEEP);
 	strlcpy(wm0->if_xname, "wm0", sizeof(wm0->if_xname));
 	KASSERT(if_attach(wm0) == 0);
-	bench_thread("output", output_wm0, NULL);
-	bench_thread("detach", detach_wm0, NULL);
 }
 
 /* ---- key.c: packets are received while the association that they use is destroyed. ---- */
@@ -100,43 +98,29 @@ static void end_devsw(void)
 
 enum { ONE = 1, TWO = 2 };
 
-HANDLER(forward, unsigned to = bridge_forward(ONE, 0x10, 0x20); KASSERT(to == 0 || to == TWO))
-HANDLER(answer, unsigned to = bridge_forward(TWO, 0x20, 0x10); KASSERT(to == 0 || to == ONE))
-HANDLER(delete_two, bridge_delete(TWO))
-HANDLER(stop_bridge, bridge_stop(); KASSERT(atomic_load_relaxed(&bridge.sc_rtage_scheduled) == 0))
-HANDLER(do_nothing, (void)0)
-
 static int no_bridge;
 
-/* Whether there is one. */
-static bool begin_bridge(void)
+HANDLER(forward, unsigned to = no_bridge != 0 ? 0 : bridge_forward(ONE, 0x10, 0x20); KASSERT(to == 0 || to == TWO))
+HANDLER(answer, unsigned to = no_bridge != 0 ? 0 : bridge_forward(TWO, 0x20, 0x10); KASSERT(to == 0 || to == ONE))
+HANDLER(delete_two, if (no_bridge == 0) bridge_delete(TWO))
+HANDLER(stop_bridge, if (no_bridge == 0) bridge_stop(); KASSERT(atomic_load_relaxed(&bridge.sc_rtage_scheduled) == 0))
+
+static void make_bridge(void)
 {
 	no_bridge = bridge_init();
 	if (no_bridge == 0) {
 		bridge_add(ONE);
 		bridge_add(TWO);
-	} else {
-		bench_thread("nothing", do_nothing, NULL);
 	}
-	return no_bridge == 0;
 }
 
-static void begin_forward(void)
+static void start_bridge(void)
 {
-	if (!begin_bridge())
-		return;
-	bench_thread("answer", answer, NULL);
-	bench_thread("delete", delete_two, NULL);
-}
-
-static void begin_age(void)
-{
-	if (!begin_bridge())
-		return;
-	(void)bridge_forward(ONE, 0x10, 0x20);
-	bridge_start();
-	bench_thread("forward", forward, NULL);
-	bench_thread("stop", stop_bridge, NULL);
+	make_bridge();
+	if (no_bridge == 0) {
+		(void)bridge_forward(ONE, 0x10, 0x20);
+		bridge_start();
+	}
 }
 
 static void end_bridge(void)
@@ -147,11 +131,11 @@ static void end_bridge(void)
 
 /* Where the workqueue can't be made as the kernel starts, if.c panics. */
 static const struct driver_case file_cases[] = {
-	{"if", begin_if, ifnet_fini, 0, true},
-	{"key", begin_key, end_key, 0, false},
-	{"subr_devsw", begin_devsw, end_devsw, 0, false},
-	{"forward", begin_forward, end_bridge, 0, false},
-	{"age", begin_age, end_bridge, 0, false},
+	{"if", begin_if, ifnet_fini, {{"output", output_wm0}, {"detach", detach_wm0}}, .reliable = true},
+	{"key", begin_key, end_key},
+	{"subr_devsw", begin_devsw, end_devsw},
+	{"forward", make_bridge, end_bridge, {{"answer", answer}, {"delete", delete_two}}},
+	{"age", start_bridge, end_bridge, {{"forward", forward}, {"stop", stop_bridge}}},
 };
 
 int main(int count, char **words)

@@ -5,8 +5,8 @@
  *
  *     outcomes [FIRST COUNT]        the random programs with these seeds
  *     outcomes for SECONDS FIRST    short ones, from this seed on, as many as there is time for
- *     outcomes print FIRST COUNT    each program with each outcome, a line each: for a comparison with real threads
  *     outcomes reduced FIRST COUNT  what the search with the reduction comes to, for a comparison with a reduction that has a fault
+ *     outcomes print FIRST COUNT    the same of those that real threads may be compared with
  */
 #include <string.h>
 #include <sys/atomic.h>
@@ -39,10 +39,11 @@ static char texts[MOST][LONGEST];
 static unsigned words[2];	/* by atomic accesses */
 static unsigned plains[2];	/* by plain ones */
 static bool racy;		/* a data race is no fault, and what it decides is an outcome */
-static bool prints;		/* the outcomes, instead of comparing them */
-static bool reduced_alone;	/* shows what it comes to */
+static bool reduced_alone;	/* shows what it comes to, instead of comparing that */
+static bool prints;		/* the same, for real threads */
 static kmutex_t locks[2], spin, *shared;
 static krwlock_t rw;
+static bool has_rw[MOST];
 static kcondvar_t cv;
 static bool flag, gone;
 static pserialize_t psz;
@@ -61,9 +62,6 @@ static struct workqueue *queue;
 static struct work *work;
 static char seen[MOST][LONGEST + 1];
 static unsigned count[MOST];
-
-/* What a program's own books say is no access of it. */
-#define UNSEEN	__attribute__((no_sanitize("thread")))
 
 UNSEEN static void observe(unsigned thread, unsigned value)
 {
@@ -112,14 +110,6 @@ static bool uses(const char *letters)
 		if (strpbrk(texts[at], letters) != NULL)
 			return true;
 	return false;
-}
-
-static void try_lock(unsigned thread)
-{
-	int taken = mutex_tryenter(&locks[0]);
-	observe(thread, (unsigned)taken);
-	if (taken)
-		mutex_exit(&locks[0]);
 }
 
 static void wait_for_flag(void)
@@ -228,39 +218,6 @@ static void make_thread(unsigned thread, struct cpu_info *on)
 	observe(thread, cpu);
 }
 
-static void lock_words(unsigned thread, krw_t how, unsigned value)
-{
-	rw_enter(&rw, how);
-	if (how == RW_WRITER)
-		atomic_store_relaxed(&words[0], value);
-	else
-		observe(thread, atomic_load_relaxed(&words[0]));
-	rw_exit(&rw);
-}
-
-static void try_rw(unsigned thread, krw_t how)
-{
-	int taken = rw_tryenter(&rw, how);
-	observe(thread, (unsigned)taken);
-	if (taken)
-		rw_exit(&rw);
-}
-
-static void upgrade(unsigned thread)
-{
-	rw_enter(&rw, RW_READER);
-	observe(thread, (unsigned)rw_tryupgrade(&rw));
-	rw_exit(&rw);
-}
-
-static void downgrade(unsigned thread)
-{
-	rw_enter(&rw, RW_WRITER);
-	rw_downgrade(&rw);
-	observe(thread, atomic_load_relaxed(&words[0]));
-	rw_exit(&rw);
-}
-
 /* Acquires a reference twice, as if the target were never gone. */
 static void use_rashly(void)
 {
@@ -353,17 +310,17 @@ UNSEEN static void execute(unsigned thread, char letter, unsigned value)
 	case 'B': atomic_store_relaxed(&words[1], value); break;
 	case '+': observe(thread, atomic_inc_uint_nv(&words[0])); break;
 	case '(': mutex_enter(&locks[0]); break;
-	case ')': mutex_exit(&locks[0]); break;
+	case ')': if (mutex_owned(&locks[0])) mutex_exit(&locks[0]); break;
 	case '[': mutex_enter(&locks[1]); break;
 	case ']': mutex_exit(&locks[1]); break;
-	case 't': try_lock(thread); break;
+	case 't': observe(thread, (unsigned)mutex_tryenter(&locks[0])); break;
 	case '<': (void)pserialize_read_enter(); break;
 	case '>': pserialize_read_exit(0); break;
 	case 'P': pserialize_perform(psz); break;
 	case 'w': wait_for_flag(); break;
 	case 's': set_flag(); break;
-	case 'r': lock_words(thread, RW_READER, value); break;
-	case 'W': lock_words(thread, RW_WRITER, value); break;
+	case 'r': case 'W': rw_enter(&rw, letter == 'r' ? RW_READER : RW_WRITER); has_rw[thread] = true; break;
+	case '|': if (has_rw[thread]) rw_exit(&rw); break;
 	case 'g': use_target(thread); break;
 	case 'D': end_target(); break;
 	case 'h': case 'I': break;
@@ -403,10 +360,9 @@ UNSEEN static void execute(unsigned thread, char letter, unsigned value)
 	case 'M': mutex_destroy(&locks[1]); break;
 	case 'H': mutex_obj_hold(shared); break;
 	case 'F': observe(thread, mutex_obj_free(shared)); break;
-	case 'R': try_rw(thread, RW_READER); break;
-	case 'J': try_rw(thread, RW_WRITER); break;
-	case 'U': upgrade(thread); break;
-	case 'E': downgrade(thread); break;
+	case 'R': case 'J': observe(thread, has_rw[thread] = rw_tryenter(&rw, letter == 'R' ? RW_READER : RW_WRITER)); break;
+	case 'U': observe(thread, (unsigned)rw_tryupgrade(&rw)); break;
+	case 'E': rw_downgrade(&rw); break;
 	case 'G': observe(thread, (unsigned)rw_read_held(&rw)); break;
 	case '!': observe(thread, (unsigned)rw_lock_held(&rw)); break;
 	case '-': rw_destroy(&rw); break;
@@ -566,7 +522,7 @@ static struct bench_found explore(bool whole)
 static void show(const struct bench_found *found, const char *which)
 {
 	printf("%s: %llu schedules, %u outcomes, %s%s\n", which, (unsigned long long)(found->schedules + found->cut), found->outcomes, found->line,
-	    is_tried(found) ? "" : " (not tried)");
+	    is_tried(found) || found->states == 0 ? "" : " (not tried)");
 	for (unsigned at = 0; at < found->outcomes; at++)
 		printf("    %s\n", found->outcome[at].text);
 }
@@ -585,16 +541,6 @@ static bool agree(const struct bench_found *whole, const struct bench_found *red
 static unsigned long long wholes, reduceds;
 static unsigned compared, faults, begun, skipped;
 
-static void print_outcomes(void)
-{
-	struct bench_found found = explore(false);
-	bool whole = found.first == 0 && (is_tried(&found) || found.states == 0);
-	for (unsigned at = 0; at < found.outcomes && whole; at++)
-		printf("%s|%s|%s: %s\n", texts[0], texts[1], texts[2], found.outcome[at].text);
-	if (!whole)
-		printf("%s|%s|%s: LEFT OUT\n", texts[0], texts[1], texts[2]);
-}
-
 static void show_program(const char *head)
 {
 	printf("%s%s, ticks %u: %s | %s | %s | %s\n", head, racy ? ", racy" : "", ticks, texts[0], texts[1], texts[2], texts[3]);
@@ -603,16 +549,14 @@ static void show_program(const char *head)
 /* Compares the two ways of the search for the program that is written. */
 static void compare(void)
 {
-	if (reduced_alone) {
+	if (prints && uses(NOT_BESIDE))
+		return;
+	if (reduced_alone || prints) {
 		struct bench_found found = explore(false);
 		show_program("program");
 		show(&found, "reduced");
 		return;
 	}
-	if (prints && !uses(NOT_BESIDE))
-		print_outcomes();
-	if (prints)
-		return;
 	struct bench_found whole = explore(true), reduced = explore(false);
 	bool all = is_tried(&whole) || whole.first != 0;
 	if (whole.others > 0 || (!all && !is_tried(&reduced) && reduced.first == 0)) {
@@ -650,10 +594,10 @@ static void add(char *text, const char *more)
 
 static void make_text(char *text, unsigned parts)
 {
-	static const char *const pieces[] = {"a", "b", "A", "B", "+", "(a)", "[A]", "([B])", "t", "<a>", "<ab>", "P", "(A)", "r", "W", "AB", "ba", "s", "w", "g", "i",
+	static const char *const pieces[] = {"a", "b", "A", "B", "+", "(a)", "[A]", "([B])", "t)", "<a>", "<ab>", "P", "(A)", "ra|", "WA|", "AB", "ba", "s", "w", "g", "i",
 	    "k", "o", "oO", "<iab>", "<iA>", "<ib>", "T", "TS", "S", "j", "je", "jAe", "jf", "lAL", "lAjL", "q",
 	    "q", "(S)", "kA", "x", "X", "xy", "Y", "z", "(x)", "(X)", "[Y]", "#", "({#})", "{x}", "<y>", "lXL", "lpyL", "p", "n", "B(t)", "v", "vS", "K", "d", "kv", "m", "(m)",
-	    "R", "J", "U", "E", "G!", "N", "&", "~", "/", ";"};
+	    "R|", "J|", "rU|", "WEa|", "G!", "N", "&", "~", "/", ";"};
 	for (unsigned at = 0; at < parts; at++)
 		add(text, pieces[pick(sizeof(pieces) / sizeof(pieces[0]))]);
 }
@@ -663,7 +607,7 @@ static unsigned points_of(const char *text)
 {
 	unsigned points = 0;
 	for (; *text != '\0'; text++)
-		points += strchr("gqDQ~", *text) != NULL ? 6 : strchr("twsTjfeoOrWnphmRJUE/", *text) != NULL ? 3 : *text != 'c';
+		points += strchr("gqDQ~", *text) != NULL ? 6 : strchr("wsTjfeoOnphm/", *text) != NULL ? 3 : *text != 'c';
 	return points;
 }
 
@@ -700,18 +644,18 @@ static void compare_random(uint64_t of)
 /* The programs that are written here: the texts of up to three threads. */
 static const char *const written[][3] = {
 	{"Ab", "Ba"}, {"A", "A", "a"}, {"(a)(A)", "(a)(A)"}, {"([A])", "[(A)]"}, {"<ab>", "APB"}, {"<a><b>", "AP", "BP"}, {"w", "s"}, {"w", "w", "s"},
-	{"w", "a", "b"}, {"(t)", "(a)"}, {"ia", "b", "A"}, {"<iab>", "A"}, {"<iB>b", "b"}, {"g", "D"}, {"gA", "D"}, {"g", "g", "D"}, {"r", "W", "r"},
+	{"w", "a", "b"}, {"(t)", "(a)"}, {"ia", "b", "A"}, {"<iab>", "A"}, {"<iB>b", "b"}, {"g", "D"}, {"gA", "D"}, {"g", "g", "D"}, {"ra|", "WA|", "ra|"},
 	{"ka", "A"}, {"kA", "ka"}, {"oa", "a"}, {"o", "<a>O"}, {"oOa", "A"}, {"c<a>A", "c<aA>"}, {"c<ab>i", "cA", "B"}, {"c(a)", "c<A>", "(a)"}, {"T", "s"},
 	{"T", "S", "s"}, {"T", "T", "S"}, {"T", "vS"}, {"je", "a"}, {"jf", "a"}, {"jAe", "ab"}, {"cjlAALe", "a"}, {"cjlALb", "cA", "oO"}, {"q", "Q"},
 	{"q", "q", "Q"}, {"T", "jS", "k"}, {"ba", "je"}, {"TST", "S(A)", "AB"}, {"s", "TS", "T"}, {"lAjL", "jf"}, {"#", "#"}, {"xY", "yX"}, {"(X)", "[x]"},
 	{"(#)", "(#)", "(x)"}, {"X(A)", "(a)x"}, {"X{a}", "{A}Y", "y"}, {"{#}", "c{p}"}, {"clpxL", "x"}, {"n", "Ba"}, {"nx", "Xb"}, {"A(a)", "ko"}, {"o"},
-	{"z", "y"}, {"Ab", "aB", "ab"}, {"t", "[A](a)"}, {"hc<b>"}, {"T", "oaS"}, {"cai", "cb<A>"}, {"kv", "kv"}, {"hc<bb>", "B"}, {"cm", "()", "c<ab>"},
+	{"z", "y"}, {"Ab", "aB", "ab"}, {"t)", "[A](a)"}, {"hc<b>"}, {"T", "oaS"}, {"cai", "cb<A>"}, {"kv", "kv"}, {"hc<bb>", "B"}, {"cm", "()", "c<ab>"},
 	{"K", "dv", "k"}, {"ckj", "cj"},
 	{"[]", "M"}, {"HF", "F"}, {"F", "IF"}, {"V", "C"}, {"u", "S"}, {"u", "NS"}, {"T", "NN"}, {"TS", "N"},
-	{"R", "W"}, {"U", "r"}, {"U", "R"}, {"E", "r"}, {"E", "R"}, {"G", "r"}, {"!", "r"}, {"!", "W"},
-	{"r", "-"}, {"P", "Z"}, {"D", "0"}, {"1", "2"}, {"2", "D"}, {"3", "D"}, {"c2", "c33"}, {"4", "5%"},
+	{"R|", "WA|"}, {"rU|", "ra|"}, {"rU|", "R|"}, {"WEa|", "ra|"}, {"WEa|", "R|"}, {"G", "ra|"}, {"!", "ra|"}, {"!", "WA|"},
+	{"ra|", "-"}, {"P", "Z"}, {"D", "0"}, {"1", "2"}, {"2", "D"}, {"3", "D"}, {"c2", "c33"}, {"4", "5%"},
 	{"6", "7"}, {"8", "6"}, {"5A%", "8a"}, {"b&", "bcb"}, {"b&", "bcb=b"}, {"&", "c=&"}, {"'", "\""},
-	{"b`", "b`"}, {"ib", "^"}, {"J", "J"}, {"U", "!G!"}, {"E", "!G!"}, {"bn", "bi"}, {"cjAe", "cm", "k"},
+	{"b`", "b`"}, {"ib", "^"}, {"J|", "J|"}, {"rU|", "!G!"}, {"WEa|", "!G!"}, {"bn", "bi"}, {"cjAe", "cm", "k"},
 	{"bn", "bn"}, {"b&", "b."}, {"~", "~"}, {"~a", "A"}, {"?", "*"}, {"/", "/"}, {"/", "//"}, {"/", "_"},
 	{";", "\""}, {"@", "$"},
 };
@@ -738,35 +682,28 @@ static time_t now(void)
 
 static void print_counts(void)
 {
+	if (seconds > 0)
+		printf("in %u seconds ", seconds);
 	printf("%u programs have the same outcomes by %llu schedules as by %llu; %u of them a fault; of %u others a part was compared; %u were too long\n",
 	    compared, reduceds, wholes, faults, begun, skipped);
 }
 
-static int compare_for_a_while(uint64_t first)
-{
-	most_schedules = 150;
-	compare_written();
-	for (time_t end = now() + seconds; now() < end; first++)
-		compare_random(first);
-	EXPECT(2 * faults < compared);
-	printf("in %u seconds ", seconds);
-	print_counts();
-	return 0;
-}
-
 int main(int count_of_words, char **given)
 {
-	if (count_of_words == 4 && strcmp(given[1], "for") == 0) {
-		seconds = (unsigned)atoi(given[2]);
-		return compare_for_a_while(strtoull(given[3], NULL, 10));
+	const char *how = count_of_words == 4 ? given[1] : "";
+	uint64_t first = count_of_words >= 3 ? strtoull(given[count_of_words - 2], NULL, 10) : 1;
+	uint64_t number = count_of_words >= 3 ? strtoull(given[count_of_words - 1], NULL, 10) : 60;
+	prints = strcmp(how, "print") == 0;
+	reduced_alone = strcmp(how, "reduced") == 0;
+	if (strcmp(how, "for") == 0) {
+		seconds = (unsigned)first;
+		first = number;
+		number = UINT64_MAX;
+		most_schedules = 150;
 	}
-	prints = count_of_words == 4 && strcmp(given[1], "print") == 0;
-	reduced_alone = count_of_words == 4 && strcmp(given[1], "reduced") == 0;
-	unsigned first = count_of_words >= 3 ? (unsigned)atoi(given[count_of_words - 2]) : 1;
-	unsigned number = count_of_words >= 3 ? (unsigned)atoi(given[count_of_words - 1]) : 60;
 	compare_written();
-	for (unsigned at = 0; at < number; at++)
-		compare_random(first + at);
+	for (time_t end = now() + seconds; number > 0 && (seconds == 0 || now() < end); number--)
+		compare_random(first++);
 	if (prints || reduced_alone)
 		return 0;
 	EXPECT(2 * faults < compared);

@@ -23,7 +23,6 @@ HANDLER(two_one, mutex_enter(&two); mutex_enter(&one); mutex_exit(&one); mutex_e
 
 static void call_outside(void) { mutex_init(&one, MUTEX_DEFAULT, IPL_NONE); mutex_enter(&one); }
 static void thread_outside(void) { bench_thread("lost", one_two, NULL); }
-static void point_outside(void) { bench_point(); }
 static void atomic_outside(void) { atomic_inc_uint(&word); }
 static void outcome_outside(void) { bench_outcome("%u", word); }
 static void no_setup(void) { bench_explore(NULL, NULL); }
@@ -81,7 +80,6 @@ static const struct refusal {
 } refusals[] = {
 	{"a call outside", "bench: mutex_enter outside of bench_explore\n", .call = call_outside},
 	{"a thread outside", "bench: bench_thread outside of bench_explore\n", .call = thread_outside},
-	{"a point outside", "bench: bench_point outside of bench_explore\n", .call = point_outside},
 	{"an atomic access outside", "bench: atomic change outside of bench_explore\n", .call = atomic_outside},
 	{"an outcome outside", "bench: bench_outcome outside of bench_explore\n", .call = outcome_outside},
 	{"no setup", "bench: there is no setup\n", .call = no_setup},

@@ -1,8 +1,8 @@
 #!/usr/bin/env python3
-"""Compares what is told of the explorer with what it has: told.py points|drivers|faults; the last line is 'N passed, M failed'.
+"""Compares what is told of the explorer with what it has: told.py points|drivers; the last line is 'N passed, M failed'.
 
 `points`: the calls that the layer shows with those that have a point in the explorer. One without a point must be named here, with the reason.
-`drivers`, `faults`: the README's table, or faults.txt, with what was printed: the output of `drivers` or of faults.py at standard input.
+`drivers`: the README's table, with what was printed: the output of `drivers` at standard input.
 """
 import re
 import sys
@@ -19,13 +19,7 @@ WITHOUT = {
 }
 # Those that the explorer has a call of its own for, which says what the step touches.
 TOUCHES = set("bind curlwp_bind curlwp_bindx unbind".split())
-TABLES = {"drivers": "README.md", "faults": "tests/faults.txt"}
-PRINTED = {
-    "drivers": r"^([a-z-]+): (\d+) schedules, (\d+) cut short, \d+ states, (\d+) points, \d+ switches$",
-    "faults": r"^found  ([a-z]+) +(.*?) +run +(\d+), switches (\d+), preemptions (\d+): ",
-}
-# Which columns of a row say the same.
-COLUMNS = {"drivers": (0, 2, 3, 4), "faults": (0, 1, 2, 3, 4)}
+PRINTED = r"^([a-z-]+): (\d+) schedules, (\d+) cut short, \d+ states, (\d+) points, \d+ switches$"
 
 
 def points():
@@ -40,25 +34,23 @@ def points():
     return len(shown) - len(wrong), wrong
 
 
-def told(kind):
-    """The rows of the table."""
-    text = (BENCH / TABLES[kind]).read_text()
-    head = "| Case |" if kind == "drivers" else "| Driver | Fault |"
-    lines = text[text.index(head) :].split("\n\n")[0].splitlines()[2:]
+def told():
+    """The rows of the table, without what the threads do."""
+    text = (BENCH / "README.md").read_text()
+    lines = text[text.index("| Case |") :].split("\n\n")[0].splitlines()[2:]
     cells = [[cell.strip().replace(",", "") for cell in line.strip("|").split("|")] for line in lines]
-    return {tuple(row[column] for column in COLUMNS[kind]) for row in cells}
+    return {(row[0], *row[2:]) for row in cells}
 
 
-def table(kind):
+def drivers():
     """How many rows of the table are what was printed, and what only one of both says."""
-    printed = {tuple(word.replace(",", "") for word in found) for found in re.findall(PRINTED[kind], sys.stdin.read(), re.M)}
-    wrong = [f"{'only the table' if row in told(kind) else 'only the run'} says: {', '.join(row)}" for row in sorted(told(kind) ^ printed)]
-    return len(told(kind) & printed), wrong or ([] if printed else ["nothing was printed"])
+    printed = set(re.findall(PRINTED, sys.stdin.read(), re.M))
+    wrong = [f"{'only the table' if row in told() else 'only the run'} says: {', '.join(row)}" for row in sorted(told() ^ printed)]
+    return len(told() & printed), wrong or ([] if printed else ["nothing was printed"])
 
 
 def main():
-    kind = sys.argv[1]
-    passed, wrong = points() if kind == "points" else table(kind)
+    passed, wrong = points() if sys.argv[1] == "points" else drivers()
     for line in wrong:
         print(line)
     print(f"{passed} passed, {len(wrong)} failed")

@@ -25,7 +25,6 @@
 
 /* A thread that was made. */
 struct made {
-	const char *name;
 	void (*body)(void *);
 	void *arg;
 	pthread_t thread;
@@ -39,7 +38,8 @@ static char *outcome;	/* that of the run: the parent has it, too */
 
 void bench_thread(const char *name, void (*body)(void *), void *arg)
 {
-	threads[thread_count++] = (struct made){.name = name, .body = body, .arg = arg};
+	(void)name;
+	threads[thread_count++] = (struct made){.body = body, .arg = arg};
 }
 
 /* A number that differs from thread to thread. */
@@ -129,8 +129,9 @@ static void keep_outcome(struct bench_found *found)
 }
 
 /* One run. Whether it was right. */
-static bool run_once(void (*setup)(void), const struct bench_options *options, struct bench_found *found)
+static bool run_once(void (*setup)(void), const struct bench_options *options)
 {
+	struct bench_found *found = options->found;
 	int status;
 	memset(outcome, 0, BENCH_TEXT);
 	fflush(NULL);
@@ -151,37 +152,25 @@ static bool run_once(void (*setup)(void), const struct bench_options *options, s
 	return false;
 }
 
-static double seconds(void)
-{
-	struct timespec now;
-	clock_gettime(CLOCK_MONOTONIC, &now);
-	return (double)now.tv_sec + (double)now.tv_nsec / 1e9;
-}
-
 static uint64_t number_of(const char *variable, uint64_t otherwise)
 {
 	const char *text = getenv(variable);
 	return text == NULL ? otherwise : strtoull(text, NULL, 10);
 }
 
-int bench_explore(void (*setup)(void), const struct bench_options *given)
+int bench_explore(void (*setup)(void), const struct bench_options *options)
 {
-	static const struct bench_options none;
-	static struct bench_found found;
-	const struct bench_options *options = given == NULL ? &none : given;
+	struct bench_found *found = options->found;
 	uint64_t runs = number_of("BENCH_RUNS", 200);
-	double until = seconds() + (double)number_of("BENCH_SECONDS", 60);
+	time_t until = time(NULL) + (time_t)number_of("BENCH_SECONDS", 60);
 	outcome = mmap(NULL, BENCH_TEXT, PROT_READ | PROT_WRITE, MAP_SHARED | MAP_ANONYMOUS, -1, 0);
 	yields = getenv("BENCH_YIELD") != NULL;
-	found = (struct bench_found){.bound = -1};
-	while (found.schedules < runs && seconds() < until && found.first == 0)
-		if (!run_once(setup, options, &found))
-			found.first = found.schedules;
+	*found = (struct bench_found){.bound = -1};
+	while (found->schedules < runs && time(NULL) < until && found->first == 0)
+		if (!run_once(setup, options))
+			found->first = found->schedules;
 	if (!options->quiet)
-		printf("%s: %llu runs%s%s\n", options->name == NULL ? "bench" : options->name, (unsigned long long)found.schedules,
-		    found.first == 0 ? ", none was wrong" : ": FAULT: ", found.line);
-	if (options->found != NULL)
-		*options->found = found;
+		printf("%s: %llu runs%s%s\n", options->name, (unsigned long long)found->schedules, found->first == 0 ? ", none was wrong" : ": FAULT: ", found->line);
 	munmap(outcome, BENCH_TEXT);
-	return found.first != 0;
+	return found->first != 0;
 }
