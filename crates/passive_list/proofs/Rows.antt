@@ -5,7 +5,7 @@ use Rattle.std.proofs.lemmas.Bool.{cases_lt}
 use Rattle.std.proofs.lemmas.List.{length-replicate, get_or-replicate, get_or_past, get_or_read, length-map}
 use Rattle.std.proofs.lemmas.List.Elements.{All-append, All-cons}
 use Rattle.atomic_table.specs.Seated.{TableId}
-use Rattle.passive_list.specs.Types.{Entry, Settings, Key, Slot, Vacant, Live, Retired, MOST_CPUS, KeeperView, LogItem, Due, Rest, Adding, Subtracting, Mark, MOST_SLOTS}
+use Rattle.passive_list.specs.Types.{Change, Entry, Settings, Key, Slot, Vacant, Live, Retired, MOST_CPUS, KeeperView, LogItem, Due, Rest, Adding, Subtracting, Mark, MOST_SLOTS}
 use Rattle.registry_values.specs.Common.{are_fit, bias, no_mark, is_live_as, is_taken, slot_at, slot_of, are_collected, is_retired}
 use Rattle.registry_values.proofs.Fit.{ranges}
 use Rattle.protocol.specs.Common.{no_words, total_at, kept_at, IsIn, Balances, held_at, addition_due_at, is_adding_at, subtraction_due_at, greatest_limit, State, at_rest, mark_at}
@@ -122,6 +122,35 @@ row_stays k l t r slot total keeps had = record {
   total = had.total ∙ sym total;
   keeps = had.keeps ∙ sym keeps;
   unused = had.unused;
+}
+
+-- a note that is heard leaves the rows as they are
+pub note_heard : (a : Settings) (k : KeeperView) (h : List Change) (rows : List KeptSlot) (n : ℕ) → IsOurKeeper a k rows n → IsShown (keeper_with_note k h) → IsOurKeeper a (keeper_with_note k h) rows n
+note_heard a k h rows n had shown = record {
+  view =
+    let rest = had.view in
+    let sized = rest.sized in
+    record {
+      settings = rest.settings;
+      fit = rest.fit;
+      rest = rest.rest;
+      seated = rest.seated;
+      sized = record {
+        slots = sized.slots;
+        marks = sized.marks;
+        mark_rows = sized.mark_rows;
+        keeps = sized.keeps;
+        next = sized.next;
+        rows = sized.rows;
+        totals = sized.totals;
+        counts = sized.counts;
+        count_rows = sized.count_rows;
+      };
+      room = rest.room;
+    };
+  is_shown = shown;
+  changes = had.changes;
+  rows = record { size = had.rows.size; each = λ t lt. row_stays k (keeper_with_note k h) t (row_at rows t) refl refl refl (had.rows.each t lt) };
 }
 
 -- one row changes with its slot, and the others stay
