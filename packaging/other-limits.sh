@@ -43,7 +43,7 @@ change() {
     sed -i -E "s/^(#define REGISTRY_$2[[:blank:]]+).*/\\1$3/" "$1/registry_limits.h"
 }
 
-# Headers of another build, as tools/limits-header.py would make them: the limit, one more.
+# Headers of another build, as tools/limits.py would make them: the limit, one more.
 other_headers() {
     local folder=$room/$1 more
     mkdir -p "$folder" && cp "$headers"/registry{,_limits}.h "$folder" || return

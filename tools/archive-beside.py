@@ -3,15 +3,14 @@
 
     tools/archive-beside.py rt ci
 
-`rt ci` proves the static library registry_c and keeps nothing that it could be linked from. So as soon as it says that the libraries beneath are proved,
-`rattle build` proves registry_c over these same libraries and compiles it, on the processors that `rt ci` leaves idle. What it makes becomes the archive if no
-file that it was proved from was touched since; else, or where it was killed for want of memory, tools/build-archive.sh proves the archive once `rt ci` is done.
-The library for another processor is proved after it, and most of its proof is kept from there. It is left in out/PROCESSOR with what the proof said, for
-tools/build-archive.sh --for PROCESSOR, which needs that processor's compiler. The last line is that of `rt ci` with a check more for each processor.
+`rt ci` keeps nothing that the static library registry_c could be linked from. So as soon as it says that the libraries beneath are proved, `rattle build`
+proves registry_c over these, and compiles it, on the processors that `rt ci` leaves idle. What it makes becomes the archive if no file that it was proved from
+was touched since; else, or where it was killed for want of memory, tools/build-archive.sh proves the archive once `rt ci` is done. The library for another
+processor is proved after it, and left in out/PROCESSOR with what the proof said, for tools/build-archive.sh --for PROCESSOR, which needs that processor's
+compiler. The last line is that of `rt ci` with a check more for each processor.
 
-Where there are four processors or more, `rt ci` gets all but one: each check takes longer beside more others, and its longest chain of checks leaves some
-of them idle. On the last one `tools/try-edits.py gate` tries the edits of each crate that was proved, until `rt ci` ends. It keeps what is refused; nothing here
-is said of it, and the gate tries the others afterwards.
+Where there are four processors or more, `rt ci` gets all but one, since its longest chain of checks leaves some of them idle. On the last one
+`tools/try-edits.py gate` tries the edits of each crate that was proved, until `rt ci` ends. It keeps what is refused, and the gate tries the others afterwards.
 """
 import collections
 import contextlib
@@ -63,21 +62,13 @@ def state():
     return [(it, stat.st_ino, stat.st_size, stat.st_mtime_ns, stat.st_ctime_ns) for it, stat in found]
 
 
-def link_or_copy(one, other):
-    """A second name: a library is replaced, and its files are never written to."""
-    try:
-        os.link(one, other)
-    except OSError:
-        shutil.copy2(one, other)
-
-
 def take(room):
-    """Copies what is proved and what it is proved over: `rt ci` puts its folders out/ back as they were when it ends."""
+    """Copies what is proved, and links what it is proved over, which is replaced and never written to: `rt ci` puts its folders out/ back when it ends."""
     for folder in folders_of(LIBRARY):
         shutil.copytree(folder, room / LIBRARY / folder.name)
     for name in below(LIBRARY):
         made = f"{name}.rlib"
-        shutil.copytree(ROOT / "crates" / name / "out/rlib" / made, room / made, copy_function=link_or_copy)
+        shutil.copytree(ROOT / "crates" / name / "out/rlib" / made, room / made, copy_function=os.link)
 
 
 def build(processor, room, said, made):
@@ -208,7 +199,8 @@ def main():
     for path in (ARCHIVE, *map(library_of, OTHERS)):
         path.unlink(missing_ok=True)
     pools = ThreadPoolExecutor(1), ThreadPoolExecutor(1)
-    with tempfile.TemporaryDirectory(prefix="archive-") as folder:
+    OUT.mkdir(exist_ok=True)
+    with tempfile.TemporaryDirectory(prefix="archive-", dir=OUT) as folder:
         try:
             last, status, checks = run_all(command, pathlib.Path(folder), *pools)
         finally:

@@ -52,11 +52,4 @@ def main(archive, *programs):
 
 
 if __name__ == "__main__":
-    if len(sys.argv) < 3:
-        print("usage: atomics.py ARCHIVE PROGRAM..", file=sys.stderr)
-        sys.exit(2)
-    try:
-        sys.exit(main(*sys.argv[1:]))
-    except (subprocess.CalledProcessError, OSError) as fault:
-        print(f"atomics: {fault}", file=sys.stderr)
-        sys.exit(2)
+    sys.exit(main(*sys.argv[1:]))

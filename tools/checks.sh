@@ -1,10 +1,16 @@
-# What the shell tests share: each check is counted, and says what it printed where it fails. Read by `.`, not run.
+# What the shell tests share: each check is counted, and says what it printed where it fails. Read by `.`, not run: the test goes on at the top of the tree,
+# with a folder for what it writes.
+set -uo pipefail
+cd "$(dirname "${BASH_SOURCE[0]}")/.." || exit
 passed=0
 failed=0
-log=$(mktemp)
+room=$(mktemp -d)
+log=$room/log
+trap 'rm -rf "$room"' EXIT
 
-forget_log() {
-    rm -f "$log" "$log.said" "$log.wanted"
+# need FILE WORDS: the file is there; the words say how to get it.
+need() {
+    [ -e "$1" ] || { echo "${0##*/}: there is no $1: $2" >&2; exit 2; }
 }
 
 # Counts one check.
@@ -36,6 +42,12 @@ check() {
     judge "$name" $?
 }
 
+# watched KINDS COMMAND..: an access out of bounds, a use of what was never written or a leak of these kinds is a failure. valgrind runs one thread at a
+# time: in turn, where it can. Else the threads that could go on may keep one from it for minutes, while the rest wait for it.
+watched() {
+    limited valgrind -q --fair-sched=try --error-exitcode=99 --leak-check=full --show-leak-kinds="$1" --errors-for-leak-kinds="$1" "${@:2}"
+}
+
 negated() {
     ! "$@"
 }
@@ -64,9 +76,18 @@ smallest_says() {
     says "$log.wanted" "$@"
 }
 
-# apt_install WORD..: what these words of apt-get name, without asking.
 apt_install() {
     { apt-get update && DEBIAN_FRONTEND=noninteractive apt-get -o DPkg::Lock::Timeout=300 install -y "$@"; } </dev/null
+}
+
+# install_missing WORDS NAME:PACKAGE..: installs by apt, without asking, the packages of the commands and files that aren't there; WORDS are more of apt-get.
+# shellcheck disable=SC2086
+install_missing() {
+    local missing=() pair
+    for pair in "${@:2}"; do
+        command -v "${pair%%:*}" >/dev/null || [ -e "${pair%%:*}" ] || missing+=("${pair##*:}")
+    done
+    [ "${#missing[@]}" -eq 0 ] || check "installed ${missing[*]}" apt_install $1 "${missing[@]}"
 }
 
 # programs KIND HOW BEFORE PROGRAM..: each program with its words; what is before its name runs it. Two say what they did.

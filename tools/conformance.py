@@ -219,17 +219,15 @@ def test(_):
 def main():
     parser = argparse.ArgumentParser(description=__doc__.split("\n")[0])
     commands = parser.add_subparsers(required=True)
-    writing = commands.add_parser("write", help="write scripts and their reports into a folder")
-    writing.add_argument("folder", type=pathlib.Path)
-    for name, number, said in (("seed", 1, "the first script's seed"), ("scripts", 100, "how many"), ("lines", 150, "commands in each, bursts aside")):
-        writing.add_argument(f"--{name}", type=int, default=number, help=said)
+    writing, running, testing = (commands.add_parser(it.__name__) for it in (write, run, test))
+    for each, act in ((writing, write), (running, run), (testing, test)):
+        each.set_defaults(act=act)
+    for each in (writing, running):
+        each.add_argument("folder", type=pathlib.Path)
+    for name, number in (("seed", 1), ("scripts", 100), ("lines", 150)):
+        writing.add_argument(f"--{name}", type=int, default=number)
     writing.add_argument("--only", help="the commands that a program has, with commas between")
-    writing.set_defaults(act=write)
-    running = commands.add_parser("run", help="run a program over the scripts of a folder")
-    running.add_argument("folder", type=pathlib.Path)
     running.add_argument("program", nargs=argparse.REMAINDER)
-    running.set_defaults(act=run)
-    commands.add_parser("test", help="try the kit on another registry").set_defaults(act=test)
     options = parser.parse_args()
     sys.exit(options.act(options))
 

@@ -3,21 +3,20 @@
 
   tools/contracts.py [REVISION | . [CRATE..]]
 
-Without arguments, or with `.`, of the tree that it stands in; else of a git revision. CRATE.. are the crates to look at: all, if none
+Without arguments, or with `.`, it reads the tree that it is in; else a git revision. CRATE.. are the crates to look at: all, if none
 is named. A block says the type and the name of the function, not its crate, file or module, so a function that moved prints the same:
 
   diff <(tools/contracts.py REVISION) <(tools/contracts.py)
 
-shows each contract that is new, gone or otherwise worded since. What the words of a clause mean stands in specs/ and isn't compared. Functions of a public
+shows each contract that is new, gone or otherwise worded since. What the words of a clause mean is in specs/, and isn't compared. Functions of a public
 trait count as public; `pub(crate)` ones don't. Other tools find here where each function begins and ends, and the name that the checker prints for it.
 """
 import collections
-import io
 import pathlib
 import re
 import subprocess
 import sys
-import tarfile
+import tempfile
 
 ROOT = pathlib.Path(__file__).resolve().parent.parent
 OWNER = re.compile(r"(?:pub )?(impl|trait)\b(?:<[^{]*?>)?\s*(.*?)\s*(?:where\b.*)?(?:: .*)?\{$")
@@ -30,15 +29,13 @@ Function = collections.namedtuple("Function", "path name is_public first last te
 
 def sources(revision):
     """Each source file of the revision: its path from the top, and its lines."""
-    if revision == ".":
-        for path in ROOT.glob("crates/*/src/**/*.rt"):
-            yield path.relative_to(ROOT).as_posix(), path.read_text().split("\n")
-        return
-    archive = subprocess.run(["git", "-C", ROOT, "archive", revision, "crates"], check=True, capture_output=True).stdout
-    with tarfile.open(fileobj=io.BytesIO(archive)) as tar:
-        for member in tar:
-            if re.match(r"crates/[^/]+/src/.*\.rt$", member.name):
-                yield member.name, tar.extractfile(member).read().decode().split("\n")
+    with tempfile.TemporaryDirectory() as room:
+        top = ROOT if revision == "." else pathlib.Path(room)
+        if revision != ".":
+            archive = subprocess.run(["git", "archive", revision, "crates"], cwd=ROOT, check=True, stdout=subprocess.PIPE).stdout
+            subprocess.run(["tar", "-x", "-C", room], input=archive, check=True)
+        for path in top.glob("crates/*/src/**/*.rt"):
+            yield path.relative_to(top).as_posix(), path.read_text().split("\n")
 
 
 def contract(lines, indent):
@@ -53,13 +50,13 @@ def contract(lines, indent):
         parts[-1].append(line[:-1].rstrip() if last else line)
         if last:
             break
-    # A list that stands on lines of its own reads as one that doesn't.
+    # A list on lines of its own reads as one in the line.
     texts = (" ".join(" ".join(part).split()) for part in parts)
     return [re.sub(r",? ([)\]])", r"\1", re.sub(r"([(\[]) ", r"\1", it)) for it in texts]
 
 
 def heads(lines):
-    """Where a function may begin: each line's number, its text, the type that it stands in, as `Type::`, and whether that is a public trait."""
+    """Where a function may begin: each line's number, its text, the type that it is in, as `Type::`, and whether that is a public trait."""
     owner, is_trait = "", False
     for number, line in enumerate(lines):
         if found := OWNER.match(line):

@@ -4,7 +4,7 @@ A check of an edited crate is of the function whose body the edit changes, or of
 of the whole crate, as an edit of a definition needs. What it checks is checked once as it stands, and each edit begins with what that check kept. Functions
 that no edit is tried on are assumed to meet their contracts: they aren't proved once more, and a refusal doesn't rest on their proofs.
 
-Most of a check's time goes into reading what stands below, so edits of several bodies are tried in one check: each changes the body of one function alone,
+Most of a check's time goes into reading the crates below, so edits of several bodies are tried in one check: each changes the body of one function alone,
 each of another one. A function is proved of its own body and of the contracts of what it calls, which stay, so the other edits don't matter to it. An edit
 is refused there if a goal of its own function is. One that isn't is tried once more, alone.
 
@@ -165,11 +165,6 @@ def body_changed(edit):
     return function if is_one and all(body_begins(function) < line for line, _ in places) else None
 
 
-def asked_for_all(edits, whole):
-    """What to check of the crate of these edits, for all of them."""
-    return WHOLE if whole else sorted({name for edit in edits for name in asked_for(edit, whole)})
-
-
 def batches(edits, whole):
     """The edits, as they are tried: those of several bodies of a crate together, each of another function."""
     rounds, seen = collections.defaultdict(list), collections.Counter()
@@ -217,7 +212,7 @@ def judged(ran, names):
         return Try(False, f"NOT TRIED: {untried(ran)}")
     found, lines = goals(ran), ran.stdout.splitlines()
     if not found:
-        # It says of which function it has no proof, or what it wants to be written.
+        # The line names the function that has no proof, or the proof to be written.
         unproved = next((it for it in lines if ": no proof: " in it or it.startswith("help: write ")), lines[-1])
         return Try(False, f"refused, only because no proof was found: {unproved[:200]}")
     if not telling(found):
@@ -287,7 +282,7 @@ def check_edited(edits, names, seed):
 def try_together(edits, seed):
     """Tries edits of several bodies in one check; gives those that it refuses, with what refuses them."""
     functions = {edit: body_changed(edit) for edit in edits}
-    ran, _ = check_edited(edits, asked_for_all(edits, whole=False), seed)
+    ran, _ = check_edited(edits, sorted({name for edit in edits for name in asked_for(edit, whole=False)}), seed)
     found = telling(goals(ran)) if ran and not untried(ran) else []
     own = {edit: [it for it in found if is_of(it, edit.crate, functions[edit])] for edit in edits}
     return {edit: refused(of) for edit, of in own.items() if of}
@@ -313,7 +308,7 @@ def tried(edits, whole=False):
     with tempfile.TemporaryDirectory() as room, ThreadPoolExecutor(at_once(MEMORY)) as pool:
         try:
             # They are submitted first, so all seeds are made before the first try.
-            seeds = {pool.submit(seeded, crate, asked_for_all(found, whole), room): found for crate, found in of.items()}
+            seeds = {pool.submit(seeded, crate, sorted({name for it in found for name in asked_for(it, whole)}), room): found for crate, found in of.items()}
             tries = [pool.submit(try_batch, batch, seed.result(), whole) for seed in as_completed(seeds) for batch in batches(seeds[seed], whole)]
             for it in as_completed(tries):
                 yield from it.result()

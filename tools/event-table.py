@@ -22,12 +22,13 @@ BEGIN, END = "<!-- tools/event-table.py make -->\n\n", "\n<!-- end -->\n"
 TABLE = re.compile(f"{re.escape(BEGIN)}(.*?){re.escape(END)}", re.S)
 EVENTS = ROOT / "crates/protocol/src/event.rt"
 DEFINITIONS = ROOT / "crates/protocol/specs/Events.antt"
+MADE = ROOT / "crates/protocol/proofs/Made.antt"
 KEEPING = ROOT / "crates/protocol/proofs/keeps/Keeping.antt"
 MACHINE = ROOT / "crates/passive_core/src/machine/run.rt"
 WORDS = ROOT / "crates/cpu_words"
 HEAD = "| Event | What it does | Definition | Step | What its contract cites | Lemmas | Pure machine | Edits |"
-# What `step` and `step_keeps` use for every event.
-SHARED = {"guard", "with_some", "some_outcome", "guard_keeps", "some_keeps", "standing_keeps", "step_keeps"}
+# What `step` uses for every event.
+SHARED = {"guard", "with_some", "some_outcome"}
 IMPORT = re.compile(r"use Rattle\.cpu_words\.((?:specs|proofs)\.[\w.]+)\.\{([^}]*)\}")
 LEMMAS = ("proofs.by_", "proofs.seats.")
 LIST = ROOT / "crates/passive_list/src"
@@ -60,8 +61,10 @@ def definitions(event):
 
 
 def keeping(event):
-    """The lemma that `step_keeps` cites for the event."""
-    return [it for it in re.findall(r"\w+_keeps\b", line_of(KEEPING, "step_keeps", event)) if it not in SHARED][-1:]
+    """The lemmas that `made_keeps` cites for what the event may be; itself, where the state stays as it is."""
+    cases = re.findall(rf"^  (\w+) :(?:(?!^  \w+ :).)*?→ Made s \(?{event}\b", MADE.read_text(), re.M | re.S)
+    lines = re.findall(rf"^made_keeps s _ _ _ on \((?:{'|'.join(cases)})\b(?:(?!^made_keeps).)*", KEEPING.read_text(), re.M | re.S)
+    return list(dict.fromkeys(it for it in re.findall(r"\w+_keeps\b", " ".join(lines)))) or ["made_keeps"]
 
 
 def method(event):

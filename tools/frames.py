@@ -3,101 +3,68 @@
 
   tools/frames.py ARCHIVE [LIMIT]
 
-With a LIMIT it says which exports are above it, and ends with status 1 if there are any. The frames are read from the machine code: what a function pushes,
-and what it takes off the stack pointer, on whatever path; one that moves it otherwise is a fault. What the C library takes in `malloc` and its like isn't
-counted. A call through a pointer, and one that comes back to itself, is a fault; a jump through a pointer is that of a table.
+With a LIMIT it says which exports are above it, and ends with status 1 if there are any. A frame is the deepest that its function's unwind table says; what
+the tables of the proved code say is read off the machine code (tools/unwind-tables.py). A function without a table, or whose table counts from another
+register than the stack pointer, is a fault. What the C library takes in `malloc` and its like isn't counted. A call through a pointer, and one that comes
+back to itself, is a fault; a jump through a pointer is that of a table.
 """
+import collections
 import re
 import subprocess
 import sys
+import tempfile
 
-FUNCTION = re.compile(r"^[0-9a-f]+ <(.*)>:$")
-SECTION = re.compile(r"^\.text\.(?:unlikely\.|hot\.)?")
+# A function's head, as objdump prints it.
+FUNCTION = re.compile(r"^([0-9a-f]+) <(.*)>:$")
+# The unwind table of a function, and a row of one.
+TABLE, ROW = re.compile(r" FDE .* pc=([0-9a-f]+)\.\."), re.compile(r"^[0-9a-f]{16} (\w+)(?:\+(\d+))? ")
 # A function of the library's own has its path in its name.
 EXPORT = re.compile(r"^registry_\w+$")
 # What the C library does, by its own names: not counted.
-OUTSIDE = {"malloc", "realloc", "free", "memcpy", "memmove", "memset", "memcmp"}
-
-
-class X86:
-    """How code of x86-64 takes stack and calls. A frame of several pages is taken page by page, down to where BOUND points."""
-
-    objdump, bound = "objdump", "r11"
-    # What a call takes, and what a function that calls none may use beneath the stack pointer.
-    return_address, red_zone = 8, 128
-    takes = re.compile(r"\tsub\s+\$0x(?P<size>[0-9a-f]+),%(?P<to>rsp|r11)(?P<pages>)$|\t(?P<push>push)\s")
-    # What moves the stack pointer otherwise, and not up.
-    moves = re.compile(r"\t(?!cmp|test|add\s+\$0x[0-9a-f]{1,8},)(?P<by>\w+)\s+\S+,%rsp$")
-    calls = re.compile(r"\t(?P<by>call|jmp|j[a-z]+)\s+(?:[0-9a-f]+ <(?P<to>.*?)(?:\+0x[0-9a-f]+)?>|(?P<pointer>\*.*))$")
-    call, refers = ("call",), re.compile(r"R_X86_64_(?:PLT32|PC32|GOTPCREL\w*)\s+(\S+?)([-+]0x[0-9a-f]+)?$")
-
-
-class Aarch64:
-    """The same of aarch64, where a call takes no stack: the callee saves where it returns to."""
-
-    objdump, bound = "aarch64-linux-gnu-objdump", "x9"
-    return_address, red_zone = 0, 0
-    takes = re.compile(r"\tsub\t(?P<to>sp|x9), sp, #0x(?P<size>[0-9a-f]+)(?P<pages>, lsl #12)?$|\[sp, #-(?P<push>\d+)\]!$")
-    moves = re.compile(r"\t(?!cmp|cmn|add\tsp, sp, #)(?P<by>\w+)\tsp, ")
-    calls = re.compile(r"\t(?P<by>blr?|br|b\.\w+|cbn?z|tbn?z)\t(?:.*, )?(?:[0-9a-f]+ <(?P<to>.*?)(?:\+0x[0-9a-f]+)?>|(?P<pointer>x\d+))(?:\s+//.*)?$")
-    call, refers = ("bl", "blr"), re.compile(r"R_AARCH64_(?:CALL26|JUMP26)\s+(\S+?)([-+]0x[0-9a-f]+)?$")
+OUTSIDE = {f"{it}@plt" for it in ("malloc", "realloc", "free", "memcpy", "memmove", "memset", "memcmp")}
+# Of a processor: how its binutils are called, what a table may count from (the stack pointer, or where a frame of several pages will end), what a call takes,
+# what a function that calls none may use beneath the stack pointer, what calls and jumps, and which of these are calls.
+Processor = collections.namedtuple("Processor", "prefix bases return_address red_zone calls call")
+X86 = Processor("", ("rsp", "r11"), 8, 128, re.compile(r"\t(?P<by>call|j[a-z]+)\s+(?:[0-9a-f]+ <(?P<to>.*?)(?:\+0x[0-9a-f]+)?>|(?P<pointer>\*.*))$"), ("call",))
+AARCH64 = Processor("aarch64-linux-gnu-", ("sp", "x9"), 0, 0, re.compile(
+    r"\t(?P<by>blr?|br|b\.\w+|b|cbn?z|tbn?z)\t(?:.*, )?(?:[0-9a-f]+ <(?P<to>.*?)(?:\+0x[0-9a-f]+)?>|(?P<pointer>x\d+))(?:\s+//.*)?$"), ("bl", "blr"))
 
 
 class Fault(Exception):
     pass
 
 
-class Function:
-    """A function's frame and what it calls, as its lines say one after the other."""
-
-    def __init__(self, name, processor):
-        self.name, self.processor = name, processor
-        self.frame, self.calls, self.last, self.printed, self.paged = processor.return_address, set(), None, None, False
-
-    def take(self, found):
-        if found["push"]:
-            self.frame += int(found["push"]) if found["push"].isdigit() else 8
-        else:
-            self.frame += 0 if self.paged else int(found["size"], 16) << (12 if found["pages"] else 0)
-            self.paged = found["to"] == self.processor.bound
-
-    def call(self, found):
-        is_call = found["by"] in self.processor.call
-        if is_call and found["pointer"]:
-            raise Fault(f"{self.name} calls through a pointer")
-        if not found["pointer"] and (is_call or found["to"] != self.name):
-            self.calls.add(found["to"])
-        self.last, self.printed = found["by"], found["to"]
-
-    def read(self, line):
-        if found := self.processor.refers.search(line):
-            if self.last:
-                # What was printed is where the bytes lead before they are linked: the function itself, or what lies after its end.
-                self.calls.discard(self.printed)
-                self.calls.add(SECTION.sub("", found[1]))
-            self.last = None
-            return
-        self.last = None
-        if found := self.processor.takes.search(line):
-            self.take(found)
-        elif found := self.processor.moves.search(line):
-            raise Fault(f"{self.name} moves the stack pointer by: {found['by']}")
-        elif found := self.processor.calls.search(line):
-            self.call(found)
-
-
 def said(*words):
     return subprocess.run(words, check=True, capture_output=True, text=True).stdout
 
 
-def read(processor, archive):
-    """The functions by their names."""
-    functions, now = {}, None
-    for line in said(processor.objdump, "-dr", "--no-show-raw-insn", archive).splitlines():
+def frames(processor, library):
+    """How deep each function's table goes, by the place where the function begins; None where it doesn't say."""
+    found, place = {}, None
+    for line in said("readelf", "--debug-dump=frames-interp", library).splitlines():
+        if table := TABLE.search(line):
+            place = int(table[1], 16)
+            found[place] = processor.return_address
+        elif place in found and found[place] is not None and (row := ROW.match(line)):
+            found[place] = max(found[place], int(row[2])) if row[1] in processor.bases and row[2] else None
+        elif not line:
+            place = None
+    return found
+
+
+def read(processor, library):
+    """Each function with its frame and what it calls."""
+    functions, deep, name = {}, frames(processor, library), None
+    for line in said(f"{processor.prefix}objdump", "-d", "--no-show-raw-insn", library).splitlines():
         if found := FUNCTION.match(line):
-            now = functions[found[1]] = Function(found[1], processor)
-        elif now:
-            now.read(line)
+            name = found[2]
+            functions[name] = deep.get(int(found[1], 16)), set()
+        elif name and (found := processor.calls.search(line)):
+            is_call = found["by"] in processor.call
+            if is_call and found["pointer"]:
+                raise Fault(f"{name} calls through a pointer")
+            if not found["pointer"] and (is_call or found["to"] != name):
+                functions[name][1].add(found["to"])
     return functions
 
 
@@ -109,13 +76,19 @@ def deepest(name, functions, processor, above=()):
         raise Fault(f"{above[-1]} calls {name}, which isn't in the archive")
     if name in above:
         raise Fault(f"{name} comes back to itself")
-    below = (deepest(it, functions, processor, (*above, name)) for it in functions[name].calls)
-    return functions[name].frame + max(below, default=processor.red_zone)
+    frame, calls = functions[name]
+    if frame is None:
+        raise Fault(f"{name} has no unwind table that counts from the stack pointer")
+    return frame + max((deepest(it, functions, processor, (*above, name)) for it in calls), default=processor.red_zone)
 
 
 def main(archive, limit=None):
-    processor = Aarch64 if "AArch64" in said("readelf", "-h", archive) else X86
-    functions = read(processor, archive)
+    processor = AARCH64 if "AArch64" in said("readelf", "-h", archive) else X86
+    with tempfile.TemporaryDirectory() as room:
+        # Linked, each function has a place of its own, and each call says where it leads.
+        library = f"{room}/library.so"
+        said(f"{processor.prefix}ld", "-shared", "-Bsymbolic", "--whole-archive", archive, "-o", library)
+        functions = read(processor, library)
     depths = sorted(((deepest(it, functions, processor), it) for it in functions if EXPORT.match(it)), reverse=True)
     if not depths:
         raise Fault(f"{archive} has no export")

@@ -16,7 +16,7 @@ sys.exit(gate(
     # What needs no proof.
     [
         Part("documents", "tools/check-docs.py"),
-        Part("limits", "tools/limits-header.py check"),
+        Part("limits", "tools/limits.py check"),
         Part("imports", "tools/check-imports.py"),
         Part("table of the events", "tools/event-table.py check"),
         Part("pages of the headers", "tools/header-pages.py check"),

@@ -15,11 +15,11 @@ A page's frame, PAGE.3.in, is mdoc with lines that stand for parts of the header
 
 A comment is in paragraphs and lists of lines that begin with '- '. In it names of calls, constants, `parameters` and other pages are marked up.
 """
+import collections
 import os
 import re
 import sys
 import textwrap
-from typing import NamedTuple
 
 from parts import ROOT, counted
 
@@ -37,15 +37,8 @@ MARKED = re.compile(
     r"|(?P<member>[a-z]+->[a-z]+)|(?P<header>registry\w*\.h))"
     r"(?P<close>[.,:;)]*)(?=\s|$)")
 MACROS = {"code": "Fa", "zero": "Li", "call": "Fn", "constant": "Dv", "member": "Fa", "header": "In"}
-
-
-class Call(NamedTuple):
-    """A call of a header: its name, what its first line says, its comment's other lines, what it returns and its parameters."""
-    name: str
-    summary: str
-    comment: str
-    result: str
-    parameters: list
+# A call of a header: its name, what its first line says, its comment's other lines, what it returns and its parameters.
+Call = collections.namedtuple("Call", "name summary comment result parameters")
 
 
 def plain(text):

@@ -1,19 +1,22 @@
 #!/usr/bin/env -S python3 -B
-"""The limits of a build, as the proved code says them, and the version: for the tools that write them again or compare them. As a command it says what
-limits a build is to have: what `tools/build-archive.sh --cpus N --slots N` is proved and built from.
+"""The limits of a build, as the proved code says them, and the version: for the tools that write them again or compare them. As a command:
 
-    tools/limits.py name WORD..    prints what the build is called: each limit that isn't the default's, as cpus-16-slots-64; an empty line where
+    tools/limits.py header [FILE]  the header for C with the limits of a build; without a file: of crates/registry_values/src/limits.rt
+    tools/limits.py check          says where another number stands, in the headers and elsewhere, and whether the limits are the default's: 'N passed,
+                                   M failed', one check for each place
+    tools/limits.py name WORD..    what a build with these limits is called: each that isn't the default's, as cpus-16-slots-64; an empty line where
                                    there is none
-    tools/limits.py file WORD..    prints crates/registry_values/src/limits.rt with these limits
+    tools/limits.py file WORD..    crates/registry_values/src/limits.rt with these limits
 
 WORD.. is --cpus or --slots or both, each with a number in digits or as 2^5. A limit that isn't given is that of the file. From where to where it may go
-is read from `LimitsLeaveRoom`, which each build proves. Words that aren't right end in one line and status 2.
+is read from `LimitsLeaveRoom`, which each build proves. Words that aren't right, and a limit that a file lacks, end in one line and status 2.
 """
 import pathlib
 import re
 import sys
 
-ROOT = pathlib.Path(__file__).resolve().parent.parent
+from parts import ROOT, counted
+
 LIMITS = "crates/registry_values/src/limits.rt"
 # Where each limit may be chosen from and to.
 ROOM = "crates/registry_values/specs/Limits.antt"
@@ -26,6 +29,59 @@ DEFAULTS = {"MOST_CPUS": 64, "MOST_SLOTS": 255, "MOST_CHANGES": 1 << 40, "MOST_S
 RANGES = {"USUAL_CPUS": 8, "USUAL_SLOTS": 32, "USUAL_CHANGES": 1_000_000, "USUAL_SECTIONS": 1 << 40, "USUAL_COUNT": 1 << 40}
 # The limits that a build may choose, by their words.
 CHOSEN = {"cpus": "MOST_CPUS", "slots": "MOST_SLOTS"}
+
+HEAD = """\
+/*
+ * registry_limits.h - the limits that the library was built for
+ *
+ * tools/limits.py makes this file from the limits in the proved code. A build with other limits has another one. registry.h includes it.
+ */
+#ifndef REGISTRY_LIMITS_H
+#define REGISTRY_LIMITS_H
+
+#include <stdint.h>
+"""
+
+# What each limit bounds.
+SAID = {
+    "MOST_CPUS": "CPUs of a registry, at most.",
+    "MOST_SLOTS": "Entries of a registry at a time, live and retired, at most: its slots.",
+    "MOST_CHANGES": "Attaches and detaches of a registry together, at most.",
+    "MOST_SECTIONS": "Outermost sections of a CPU, at most.",
+    "MOST_COUNT": "Passive references of a CPU to an entry, at most, and how far from 0 its net count of local references may be.",
+    "MOST_DEPTH": "Open enters of a CPU, at most.",
+}
+
+# Those that don't fit 32 bits in each build.
+LARGE = ("MOST_CHANGES", "MOST_SECTIONS", "MOST_COUNT")
+
+TAIL = """
+/*
+ * The library's function that compares limits has this name; registry.h declares it. The name contains the two limits on which sizes of structs
+ * depend, and the version: major and minor, or from 1 on the major one. So a program that was compiled for others doesn't link or start with this
+ * library.
+ */
+#define REGISTRY_BUILT_FOR	registry_for_{MOST_CPUS}_cpus_{MOST_SLOTS}_slots_v{version}
+
+/* What the shared libraries of this build have in their names. The default build has nothing. */
+#define REGISTRY_BUILD	"{build}"
+
+#endif
+"""
+
+# Where the header is: beside registry.h, and again in a crate that is used alone. `rt ci` takes no links.
+PLACED = ("crates/registry_c/include/registry_limits.h", "rust/registry_limits.h")
+
+# Which constant a place has, and how it says it.
+PLACES = (
+    ("MOST_CPUS", "bench/common.h", r"MOST_THREADS = (\d+)"),
+    ("MOST_SLOTS", "bench/common.h", r"MOST_ENTRIES = (\d+)"),
+    ("MOST_SLOTS", "bench/peers/src/list.rs", r"const MOST_ENTRIES: usize = (\d+);"),
+)
+
+
+class Fault(Exception):
+    pass
 
 
 def number(word):
@@ -50,12 +106,8 @@ def version():
     """What a program and its library have in common: the major and the minor version, or from 1 on the major one."""
     numbers = dict(re.findall(r"^#define REGISTRY_VERSION_(\w+)\t(\d+)$", (ROOT / HEADER).read_text(), re.M))
     if not {"MAJOR", "MINOR"} <= set(numbers):
-        raise ValueError(f"{HEADER} says no version")
+        raise Fault(f"{HEADER} says no version")
     return "{MAJOR}_{MINOR}".format(**numbers) if numbers["MAJOR"] == "0" else numbers["MAJOR"]
-
-
-class Fault(Exception):
-    pass
 
 
 def given(text):
@@ -78,17 +130,10 @@ def within(word, constant, text):
 
 def wanted(words):
     """The limits that the words name, by their constants."""
-    found = {}
-    for flag, text in zip(words[::2], [*words[1::2], None]):
-        word = flag.removeprefix("--")
-        if not flag.startswith("--") or word not in CHOSEN:
-            raise Fault(f"{flag} is no limit: it is --{' or --'.join(CHOSEN)}")
-        if text is None:
-            raise Fault(f"--{word} has no number")
-        if CHOSEN[word] in found:
-            raise Fault(f"--{word} is given twice")
-        found[CHOSEN[word]] = within(word, CHOSEN[word], text)
-    return found
+    flags, numbers = words[::2], words[1::2]
+    if len(set(flags)) != len(numbers) or len(flags) != len(numbers) or not set(flags) <= {f"--{it}" for it in CHOSEN}:
+        raise Fault(f"{' '.join(words)}: each of --{', --'.join(CHOSEN)} may be given once, with a number")
+    return {CHOSEN[it[2:]]: within(it[2:], CHOSEN[it[2:]], text) for it, text in zip(flags, numbers)}
 
 
 def said(path=ROOT / LIMITS):
@@ -118,16 +163,51 @@ def file(of):
     return text
 
 
+def in_c(name, value):
+    """The number as C has it: a power of 2 as a shift."""
+    if name not in LARGE:
+        return str(value)
+    power = value.bit_length() - 1
+    return f"(UINT64_C(1) << {power})" if value == 1 << power and power >= 10 else f"UINT64_C({value})"
+
+
+def header(of):
+    """The whole header for these limits."""
+    if lacking := [it for it in DEFAULTS if of[it] is None]:
+        raise Fault(f"the file says no {lacking[0]}")
+    lines = [f"\n/* {SAID[name]} */\n#define REGISTRY_{name}\t{in_c(name, of[name])}\n" for name in DEFAULTS]
+    default = all(of[name] == DEFAULTS[name] for name in ("MOST_CPUS", "MOST_SLOTS"))
+    build = "" if default else f"-{of['MOST_CPUS']}x{of['MOST_SLOTS']}"
+    return HEAD + "".join(lines) + TAIL.format(build=build, version=version(), **of)
+
+
+def faults():
+    """For each comparison what is wrong, or ''."""
+    of = limits()
+    made = None if None in of.values() else header(of)
+    for path in PLACED:
+        yield "" if (ROOT / path).read_text() == made else f"{path} isn't what tools/limits.py makes of {LIMITS}: tools/limits.py header >{path}"
+    for name, path, pattern in PLACES:
+        said = re.search(pattern, (ROOT / path).read_text())
+        found = said and number(said[1])
+        yield "" if of[name] is not None and found == of[name] else f"{path}: {name} is {found} there, and {of[name]} in {LIMITS}"
+    for name, wanted in {**DEFAULTS, **RANGES}.items():
+        yield "" if of[name] == wanted else f"{LIMITS}: {name} is {of[name]}, and {wanted} in the default build"
+
+
 def main(use=None, *words):
-    uses = {"name": lambda of: f"{name(of)}\n", "file": file}
+    uses = {"name": lambda: f"{name(wanted(words))}\n", "file": lambda: file(wanted(words)), "header": lambda: header(limits(*words[:1]))}
+    if use == "check":
+        return counted(faults())
     if use not in uses:
-        raise Fault("it takes name WORD.. or file WORD..")
-    print(uses[use](wanted(words)), end="")
+        raise Fault("it takes header [LIMITS.rt], check, name WORD.. or file WORD..")
+    print(uses[use](), end="")
+    return 0
 
 
 if __name__ == "__main__":
     try:
-        main(*sys.argv[1:])
-    except (Fault, OSError) as fault:
+        sys.exit(main(*sys.argv[1:]))
+    except (Fault, OSError, ValueError) as fault:
         print(f"limits: {fault}", file=sys.stderr)
         sys.exit(2)

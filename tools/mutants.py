@@ -1,17 +1,15 @@
 #!/usr/bin/env -S python3 -B
 """Makes small wrong bodies of the code that nothing proves, and says which of them every test accepts.
 
-    tools/mutants.py [--only FILE[:LINE]].. [--sample N] [--seed N] [--jobs N] [--least N]
+    tools/mutants.py [--least N] [--sample N] [--seed N] [FILE[:LINE]]..    those of a file, or of one line of it; without a name all
 
-The code is c/src/waiting.c, what is C of the archive, netbsd/src/*.c and rust/src/*.rs. Each wrong body is built
-in a copy of the tree, and the tests of the file's own library run until one fails. A body that the compiler makes the same code of isn't run. Those tests
-come first that saw most other wrong bodies of the file, and of these the shortest.
+The code is c/src/waiting.c, what is C of the archive, netbsd/src/*.c and rust/src/*.rs. Each wrong body is built in a copy of the tree, and the tests of the
+file's own library run until one fails: first those that saw most other wrong bodies of the file, and of these the shortest. A body that the compiler makes the
+same code of isn't run. A test that fails runs a second time: one failure on a busy machine kills nothing. Then it must pass on the tree as it stands, or the
+body is left untried, as `busy`. It hangs if it takes five times as long as on the tree as it stands, and --least seconds (5).
 
-A test that fails runs a second time: one failure on a busy machine kills nothing. Then it must pass on the tree as it stands, or the body is left untried, as
-`busy`. It hangs if it takes five times as long as on the tree as it stands, and --least seconds (5).
-
-`--only` takes the wrong bodies of a file, or of one line of it. `--sample` takes N of them by the seed (1 where none is given): the same share of each file.
-`--jobs` tries so many at a time (2). Where one survives, the status is 1: either a test is missing, or the body harms nobody, as one that costs time alone.
+`--sample` takes N of them, by the seed (1 where none is given). Where one survives, the status is 1: either a test is missing, or the body harms nobody, as
+one that costs time alone.
 """
 import argparse
 import collections
@@ -19,227 +17,153 @@ import contextlib
 import functools
 import os
 import pathlib
-import queue
 import random
 import re
-import shutil
 import signal
 import subprocess
 import sys
 import tempfile
 import time
 
-from parts import ROOT, end_all, guard, of_session, run_all, started
+from parts import ROOT, end_all, guard, of_session, started
 
 # ---- The rules: each changes one thing of a text and leaves the rest. ----
-#
-# A text is read as tokens; comments, strings, attributes and lines of the preprocessor stay as they are. An operator counts as one between two values
-# where blanks are on both sides of it, as both languages are laid out here.
 
 # A wrong body: the rule, and the text between two places of the file that another text replaces.
 Change = collections.namedtuple("Change", "rule start end new")
-Token = collections.namedtuple("Token", "kind text start end")
 
-SKIPPED = r"""//[^\n]*|/\*.*?\*/|b?"(?:\\.|[^"\\])*"|b?'(?:\\.|[^'\\])'|\#!?\[[^\n]*\]$|^[ \t]*\#(?:\\\n|[^\n])*"""
-TOKENS = re.compile(
-    rf"(?P<skipped>{SKIPPED}|\s+)"
-    r"|(?P<number>\b0[xX][0-9a-fA-F_]+[a-zA-Z0-9]*|\b[0-9][0-9_]*[a-zA-Z0-9]*)"
-    r"|(?P<word>[A-Za-z_]\w*!?(?=\()|[A-Za-z_]\w*)"
-    r"|(?P<sign>->|=>|::|\.\.=?|\+\+|--|<<=|>>=|&&|\|\||[=!<>+\-*/%&|^]=|<<|>>|[^\s\w])",
-    re.MULTILINE | re.DOTALL,
-)
-UNIT_TESTS = re.compile(r"^#\[cfg\((?:all\()?test\b[^\n]*\]\nmod \w+ \{.*", re.MULTILINE | re.DOTALL)
-NUMBER = re.compile(r"(0[xX][0-9a-fA-F]+|[0-9]+)([uUlL]*|[ui](?:8|16|32|64|128|size))$")
-
+# What no rule changes: comments, strings, attributes, lines of the preprocessor, and the crate's own tests at the end of a file.
+HIDDEN = re.compile(
+    r"""^\#\[cfg\((?:all\()?test\b[^\n]*\]\nmod \w+ \{.*"""
+    r"""|//[^\n]*|/\*.*?\*/|b?"(?:\\.|[^"\\])*"|b?'(?:\\.|[^'\\])'|\#!?\[[^\n]*\]$|^[ \t]*\#(?:\\\n|[^\n])*""", re.MULTILINE | re.DOTALL)
+# An operator counts as one between two values where blanks are on both sides of it, as both languages are laid out here.
 COMPARED = {"==": ["!="], "!=": ["=="], "<": ["<=", ">="], "<=": ["<", ">"], ">": [">=", "<="], ">=": [">", "<"]}
 JOINED = {"&&": ["||"], "||": ["&&"]}
 COUNTED = dict(zip("+ - * / % += -= << >> & | ^ |= &=".split(), ([it] for it in "- + + * + -= += >> << | & & &= |=".split())))
-RULES = {"comparison": COMPARED, "connective": JOINED, "arithmetic": COUNTED}
+OPERATOR = re.compile(r"(?<=\s)[-=!<>+*/%&|^]{1,2}(?=\s)")
 PAIRS = [it.split("/") for it in "true/false break/continue min/max is_some/is_none is_ok/is_err any/all".split()]
-WORDS = {one: other for pair in PAIRS for one, other in (pair, pair[::-1])}
+WORDS = {one: [other] for pair in PAIRS for one, other in (pair, pair[::-1])}
 # Answers: those of registry.h, of Linux, and of the crate. Each is swapped with another one, a refusal with the first of these where there is one.
-ANSWER = re.compile(r"REGISTRY_[A-Z_]+$|E[A-Z]{3,}$")
-ANSWERS = tuple(f"REGISTRY_{it}" for it in """
-    DONE NOT_FOUND NO_MEMORY BAD_SETTINGS NAME_TAKEN NO_SLOT HISTORY_FULL INSIDE SECTIONS_SPENT LOCAL_FULL PASSIVE_FULL STILL_HELD WAITING FREED GRACE PASSIVE
-    LOCAL NOT_RETIRED COLLECTED
-""".split())
+ANSWER = re.compile(r"\bREGISTRY_(?!MOST_)[A-Z_]+\b(?!\()|(?<=return )E[A-Z]{3,}\b|(?<=[?:] )E[A-Z]{3,}\b|(?<=\bRefusal::)[A-Z]\w+")
+NUMBER = re.compile(r"(?P<sized>\[?)\b(?P<value>0[xX][0-9a-fA-F]+|[0-9]+)(?P<suffix>[uUlL]*|[ui](?:8|16|32|64|128|size))\b")
+NEGATION = re.compile(r"(?:(?<=\()|(?<=(?:&&|\|\|) )|(?<=[=,] )|(?<=if )|(?<=return ))!(?=\w)")
 # What gives something up that was taken: it may come too early.
 RELEASES = re.compile(r"(?:^|_)(?:give|unlock|unhold|exit|leave|release|drop|end|signal|broadcast|wake|notify|store|free)(?:_|$)")
 # What a function of Rust may do in place of its body, by the type that it returns.
-NUMBERS = ("u8", "u32", "u64", "usize", "i64")
-BODIES = {"()": ("",), "bool": ("true", "false"), "Option": ("None",), "Result<()>": ("Ok(())",), **{it: ("0", "1") for it in NUMBERS}}
-HEADS = ("if", "while", "for", "switch")
-NO_STATEMENT = set("""return break continue goto case default let use struct enum typedef static const extern pub impl type mod fn do""".split())
-STORES = {"=", "+=", "-=", "|=", "&=", "*=", "/=", "^=", "<<=", ">>="}
+BODIES = {"": ("",), "bool": ("true", "false"), "Option": ("None",), "Result<()": ("Ok(())",), **{it: ("0", "1") for it in "u8 u32 u64 usize i64".split()}}
+FUNCTION = re.compile(r"\bfn \w+[^;{]*?(?:-> (?P<result>Result<\(\)|[^\s<{;]+)[^;{]*)?\{")
+# What comes before a statement of its own: labels, and heads of branches and loops whose body it is.
+LABEL = re.compile(r"\s*(?:(?:else|do)\b|(?:case [^:;]*|default|\w+):(?!:))?\s*")
+HEAD = re.compile(r"(?:if|while|for|switch) (?=\()")
+LEAVES = r"(?:return|break|continue|goto)\b"
+DECLARES = re.compile(rf"{LEAVES}|(?:let|use|struct|enum|typedef|static|const|extern|pub|impl|type|mod|fn|do)\b|\w+\s+\**\w")
+STORE = re.compile(r"\s(?:[-+|&*/^]|<<|>>)?=(?=\s|$)|\+\+|--")
 
 
-def declares(words):
-    """Whether a statement declares something, or is none."""
-    return len(words) < 2 or words[0].text in NO_STATEMENT or words[0].kind == "word" and (words[1].kind == "word" or words[1].text == "*")
+def visible(text):
+    """The text with blanks in place of what no rule changes."""
+    return HIDDEN.sub(lambda found: re.sub(r"[^\n]", " ", found[0]), text)
 
 
-def is_call(words):
-    """Whether the statement is a call and nothing else."""
-    is_unsafe = [it.text for it in words[:2]] == ["unsafe", "{"]
-    return is_unsafe or not declares(words) and words[0].kind == "word" and words[-1].text in (")", "?") and not any(it.text in STORES for it in words)
+def closing(code, place):
+    """The place of the bracket that closes the one at the place."""
+    depth = 0
+    for at in range(place, len(code)):
+        depth += (code[at] in "([{") - (code[at] in ")]}")
+        if depth == 0:
+            return at
+    return len(code) - 1
 
 
-def is_store(words):
-    """Whether the statement writes a place that was declared before."""
-    return not declares(words) and (any(it.text in STORES for it in words) or bool({words[0].text, words[-1].text} & {"++", "--"}))
+def by_operators(code, _):
+    """Operators, words that are one of a pair, and negations."""
+    tables = (("comparison", OPERATOR, COMPARED), ("connective", OPERATOR, JOINED), ("arithmetic", OPERATOR, COUNTED),
+              ("arithmetic", re.compile(r"\+\+|--"), {"++": ["--"], "--": ["++"]}), ("word", re.compile(r"\b[a-z_]+\b"), WORDS),
+              ("negation left out", NEGATION, {"!": [""]}))
+    return (Change(rule, *found.span(), new) for rule, form, table in tables for found in form.finditer(code) for new in table.get(found[0], ()))
 
 
-class Body:
-    """The wrong bodies of a text, by its tokens. `at` is the text of each; `closed` has for each bracket the place of its other one."""
+def by_values(code, _):
+    """A constant one greater, and 1 also as 0; an answer as another one. How large a buffer is, is left as it is: a larger one does the same."""
+    for found in NUMBER.finditer(code):
+        value = int(found["value"], 0)
+        if not (found["sized"] and value >= 16):
+            yield from (Change("constant", found.start("value"), found.end(), f"{new}{found['suffix']}") for new in ((value + 1,) if value != 1 else (0, 2)))
+    for found in ANSWER.finditer(code):
+        kinds = ("REGISTRY_DONE", "REGISTRY_NOT_FOUND") if found[0].startswith("REGISTRY_") else ("0", "0") if found[0].isupper() else ("NotFound", "NoSlot")
+        yield Change("answer", *found.span(), kinds[found[0] == kinds[0]])
 
-    def __init__(self, text):
-        # The crate's own tests at the end of a file are no part of it.
-        found = TOKENS.finditer(UNIT_TESTS.sub("", text))
-        self.text, self.tokens = text, [Token(it.lastgroup, it[0], *it.span()) for it in found if it.lastgroup != "skipped"]
-        self.at = [it.text for it in self.tokens]
-        self.closed, opened = {}, []
-        for place, it in enumerate(self.at):
-            if it in ("(", "[", "{"):
-                opened.append(place)
-            elif it in (")", "]", "}") and opened:
-                self.closed[place] = opened.pop()
-                self.closed[self.closed[place]] = place
 
-    def changed(self, rule, first, last, new):
-        """The wrong body that has another text from the first place to the last."""
-        return Change(rule, self.tokens[first].start, self.tokens[last].end, new)
+def by_conditions(code, text):
+    """A branch or a loop whose condition is negated. One comparison alone is turned by another rule."""
+    for found in re.finditer(r"\b(?:if|while) ", code):
+        block = code.find("{", found.end())
+        end = closing(code, found.end()) + 1 if code[found.end()] == "(" else block - 1
+        condition = code[found.end():end]
+        signs = set(OPERATOR.findall(condition))
+        if not re.match(r"let\b", condition) and (not signs & set(COMPARED) or signs & set(JOINED)):
+            whole = text[found.end():end]
+            yield Change("branch negated", found.end(), end, f"(!{whole})" if whole[0] == "(" else f"!({whole})")
 
-    def first_in(self, texts, places):
-        return next((it for it in places if self.at[it] in texts), None)
 
-    def of_sign(self, place):
-        """What becomes of an operator."""
-        token, sign, before, after = self.tokens[place], self.at[place], self.at[place - 1], self.at[place + 1]
-        if sign in ("++", "--"):
-            yield self.changed("arithmetic", place, place, "--" if sign == "++" else "++")
-        elif sign == "!" and before in ("(", "&&", "||", "=", "if", "while", "return", ",") and after not in ("(", "["):
-            yield self.changed("negation left out", place, place, "")
-        elif self.text[token.start - 1:token.start].isspace() and self.text[token.end:token.end + 1].isspace():
-            yield from (self.changed(rule, place, place, new) for rule, table in RULES.items() for new in table.get(sign, ()))
+def statements(code):
+    """Each statement that ends with a semicolon: where the one before it begins in the same block, if there is one, its own first place, and its end."""
+    start, before, opened, skipped = 0, None, [], -1
+    # What is in round or square brackets, or in those of a literal, ends no statement.
+    for found in re.finditer(r"(?P<whole>[(\[]|(?:(?<=\))|(?<== ))\{)|[;{}]", code):
+        place, sign = found.start(), found[0]
+        if place <= skipped:
+            continue
+        if found["whole"]:
+            skipped = closing(code, place)
+            continue
+        if sign == ";":
+            yield before, start, place
+        if sign == "{":
+            opened.append(start)
+        before = {";": start, "{": None}[sign] if sign != "}" else opened.pop() if opened else None
+        start = place + 1
 
-    def of_number(self, place):
-        """A constant one greater, and 1 also as 0. How large a buffer is, is left as it is: a larger one does the same."""
-        found = NUMBER.match(self.at[place].replace("_", ""))
-        if found and not (self.at[place - 1] == "[" and int(found[1], 0) >= 16):
-            value = int(found[1], 0)
-            yield from (self.changed("constant", place, place, f"{new}{found[2]}") for new in ((value + 1,) if value != 1 else (0, 2)))
 
-    def of_word(self, place):
-        """What becomes of a word that is an answer, one of a pair, or the head of a branch or a loop."""
-        word, after = self.at[place], self.at[place + 1:place + 3]
-        if word in WORDS:
-            yield self.changed("word", place, place, WORDS[word])
-        if word in ANSWERS:
-            yield self.changed("answer", place, place, ANSWERS[word == ANSWERS[0]])
-        elif ANSWER.match(word) and self.at[place - 1] in ("return", "?", ":"):
-            yield self.changed("answer", place, place, "0")
-        elif word == "Refusal" and after[0] == "::" and after[1][0].isupper():
-            yield self.changed("answer", place + 2, place + 2, "NotFound" if after[1] != "NotFound" else "NoSlot")
-        if word in ("if", "while"):
-            yield from self.of_head(place)
+def own_of(code, start):
+    """Where a statement begins, behind labels and the heads of branches and loops."""
+    start = LABEL.match(code, start).end()
+    while head := HEAD.match(code, start):
+        start = LABEL.match(code, closing(code, head.end()) + 1).end()
+    return start
 
-    def condition(self, place):
-        """The first and the last place of the condition behind `if` or `while`: in C in brackets, in Rust up to the block."""
-        end = self.closed.get(place + 1)
-        if self.at[place + 1] == "(" and end and self.at[end + 1] not in (".", "&&", "||", "as"):
-            return place + 1, end
-        block = self.first_in("{", range(place + 1, len(self.at)))
-        return block and (place + 1, block - 1)
 
-    def of_head(self, place):
-        """A branch or a loop whose condition is negated. One comparison alone is turned by another rule."""
-        found = self.condition(place)
-        words = set(self.at[found[0]:found[1] + 1]) if found else {"let"}
-        if "let" not in words and (not words & set(COMPARED) or words & set(JOINED)):
-            text = self.text[self.tokens[found[0]].start:self.tokens[found[1]].end]
-            yield self.changed("branch negated", *found, f"(!{text})" if text[0] == "(" else f"!({text})")
+def by_statements(code, text):
+    """A statement that is left out, or moved; a guard that is dropped at once."""
+    for before, start, end in statements(code):
+        own = own_of(code, start)
+        said = code[own:end].rstrip()
+        if guard := re.match(r"let (_\w+) =", said):
+            yield Change("guard dropped at once", own + guard.start(1), own + guard.end(1), "_")
+        elif DECLARES.match(said):
+            continue
+        elif STORE.search(said):
+            yield Change("store left out", own, end, "")
+        elif said.endswith((")", "?")):
+            yield Change("call left out", own, end, "")
+            called = re.split(r"\W", said.partition("(")[0])[-1]
+            if before is not None and not code[start:own].strip() and RELEASES.search(called) and not re.match(LEAVES, code[before:].lstrip()):
+                yield Change("released early", before, end + 1, f"\n{text[own:end]}; {text[before:start].strip()}")
+    yield from (Change("call left out", *found.span(), ";") for found in re.finditer(r"\bunsafe \{[^{}]*\};", code))
 
-    def tokenwise(self):
-        """The wrong bodies that change one token, or one condition."""
-        kinds = {"sign": self.of_sign, "number": self.of_number, "word": self.of_word}
-        for place in range(1, len(self.at) - 2):
-            yield from kinds[self.tokens[place].kind](place)
 
-    def first_of(self, end):
-        """The place where the statement begins that ends before this one, with the head of a branch or a loop that it is the body of."""
-        place = end - 1
-        while place > 0:
-            if self.at[place] in (")", "]") or place == end - 1 and self.at[place] == "}":
-                place = self.closed.get(place, 0)
-            elif self.at[place] in (";", "{", "}", ","):
-                return place + 1
-            place -= 1
-        return 0
-
-    def own_of(self, first, end):
-        """Where the statement itself begins, behind the heads of branches and loops."""
-        while first < end and self.at[first] in (*HEADS, "else", "do"):
-            first = self.closed[first + 1] + 1 if self.at[first] in HEADS and self.at[first + 1] == "(" else first + 1
-        return first
-
-    def statements(self):
-        """Each statement that ends with a semicolon, as its first place with heads, its own first place, and its end."""
-        depth = 0
-        for place, it in enumerate(self.at):
-            depth += (it in ("(", "[")) - (it in (")", "]"))
-            if it == ";" and depth == 0:
-                first = self.first_of(place)
-                yield first, self.own_of(first, place), place
-
-    def before(self, first):
-        """The first place of the statement or block that ends just before this place, within the same block."""
-        if first < 2 or self.at[first - 1] not in (";", "}"):
-            return None
-        found = self.first_of(self.closed[first - 1] if self.at[first - 1] == "}" else first - 1)
-        return found if found < first and self.at[found] not in NO_STATEMENT else None
-
-    def early(self, first, own, end):
-        """A release that comes before the statement which it follows."""
-        start = self.before(first)
-        called = self.at[(self.first_in("(", range(own, end)) or own) - 1]
-        if start is not None and own == first and RELEASES.search(called):
-            at = self.tokens[first].start
-            moved, passed = self.text[at:self.tokens[end].end], self.text[self.tokens[start].start:at].rstrip()
-            yield self.changed("released early", start, end, f"{moved} {passed}")
-
-    def statementwise(self):
-        """The wrong bodies that leave a statement out, or move it."""
-        for first, own, end in self.statements():
-            words, at = self.tokens[own:end], self.at[own:own + 3]
-            if words and is_call(words):
-                yield self.changed("call left out", own, end, ";")
-                yield from self.early(first, own, end)
-            elif words and is_store(words):
-                yield self.changed("store left out", own, end, ";")
-            elif words and at[0] == "let" and at[1].startswith("_") and at[1] != "_" and at[2] == "=":
-                yield self.changed("guard dropped at once", own + 1, own + 1, "_")
-
-    def result_of(self, place):
-        """The type that a function of Rust answers, by its first word, and the place where its body is opened, if it has one."""
-        end = self.first_in(("{", ";"), range(place, len(self.at)))
-        if end is None or self.at[end] == ";":
-            return "", None
-        arrow = self.first_in(("->",), range(end, place, -1))
-        words = self.at[arrow + 1:end] if arrow and "where" not in self.at[place:arrow] else ["()"]
-        return "Result<()>" if words[:4] == ["Result", "<", "(", ")"] else words[0], end
-
-    def bodywise(self):
-        """The functions of Rust that do nothing, and answer always the same."""
-        for place in (it for it, word in enumerate(self.at[:-1]) if word == "fn" and self.tokens[it + 1].kind == "word"):
-            result, opened = self.result_of(place)
-            if opened is not None and self.closed[opened] > opened + 1:
-                yield from (self.changed("body left out", opened, self.closed[opened], f"{{ {new} }}") for new in BODIES.get(result, ()))
+def by_bodies(code, _):
+    """The functions of Rust that do nothing, and answer always the same."""
+    for found in FUNCTION.finditer(code):
+        first, last = found.end() - 1, closing(code, found.end() - 1)
+        if code[first + 1:last].strip():
+            yield from (Change("body left out", first, last + 1, f"{{ {new} }}") for new in BODIES.get(found["result"] or "", ()))
 
 
 def changes(text):
     """All wrong bodies of a text, in its order."""
-    body = Body(text)
-    found = {*body.tokenwise(), *body.statementwise(), *body.bodywise()}
+    code = visible(text)
+    found = {it for rule in (by_operators, by_values, by_conditions, by_statements, by_bodies) for it in rule(code, text)}
     return sorted(found, key=lambda it: (it.start, it.rule, it.new))
 
 
@@ -253,8 +177,6 @@ BARE = "CFLAGS=-O2 -g0"
 MOST_BYTES = 1 << 32
 # A build takes at most so many seconds. On a wrong body a test may take --least and so many times what it took without it.
 LONGEST, TIMES = 1200, 5
-# So much of a line is shown.
-MOST_SHOWN = 120
 # A test: its name, the command that builds it, the one that runs it, and how much memory it may take, if that is bounded.
 Test = collections.namedtuple("Test", "name build run memory", defaults=(MOST_BYTES,))
 # A wrong body: its file, line and rule, the line or lines as they are and as they become, and the whole text of the file with it.
@@ -266,10 +188,8 @@ MAKES_LAYER = ["make", "-s", "-C", "netbsd", C_FLAGS, BARE]
 MAKES_BENCH = ["make", "-s", "-C", "explorer", "WARNINGS=-w", BARE]
 # The ways in which the layer's Makefile builds its programs, and whether without sanitizers.
 WAYS = {"plain": True, "small": False, "busy": True, "wide": False, "sanitized": False, "raced": False}
-# The programs of the bench that see the layer, and of the layer what runs under valgrind, with their words.
+# The programs of the bench that see the layer, with their words.
 BENCH = {"counts": [], "drivers": [], "finds": [], "callouts": [], "failures": [], "kernel_files": [], "refusals": [], "named": [], "outcomes": ["1", "40"]}
-WATCHED = {"model": ["1", "300"]}
-VALGRIND = "valgrind -q --fair-sched=try --error-exitcode=99 --leak-check=full --show-leak-kinds=definite --errors-for-leak-kinds=definite".split()
 # The tests of waiting.c, with their words.
 OVER_WAITING = {"turns": [], "reclaims": [], "lent": [], "deferred": [], "interrupted": [], "together": ["20"]}
 # What is C of the archive, and the programs that see each part, with their words.
@@ -305,13 +225,11 @@ def programs(way):
 
 
 def of_layer(_):
-    """The layer's programs in each way, some of them under valgrind, and the bench's."""
+    """The layer's programs in each way, and the bench's."""
     found = [Test(f"{way}/{it}", [*MAKES_LAYER, f"../out/netbsd/{way}/{it}"], [f"out/netbsd/{way}/{it}"], MOST_BYTES if is_bare else None)
              for way, is_bare in WAYS.items() for it in programs(way)]
-    found += [Test(f"bench/{it}", [*MAKES_BENCH, f"../out/bench/plain/{it}"], [f"out/bench/plain/{it}", *words]) for it, words in BENCH.items()
-              if (ROOT / f"explorer/tests/{it}.c").is_file()]
-    return found + [Test(f"watched/{it}", [*MAKES_LAYER, f"../out/netbsd/plain/{it}"], [*VALGRIND, f"out/netbsd/plain/{it}", *words], None)
-                    for it, words in WATCHED.items() if it in programs("plain")]
+    return found + [Test(f"bench/{it}", [*MAKES_BENCH, f"../out/bench/plain/{it}"], [f"out/bench/plain/{it}", *words]) for it, words in BENCH.items()
+                    if (ROOT / f"explorer/tests/{it}.c").is_file()]
 
 
 def of_crate(_):
@@ -337,182 +255,136 @@ LIBRARIES = (
 )
 
 
+@functools.cache
 def files():
     """Each file that is changed, with its library."""
     return {str(path.relative_to(ROOT)): library for library in LIBRARIES for path in sorted(ROOT.glob(library.files))}
 
 
-@functools.cache
 def mutants_of(file):
     """All wrong bodies of a file."""
     text, found = (ROOT / file).read_text(), []
     for change in changes(text):
         first, last = text.rfind("\n", 0, change.start) + 1, text.find("\n", change.end)
         new = text[first:change.start] + change.new + text[change.end:last]
-        shown = (it if len(it) <= MOST_SHOWN else f"{it[:MOST_SHOWN]} .." for it in (" ".join(each.split()) for each in (text[first:last], new)))
+        shown = (it if len(it) <= 120 else f"{it[:120]} .." for it in (" ".join(each.split()) for each in (text[first:last], new)))
         found.append(Mutant(file, text.count("\n", 0, change.start) + 1, change.rule, *shown, text[:first] + new + text[last:]))
     return list(dict.fromkeys(found))
 
 
-def run(words, folder, seconds, memory=None):
-    """Runs a command, and ends it with all that it started; its status, or None where the time was over, and what it said last."""
-    environment = {it: text for it, text in os.environ.items() if it not in ("CARGO_TARGET_DIR", "REGISTRY_LIB_DIR")} | {"CARGO_BUILD_JOBS": "1"}
-    limits = ["prlimit", "--core=0", f"--fsize={MOST_BYTES}", *([f"--data={memory}"] if memory else [])]
-    with tempfile.TemporaryFile() as said:
-        with started([*limits, *words], cwd=folder, env=environment, stdout=said, stderr=said) as process:
-            with contextlib.suppress(subprocess.TimeoutExpired):
-                process.wait(seconds)
-            status = process.poll()
-            end_all(of_session(process.pid), signal.SIGKILL)
-            process.wait()
-        said.seek(max(0, said.tell() - 4000))
-        return status, said.read().decode(errors="replace")
+class Trial:
+    """A copy of the tree, in which one wrong body at a time is tried; how long each test may run there, and how many wrong bodies of each file it saw."""
 
+    def __init__(self, folder, least):
+        self.folder, self.least, self.limits, self.seen = folder, least, {}, collections.defaultdict(collections.Counter)
+        folder.mkdir()
+        copy = 'to=$1; shift; tar -c --exclude=target --exclude=out/rust "$@" | tar -x -C "$to"'
+        subprocess.run(["sh", "-c", copy, "sh", folder, *(it for it in COPIED if (ROOT / it).exists())], cwd=ROOT, check=True)
 
-class Lane:
-    """A copy of the tree, in which one wrong body at a time is tried."""
+    def run(self, words, seconds=LONGEST, memory=None):
+        """Runs a command, and ends it with all that it started; its status, or None where the time was over, and what it said last."""
+        environment = {it: text for it, text in os.environ.items() if it not in ("CARGO_TARGET_DIR", "REGISTRY_LIB_DIR")} | {"CARGO_BUILD_JOBS": "1"}
+        limits = ["prlimit", "--core=0", f"--fsize={MOST_BYTES}", *([f"--data={memory}"] if memory else [])]
+        with tempfile.TemporaryFile() as said:
+            with started([*limits, *words], cwd=self.folder, env=environment, stdout=said, stderr=said) as process:
+                with contextlib.suppress(subprocess.TimeoutExpired):
+                    process.wait(seconds)
+                status = process.poll()
+                end_all(of_session(process.pid), signal.SIGKILL)
+                process.wait()
+            said.seek(max(0, said.tell() - 4000))
+            return status, said.read().decode(errors="replace")
 
-    def __init__(self, folder, stands=None):
-        self.folder, self.stands = folder, stands
-        of = stands.folder if stands else ROOT
-        for name in COPIED:
-            if (of / name).is_dir():
-                shutil.copytree(of / name, folder / name, symlinks=True, ignore=shutil.ignore_patterns("target", *(["rust"] if name == "out" else [])))
-            elif (of / name).is_file():
-                folder.mkdir(parents=True, exist_ok=True)
-                shutil.copy2(of / name, folder / name)
-
-    def seconds(self, test):
-        """Builds a test of the tree as it stands, and runs it: it has to pass. For how long."""
+    def measure(self, test):
+        """Builds a test of the tree as it stands, and runs it: it has to pass. It may take longer later on, and not for ever."""
         for words in (test.build, test.run):
             began = time.monotonic()
-            status, said = run(words, self.folder, LONGEST)
+            status, said = self.run(words)
             if status != 0:
                 sys.exit(f"mutants: {test.name} fails on the tree as it stands: {' '.join(words)}: {said.strip()[-300:]}")
-        return time.monotonic() - began
+        self.limits[test.name] = self.least + TIMES * (time.monotonic() - began)
 
     def object(self, library, file):
         """What the compiler makes of a file as it is here; None where it makes nothing."""
         words, made = library.compiled(file)
         (self.folder / made).unlink(missing_ok=True)
-        return (self.folder / made).read_bytes() if run(words, self.folder, LONGEST)[0] == 0 else None
+        return (self.folder / made).read_bytes() if self.run(words)[0] == 0 else None
 
-    def fails(self, test, limit):
+    def fails(self, test):
         """How a test that was built fails here twice; nothing where it passes once."""
-        found = [run(test.run, self.folder, limit, test.memory)[0]]
+        found = [self.run(test.run, self.limits[test.name], test.memory)[0]]
         if found[0] != 0:
-            found.append(run(test.run, self.folder, limit, test.memory)[0])
+            found.append(self.run(test.run, self.limits[test.name], test.memory)[0])
         return "" if 0 in found else "hung" if None in found else "killed"
 
-    def judge(self, tests, limits):
-        """What comes of the wrong body that is here, and by which test; `tests` in the order in which they run."""
-        built = set()
+    def judge(self, tests):
+        """What comes of the wrong body that is here, and the test that sees it; `tests` in the order in which they run."""
         for test in tests:
-            if tuple(test.build) not in built and run(test.build, self.folder, LONGEST)[0] != 0:
-                return "not built", ""
-            built.add(tuple(test.build))
-            outcome = self.fails(test, limits[test.name])
-            if outcome:
-                return ("busy", "") if self.stands.fails(test, limits[test.name]) else (outcome, test.name)
-        return "survived", ""
+            if self.run(test.build)[0] != 0:
+                return "not built", None
+            if outcome := self.fails(test):
+                return outcome, test
+        return "survived", None
 
-    def try_mutant(self, library, mutant, tests, limits):
+    def came_of(self, library, mutant, tests):
         """What came of a wrong body, and by which test. The file is put back, as a newer one: what was built of the wrong one is built again."""
-        path = self.folder / mutant.file
+        path, stands = self.folder / mutant.file, library.compiled and self.object(library, mutant.file)
         before = path.read_text()
-        stands = library.compiled and self.object(library, mutant.file)
         try:
             path.write_text(mutant.text)
             made = library.compiled and self.object(library, mutant.file)
             if library.compiled and made in (None, stands):
-                return "not built" if made is None else "same code", ""
-            return self.judge(tests, limits)
+                return "not built" if made is None else "same code", None
+            outcome, test = self.judge(tests)
         finally:
             path.write_text(before)
+        is_busy = test and (self.run(test.build)[0] != 0 or self.fails(test))
+        return ("busy", None) if is_busy else (outcome, test)
+
+    def try_mutant(self, mutant):
+        """Tries a wrong body, and says what came of it. The test that is called as its file comes first, until others saw more."""
+        library, stem, seen = files()[mutant.file], pathlib.Path(mutant.file).stem, self.seen[mutant.file]
+        tests = library.tests(mutant.file)
+        for test in (it for it in tests if it.name not in self.limits):
+            self.measure(test)
+        outcome, test = self.came_of(library, mutant, sorted(tests, key=lambda it: (-seen[it.name] - it.name.endswith(stem), self.limits[it.name])))
+        seen.update([test.name] if test else [])
+        print(f"{mutant.file}:{mutant.line}: {mutant.rule}: {mutant.new}: {outcome}{f' by {test.name}' if test else ''}", flush=True)
+        return outcome
 
 
-class Tried:
-    """The wrong bodies, their tests, how long each of these may run, and what came of the bodies so far."""
-
-    def __init__(self, bodies, least):
-        self.bodies, self.least, self.came, self.limits, self.of_file = bodies, least, {}, {}, files()
-        self.seen = collections.defaultdict(collections.Counter)
-        self.tests = {file: self.of_file[file].tests(file) for file in sorted({it.file for it in bodies})}
-
-    def measure(self, lane):
-        for test in {it.name: it for tests in self.tests.values() for it in tests}.values():
-            self.limits[test.name] = self.least + TIMES * lane.seconds(test)
-
-    def one(self, lane, mutant):
-        """Tries a wrong body. The test that is called as its file comes first, until others saw more."""
-        stem, seen = pathlib.Path(mutant.file).stem, self.seen[mutant.file]
-        tests = sorted(self.tests[mutant.file], key=lambda it: (-seen[it.name] - it.name.endswith(stem), self.limits[it.name]))
-        outcome, by = lane.try_mutant(self.of_file[mutant.file], mutant, tests, self.limits)
-        self.came[mutant] = outcome
-        seen.update([by] if by else [])
-        print(f"{mutant.file}:{mutant.line}: {mutant.rule}: {mutant.new}: {outcome}{f' by {by}' if by else ''}", flush=True)
-
-    def report(self):
-        """Says what came of it; the status that goes with it."""
-        survivors = sorted(it for it, outcome in self.came.items() if outcome == "survived")
-        for outcome, count in collections.Counter(self.came.values()).items():
-            print(f"{count:5} {outcome}")
-        print("".join(f"survived: {it.file}:{it.line}, {it.rule}: {it.old} -> {it.new}\n" for it in survivors), end="")
-        print(f"{len(self.came)} of {len(self.bodies)} tried, {len(survivors)} survived")
-        return int(bool(survivors))
+def report(came):
+    """Says what came of the wrong bodies; the status that goes with it."""
+    survivors = [it for it, outcome in came.items() if outcome == "survived"]
+    for outcome, count in collections.Counter(came.values()).items():
+        print(f"{count:5} {outcome}")
+    print("".join(f"survived: {it.file}:{it.line}, {it.rule}: {it.old} -> {it.new}\n" for it in survivors), end="")
+    print(f"{len(came)} tried, {len(survivors)} survived")
+    return int(bool(survivors))
 
 
-def try_all(tried, jobs, room):
-    """Tries each wrong body in a lane that no other one has just now."""
-    stands = Lane(room / "stands")
-    tried.measure(stands)
-    free = queue.SimpleQueue()
-    for number in range(min(jobs, len(tried.bodies))):
-        free.put(Lane(room / f"lane{number}", stands))
-
-    def one(mutant):
-        lane = free.get()
-        try:
-            tried.one(lane, mutant)
-        finally:
-            free.put(lane)
-
-    run_all(one, tried.bodies, jobs)
-
-
-def sampled(found, count, seed):
-    """So many of them: of each file the same share, by chance. Those that come first are such a sample, too, where a run is cut off."""
-    places = {}
-    for file in dict.fromkeys(it.file for it in found):
-        bodies = [it for it in found if it.file == file]
-        random.Random(f"{seed} {file}").shuffle(bodies)
-        places.update((it, (place + 0.5) / len(bodies)) for place, it in enumerate(bodies))
-    return sorted(found, key=places.get)[:count]
-
-
-def chosen(only, sample, seed):
-    """The wrong bodies that the words name, in their order; a sample in any order."""
-    found = []
-    for file, _, line in (word.partition(":") for word in only or files()):
+def chosen(words, sample, seed):
+    """The wrong bodies that the words name, in their order; or so many of them by chance."""
+    found = {}
+    for file, _, line in (word.partition(":") for word in words or files()):
         if file not in files():
             sys.exit(f"mutants: no code that is changed: {file}")
-        found += [it for it in mutants_of(file) if not line or str(it.line) == line]
-    found = list(dict.fromkeys(found)) or sys.exit("mutants: no wrong body there")
-    return sampled(found, sample, seed) if sample else found
+        found.update((it, None) for it in mutants_of(file) if not line or str(it.line) == line)
+    bodies = list(found) or sys.exit("mutants: no wrong body there")
+    return random.Random(seed).sample(bodies, min(sample, len(bodies))) if sample else bodies
 
 
 def main():
     parser = argparse.ArgumentParser(usage=__doc__.split("\n")[2].strip(), allow_abbrev=False)
-    parser.add_argument("--only", action="append", default=[])
-    for name, default in (("sample", None), ("seed", 1), ("jobs", 2), ("least", 5)):
+    for name, default in (("least", 5), ("sample", None), ("seed", 1)):
         parser.add_argument(f"--{name}", type=int, default=default)
+    parser.add_argument("only", nargs="*")
     given = parser.parse_args()
     bodies = chosen(given.only, given.sample, given.seed)
     guard()
-    tried = Tried(bodies, given.least)
     with tempfile.TemporaryDirectory() as room:
-        try_all(tried, given.jobs, pathlib.Path(room))
-    return tried.report()
+        trial = Trial(pathlib.Path(room, "tree"), given.least)
+        return report({it: trial.try_mutant(it) for it in bodies})
 
 
 if __name__ == "__main__":

@@ -5,15 +5,12 @@
 # system's own lists have theirs, and runs for some minutes. The last line is 'N passed, M failed'.
 #
 # It needs gcc, apt-get and dpkg-source (dpkg-dev).
-set -uo pipefail
-cd "$(dirname "$0")/.."
+# shellcheck source=tools/checks.sh
+. "$(dirname "$0")/checks.sh"
 work=$PWD/out/peers
 apt=$work/apt
 include=(-Inetbsd/peers -Inetbsd/include -Icrates/registry_c/include)
 library=(netbsd/src/*.c out/libregistry.a -pthread)
-# shellcheck source=tools/checks.sh
-. tools/checks.sh
-trap forget_log EXIT
 netbsd/named.sh
 
 # Lists of source packages, from where the system's own lists have its packages, kept apart from them.
@@ -26,13 +23,8 @@ write_lists() {
             sed -E 's/^Types: deb$/Types: deb-src/; s/^deb /deb-src /' "$list" >"$apt/sources/${list##*/}"
         fi
     done
-    cat >"$apt/apt.conf" <<LIST
-Dir::State::lists "$apt/lists";
-Dir::Cache "$apt/cache";
-Dir::Etc::sourcelist "/dev/null";
-Dir::Etc::sourceparts "$apt/sources";
-APT::Sandbox::User "";
-LIST
+    printf '%s;\n' "Dir::State::lists \"$apt/lists\"" "Dir::Cache \"$apt/cache\"" 'Dir::Etc::sourcelist "/dev/null"' \
+        "Dir::Etc::sourceparts \"$apt/sources\"" 'APT::Sandbox::User ""' >"$apt/apt.conf"
 }
 
 # Fetches and unpacks the two packages.
@@ -128,10 +120,7 @@ test_epochs() {
     done
 }
 
-if [ ! -e out/libregistry.a ]; then
-    echo "no archive: tools/build-archive.sh makes out/libregistry.a"
-    exit 1
-fi
+need out/libregistry.a "tools/build-archive.sh proves and builds it"
 mkdir -p "$work"
 check "the source packages are fetched" fetch
 test_torture

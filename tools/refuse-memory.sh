@@ -2,10 +2,9 @@
 # Refuses each allocation of the memory tests in turn, the 1st, the 2nd and so on. The call must say that memory ran out, and change
 # nothing; made again, it must return what it would have returned at first.
 #
-# The merge gate can't refuse memory, so it doesn't run this; run it by hand after a change of what allocates. Without arguments it goes over each crate that
-# has memory tests; else over the crates named. An allocation takes half a minute: FROM=45 goes on from the 45th, where a run had come to. Each test runs in a
-# process of its own, with a count of its own, and notes a refusal that it met. Some refusals meet nobody: a list that is collected and is refused room for as
-# many as it expects asks again, for one. Such come few in a row, so many runs without a note are past the last allocation of every test.
+# The gate can't refuse memory: run it by hand after a change of what allocates. Without arguments it goes over each crate that has memory tests; else over the
+# crates named. An allocation takes half a minute: FROM=45 goes on from the 45th. Each test runs in a process of its own, with a count of its own, and notes a
+# refusal that it met. A list that is refused room for as many as it expects asks again, for one, and notes nothing. Such refusals come few in a row.
 set -u
 cd "$(dirname "$0")/../crates" || exit 2
 [[ $# -gt 0 ]] || set -- core_tests call_tests script_tests
@@ -15,13 +14,10 @@ many=16
 
 # One crate, in whose folder this runs.
 refuse() {
-    local from=${FROM:-1} met=0 n output notes
-    local last=$((from - 1))
+    local from=${FROM:-1} met=0 n output notes last=$((${FROM:-1} - 1))
     for ((n = from; n <= last + many; n++)); do
-        output=$(rt try --test --fail-alloc "$n" -- memory_tests 2>&1)
-        if [[ $? -ne 0 || $output != *"test result: ok"* ]]; then
-            printf '%s\n' "$output"
-            echo "$1, allocation $n: a test failed"
+        if ! output=$(rt try --test --fail-alloc "$n" -- memory_tests 2>&1) || [[ $output != *"test result: ok"* ]]; then
+            printf '%s\n%s, allocation %s: a test failed\n' "$output" "$1" "$n"
             return 1
         fi
         notes=$(grep -B 1 'refused memory: ' <<<"$output" | grep -v '^--$')

@@ -10,35 +10,17 @@
 # qemu runs on this machine's processor, whose memory order is a stronger one: no run here can show an order that is too weak. Two things can be shown. In runs
 # of one thread each instruction that comes to a registry's table is one of the four that aarch64 has for sequentially consistent steps (c/tests/ordered.c). And
 # the archive has no other atomic instruction (tools/atomics.py). A plain load or store of the table on a path that no run takes would go unseen.
-set -uo pipefail
-cd "$(dirname "$0")/.."
 # shellcheck source=tools/checks.sh
-. tools/checks.sh
-trap forget_log EXIT
+. "$(dirname "$0")/checks.sh"
 processor=aarch64
 out=out/$processor
 cross=$processor-linux-gnu-
 library=$out/libregistry_c.a
 emulator=qemu-$processor-static
 
-# missing_packages: what has to be installed, of the packages that this needs.
-missing_packages() {
-    command -v "$emulator" >/dev/null || echo qemu-user-static
-    command -v "${cross}gcc" >/dev/null || echo gcc-aarch64-linux-gnu
-    [ -e /usr/aarch64-linux-gnu/include/stdlib.h ] || echo libc6-dev-arm64-cross
-}
-
-install_missing() {
-    local missing
-    mapfile -t missing < <(missing_packages)
-    [ "${#missing[@]}" -gt 0 ] || return 0
-    echo "installing ${missing[*]}"
-    apt_install --no-install-recommends "${missing[@]}" >"$log" 2>&1
-    mapfile -t missing < <(missing_packages)
-    if [ "${#missing[@]}" -gt 0 ]; then
-        echo "test-aarch64: without ${missing[*]} nothing runs: apt-get install ${missing[*]}" >&2
-        exit 2
-    fi
+install_tools() {
+    install_missing --no-install-recommends "$emulator:qemu-user-static" "${cross}gcc:gcc-aarch64-linux-gnu" \
+        /usr/aarch64-linux-gnu/include/stdlib.h:libc6-dev-arm64-cross
 }
 
 build_archive() {
@@ -141,7 +123,7 @@ case "$*" in
 '') ;;
 --built) is_built=yes ;;
 --rust)
-    install_missing
+    install_tools
     check "Debian's Rust for both processors is fetched" fetch_rust
     counted "the Rust crate's tests" rust_tests
     finish
@@ -151,7 +133,7 @@ case "$*" in
     exit 2
     ;;
 esac
-install_missing
+install_tools
 check "the archive for $processor, $([ -n "$is_built" ] || echo 'proved and ')built" build_archive
 if [ ! -e "$out/libregistry.a" ]; then
     finish

@@ -2,32 +2,15 @@
 # Builds the bench, explorer, and runs its tests: small programs whose schedules are counted, and whose outcomes are compared with the reduction and without;
 # the seven drivers in every order; faults planted in them; one case for each thing that it finds or refuses; its picture; real threads beside it. Plain, with
 # the sanitizers of addresses and undefined behaviour, and some under valgrind. out/libregistry.a stands already. The last line is 'N passed, M failed'.
-set -uo pipefail
-cd "$(dirname "$0")/.." || exit
+# shellcheck source=tools/checks.sh
+. "$(dirname "$0")/checks.sh"
 folder=explorer
 out=out/bench
-# shellcheck source=tools/checks.sh
-. tools/checks.sh
-room=$(mktemp -d)
-trap 'rm -rf "$room"; forget_log' EXIT
 
-# The picture of the README, made again: an XML parser takes it, and it has a row for each thread with its CPU, a bar for each kind, a mark for the
-# fault, and the place of each step.
+# The picture of the README, made again: an XML parser takes it.
 is_picture() {
     "$out/plain/picture" "$room/picture.svg" >/dev/null
-    diff "$folder/deadlock.svg" "$room/picture.svg" || return
-    python3 - "$room/picture.svg" <<'PYTHON'
-import sys
-import xml.etree.ElementTree
-
-picture = xml.etree.ElementTree.parse(sys.argv[1]).getroot()
-kinds = {part.get("class") for part in picture.iter()}
-assert {"section", "lock", "reference", "wait", "fault", "step"} <= kinds, kinds
-texts = [part.text or "" for part in picture.iter() if part.tag.endswith("text")]
-rows = [part.text for part in picture.iter() if part.get("class") == "row"]
-assert rows == ["hold", "destroy"] and {"CPU 0", "CPU 1"} <= set(texts), (rows, texts)
-assert sum(text.startswith("picture.c:") for text in texts) == 8, texts
-PYTHON
+    diff "$folder/deadlock.svg" "$room/picture.svg" && python3 -c 'import sys, xml.dom.minidom; xml.dom.minidom.parse(sys.argv[1])' "$room/picture.svg"
 }
 
 # It prints how much was tried, and what was left out.
@@ -103,7 +86,7 @@ refuses_linked_sanitizer() {
     [ $? -eq 2 ] && grep -F "the program is linked with -fsanitize=thread" "$log.said"
 }
 
-watched() {
+traced() {
     limited valgrind -q --error-exitcode=99 --trace-children=yes "$@"
 }
 
@@ -140,7 +123,7 @@ check "a program that is linked with it is refused" refuses_linked_sanitizer
 check "a picture" is_picture
 check "100,000 switches a second" "$out/plain/speed" 100000
 if command -v valgrind >/dev/null; then
-    check "counts, under valgrind" watched "$out/plain/counts"
-    check "a driver, under valgrind" watched "$out/plain/drivers" bridge
+    check "counts, under valgrind" traced "$out/plain/counts"
+    check "a driver, under valgrind" traced "$out/plain/drivers" bridge
 fi
 finish

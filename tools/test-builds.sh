@@ -1,18 +1,11 @@
 #!/usr/bin/env bash
 # Builds clients as users do, and runs them: by gcc and clang, with -O3, link-time optimization, -static-pie and control-flow protection, over musl, as
 # C++20 and by a header unit. What must not be built is refused, and the reason is named. It needs out/libregistry.a; the last line is 'N passed, M failed'.
-set -uo pipefail
-cd "$(dirname "$0")/.." || exit
 # shellcheck source=tools/checks.sh
-. tools/checks.sh
+. "$(dirname "$0")/checks.sh"
 archive=out/libregistry.a
 include=$PWD/crates/registry_c/include
-if [ ! -e "$archive" ]; then
-    echo "test-builds: there is no $archive: tools/build-archive.sh proves and builds it" >&2
-    exit 2
-fi
-room=$(mktemp -d)
-trap 'rm -rf "$room"; forget_log' EXIT
+need "$archive" "tools/build-archive.sh proves and builds it"
 
 # built NAME COMMAND..: the program of that name, compiled with waiting.c by this command, over the archive.
 built() {

@@ -6,26 +6,12 @@
 #     tools/test-face.sh --built              takes out/libregistry.a as it stands
 #     tools/test-face.sh --built PART..       some parts alone, which may run beside each other once build has ended:
 #                                             page build c watched heap netbsd bench rust rust-watched
-set -uo pipefail
-cd "$(dirname "$0")/.."
+# shellcheck source=tools/checks.sh
+. "$(dirname "$0")/checks.sh"
 out=out
 header=crates/registry_c/include/registry.h
 page=man/registry.3
 warnings=(-Wall -Wextra -Werror -Wpedantic -Wconversion -Wcast-qual -Wwrite-strings)
-# shellcheck source=tools/checks.sh
-. tools/checks.sh
-trap forget_log EXIT
-
-# Installs each package whose command is missing.
-install_missing() {
-    local missing=() pair
-    for pair in gcc:gcc g++:g++ make:make ar:binutils cargo:cargo mandoc:mandoc man:man-db pkg-config:pkg-config valgrind:valgrind; do
-        command -v "${pair%%:*}" >/dev/null || missing+=("${pair##*:}")
-    done
-    [ "${#missing[@]}" -gt 0 ] || return 0
-    echo "installing ${missing[*]}"
-    check "installed ${missing[*]}" apt_install "${missing[@]}"
-}
 
 # names HEADER PAGE: the page names each call of the header, and no other.
 names() {
@@ -55,19 +41,9 @@ warned() {
     ! printf "$call" "$2" | gcc -O1 "${warnings[@]}" -Icrates/registry_c/include -c -o /dev/null -xc - 2>"$log.said" && grep -qe "-Werror=$1" "$log.said"
 }
 
-# valgrind runs one thread at a time: in turn, where it can. Else the threads that could go on may keep one from it for minutes, while the rest wait for it.
-watched() {
-    limited valgrind -q --fair-sched=try --error-exitcode=99 --leak-check=full "$@"
-}
-
-# Runs a program so that an access out of bounds, a use of what was never written or a leak of any kind is a failure.
-guarded() {
-    watched --show-leak-kinds=all --errors-for-leak-kinds=all "$@"
-}
-
-# The same for Rust, whose runtime keeps some blocks to the end.
+# Rust's runtime keeps some blocks to the end.
 guarded_rust() {
-    RUST_BACKTRACE=0 watched --show-leak-kinds=definite,indirect --errors-for-leak-kinds=definite,indirect "$@"
+    RUST_BACKTRACE=0 watched definite,indirect "$@"
 }
 
 # The programs of the crate's tests, as cargo names them where it isn't told to be quiet; except those that run the compiler or themselves, or look at types.
@@ -145,7 +121,7 @@ test_c() {
 
 # The same programs, where each access of the client's, or of all, is watched.
 test_watched() {
-    programs C: " under valgrind" "guarded $out/" smallest row packet 'shared 20' misuse built interrupted reclaims lent 'history 3000 1 small' names 'crowd 20' \
+    programs C: " under valgrind" "watched all $out/" smallest row packet 'shared 20' misuse built interrupted reclaims lent 'history 3000 1 small' names 'crowd 20' \
         refuse
     programs C: " with sanitizers" "$out/sanitized-" smallest row misuse packet 'shared 500' built reclaims lent 'history 100000' names 'crowd 300' forwarder \
         device_switch
@@ -158,11 +134,11 @@ test_heap() {
     check "C: together with the thread sanitizer" "$out/together-thread-right" 100
     check "C: reclaims with the thread sanitizer" "$out/raced-reclaims"
     check "C: interrupted with the thread sanitizer" "$out/raced-interrupted"
-    check "C: together under valgrind" guarded "$out/together-none-right" 5
+    check "C: together under valgrind" watched all "$out/together-none-right" 5
     for when in early unperformed; do
         check "C: freed $when: the address sanitizer sees it" catches heap-use-after-free "$out/together-address-$when" 200
         check "C: freed $when: the thread sanitizer sees it" catches 'data race' "$out/together-thread-$when" 100
-        check "C: freed $when: valgrind sees it" catches 'Invalid read' guarded "$out/together-none-$when" 10
+        check "C: freed $when: valgrind sees it" catches 'Invalid read' watched all "$out/together-none-$when" 10
     done
 }
 
@@ -268,7 +244,7 @@ done
 export REGISTRY_LIB_DIR=$PWD/$out CARGO_TARGET_DIR=$PWD/$out/rust
 examples=$out/rust/release/examples
 
-install_missing
+install_missing "" gcc:gcc g++:g++ make:make ar:binutils cargo:cargo mandoc:mandoc man:man-db pkg-config:pkg-config valgrind:valgrind
 if [ -z "$is_built" ]; then
     check "the archive, proved and built" build_archive
 fi

@@ -2,18 +2,10 @@
 # Installs libkupaldiz, libkupaldiz_netbsd and libkupaldiz_bench into scratch folders, looks at each file that is there, builds and runs programs that know
 # the libraries by pkg-config alone, and uninstalls them: under a folder of its own, as Debian has it, in a path with blanks, and over an older version.
 # It needs out/libregistry.a; the last line is 'N passed, M failed'.
-set -uo pipefail
-cd "$(dirname "$0")/.." || exit
 # shellcheck source=tools/checks.sh
-. tools/checks.sh
-for needed in out/libregistry.a:"tools/build-archive.sh proves and builds it" "$(command -v pkg-config || echo pkg-config):apt-get install pkg-config"; do
-    if [ ! -e "${needed%%:*}" ]; then
-        echo "test-install: there is no ${needed%%:*}: ${needed#*:}" >&2
-        exit 2
-    fi
-done
-room=$(mktemp -d)
-trap 'rm -rf "$room"; forget_log' EXIT
+. "$(dirname "$0")/checks.sh"
+need out/libregistry.a "tools/build-archive.sh proves and builds it"
+need "$(command -v pkg-config || echo pkg-config)" "apt-get install pkg-config"
 header=crates/registry_c/include/registry.h
 module=kupaldiz
 # What is installed from, and where to.

@@ -2,13 +2,10 @@
 # Builds the manual pages' own names over the archive, netbsd, and runs their tests: the pages' patterns and seven drivers on threads, plain, with
 # the sanitizers of addresses and undefined behaviour, with that of races, and some under valgrind; each misuse in a process of its own; what is beyond
 # one registry's limits; random programs against a model. out/libregistry.a stands already. The last line is 'N passed, M failed'.
-set -uo pipefail
-cd "$(dirname "$0")/.."
+# shellcheck source=tools/checks.sh
+. "$(dirname "$0")/checks.sh"
 folder=netbsd
 out=out/netbsd
-# shellcheck source=tools/checks.sh
-. tools/checks.sh
-trap forget_log EXIT
 
 # A program of a way in which the Makefile builds it. Some count their cases, as stops.h does.
 try_program() {
@@ -19,24 +16,12 @@ try_program() {
     fi
 }
 
-lints() {
-    make -s pages
-    [ -z "$(mandoc -T lint man/kupaldiz_*.[37] 2>&1 | tee /dev/stderr)" ]
-}
-
 # The layer by clang, plain and with each sanitizer.
 with_clang() {
-    local room way
-    room=$(mktemp -d)
+    local way
     for way in plain sanitized raced; do
         make -s -C $folder CC=clang OUT="$room" "$room/$way/liblayer.a" || return 1
     done
-    rm -rf "$room"
-}
-
-# valgrind runs one thread at a time: in turn, where it can. The layer keeps what a thread may use again.
-watched() {
-    limited valgrind -q --fair-sched=try --error-exitcode=99 --leak-check=full --show-leak-kinds=definite --errors-for-leak-kinds=definite "$@"
 }
 
 $folder/named.sh
@@ -56,12 +41,10 @@ if command -v clang >/dev/null; then
     check "the layer is built by clang, no warning" with_clang
 fi
 check "each call has an entry in a manual page" $folder/pages.py check
-if command -v mandoc >/dev/null; then
-    check "mandoc finds no fault in them" lints
-fi
 check "the layer is built into a shared object that is closed" make -s -C $folder unloaded
 check "a thread ends after its layer was closed" "$out/unloaded" "$out/plugin.so"
 if command -v valgrind >/dev/null; then
-    check "model, under valgrind" watched "$out/plain/model" 1 300
+    # The layer keeps what a thread may use again.
+    check "model, under valgrind" watched definite "$out/plain/model" 1 300
 fi
 finish

@@ -8,7 +8,6 @@
 Scripts with and without faults, storms, wrong arguments, a standard output that is full, closed or gone, a standard input that can't be read, and
 address spaces in which there is too little memory. The last line counts the runs.
 """
-import contextlib
 import os
 import pathlib
 import subprocess
@@ -53,20 +52,6 @@ RUNS = [
 ]
 
 
-@contextlib.contextmanager
-def opened(path, flags):
-    """A file that is open; without a path, the end of a pipe that nobody reads any more."""
-    reader, file = (None, os.open(path, flags)) if path else os.pipe()
-    if reader is not None:
-        os.close(reader)
-    yield file
-    os.close(file)
-
-
-# A standard output that takes nothing.
-ENDS = {"full": ("/dev/full", os.O_WRONLY), "a closed pipe": (None, 0), "open for reading alone": ("/dev/null", os.O_RDONLY)}
-
-
 def said(program, words, **streams):
     ran = subprocess.run([program, *words], timeout=120, **{"stderr": subprocess.PIPE, **streams})
     return ran.returncode, ran.stdout, ran.stderr
@@ -85,38 +70,32 @@ def usual(program):
         yield judged(str(words) if words else "no arguments", (status, output, error), found)
 
 
-def with_ends(program):
+# What a shell does to the streams, the arguments, the input, the status, standard output and standard error, if that is read. A stream may be closed, full, a
+# folder, or open for reading alone.
+READ, WRITE = b"read fault\n", b"write fault\n"
+STREAMS = [
+    *((to, words, SCRIPT, 3, b"", WRITE) for to in (">/dev/full", "1</dev/null", ">&-") for words in (["core"], ["live"], ["storm", "1", "1"])),
+    *((of, [engine], b"", 3, b"", READ) for of in ("</", "<&-") for engine in ("core", "live")),
+    ("<&-", ["storm", "1", "1"], b"", 0, storm(1, 1), b""),
+    ("2>/dev/full", ["core"], b"att", 2, b"", b""),
+    ("2>&-", ["live"], b"domain 2 2\nenter 2\n", 2, b"", b""),
+    ("2>&-", ["core"], SCRIPT, 0, REPORT, b""),
+    ("2>&-", ["never"], SCRIPT, 2, b"", b""),
+]
+
+
+def with_streams(program):
+    for change, words, script, *wanted in STREAMS:
+        found = said("sh", ["-c", f'exec "$@" {change}', "sh", program, *words], input=script, stdout=subprocess.PIPE)
+        yield judged(f"{' '.join(words)} {change}", tuple(wanted), found)
+
+
+def with_closed_pipe(program):
     for words in (["core"], ["live"], ["storm", "1", "1"]):
-        for name, output in ENDS.items():
-            with opened(*output) as file:
-                yield judged(f"{' '.join(words)}, standard output {name}", (3, None, b"write fault\n"), said(program, words, input=SCRIPT, stdout=file))
-
-
-def with_closed_streams(program):
-    """A stream that the program is started without: standard input, standard output or standard error."""
-    fault = b"domain 2 2\nenter 2\n"
-    closed = [
-        (["core"], "<&-", SCRIPT, (3, b"", b"read fault\n")),
-        (["live"], ">&-", SCRIPT, (3, b"", b"write fault\n")),
-        (["storm", "1", "1"], "<&-", SCRIPT, (0, storm(1, 1), b"")),
-        (["storm", "1", "1"], ">&-", SCRIPT, (3, b"", b"write fault\n")),
-        (["live"], "2>&-", fault, (2, b"", b"")),
-        (["core"], "2>&-", SCRIPT, (0, REPORT, b"")),
-        (["never"], "2>&-", SCRIPT, (2, b"", b"")),
-    ]
-    for words, without, script, wanted in closed:
-        found = said("sh", ["-c", f'exec "$@" {without}', "sh", program, *words], input=script, stdout=subprocess.PIPE)
-        yield judged(f"{' '.join(words)} {without}", wanted, found)
-
-
-def with_unread_input(program):
-    for engine in ("core", "live"):
-        with opened("/", os.O_RDONLY) as folder:
-            found = said(program, [engine], stdin=folder, stdout=subprocess.PIPE)
-        yield judged(f"{engine}, standard input a folder", (3, b"", b"read fault\n"), found)
-    with opened("/dev/full", os.O_WRONLY) as full:
-        found = said(program, ["core"], input=b"att", stdout=subprocess.PIPE, stderr=full)
-    yield judged("core, standard error full", (2, b"", None), found)
+        reader, writer = os.pipe()
+        os.close(reader)
+        yield judged(f"{' '.join(words)}, a closed pipe", (3, None, WRITE), said(program, words, input=SCRIPT, stdout=writer))
+        os.close(writer)
 
 
 def part_of_report(program):
@@ -198,7 +177,7 @@ def main():
     for program in programs():
         if not os.access(program, os.X_OK):
             sys.exit(f"{program} is missing: tools/prove-program.sh makes it")
-        for part in (usual, with_ends, with_closed_streams, with_unread_input, part_of_report):
+        for part in (usual, with_streams, with_closed_pipe, part_of_report):
             passed += part(program)
     passed += with_little_memory(programs()[0])
     if COMMAND in programs():

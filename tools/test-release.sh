@@ -14,10 +14,8 @@
 #
 # It runs as root, and needs mmdebstrap, and a mirror while a root is made. RELEASE names another folder than release/, ROOTS where the roots are kept from run
 # to run. The last line is 'N passed, M failed'.
-set -uo pipefail
-cd "$(dirname "$0")/.." || exit
 # shellcheck source=tools/checks.sh
-. tools/checks.sh
+. "$(dirname "$0")/checks.sh"
 release=$(realpath -m "${RELEASE:-release}")
 suite=bookworm
 architectures=amd64
@@ -32,16 +30,14 @@ for part; do
     [[ " ${parts[*]} " == *" $part "* ]] || refuse "there is no part $part: ${parts[*]}"
 done
 [ $# -eq 0 ] || parts=("$@")
-[ -f "$release/SHA256SUMS" ] || refuse "there is no $release: tools/make-release.sh makes it"
+need "$release/SHA256SUMS" "tools/make-release.sh makes it"
 [ "$(id -u)" -eq 0 ] || refuse "it makes roots, and so it runs as root"
 for pair in mmdebstrap:mmdebstrap unshare:util-linux chroot:coreutils; do
-    command -v "${pair%%:*}" >/dev/null || refuse "there is no ${pair%%:*}: apt-get install ${pair##*:}"
+    need "$(command -v "${pair%%:*}" || echo "${pair%%:*}")" "apt-get install ${pair##*:}"
 done
 version=$(sed -nE 's/^.*  kupaldiz-([0-9.]+)\.crate$/\1/p' "$release/SHA256SUMS")
 [ -n "$version" ] || refuse "$release/SHA256SUMS names no crate: tools/make-release.sh makes it"
-room=$(mktemp -d)
 roots=${ROOTS:-$room/roots}
-trap 'rm -rf "$room"; forget_log' EXIT
 mkdir -p "$roots"
 
 # root NAME PACKAGE..: a fresh Debian root with these packages, as roots/NAME.tar. One that isn't made leaves nothing.

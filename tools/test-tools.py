@@ -6,6 +6,7 @@
 The trees and the faults are tools/tests/. A fault passes where the tool ends with another status than 0, says what the fault names, and counts a failure
 if it counts. tools/test-program.py is left out, and that is said, where the proved program isn't built. The last line is 'N passed, M failed'.
 """
+import importlib
 import os
 import pathlib
 import re
@@ -14,10 +15,11 @@ import tempfile
 from concurrent.futures import ThreadPoolExecutor
 
 from parts import ended
-from tests import documents, gates, libraries, programs, refusals, releases, sources
-from tests.trees import WRITING, lay, said_by, spoil
+from tests.programs import PROVED
+from tests.trees import CASES, WRITING, lay, said_by, spoil
 
-MODULES = (programs, documents, sources, gates, refusals, libraries, releases)
+for _module in ("documents", "sources", "gates", "refusals", "libraries", "releases"):
+    importlib.import_module(f"tests.{_module}")
 COUNT = re.compile(r"^(\d+) passed, (\d+) failed\s*\Z", re.MULTILINE)
 
 
@@ -55,10 +57,9 @@ def run(job):
 
 
 def main():
-    cases = [case for module in MODULES for case in module.cases()]
-    chosen = [it for it in cases if not sys.argv[1:] or any(word in it.name for word in sys.argv[1:])]
-    if not programs.PROVED.is_file():
-        print(f"NOT RUN: test-program, as there is no {programs.PROVED.name} that was proved and built")
+    chosen = [it for it in CASES if not sys.argv[1:] or any(word in it.name for word in sys.argv[1:])]
+    if not PROVED.is_file():
+        print(f"NOT RUN: test-program, as there is no {PROVED.name} that was proved and built")
     jobs = [(case, fault) for case in chosen for fault in [None, *case.faults]]
     passed = 0
     with ThreadPoolExecutor(len(os.sched_getaffinity(0))) as pool:

@@ -1,17 +1,14 @@
 #!/usr/bin/env -S python3 -B
-"""Tries wrong bodies (docs/RECIPES.md): the prover, or a test, must refuse each.
+"""Tries wrong bodies: the prover, or a test, must refuse each. docs/RECIPES.md says what they are, and what each word that is said of them means.
 
-    tools/try-edits.py gate   [--anew] [CRATE | CRATE/EDIT]..    crates/CRATE/edits/gate.edits:    the prover must refuse each; the gate tries them
-    tools/try-edits.py prover [--anew] [CRATE | CRATE/EDIT]..    crates/CRATE/edits/by-hand.edits: so it must each of these
-    tools/try-edits.py tests           [CRATE | CRATE/EDIT]..    crates/CRATE/edits/tests.edits:   a test of CRATE must fail under each
+    tools/try-edits.py gate   [--anew] [CRATE | CRATE/EDIT]..    those of gate.edits, which the gate tries
+    tools/try-edits.py prover [--anew] [CRATE | CRATE/EDIT]..    those of by-hand.edits; on the whole crate where the changed functions refused nothing
+    tools/try-edits.py tests           [CRATE | CRATE/EDIT]..    those of tests.edits, by the tests of CRATE
     tools/try-edits.py without         [CRATE]..                 lists the public functions of which no edit changes the body, nor that of a function
                                                                  of their crate that they call
 
-Without names it tries all of the kind. It says of each edit whether it was refused and by what, and ends with 'N passed, M failed'.
-
-`gate` and `prover` need the libraries that `rt ci` has just built in crates/*/out/rlib. tools/edit_checks.py says how an edit is tried: as many side by side
-as there are processors and memory. It keeps refusals, so a run that was cut off continues; --anew tries all. `prover` first checks only the functions that an
-edit changes, and the whole crate where that refused nothing. `tests` works on copies of the tree.
+Without names it tries all of the kind; it ends with 'N passed, M failed'. `gate` and `prover` need the libraries that `rt ci` has just built in
+crates/*/out/rlib, and keep refusals: --anew tries all (tools/edit_checks.py). `tests` works on copies of the tree.
 
 `without`: a law has no body to change, and the method of a trait none either: it is listed, since its types' own methods are other functions. A call is
 known by its name alone, so a function may pass here for the edit of another with the name of one that it calls.

@@ -2,7 +2,7 @@
 tools/picture.py."""
 import subprocess
 
-from .trees import Case, Fault, of, real
+from .trees import Fault, case, of, real
 
 README = """# A tree
 
@@ -34,22 +34,18 @@ def listed(tree):
     subprocess.run(["git", "init", "-q", "."], cwd=tree, check=True)
 
 
-def check_docs():
-    faults = [
-        *of("README.md", ("a dead link", "README.md: links: no file docs/gone.md", "A [page](docs/page.md)", "A [page](docs/gone.md)"),
-            ("a label that is gone", "no link is called [page]", "[page]: docs/page.md\n", ""),
-            ("a table that is cut off", "a table ends at:  | 1 2", "| 1 | 2 |", " | 1 2"),
-            ("a banned phrase", "README.md: phrases: line 3: 'but for': except", "is here.", "is here, but for one."),
-            ("a private word in a page for users", "line 3: 'seat': no private word", "is here.", "is here, by a seat.")),
-        *of("docs/page.md", ("a dead heading", "no heading docs/page.md#the-part", "## The part", "## A part")),
-        *of("src/walk.c", ("a name that documents alone have", "README.md: names: `walk_all`: walk_all", "walk_all", "walk_some")),
-        *of("docs/new.md", ("a new page", "docs/new.md: links: no file gone.md", None, "[gone](gone.md)\n")),
-        *of("netbsd/include/kupaldiz/walk.h", ("a banned phrase in a header", "walk.h: phrases: line 1: 'stands for': is in", None, "/* It stands for all. */\n")),
-        *of("man/kupaldiz_walk.7", ("a private word in a manual page", "walk.7: phrases: line 2: 'ledger': no", None, ".Sh NAME\nA ledger.\n")),
-        Fault("no documents", "0 passed, 1 failed", (("README.md", README, None), ("docs/page.md", PAGE, None))),
-    ]
-    return Case("check-docs", ["check-docs.py", "parts.py"], DOCUMENTS, ["tools/check-docs.py"], faults, prepare=listed)
-
+case("check-docs", ["check-docs.py", "parts.py"], DOCUMENTS, ["tools/check-docs.py"], [
+    *of("README.md", ("a dead link", "README.md: links: no file docs/gone.md", "A [page](docs/page.md)", "A [page](docs/gone.md)"),
+        ("a table that is cut off", "a table ends at:  | 1 2", "| 1 | 2 |", " | 1 2"),
+        ("a banned phrase", "README.md: phrases: line 3: 'but for': except", "is here.", "is here, but for one."),
+        ("a private word in a page for users", "line 3: 'seat': no private word", "is here.", "is here, by a seat.")),
+    *of("docs/page.md", ("a dead heading", "no heading docs/page.md#the-part", "## The part", "## A part")),
+    *of("src/walk.c", ("a name that documents alone have", "README.md: names: `walk_all`: walk_all", "walk_all", "walk_some")),
+    *of("docs/new.md", ("a new page", "docs/new.md: links: no file gone.md", None, "[gone](gone.md)\n")),
+    *of("netbsd/include/kupaldiz/walk.h", ("a banned phrase in a header", "walk.h: phrases: line 1: 'stands for': is in", None, "/* It stands for all. */\n")),
+    *of("man/kupaldiz_walk.7", ("a private word in a manual page", "walk.7: phrases: line 2: 'ledger': no", None, ".Sh NAME\nA ledger.\n")),
+    Fault("no documents", "0 passed, 1 failed", (("README.md", README, None), ("docs/page.md", PAGE, None))),
+], prepare=listed)
 
 SCRIPT = "domain 1 1\nenter 0\n"
 REPORT = "domain 1 1\ninside\n"
@@ -108,162 +104,50 @@ PAGES = {
     "program": PROGRAM,
 }
 
-
-def run_examples():
-    faults = (
-        *of("program", ("another report", "status 0, and it said\ndomain 1 1\noutside", "\\ninside", "\\noutside"),
-            ("something on standard error", "and it said\ndomain 1 1\ninside\nnote", "inside\\n'", "inside\\n'; echo note >&2"),
-            ("another status after a fault", "status 0, and it said", "exit 2", "exit 0"),
-            ("another report of one engine", "inside live: status 0", "    printf 'domain", "    [ $1 = core ] || echo more; printf 'domain")),
-        Fault("another report of a session", "readme-19 core", (("README.md", "enter 0                inside", "enter 0                outside"),)),
-        Fault("a script without a report", "a script without a report or a fault after it", (("README.md", "```report", "```text"),)),
-        Fault("a report without a script", "a report without a script before it", (("docs/page.md", "# A page", "```report\ninside\n```"),)),
-        Fault("C code of no source", "README.md:24: no example has this code", (("c/examples/walk.c", "walk_all", "walk_none"),)),
-        Fault("code that its file doesn't have", "README.md:32: no example has this code", (("crates/low/specs/Walks.antt", "there = so", "there = no"),)),
-        Fault("no examples", "0 passed, 1 failed", command=["tools/run-examples.py", "--program", "program", "docs/page.md"]),
-    )
-    return Case("run-examples", ["run-examples.py", "engines.py", "parts.py"], PAGES, ["tools/run-examples.py", "--program", "program"], faults)
-
-
-HEADER = """/*
- * registry.h - a registry
- */
-
-/* What a call returns. */
-enum {
-	REGISTRY_DONE = 0,	/* the call has done what it says */
-	REGISTRY_NULL = 77	/* a pointer is NULL */
-};
-
-/* How large a registry is. */
-struct registry_settings {
-	uint64_t cpus;	/* 1 to 8 */
-};
-
-/* ---- Opening. Any thread may call these. ---- */
-
-/*
- * registry_open - make a registry
- *
- * `settings` may be NULL.
- * Returns REGISTRY_DONE.
- */
-registry_answer registry_open(struct registry *it, const struct registry_settings *settings)
-    REGISTRY_NONNULL(1) REGISTRY_CHECKED;
-"""
-FRAME = """.Sh NAME
-@names
-.Sh SYNOPSIS
-@synopsis
-.Sh DESCRIPTION
-@types registry_settings
-@constants REGISTRY_DONE
-@calls
-.Sh EXAMPLES
-@example c/examples/packet.c opened
-"""
-PACKET = "static int opened(void)\n{\n\treturn 1;\n}\n"
-WAITS = """/*
- * registry_waits - whether the registry waits: {0} doesn't
- */
-bool registry_waits(void);
-"""
-MADE = """.\\" Made by tools/header-pages.py from crates/registry_c/include/registry.h and man/registry.3.in.
-.Sh NAME
-.Nm registry_open
-.Sh SYNOPSIS
-.Ss Opening
-.Ft registry_answer
-.Fo registry_open
-.Fa "struct registry *it"
-.Fa "const struct registry_settings *settings"
-.Fc
-.Sh DESCRIPTION
-.Bl -tag -width Ds
-.It Vt struct registry_settings
-How large a registry is.
-.Bl -tag -width Ds -compact
-.It Vt "uint64_t cpus"
-1 to 8
-.El
-.El
-.Bl -tag -width REGISTRY_SECTIONS_SPENT -offset indent -compact
-.It Dv REGISTRY_DONE
-the call has done what it says
-.It Dv REGISTRY_NULL
-a pointer is
-.Dv NULL
-.El
-.Ss Opening
-Any thread may call these.
-.Bl -tag -width Ds
-.It Fn registry_open it settings
-Make a registry.
-.Pp
-.Fa settings
-may be
-.Dv NULL .
-.Pp
-Returns
-.Dv REGISTRY_DONE .
-.El
-.Sh EXAMPLES
-.Bd -literal -offset indent
-static int opened(void)
-{
-	return 1;
-}
-.Ed
-"""
-MADE_OF_WAITS = """.\\" Made by tools/header-pages.py from c/include/waiting.h and man/registry_waiting.3.in.
-.Ft bool
-.Fn registry_waits void
-.Bl -tag -width Ds
-.It Fn registry_waits void
-Whether the registry waits:
-.Li {0}
-doesn't.
-.El
-"""
-PAGE, FACE, CLIENT = "man/registry.3", "crates/registry_c/include/registry.h", "c/examples/packet.c"
-MAKES = f"""#!/bin/sh
-tools/header-pages.py make && diff {PAGE} wanted && diff man/registry_waiting.3 wanted_of_waits && tools/header-pages.py check
-"""
-
+case("run-examples", ["run-examples.py", "engines.py", "parts.py"], PAGES, ["tools/run-examples.py", "--program", "program"], [
+    *of("program", ("another report", "status 0, and it said\ndomain 1 1\noutside", "\\ninside", "\\noutside"),
+        ("something on standard error", "and it said\ndomain 1 1\ninside\nnote", "inside\\n'", "inside\\n'; echo note >&2"),
+        ("another status after a fault", "status 0, and it said", "exit 2", "exit 0"),
+        ("another report of one engine", "inside live: status 0", "    printf 'domain", "    [ $1 = core ] || echo more; printf 'domain")),
+    Fault("another report of a session", "readme-19 core", (("README.md", "enter 0                inside", "enter 0                outside"),)),
+    Fault("a script without a report", "a script without a report or a fault after it", (("README.md", "```report", "```text"),)),
+    Fault("C code of no source", "README.md:24: no example has this code", (("c/examples/walk.c", "walk_all", "walk_none"),)),
+    Fault("code that its file doesn't have", "README.md:32: no example has this code", (("crates/low/specs/Walks.antt", "there = so", "there = no"),)),
+    Fault("no examples", "0 passed, 1 failed", command=["tools/run-examples.py", "--program", "program", "docs/page.md"]),
+])
 
 DRAWING = """<svg><rect data-crate="low"/><rect data-crate="high"/><path data-from="high" data-to="low"/></svg>
 """
 PICTURED = "examples/perform-and-destroy.txt"
 
+PICTURES = {**real("examples/perform-and-destroy.*"), "docs/layers.svg": DRAWING, "crates.txt": "# NAME: ON\nlow: std\nhigh staticlib: low std\n"}
+case("picture", ["picture.py", "kit.py", "parts.py"], PICTURES, ["tools/picture.py", "check"], [
+    Fault("another command", "perform-and-destroy.svg: it should say: enter 0", ((PICTURED, "enter 1", "enter 0"),)),
+    Fault("another line of the report", "perform-and-destroy.svg: it should say: refused Waiting cpu 0", ((PICTURED, "Waiting cpu 1", "Waiting cpu 0"),)),
+    Fault("a crate that is no box", "docs/layers.svg, crates: more", (("crates.txt", "low: std\n", "low: std\nmore: std\n"),)),
+    Fault("an arrow that is missing", "docs/layers.svg, arrows: high-low", (("docs/layers.svg", 'data-from="high" data-to="low"', ""),)),
+])
 
-def picture():
-    tree = {**real("examples/perform-and-destroy.*"), "docs/layers.svg": DRAWING, "crates.txt": "# NAME: ON\nlow: std\nhigh staticlib: low std\n"}
-    faults = (
-        Fault("another command", "perform-and-destroy.svg: it should say: enter 0", ((PICTURED, "enter 1", "enter 0"),)),
-        Fault("another line of the report", "perform-and-destroy.svg: it should say: refused Waiting cpu 0", ((PICTURED, "Waiting cpu 1", "Waiting cpu 0"),)),
-        Fault("a picture without a script", "examples/other.svg: it should say: there is no other.txt", (("examples/other.svg", None, "<svg/>"),)),
-        Fault("a crate that is no box", "docs/layers.svg, crates: more", (("crates.txt", "low: std\n", "low: std\nmore: std\n"),)),
-        Fault("a box that is no crate", "docs/layers.svg, crates: less", (("docs/layers.svg", "<svg>", '<svg><rect data-crate="less"/>'),)),
-        Fault("an arrow that is missing", "docs/layers.svg, arrows: high-low", (("docs/layers.svg", 'data-from="high" data-to="low"', ""),)),
-        Fault("an arrow too many", "docs/layers.svg, arrows: low-high", (("docs/layers.svg", "<svg>", '<svg><path data-from="low" data-to="high"/>'),)),
-    )
-    return [Case("picture", ["picture.py", "kit.py", "parts.py"], tree, ["tools/picture.py", "check"], faults)]
+PAGE, FACE = "man/registry.3", "crates/registry_c/include/registry.h"
+WANTED = """.Nm registry_depth ,
+.Fn registry_depth "const struct registry_cpu *cpu" "uint64_t *depth"
+.It Fn registry_depth cpu depth
+The number of open enters, 0 to
+.Dv REGISTRY_MOST_DEPTH .
+.It Vt struct registry_settings
+.It Vt "uint64_t cpus"
+.It Dv REGISTRY_GRACE
+.It Dv REGISTRY_DONE
+static registry_answer take_out(struct registry_cpu *cpu, const struct registry_name *name)
+"""
+# It says which of the lines the page doesn't have.
+MAKES = f"#!/bin/sh\ntools/header-pages.py make && ! grep -vxFf {PAGE} wanted && tools/header-pages.py check\n"
 
-
-def header_pages():
-    tree = {FACE: HEADER, f"{PAGE}.in": FRAME, "wanted": MADE, CLIENT: PACKET, "make": MAKES,
-            "c/include/waiting.h": WAITS, "man/registry_waiting.3.in": "@synopsis\n@calls\n", "wanted_of_waits": MADE_OF_WAITS}
-    faults = (
-        *of(FACE, ("another type of a parameter", '> .Fa "struct registry *it"', "struct registry *it,", "struct keeper *it,"),
-            ("another summary of a call", "> Make a registry.", "make a registry", "open a registry"),
-            ("a call more", "< .Nm registry_more", "REGISTRY_CHECKED;\n", "REGISTRY_CHECKED;\n\n/*\n * registry_more - one more\n */\nvoid registry_more(void);\n"),
-            ("a struct that is gone", "'@types registry_settings' of the frame names nothing", "\nstruct registry_settings {", "\nstruct settings {")),
-        *of(CLIENT, ("another example", "< \treturn 2;", "return 1", "return 2"),
-            ("an example that is gone", "'@example c/examples/packet.c opened' of the frame names nothing", "opened", "closed")),
-        *of(f"{PAGE}.in", ("a part that isn't one", "'@call' of the frame names nothing", "@calls", "@call")),
-    )
-    return Case("header-pages", ["header-pages.py", "parts.py"], tree, ["./make"], faults)
-
-
-def cases():
-    return [check_docs(), run_examples(), header_pages(), *picture()]
+HEADERS = {**real(FACE, "c/include/waiting.h", "man/registry*.3.in", "c/examples/packet.c", "c/examples/shared.c"), "wanted": WANTED, "make": MAKES}
+case("header-pages", ["header-pages.py", "parts.py"], HEADERS, ["./make"], [
+    *of(FACE, ("another type of a parameter", '"uint64_t *depth"', "*cpu, uint64_t *depth)", "*cpu, uint32_t *depth)"),
+        ("another summary of a call", "The number of open enters", "registry_depth - the number", "registry_depth - how many"),
+        ("a struct that is gone", "of the frame names nothing", "\nstruct registry_settings {", "\nstruct settings {")),
+    *of(f"{PAGE}.in", ("an example that is gone", "'@example c/examples/packet.c gone' of the frame names nothing", "packet.c send_by", "packet.c gone"),
+        ("a part that isn't one", "'@call' of the frame names nothing", "@calls", "@call")),
+])

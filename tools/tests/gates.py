@@ -3,7 +3,7 @@ import os
 
 from limits import LIMITS
 
-from .trees import Case, Fault, of
+from .trees import Fault, case, of
 
 GATE = """#!/usr/bin/env python3
 import sys
@@ -16,23 +16,19 @@ sys.exit(gate([Part("one", "./one"), Part("two", "./two")], [Part("alone", "./al
 """
 PASSES = "#!/bin/sh\necho begun\necho 3 passed, 0 failed\n"
 
-
-def parts():
-    """A fault of the part that runs beside another one, and of the part that is alone."""
-    tree = {"gate": GATE, "one": PASSES, "two": PASSES, "alone": PASSES}
-    rows = (
-        ("a failure", "8 passed, 1 failed", "3 passed, 0", "2 passed, 1"),
-        ("no check", "6 passed, 1 failed", "3 passed, 0", "0 passed, 0"),
-        ("no count", "6 passed, 1 failed", "echo 3 passed, 0 failed\n", ""),
-        ("a count that isn't last", "6 passed, 1 failed", "0 failed\n", "0 failed\necho more\n"),
-        ("another status", "9 passed, 1 failed", "0 failed\n", "0 failed\nexit 2\n"),
-        ("it is killed", "6 passed, 1 failed", "echo 3", "kill -KILL $$; echo 3"),
-        ("it isn't there", "No such file or directory", PASSES, None),
-    )
-    faults = [fault for part in ("one", "alone") for fault in of(part, *((f"{part}: {name}", *rest) for name, *rest in rows))]
-    faults += of("gate", ("no parts", "0 passed, 1 failed", GATE, GATE.partition("gate([")[0] + "gate())\n"))
-    return Case("parts", ["parts.py"], tree, ["./gate"], faults)
-
+# A fault of the part that runs beside another one, and of the part that is alone.
+ROWS = (
+    ("a failure", "8 passed, 1 failed", "3 passed, 0", "2 passed, 1"),
+    ("no check", "6 passed, 1 failed", "3 passed, 0", "0 passed, 0"),
+    ("no count", "6 passed, 1 failed", "echo 3 passed, 0 failed\n", ""),
+    ("a count that isn't last", "6 passed, 1 failed", "0 failed\n", "0 failed\necho more\n"),
+    ("another status", "9 passed, 1 failed", "0 failed\n", "0 failed\nexit 2\n"),
+    ("it is killed", "6 passed, 1 failed", "echo 3", "kill -KILL $$; echo 3"),
+    ("it isn't there", "No such file or directory", PASSES, None),
+)
+FAULTS = [fault for part in ("one", "alone") for fault in of(part, *((f"{part}: {name}", *rest) for name, *rest in ROWS))]
+FAULTS += of("gate", ("no parts", "0 passed, 1 failed", GATE, GATE.partition("gate([")[0] + "gate())\n"))
+case("parts", ["parts.py"], {"gate": GATE, "one": PASSES, "two": PASSES, "alone": PASSES}, ["./gate"], FAULTS)
 
 # A gate of more parts than run at once is told to end once a part has begun, twice, as timeout(1) does it. It ends, and so does each part.
 WAITS = GATE.replace('Part("two", "./two")', '*[Part("two", "./two")] * 20')
@@ -46,12 +42,9 @@ wait $limit
 ! grep -lz "^WAITS=$PWD/wait" /proc/[0-9]*/environ 2>/dev/null || { echo "a part goes on"; exit 1; }
 """
 
-
-def ending():
-    tree = {"gate": WAITS, "one": PASSES, "two": "#!/bin/sh\n: >begun\nexec env WAITS=$PWD/wait sleep 20\n", "alone": PASSES, "ends": ENDS}
-    faults = of("tools/parts.py", ("parts that aren't ended", "it does not end", "os.kill(pid, number)", "pass"))
-    return Case("ending", ["parts.py"], tree, ["./ends"], faults, counts=False)
-
+ENDED = {"gate": WAITS, "one": PASSES, "two": "#!/bin/sh\n: >begun\nexec env WAITS=$PWD/wait sleep 20\n", "alone": PASSES, "ends": ENDS}
+case("ending", ["parts.py"], ENDED, ["./ends"],
+     of("tools/parts.py", ("parts that aren't ended", "it does not end", "os.kill(pid, number)", "pass")), counts=False)
 
 SHELL = """#!/usr/bin/env bash
 . tools/checks.sh
@@ -60,40 +53,13 @@ counted "counts" ./one
 finish
 """
 
-
-# What is said of a gate of 160 minutes by the clock, and of so many of processors, on each number of processors.
-BOUNDS = """#!/usr/bin/env python3
-import sys
-
-sys.path.insert(0, "tools")
-
-import parts
-
-for count, most in {6: 50, 4: 50, 3: 90, 2: 90, 1: 150}.items():
-    parts.processors = lambda: count
-    said = [*parts.above_bound(60 * most + 6, 9060), *parts.above_bound(60 * most, 9000)]
-    if len(said) != 2 or f" at most {most} on " not in said[0] or "151.0 processor minutes" not in said[1]:
-        sys.exit(f"on {count} processors it says {said}")
-"""
-
-
-def bounds():
-    faults = of("tools/parts.py", ("a bound for four processors alone", "on 6 processors", "it <= processors()", "it in (1, processors())"),
-                ("no bound for one processor", "on 1 processors", ", 1: 150}", ", 1: 151}"),
-                ("processor minutes without a bound", "on 6 processors", "if processor > 60 *", "if processor > 61 *"))
-    return Case("bounds", ["parts.py"], {"bounds": BOUNDS}, ["./bounds"], faults, counts=False)
-
-
-def shell():
-    faults = [
-        *of("shell", ("a check that fails", "FAILED  true is", "test 1 = 1", "test 1 = 2"),
-            ("no checks", "0 passed, 1 failed", 'check "true is" test 1 = 1\ncounted "counts" ./one\n', "")),
-        *of("one", ("a count with a failure", "FAILED  counts: 1 of 4", "0 failed", "1 failed"),
-            ("no count", "FAILED  counts", "echo 3 passed, 0 failed\n", ""),
-            ("another status", "FAILED  counts", "0 failed\n", "0 failed\nexit 1\n")),
-    ]
-    return Case("checks.sh", ["checks.sh"], {"shell": SHELL, "one": PASSES}, ["./shell"], faults)
-
+case("checks.sh", ["checks.sh"], {"shell": SHELL, "one": PASSES}, ["./shell"], [
+    *of("shell", ("a check that fails", "FAILED  true is", "test 1 = 1", "test 1 = 2"),
+        ("no checks", "0 passed, 1 failed", 'check "true is" test 1 = 1\ncounted "counts" ./one\n', "")),
+    *of("one", ("a count with a failure", "FAILED  counts: 1 of 4", "0 failed", "1 failed"),
+        ("no count", "FAILED  counts", "echo 3 passed, 0 failed\n", ""),
+        ("another status", "FAILED  counts", "0 failed\n", "0 failed\nexit 1\n")),
+])
 
 # `rt ci`, the kit and what makes an archive, as far as tools/archive-beside.py sees them.
 BESIDE = {
@@ -141,13 +107,9 @@ exit $status
 }
 
 
-def on_all_processors():
-    """A tool that leaves no processor to edits, and one that forgets them, where there are processors enough to tell."""
-    if len(os.sched_getaffinity(0)) >= 4:
-        yield "rt ci on all processors", "7 passed, 1 failed", "MANY = 4", "MANY = 4000"
-        yield "edits that wait for rt ci", "edits that weren't tried", "edits.submit(try_edits, crate, last)", "pass"
-
-
+# A tool that leaves no processor to edits, and one that forgets them, where there are processors enough to tell.
+ON_ALL = (("rt ci on all processors", "7 passed, 1 failed", "MANY = 4", "MANY = 4000"),
+          ("edits that wait for rt ci", "edits that weren't tried", "edits.submit(try_edits, crate, last)", "pass"))
 TOUCHED = ("crates.txt", "crates/low/src/lib.rt", "crates/low/specs/Lib.antt", "crates/low/proofs/Lib.antt", "crates/registry_c/specs/Lib.antt")
 
 
@@ -165,10 +127,9 @@ def archive():
             ("a proof for aarch64 that fails", f"the library for aarch64 is {unproved}not there", made,
              f'case "$*" in *aarch64*) echo not there; exit 1;; esac; {made}')),
         *of("tools/archive-beside.py", ("a log without the sources that the proof began with", "6 passed, 1 failed", "            said.write(began)\n", ""),
-            *on_all_processors()),
+            *(ON_ALL if len(os.sched_getaffinity(0)) >= 4 else ())),
     )
-    return Case("archive-beside", ["archive-beside.py", "kit.py", "limits.py", "parts.py"], BESIDE, ["./beside"], faults)
+    case("archive-beside", ["archive-beside.py", "kit.py", "limits.py", "parts.py"], BESIDE, ["./beside"], faults)
 
 
-def cases():
-    return [parts(), ending(), bounds(), shell(), archive()]
+archive()

@@ -1,6 +1,6 @@
 """Faults of libraries, of the archive for C and of the layer's pages: packaging/symbols.sh, netbsd/pages.py, tools/unwind-tables.py, tools/frames.py and
 tools/atomics.py."""
-from .trees import Case, Fault, of, real
+from .trees import Fault, case, of, real
 
 # A library is a text here: what nm says of it.
 NM = '#!/bin/sh\nfor library; do :; done\ncat "$library"\n'
@@ -55,36 +55,30 @@ def symbols():
     faults = [it for it in faults if it.name != "no library: out/libkupaldiz_bench.a"]
     for path in ("packaging/kupaldiz.map", "netbsd/netbsd.map", "explorer/bench.map"):
         told = f"{path.rpartition('/')[2].replace('bench.map', 'bench.map and netbsd.map')}: other names than those of the headers\n"
-        faults += [Fault(f"another name in {path}", f"{told}> another", ((path, "global:\n", "global:\n\t\tanother;\n"),)),
-                   Fault(f"no {path}", told, ((path, tree[path], None),))]
-    faults += [Fault(f"a call more in {path}", "< another", ((path, None, f"{tree[path]}int another(void);\n"),))
-               for path in (*HEADERS, "explorer/bench.h")]
+        faults.append(Fault(f"another name in {path}", f"{told}> another", ((path, "global:\n", "global:\n\t\tanother;\n"),)))
     others = "other names than those of the headers\n<"
     faults += [*of("c/include/registry_check.h", ("a call that isn't checked", f"check.h: {others} registry_waits", "#define registry_waits() 0\n", "")),
                *of("out/libkupaldiz_check.a", ("a name less: libkupaldiz_check.a", f"check.a: {others} registry_holders", "registry_holders", "less")),
                *of("netbsd/include/kupaldiz/lwp.h", ("a call more of the pages", "< kupaldiz_another", None, "int another(void);\n"))]
-    return Case("symbols", [], tree, ["./look"], faults, counts=False)
+    case("symbols", [], tree, ["./look"], faults, counts=False)
 
+
+symbols()
 
 PAGED = "netbsd/include/kupaldiz/psref.h"
 PAGER = "netbsd/pages.py"
 OVERVIEW = "man/kupaldiz_netbsd.7"
 SMALLEST = "netbsd/tests/smallest.c"
 
-
-def pages():
-    shows = "kupaldiz_netbsd.7: doesn't show one program as it is"
-    tree = real(PAGER, "netbsd/include/kupaldiz/*.h", OVERVIEW, SMALLEST)
-    end = "__END_DECLS\n"
-    faults = [
-        *of(PAGED, ("a call without a comment", "psref.h: psref_more has no entry", end, f"/* Nothing that describes it. */\nvoid psref_more(void);\n{end}"),
-            ("a prototype in two lines", "psref.h: psref_copy has no entry", "void psref_copy(struct psref *to,", "void\npsref_copy(struct psref *to,")),
-        *of("netbsd/include/kupaldiz/lists.h", ("a header without a page", "lists.h: no page is made of it", None, "void lists_more(void);\n")),
-        *of(SMALLEST, ("another call in the program's file", shows, "\tpserialize_perform(psz);\n", "")),
-        *of(OVERVIEW, ("a page that names no program", shows, f'.\\" {SMALLEST}\n', "")),
-    ]
-    return Case("pages", [], tree, [PAGER, "check"], faults, counts=False)
-
+SHOWS = "kupaldiz_netbsd.7: doesn't show one program as it is"
+END = "__END_DECLS\n"
+case("pages", [], real(PAGER, "netbsd/include/kupaldiz/*.h", OVERVIEW, SMALLEST), [PAGER, "check"], [
+    *of(PAGED, ("a call without a comment", "psref.h: psref_more has no entry", END, f"/* Nothing that describes it. */\nvoid psref_more(void);\n{END}"),
+        ("a prototype in two lines", "psref.h: psref_copy has no entry", "void psref_copy(struct psref *to,", "void\npsref_copy(struct psref *to,")),
+    *of("netbsd/include/kupaldiz/lists.h", ("a header without a page", "lists.h: no page is made of it", None, "void lists_more(void);\n")),
+    *of(SMALLEST, ("another call in the program's file", SHOWS, "\tpserialize_perform(psz);\n", "")),
+    *of(OVERVIEW, ("a page that names no program", SHOWS, f'.\\" {SMALLEST}\n', "")),
+], counts=False)
 
 # Two functions of x86-64, and what their tables have to say: where the frame's address is from each place on.
 CODE = """	.section .text.keeps,"ax",@progbits
@@ -125,22 +119,16 @@ readelf --debug-dump=frames-interp code.o | sed -nE 's/^[0-9a-f]{16} (rsp.*[^ ])
 diff said rows
 """
 
-
-def unwind_tables():
-    depth = "tools/unwind-tables.py"
-    faults = [
-        *of("code.s", ("a stack pointer that moves otherwise", "isn't understood", "add $0x10,%rsp", "lea 0x10(%rsp),%rsp"),
-            ("two depths", "two depths at", "pop %rbp\n1:\tret", "1:\ttest %rdi,%rdi\n\tpop %rbp\n\tret"),
-            ("a return with something on the stack", "a return at", "pop %rbx\n", ""),
-            ("a jump out with something on the stack", "a jump out at", "call other@PLT", "jmp other@PLT"),
-            ("a path behind the last instruction", "a path goes on behind the last instruction", "pop %rbx\n\tret", "pop %rbx"),
-            ("two functions in a section", "isn't at the head of its section", '.section .text.turns,"ax",@progbits\n', "")),
-        *of(depth, ("a register that isn't told", "> rsp+16 c-16 c-8", "saved = {**saved, operands: depth + 8}", "pass"),
-            ("a register that isn't restored", "a return at", "if saved.get(operands) == depth:", "if False:")),
-        Fault("assertions that aren't made", "unset PYTHONOPTIMIZE", command=["env", "PYTHONOPTIMIZE=1", "./look"]),
-    ]
-    return Case("unwind-tables", ["unwind-tables.py"], {"code.s": CODE, "rows": ROWS, "look": UNWOUND}, ["./look"], faults, counts=False)
-
+case("unwind-tables", ["unwind-tables.py"], {"code.s": CODE, "rows": ROWS, "look": UNWOUND}, ["./look"], [
+    *of("code.s", ("a stack pointer that moves otherwise", "isn't understood", "add $0x10,%rsp", "lea 0x10(%rsp),%rsp"),
+        ("two depths", "two depths at", "pop %rbp\n1:\tret", "1:\ttest %rdi,%rdi\n\tpop %rbp\n\tret"),
+        ("a return with something on the stack", "a return at", "pop %rbx\n", ""),
+        ("a jump out with something on the stack", "a jump out at", "call other@PLT", "jmp other@PLT"),
+        ("two functions in a section", "isn't at the head of its section", '.section .text.turns,"ax",@progbits\n', "")),
+    *of("tools/unwind-tables.py", ("a register that isn't told", "> rsp+16 c-16 c-8", "saved = {**saved, operands: depth + 8}", "pass"),
+        ("a register that isn't restored", "a return at", "if saved.get(operands) == depth:", "if False:")),
+    Fault("assertions that aren't made", "unset PYTHONOPTIMIZE", command=["env", "PYTHONOPTIMIZE=1", "./look"]),
+], counts=False)
 
 LIBRARY = """
 #include <stdlib.h>
@@ -150,12 +138,10 @@ int registry_enter(volatile char *at) { return fill(at) + 1; }
 int registry_exit(volatile char *at) { char *block = malloc(8); int seen = at[0] + (block != 0); free(block); return seen; }
 """
 
-
 # A call that goes on in another function by a jump, which no relocation tells.
 JUMPS = r"""static __attribute__((used, noinline)) int wide(volatile char *at) { volatile char room[900]; for (int i = 0; i < 900; i++) room[i] = at[i]; return room[7]; }
-__asm__(".text\n.globl registry_jumps\n.type registry_jumps,@function\nregistry_jumps: jmp wide\n");
+__asm__(".text\n.globl registry_jumps\n.type registry_jumps,@function\nregistry_jumps: .cfi_startproc\njmp wide\n.cfi_endproc\n");
 int registry_enter"""
-
 
 COMPILED = """#!/bin/sh
 gcc -O1 -fno-stack-protector -fcf-protection=none -fno-optimize-sibling-calls -c library.c -o library.o || exit 9
@@ -164,20 +150,16 @@ ar rcs library.a library.o
 exec tools/frames.py library.a "$@"
 """
 
-
-def frames():
-    call = "return fill(at) + 1;"
-    faults = [
-        *of("library.c", ("a call above the limit", "above 512: registry_enter", "char room[100]", "char room[900]"),
-            ("what a call jumps to above it", "above 512: registry_jumps", "int registry_enter", JUMPS),
-            ("a call through a pointer", "calls through a pointer", call, "int (*volatile f)(volatile char *) = fill; return f(at) + 1;"),
-            ("a call that comes back to itself", "registry_enter comes back to itself", call, "return at[1] ? registry_enter(at + 1) + fill(at) : 1;"),
-            ("a stack pointer that moves otherwise", "registry_enter moves the stack pointer by: and", call,
-             "char room[64] __attribute__((aligned(64))); room[at[0] & 7] = 1; return fill(room);")),
-        Fault("no exports", "library.a has no export", (("library.c", "int registry_enter", "int enter"), ("library.c", "int registry_exit", "int exit_"))),
-    ]
-    return Case("frames", ["frames.py"], {"library.c": LIBRARY, "built": COMPILED}, ["./built", "512"], faults, counts=False)
-
+CALL = "return fill(at) + 1;"
+case("frames", ["frames.py"], {"library.c": LIBRARY, "built": COMPILED}, ["./built", "512"], [
+    *of("library.c", ("a call above the limit", "above 512: registry_enter", "char room[100]", "char room[900]"),
+        ("what a call jumps to above it", "above 512: registry_jumps", "int registry_enter", JUMPS),
+        ("a call through a pointer", "calls through a pointer", CALL, "int (*volatile f)(volatile char *) = fill; return f(at) + 1;"),
+        ("a call that comes back to itself", "registry_enter comes back to itself", CALL, "return at[1] ? registry_enter(at + 1) + fill(at) : 1;"),
+        ("a frame that counts from another register", "registry_enter has no unwind table that counts from the stack pointer", CALL,
+         "char room[64] __attribute__((aligned(64))); room[at[0] & 7] = 1; return fill(room);")),
+    Fault("no exports", "library.a has no export", (("library.c", "int registry_enter", "int enter"), ("library.c", "int registry_exit", "int exit_"))),
+], counts=False)
 
 # An archive's function as objdump shows it, and a program that has it elsewhere, with the places from where it came to a table.
 STEPS = """0000000000000000 <enter>:
@@ -197,18 +179,11 @@ LINKED = """0000000000400000 <other>:
 """
 LOOK = "#!/bin/sh\nPATH=$PWD/bin:$PATH exec tools/atomics.py archive program\n"
 
-
-def atomics():
-    tree = {"archive.code": STEPS, "program.code": LINKED, "program.sites": "400100\n400104\n40010c\n", "look": LOOK,
-            "bin/aarch64-linux-gnu-objdump": '#!/bin/sh\ncat "$3.code"\n'}
-    faults = (
-        *of("archive.code", ("a weaker step", "another instruction: ldxr in enter+0", "ldaxr", "ldxr"),
-            ("a weaker load", "another instruction: ldapr in enter+0xc", "ldar", "ldapr")),
-        Fault("a step that no program met", "met by no program: ldar in enter+0xc", (("program.sites", "40010c\n", ""),)),
-        Fault("no steps at all", "ldar 0", (("archive.code", "ldaxr", "nop"), ("archive.code", "stlxr", "nop"), ("archive.code", "ldar", "nop"))),
-    )
-    return Case("atomics", ["atomics.py"], tree, ["./look"], faults, counts=False)
-
-
-def cases():
-    return [symbols(), pages(), unwind_tables(), frames(), atomics()]
+STEPPED = {"archive.code": STEPS, "program.code": LINKED, "program.sites": "400100\n400104\n40010c\n", "look": LOOK,
+           "bin/aarch64-linux-gnu-objdump": '#!/bin/sh\ncat "$3.code"\n'}
+case("atomics", ["atomics.py"], STEPPED, ["./look"], [
+    *of("archive.code", ("a weaker step", "another instruction: ldxr in enter+0", "ldaxr", "ldxr"),
+        ("a weaker load", "another instruction: ldapr in enter+0xc", "ldar", "ldapr")),
+    Fault("a step that no program met", "met by no program: ldar in enter+0xc", (("program.sites", "40010c\n", ""),)),
+    Fault("no steps at all", "ldar 0", (("archive.code", "ldaxr", "nop"), ("archive.code", "stlxr", "nop"), ("archive.code", "ldar", "nop"))),
+], counts=False)

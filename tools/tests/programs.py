@@ -3,7 +3,7 @@ tools/before-gate.py, lines.py and names.py of netbsd/tests, told.py of explorer
 import subprocess
 import sys
 
-from .trees import ROOT, Case, Fault, of, real, said_by
+from .trees import ROOT, Fault, case, of, real, said_by
 
 PROVED = ROOT / "crates/registry_run/out/registry_run"
 VERBS = "domain,limits,attach,detach,enter,exit,find,ref,copy,held,read,drop,advance"
@@ -21,135 +21,93 @@ def write_kit(tree):
     (tree / "empty").mkdir()
 
 
-def conformance_run():
-    command, other = ["tools/conformance.py", "run", "kit"], "tools/other_registry.py"
-    faults = (
-        *of("program", ("a program that stops in the middle of a report", "0000.txt: line 21 is '(the end)'", "exec tools/other_registry.py", f"{other} | head -n 20"),
-            ("one that prints a line more", "is 'more' and not '(the end)'", "exec tools/other_registry.py", f"{other}; echo more"),
-            ("one with a wrong status", "0000.txt: status 3", "exec tools/other_registry.py", f"{other}; exit 3")),
-        Fault("a script without its report", "0002.report", (("kit/0002.report", "", None),)),
-        Fault("an empty folder", "0 passed, 1 failed", command=["tools/conformance.py", "run", "empty", "./program"]),
-    )
-    return Case("conformance run", KIT, TREE, [*command, "./program"], faults, prepare=write_kit)
+OTHER = "tools/other_registry.py"
+case("conformance run", KIT, TREE, ["tools/conformance.py", "run", "kit", "./program"], [
+    *of("program", ("a program that stops in the middle of a report", "0000.txt: line 21 is '(the end)'", "exec tools/other_registry.py", f"{OTHER} | head -n 20"),
+        ("one with a wrong status", "0000.txt: status 3", "exec tools/other_registry.py", f"{OTHER}; exit 3")),
+    Fault("a script without its report", "0002.report", (("kit/0002.report", "", None),)),
+    Fault("an empty folder", "0 passed, 1 failed", command=["tools/conformance.py", "run", "empty", "./program"]),
+], prepare=write_kit)
 
 
 def test_program(proved):
     another = f'{proved} "$@"; status=$?; [ $status = {{}} ] && exit {{}}; exit $status'
     rows = (
-        ("another status of a fault", "core, standard output full", another.format(3, 1)),
+        ("another status of a fault", "core >/dev/full", another.format(3, 1)),
         ("another status of a script that isn't right", "['core']", another.format(2, 1)),
         ("want of memory that is told as another fault", "too little memory", another.format(4, 3)),
         ("a report with a line more", "['core']", f'{proved} "$@" || exit; [ "$1" = core ] && echo more; exit 0'),
-        ("a storm with another count", "['storm', '2', '3']", f'if [ "$2" = 2 ]; then echo storm 2 3; exit; fi; exec {proved}'),
         ("a wrong argument that is taken", "['storm', '9', '1']", f'[ "$2" != 9 ] || exit 0; exec {proved}'),
-        ("another usage", "no arguments", f"[ $# != 0 ] || {{ echo usage >&2; exit 2; }}; exec {proved}"),
         ("a fault that goes to standard output", "script fault: line 2: BadCpu", f'{proved} "$@" 2>&1 </dev/stdin; exit'),
         ("a program that goes on without its reader", "core, a reader that leaves", f'{proved} "$@" | {{ cat; cat >/dev/null; }}; exit 0'),
     )
     faults = [Fault("no program", "gone is missing", command=["tools/test-program.py", "gone"])]
     faults += of("program", *((name, said, f"exec {proved}", line) for name, said, line in rows))
     tree = {"program": f'#!/bin/sh\nexec {proved} "$@"\n'}
-    return Case("test-program", ["test-program.py", "parts.py"], tree, ["tools/test-program.py", "./program"], faults)
+    case("test-program", ["test-program.py", "parts.py"], tree, ["tools/test-program.py", "./program"], faults)
 
 
 LINES = "netbsd/tests/lines.py"
 TESTS = "netbsd/tests/**/*.c"
 
-
-def lines():
-    misuses, lacks, tells = (f"netbsd/tests/{name}.c" for name in ("misuses", "lacks", "tells"))
-    no, waits, halts = "no test wants", "waits for a release that is under way", "callout_halt: the thread does not have the lock"
-    faults = [
-        *of("netbsd/src/psref.c", ("a line that no test wants", f'psref.c: {no} "the target is gone"', '"the target is not live"', '"the target is gone"')),
-        *of("netbsd/src/callout.c", ("a line about what no row of calls is given", f'callout.c: {no} "the timer was destroyed"', '"the callout")', '"the timer")')),
-        *of(misuses, ("a line that no test wants any more", f'{no} "the reference was written over"', "the reference was written over", "the reference is wrong"),
-            ("a line that another file's test wants", f'callout.c: {no} "the thread does not have the lock"', halts, "callout_halt: it is free")),
-        *of(tells, ("a wait that no test lets last", f'localcount.c: {no} "{waits}"', waits, "waits for a release")),
-        *of(lacks, ("a file of tests that is gone", "lacks isn't there", "#include", None)),
-    ]
-    return Case("lines", [], real(LINES, "netbsd/src/*.c", TESTS), [LINES], faults)
-
+MISUSES, LACKS, TELLS = (f"netbsd/tests/{name}.c" for name in ("misuses", "lacks", "tells"))
+NO, WAITS, HALTS = "no test wants", "waits for a release that is under way", "callout_halt: the thread does not have the lock"
+case("lines", [], real(LINES, "netbsd/src/*.c", TESTS), [LINES], [
+    *of("netbsd/src/psref.c", ("a line that no test wants", f'psref.c: {NO} "the target is gone"', '"the target is not live"', '"the target is gone"')),
+    *of("netbsd/src/callout.c", ("a line about what no row of calls is given", f'callout.c: {NO} "the timer was destroyed"', '"the callout")', '"the timer")')),
+    *of(MISUSES, ("a line that no test wants any more", f'{NO} "the reference was written over"', "the reference was written over", "the reference is wrong"),
+        ("a line that another file's test wants", f'callout.c: {NO} "the thread does not have the lock"', HALTS, "callout_halt: it is free")),
+    *of(TELLS, ("a wait that no test lets last", f'localcount.c: {NO} "{WAITS}"', WAITS, "waits for a release")),
+    *of(LACKS, ("a file of tests that is gone", "lacks isn't there", "#include", None)),
+])
 
 NAMES = "netbsd/tests/names.py"
 LISTED = "netbsd/tests/names.txt"
 SYSTM = "netbsd/include/sys/systm.h"
 
-
-def names():
-    imin = "static inline int imin(int a, int b) { return a < b ? a : b; }\n"
-    faults = (
-        Fault("a call that its header doesn't have", "sys/systm.h: imin isn't there", ((SYSTM, imin, ""),)),
-        Fault("a call that the bench doesn't have", "sys/systm.h: imin isn't there", ((SYSTM, imin, f"#ifndef KUPALDIZ_BENCH\n{imin}#endif\n"),)),
-        Fault("a constant that is none", "sys/types.h: bool isn't there", ((LISTED, "sys/types.h type u_int u_long bool", "sys/types.h constant bool\nsys/types.h type u_int u_long"),)),
-        Fault("a macro that isn't there", "sys/cdefs.h: __gone isn't there", ((LISTED, "sys/cdefs.h macro ", "sys/cdefs.h macro __gone "),)),
-        Fault("a type that isn't there", "sys/types.h: gone_t isn't there", ((LISTED, "sys/types.h type ", "sys/types.h type gone_t "),)),
-        Fault("a name that no test uses", "sys/types.h: no test uses KUPALDIZ_NETBSD_SYS_TYPES_WRAPPED",
-              ((LISTED, "sys/types.h macro ", "sys/types.h macro KUPALDIZ_NETBSD_SYS_TYPES_WRAPPED "),)),
-        Fault("no compiler", "gone", command=[NAMES, "./gone"]),
-    )
-    subprocess.run([ROOT / "netbsd/named.sh"], check=True)
-    headers = [f"netbsd/include/{folder}/*.h" for folder in ("kupaldiz", "sys", "net")]
-    tests = TESTS, "netbsd/examples/*.c", "explorer/tests/*.c"
-    tree = real(NAMES, LISTED, *headers, *tests)
-    # Those of three headers, which are soon compiled.
-    tree[LISTED] = "".join(f"{line}\n" for line in tree[LISTED].splitlines() if line.startswith(("sys/cdefs.h", "sys/types.h", "sys/systm.h")))
-    return Case("names", [], tree, [NAMES, "gcc"], faults)
-
+subprocess.run([ROOT / "netbsd/named.sh"], check=True)
+NAMED = real(NAMES, LISTED, *(f"netbsd/include/{it}/*.h" for it in ("kupaldiz", "sys", "net")), TESTS, "netbsd/examples/*.c", "explorer/tests/*.c")
+# Those of three headers, which are soon compiled.
+NAMED[LISTED] = "".join(f"{line}\n" for line in NAMED[LISTED].splitlines() if line.startswith(("sys/cdefs.h", "sys/types.h", "sys/systm.h")))
+IMIN = "static inline int imin(int a, int b) { return a < b ? a : b; }\n"
+case("names", [], NAMED, [NAMES, "gcc"], [
+    Fault("a call that its header doesn't have", "sys/systm.h: imin isn't there", ((SYSTM, IMIN, ""),)),
+    Fault("a call that the bench doesn't have", "sys/systm.h: imin isn't there", ((SYSTM, IMIN, f"#ifndef KUPALDIZ_BENCH\n{IMIN}#endif\n"),)),
+    Fault("a constant that is none", "sys/types.h: bool isn't there", ((LISTED, "sys/types.h type u_int u_long bool", "sys/types.h constant bool\nsys/types.h type u_int u_long"),)),
+    Fault("a name that no test uses", "sys/types.h: no test uses KUPALDIZ_NETBSD_SYS_TYPES_WRAPPED",
+          ((LISTED, "sys/types.h macro ", "sys/types.h macro KUPALDIZ_NETBSD_SYS_TYPES_WRAPPED "),)),
+    Fault("no compiler", "gone", command=[NAMES, "./gone"]),
+])
 
 TOLD_BY = "explorer/tests/told.py"
 SHOWN = "netbsd/netbsd.map"
 CALLS = "explorer/src/calls.c"
 
+WITHOUT = '"ends the thread or the run": "failed'
+case("points", [], real(TOLD_BY, SHOWN, "explorer/src/*.c"), [TOLD_BY, "points"], [
+    Fault("a call without a point", "another has no point, and no reason is told", ((SHOWN, "\t\tkupaldiz_at;\n", "\t\tkupaldiz_at;\n\t\tkupaldiz_another;\n"),)),
+    Fault("a point that is gone", "cv_wait has no point", ((CALLS, "AROUND(void, cv_wait, ", "OTHER(void, cv_wait, "),)),
+    Fault("a reason for what has a point", "cv_wait has a point, or is no call", ((TOLD_BY, WITHOUT, f"{WITHOUT} cv_wait"),)),
+])
 
-def points():
-    without = '"ends the thread or the run": "failed'
-    faults = (
-        Fault("a call without a point", "another has no point, and no reason is told", ((SHOWN, "\t\tkupaldiz_at;\n", "\t\tkupaldiz_at;\n\t\tkupaldiz_another;\n"),)),
-        Fault("a point that is gone", "cv_wait has no point", ((CALLS, "AROUND(void, cv_wait, ", "OTHER(void, cv_wait, "),)),
-        Fault("a reason for what has a point", "cv_wait has a point, or is no call", ((TOLD_BY, without, f"{without} cv_wait"),)),
-        Fault("a reason for what is no call", "gone has a point, or is no call", ((TOLD_BY, without, f"{without} gone"),)),
-    )
-    return Case("points", [], real(TOLD_BY, SHOWN, "explorer/src/*.c"), [TOLD_BY, "points"], faults)
-
-
-TABLES, FOUND_FAULTS = "explorer/README.md", "explorer/tests/faults.txt"
+TABLES = "explorer/README.md"
 TOLD = """# The explorer
 
 | Case | Threads | Schedules | Cut short | Points |
 |---|---|---|---|---|
 | bridge | a packet; a member is deleted | 57 | 0 | 2,251 |
 | growth | a packet; the table grows | 5 | 0 | 237 |
-
-| Driver | Fault | Explorer: run | Switches | Preemptions | Real threads |
-|---|---|---|---|---|---|
-| bridge | a perform forgotten | 34 | 2 | 1 | run 23,064 |
 """
 PRINTED = """bridge: 57 schedules, 0 cut short, 40 states, 2251 points, 300 switches
 growth: 5 schedules, 0 cut short, 4 states, 237 points, 30 switches
 """
-FOUND = "found  bridge  a perform forgotten   run     34, switches 2, preemptions 1: use of freed memory\n"
 
-
-def table(kind, printed, faults):
-    """A table beside what was printed."""
-    tree = {**real(TOLD_BY), TABLES: TOLD, FOUND_FAULTS: TOLD, "printed": printed, "compare": f"#!/bin/sh\nexec {TOLD_BY} {kind} <printed\n"}
-    return Case(f"table of {kind}", [], tree, ["./compare"], faults)
-
-
-def tables():
-    drivers = (
-        Fault("schedules that are cut short", "only the run says: growth, 5, 1, 237", (("printed", "5 schedules, 0 cut", "5 schedules, 1 cut"),)),
-        Fault("another number of points", "only the table says: bridge, 57, 0, 2252", ((TABLES, "2,251", "2,252"),)),
-        Fault("a driver that isn't run", "only the table says: growth, 5, 0, 237", (("printed", "growth", "no growth"),)),
-        Fault("a driver that isn't told", "only the run says: growth, 5, 0, 237", ((TABLES, "| growth | a packet; the table grows | 5 | 0 | 237 |\n", ""),)),
-        Fault("nothing is printed", "only the table says", (("printed", None, ""),)),
-    )
-    planted = (
-        Fault("a fault that isn't found", "only the table says: bridge, a perform forgotten, 34, 2, 1", (("printed", "found ", "missed"),)),
-        Fault("another run", "only the run says: bridge, a perform forgotten, 35, 2, 1", (("printed", "34", "35"),)),
-    )
-    return table("drivers", PRINTED, drivers), table("faults", FOUND, planted)
-
+TABLED = {**real(TOLD_BY), TABLES: TOLD, "printed": PRINTED, "compare": f"#!/bin/sh\nexec {TOLD_BY} drivers <printed\n"}
+case("table of the drivers", [], TABLED, ["./compare"], [
+    Fault("schedules that are cut short", "only the run says: growth, 5, 1, 237", (("printed", "5 schedules, 0 cut", "5 schedules, 1 cut"),)),
+    Fault("a driver that isn't run", "only the table says: growth, 5, 0, 237", (("printed", "growth", "no growth"),)),
+    Fault("nothing is printed", "only the table says", (("printed", None, ""),)),
+])
 
 SOURCE = "crates/one/src/lib.rt"
 EDITS, TESTED = "crates/one/edits/gate.edits", "crates/one/edits/tests.edits"
@@ -164,26 +122,18 @@ esac
 exit 0
 """
 
+LOOKED = {"crates.txt": "one: std\n", SOURCE: "x + 1\n", EDITS: "edit: more\n# It adds nothing.\nfile: src/lib.rt\nold: x + 1\nnew: x\n",
+          TESTED: f"edit: less\n# It takes one.\nfile: {SOURCE}\nold: x + 1\nnew: x - 1\n", "bin/rt": RT,
+          "look": "#!/bin/sh\nPATH=$PWD/bin:$PATH exec tools/before-gate.py \"$@\"\n"}
+case("before-gate", ["before-gate.py", "parts.py", "edits.py"], LOOKED, ["./look"], [
+    Fault("a file that isn't laid out", "one: formatted src/lib.rt", ((SOURCE, "x + 1", "x + 1 "),)),
+    Fault("a file that can't be read", "one: src/lib.rt: it does not parse", ((SOURCE, "x + 1", "x + 1?"),)),
+    Fault("an edit whose look is killed", "one/more: status 1: ['rt: killed']", ((EDITS, "new: x", "new: x + 3"),), ["./look", "compile", "one"]),
+    Fault("an edit that doesn't fit", "one/more: stands 0 times in crates/one/src/lib.rt", ((EDITS, "old: x + 1", "old: x + 2"),)),
+    Fault("an edit that doesn't compile", "one/more: src/lib.rt:1:1: error: there is no y", ((EDITS, "new: x", "new: y"),), ["./look", "compile", "one"]),
+    Fault("an edit without a reason", "one/more: it has no reason", ((EDITS, "# It adds nothing.\n", ""),)),
+    Fault("two edits of one name", "one: two edits are called more", ((TESTED, "edit: less", "edit: more"),)),
+])
 
-def before_gate():
-    look = "#!/bin/sh\nPATH=$PWD/bin:$PATH exec tools/before-gate.py \"$@\"\n"
-    tree = {"crates.txt": "one: std\n", SOURCE: "x + 1\n", EDITS: "edit: more\n# It adds nothing.\nfile: src/lib.rt\nold: x + 1\nnew: x\n",
-            TESTED: f"edit: less\n# It takes one.\nfile: {SOURCE}\nold: x + 1\nnew: x - 1\n", "bin/rt": RT, "look": look}
-    faults = (
-        Fault("a file that isn't laid out", "one: formatted src/lib.rt", ((SOURCE, "x + 1", "x + 1 "),)),
-        Fault("a file that can't be read", "one: src/lib.rt: it does not parse", ((SOURCE, "x + 1", "x + 1?"),)),
-        Fault("an edit whose look is killed", "one/more: status 1: ['rt: killed']", ((EDITS, "new: x", "new: x + 3"),), ["./look", "compile", "one"]),
-        Fault("an edit that doesn't fit", "one/more: stands 0 times in crates/one/src/lib.rt", ((EDITS, "old: x + 1", "old: x + 2"),)),
-        Fault("an edit for the tests that doesn't fit", "one/less: stands 2 times in crates/one/src/lib.rt", ((SOURCE, "x + 1", "x + 1, x + 1"), (EDITS, "x + 1", "x + 1, x + 1"))),
-        Fault("an edit of a file that is gone", "one/less: there is no crates/one/src/gone.rt", ((TESTED, "lib.rt", "gone.rt"),)),
-        Fault("an edit that doesn't compile", "one/more: src/lib.rt:1:1: error: there is no y", ((EDITS, "new: x", "new: y"),), ["./look", "compile", "one"]),
-        Fault("an edit without a reason", "one/more: it has no reason", ((EDITS, "# It adds nothing.\n", ""),)),
-        Fault("two edits of one name", "one: two edits are called more", ((TESTED, "edit: less", "edit: more"),)),
-        Fault("a crate that isn't there", "before-gate.py compile [CRATE]", command=["./look", "compile", "none"]),
-    )
-    return Case("before-gate", ["before-gate.py", "parts.py", "edits.py"], tree, ["./look"], faults)
-
-
-def cases():
-    program = [test_program(PROVED)] if PROVED.is_file() else []
-    return [conformance_run(), *program, lines(), names(), points(), *tables(), before_gate()]
+if PROVED.is_file():
+    test_program(PROVED)

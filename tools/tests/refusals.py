@@ -1,6 +1,6 @@
 """Faults of wrong bodies: of those that the prover or a test must refuse, tools/try-edits.py, over a kit of ours; and what
 tools/mutants.py makes of a small library, and says of those that its tests let through."""
-from .trees import Case, Fault, of
+from .trees import Fault, case, of
 
 SOURCE = """//! One more.
 
@@ -152,58 +152,45 @@ def after_a_run(name, said, *lines, kind="", before=":"):
     return Fault(name, said, command=["sh", "-c", "\n".join([before, f"./try {kind} >/dev/null || exit 0", *lines, f"exec ./try {kind}"])])
 
 
-def by_hand():
-    whole = "NOT REFUSED: the whole crate still proved"
-    return [
-        *of(HAND, ("a wrong body by hand that is proved", f"one/nothing: {whole}", "new:     0", "new:     x + 1 - 0"),
-            ("a wrong heading that the crate is proved under", f"one/heading: {whole}", "new: //! None", "new: //! One more than")),
-        after_a_run("a refusal by hand over another library", whole, f"echo strong >{LOW}", kind="prover"),
-    ]
-
-
-def by_tests():
-    return [
-        *of(TESTED, ("a wrong body that no test refuses", "NOT REFUSED: all tests pass", "new:     x + x", "new:     x + 1 + 0"),
-            ("an edit for the tests that doesn't fit", "stands 0 times in", "old:     x + 1", "old:     y")),
-        *of("bin/rt", ("a run of the tests that is cut off", "NOT TRIED: no test failed: run=no-answer", "test more FAILED", "run=no-answer")),
-    ]
-
-
-def by_prover():
-    proved = ((EDITS, "new:     x\n", "new:     x + 1 + 0\n"),)
-    faults = (
-        Fault("a wrong body that is proved", "NOT REFUSED: more still proved", proved),
-        Fault("a wrong body that was proved before", "NOT REFUSED: more still proved", proved, ["sh", "-c", "./try >/dev/null; exec ./try"]),
-        Fault("a right body that is tried beside a wrong one", "NOT REFUSED: less still proved", ((EDITS, "new:     x - 2", "new:     x - 1 - 0"),)),
-        Fault("an edit that doesn't fit", "stands 0 times in", ((EDITS, "old:     x + 1\nnew:     x\n", "old:     y\nnew:     x\n"),)),
-        Fault("an edit of no function", "it changes no function", ((EDITS, "old:     x + 1\nnew:     x\n", "old: //! One more.\nnew: //! None.\n"),)),
-        judges("a body that doesn't compile", "NOT TRIED: src/lib.rt:7:5: error", "echo 'src/lib.rt:7:5: error: no such name'"),
-        judges("a check that is killed", "NOT TRIED", "kill -KILL $$"),
-        judges("a check that ends in its middle", "NOT TRIED", "echo 'note: src/lib.rt:5:15: this clause is not proved'; exit 1"),
-        judges("a refusal that no goal tells", "refused, only because no proof was found", "true"),
-        judges("a proof that names what is gone", "refused only because", "echo 'note: proofs/Lib.antt:1:1: x has no field y'"),
-        Fault("functions that aren't proved as they stand", "what its edits change isn't proved as it stands", (("crates/one/src/lib.rt", "    x + 1", "    1 + x"),
-              (EDITS, "old:     x + 1\nnew:     x\n", "old:     1 + x\nnew:     x\n"), (EDITS, "old:     x + 1\nnew:     x + 2", "old:     1 + x\nnew:     x + 2"))),
-        judges("a hole that isn't taken as a proof", "NOT TRIED", "echo 'note: src/lib.rt:5:15: not proved'; echo './proofs/most/Proof.antt:3:5: error: no such name'"),
-        over_holes("an assumed function that isn't taken as it is", "not proved"),
-        over_holes("a hole that isn't ours", "depends on a hole in `Rattle.one.proofs.other.Proof.other_spec`"),
-        over_holes("a hole without a name", "depends on a hole in Rattle.one.proofs.most.Proof.most_spec"),
-        Fault("a hole that is told of no file", "what its edits change isn't proved as it stands", (("kit/bin/rattle", "holes=1", "holes=2"),)),
-        Fault("a function that no edit changes, proved again", "what its edits change isn't proved as it stands", (("tools/edit_checks.py", '["loop {}"]', '["let most = 1;"]'),)),
-        Fault("an edit without its name", "gate.edits: a block without its line edit: NAME", ((EDITS, "edit: same\n", ""),)),
-        Fault("no edits", "0 passed, 1 failed", ((EDITS, "file:", None),)),
-        after_a_run("a refusal over another library", "NOT REFUSED", f"echo strong >{LOW}"),
-        after_a_run("a refusal by another kit", "NOT REFUSED", "printf '#!/bin/sh\\necho only=1\\n' >kit/bin/rattle; echo other >kit/KIT-ID"),
-        after_a_run("a refusal of a tree that was changed meanwhile", "NOT REFUSED", "rm crates/one/specs/More.antt", "printf '#!/bin/sh\\necho only=1\\n' >kit/bin/rattle",
-                    before="mkdir crates/one/specs; sed -i '2i >$TOP/crates/one/specs/More.antt' kit/bin/rattle"),
-        after_a_run("a refusal of another body", "NOT REFUSED", f"sed -i 's/^new:     x$/new:     x + 1 + 0/' {EDITS}"),
-        after_a_run("a refusal of an edit that is no longer applied", "NOT REFUSED", "sed -i 's/path.write_text(text.replace(old, new))/pass/' tools/edits.py"),
-    )
-    tools = ["try-edits.py", "edit_checks.py", "edits.py", "contracts.py", "kit.py", "parts.py"]
-    return [Case("try-edits of the gate", tools, TREE, ["./try"], faults),
-            Case("try-edits", tools, BESIDE_GATE, ["./try", "prover"], by_hand()),
-            Case("try-edits by tests", tools, BESIDE_GATE, ["./try", "tests"], by_tests())]
-
+PROVED = ((EDITS, "new:     x\n", "new:     x + 1 + 0\n"),)
+WHOLE = "NOT REFUSED: the whole crate still proved"
+TOOLS = ["try-edits.py", "edit_checks.py", "edits.py", "contracts.py", "kit.py", "parts.py"]
+case("try-edits of the gate", TOOLS, TREE, ["./try"], [
+    Fault("a wrong body that is proved", "NOT REFUSED: more still proved", PROVED),
+    Fault("a wrong body that was proved before", "NOT REFUSED: more still proved", PROVED, ["sh", "-c", "./try >/dev/null; exec ./try"]),
+    Fault("a right body that is tried beside a wrong one", "NOT REFUSED: less still proved", ((EDITS, "new:     x - 2", "new:     x - 1 - 0"),)),
+    Fault("an edit that doesn't fit", "stands 0 times in", ((EDITS, "old:     x + 1\nnew:     x\n", "old:     y\nnew:     x\n"),)),
+    Fault("an edit of no function", "it changes no function", ((EDITS, "old:     x + 1\nnew:     x\n", "old: //! One more.\nnew: //! None.\n"),)),
+    judges("a body that doesn't compile", "NOT TRIED: src/lib.rt:7:5: error", "echo 'src/lib.rt:7:5: error: no such name'"),
+    judges("a check that is killed", "NOT TRIED", "kill -KILL $$"),
+    judges("a refusal that no goal tells", "refused, only because no proof was found", "true"),
+    judges("a proof that names what is gone", "refused only because", "echo 'note: proofs/Lib.antt:1:1: x has no field y'"),
+    Fault("functions that aren't proved as they stand", "what its edits change isn't proved as it stands", (("crates/one/src/lib.rt", "    x + 1", "    1 + x"),
+          (EDITS, "old:     x + 1\nnew:     x\n", "old:     1 + x\nnew:     x\n"), (EDITS, "old:     x + 1\nnew:     x + 2", "old:     1 + x\nnew:     x + 2"))),
+    judges("a hole that isn't taken as a proof", "NOT TRIED", "echo 'note: src/lib.rt:5:15: not proved'; echo './proofs/most/Proof.antt:3:5: error: no such name'"),
+    over_holes("an assumed function that isn't taken as it is", "not proved"),
+    over_holes("a hole that isn't ours", "depends on a hole in `Rattle.one.proofs.other.Proof.other_spec`"),
+    Fault("a hole that is told of no file", "what its edits change isn't proved as it stands", (("kit/bin/rattle", "holes=1", "holes=2"),)),
+    Fault("a function that no edit changes, proved again", "what its edits change isn't proved as it stands", (("tools/edit_checks.py", '["loop {}"]', '["let most = 1;"]'),)),
+    Fault("an edit without its name", "gate.edits: a block without its line edit: NAME", ((EDITS, "edit: same\n", ""),)),
+    Fault("no edits", "0 passed, 1 failed", ((EDITS, "file:", None),)),
+    after_a_run("a refusal over another library", "NOT REFUSED", f"echo strong >{LOW}"),
+    after_a_run("a refusal by another kit", "NOT REFUSED", "printf '#!/bin/sh\\necho only=1\\n' >kit/bin/rattle; echo other >kit/KIT-ID"),
+    after_a_run("a refusal of a tree that was changed meanwhile", "NOT REFUSED", "rm crates/one/specs/More.antt", "printf '#!/bin/sh\\necho only=1\\n' >kit/bin/rattle",
+                before="mkdir crates/one/specs; sed -i '2i >$TOP/crates/one/specs/More.antt' kit/bin/rattle"),
+    after_a_run("a refusal of another body", "NOT REFUSED", f"sed -i 's/^new:     x$/new:     x + 1 + 0/' {EDITS}"),
+    after_a_run("a refusal of an edit that is no longer applied", "NOT REFUSED", "sed -i 's/path.write_text(text.replace(old, new))/pass/' tools/edits.py"),
+])
+case("try-edits", TOOLS, BESIDE_GATE, ["./try", "prover"], [
+    *of(HAND, ("a wrong body by hand that is proved", f"one/nothing: {WHOLE}", "new:     0", "new:     x + 1 - 0"),
+        ("a wrong heading that the crate is proved under", f"one/heading: {WHOLE}", "new: //! None", "new: //! One more than")),
+    after_a_run("a refusal by hand over another library", WHOLE, f"echo strong >{LOW}", kind="prover"),
+])
+case("try-edits by tests", TOOLS, BESIDE_GATE, ["./try", "tests"], [
+    *of(TESTED, ("a wrong body that no test refuses", "NOT REFUSED: all tests pass", "new:     x + x", "new:     x + 1 + 0"),
+        ("an edit for the tests that doesn't fit", "stands 0 times in", "old:     x + 1", "old:     y")),
+    *of("bin/rt", ("a run of the tests that is cut off", "NOT TRIED: no test failed: run=no-answer", "test more FAILED", "run=no-answer")),
+])
 
 # A test of it sees that `most` answers the greater one, not that it may answer either where both are equal; and that `rest` ends at 0.
 WAITING = """int most(int a, int b)
@@ -234,22 +221,15 @@ ONLY = "c/src/waiting.c"
 def told(file, *said):
     """A command that runs the tool on code with a survivor, and fails where it doesn't say each of these."""
     tests = "".join(f'grep -qF -e "{it}" said || {{ echo "it does not say: {it}"; exit 1; }}\n' for it in said)
-    return f"#!/bin/sh\ntools/mutants.py --least 1 --only {file} >said 2>&1\nstatus=$?\ncat said\n[ $status = 1 ] || exit 3\n{tests}"
+    return f"#!/bin/sh\ntools/mutants.py --least 1 {file} >said 2>&1\nstatus=$?\ncat said\n[ $status = 1 ] || exit 3\n{tests}"
 
 
-def of_c():
-    programs = {f"c/tests/{it}.c": QUIET for it in ("deferred", "waits")}
-    survivor = f"survived: {ONLY}:3, comparison: return a < b ? b : a; -> return a <= b ? b : a;"
-    good = told(ONLY, "return a >= b ? b : a;: killed by turns", survivor, ": hung by turns")
-    run = ["tools/mutants.py", "--least", "1", "--only", f"{ONLY}:3"]
-    faults = (
-        Fault("a test that sees nothing", "return a >= b ? b : a;: survived", (("c/tests/turns.c", "most(1, 2) != 2 || most(4, 3) != 4 || ", ""),), run),
-        Fault("a test that fails at first", "turns fails on the tree as it stands", (("c/tests/turns.c", "most(4, 3) != 4", "most(4, 3) == 4"),), run),
-        Fault("a test that isn't built", "deferred fails on the tree as it stands", (("c/tests/deferred.c", "return 0;", "return gone();"),), run),
-    )
-    tree = {"c/src/waiting.c": WAITING, "c/tests/turns.c": SEES, "Makefile": MAKEFILE, "good": good, **programs}
-    return Case("mutants", ["mutants.py", "parts.py"], tree, ["./good"], faults, counts=False)
-
-
-def cases():
-    return [*by_prover(), of_c()]
+SURVIVOR = f"survived: {ONLY}:3, comparison: return a < b ? b : a; -> return a <= b ? b : a;"
+RUN = ["tools/mutants.py", "--least", "1", f"{ONLY}:3"]
+MUTATED = {"c/src/waiting.c": WAITING, "c/tests/turns.c": SEES, "c/tests/deferred.c": QUIET, "Makefile": MAKEFILE,
+           "good": told(ONLY, "return a >= b ? b : a;: killed by turns", SURVIVOR, ": hung by turns")}
+case("mutants", ["mutants.py", "parts.py"], MUTATED, ["./good"], [
+    Fault("a test that sees nothing", "return a >= b ? b : a;: survived", (("c/tests/turns.c", "most(1, 2) != 2 || most(4, 3) != 4 || ", ""),), RUN),
+    Fault("a test that fails at first", "turns fails on the tree as it stands", (("c/tests/turns.c", "most(4, 3) != 4", "most(4, 3) == 4"),), RUN),
+    Fault("a test that isn't built", "deferred fails on the tree as it stands", (("c/tests/deferred.c", "return 0;", "return gone();"),), RUN),
+], counts=False)

@@ -1,13 +1,28 @@
 # Tries a release in a fresh root, where it is in /release: bash -eux -o pipefail release.sh PART. tools/test-release.sh runs it, and prints its lines `done: ..`.
 if command -v rt; then exit 1; fi
+room=$(mktemp -d)
+cd "$room"
+linux=kupaldiz-$VERSION-linux-x86_64
+
+unpack() {
+    tar -xf "/release/$1"
+}
+
+# Builds and runs the examples of libkupaldiz-dev, shared and static.
+try_examples() {
+    cp -r /usr/share/doc/libkupaldiz-dev/examples "$room/examples"
+    find "$room/examples" -name '*.gz' -exec gunzip {} +
+    make -C "$room/examples" check
+    make -C "$room/examples" clean
+    make -C "$room/examples" check LINK=-static
+}
 
 # In a root with gcc and make alone: the release is unpacked, and the first packet is looked up. The last line says when.
 try_packet() {
     if command -v rt || command -v pkg-config; then exit 1; fi
-    cd "$(mktemp -d)"
     began=$(date +%s%N)
-    tar -xf "/release/kupaldiz-$VERSION-linux-x86_64.tar.xz"
-    cd "kupaldiz-$VERSION-linux-x86_64"
+    unpack "$linux.tar.xz"
+    cd "$linux"
     make -C examples out/packet
     examples/out/packet | grep 'nobody sent by wm0 once it was taken out'
     took=$((($(date +%s%N) - began) / 1000000))
@@ -19,14 +34,12 @@ try_packet() {
 try_c() {
     [ "$(grep -c : /proc/net/dev)" -eq 1 ]
     ls /release
-    room=$(mktemp -d)
-    cd "$room"
-    tar -xf "/release/kupaldiz-$VERSION-linux-x86_64.tar.xz"
-    make -C "kupaldiz-$VERSION-linux-x86_64/examples" check
+    unpack "$linux.tar.xz"
+    make -C "$linux/examples" check
     echo "done: make -C examples check"
     # Moved, and by pkg-config.
     here="$room/a folder with blanks"
-    mv "kupaldiz-$VERSION-linux-x86_64" "$here"
+    mv "$linux" "$here"
     cp -r "$here/examples" mine
     export PKG_CONFIG_PATH=$here/lib/pkgconfig
     make -C mine clean
@@ -39,7 +52,7 @@ try_c() {
         echo "done: registry_run"
     fi
     unset PKG_CONFIG_PATH
-    tar -xf "/release/kupaldiz-$VERSION.tar.xz"
+    unpack "kupaldiz-$VERSION.tar.xz"
     cd "kupaldiz-$VERSION"
     make check
     echo "done: make check in the source"
@@ -62,10 +75,8 @@ try_c() {
 
 # In a root with gcc, make and cmake: the examples find the release by find_package.
 try_cmake() {
-    room=$(mktemp -d)
-    cd "$room"
-    tar -xf "/release/kupaldiz-$VERSION-linux-x86_64.tar.xz"
-    cmake -S "kupaldiz-$VERSION-linux-x86_64/examples" -B out -DCMAKE_PREFIX_PATH="$room/kupaldiz-$VERSION-linux-x86_64"
+    unpack "$linux.tar.xz"
+    cmake -S "$linux/examples" -B out -DCMAKE_PREFIX_PATH="$room/$linux"
     cmake --build out
     (cd out && ctest --output-on-failure)
     echo "done: find_package(kupaldiz): all examples are built and run, shared and static"
@@ -77,20 +88,10 @@ try_cargo() {
         export PATH=/rust/bin:$PATH
     fi
     cargo --version
-    room=$(mktemp -d)
     export CARGO_HOME=$room/cargo
-    cd "$room"
-    tar -xf "/release/kupaldiz-$VERSION.crate"
+    unpack "kupaldiz-$VERSION.crate"
     mkdir -p mine/src
-    cat >mine/Cargo.toml <<PROJECT
-[package]
-name = "mine"
-version = "0.0.0"
-edition = "2021"
-
-[dependencies]
-kupaldiz = { path = "../kupaldiz-$VERSION" }
-PROJECT
+    printf '[package]\nname = "mine"\nversion = "0.0.0"\nedition = "2021"\n[dependencies]\nkupaldiz = { path = "../kupaldiz-%s" }\n' "$VERSION" >mine/Cargo.toml
     cp "kupaldiz-$VERSION/examples/packet.rs" mine/src/main.rs
     (cd mine && cargo run --offline)
     echo "done: $(cargo --version): a path dependency"
@@ -108,7 +109,6 @@ PROJECT
 # In a root with gcc, make, pkg-config and cargo: the packages are installed by apt, programs are built over them, and all is removed to nothing.
 try_apt() {
     export DEBIAN_FRONTEND=noninteractive
-    room=$(mktemp -d)
     # Everything but this script's own folder, and what dpkg and apt keep for themselves.
     files() {
         find / -xdev \( -path /proc -o -path "$room" -o -path /var/lib/dpkg -o -path /var/lib/apt -o -path /var/cache -o -path /var/log \) -prune -o -print |
@@ -118,11 +118,7 @@ try_apt() {
     apt-get install -y --no-install-recommends /release/*_{amd64,all}.deb
     dpkg -l | grep kupaldiz
     echo "done: apt installs $(dpkg -l | grep -c '^ii.*kupaldiz') packages"
-    cp -r /usr/share/doc/libkupaldiz-dev/examples "$room/examples"
-    find "$room/examples" -name '*.gz' -exec gunzip {} +
-    make -C "$room/examples" check
-    make -C "$room/examples" clean
-    make -C "$room/examples" check LINK=-static
+    try_examples
     echo "done: the examples by pkg-config, shared and static"
     registry_run storm 4 1000 | grep -x 'wrong 0'
     echo "done: registry_run"
@@ -144,16 +140,11 @@ try_apt() {
 # over them and run under an emulator, and all is removed.
 try_arm64() {
     export DEBIAN_FRONTEND=noninteractive
-    room=$(mktemp -d)
     apt-get install -y --no-install-recommends /release/libkupaldiz{0.1,-dev}_*_{amd64,arm64}.deb
     dpkg -l | grep kupaldiz
     echo "done: apt installs $(dpkg -l | grep -c '^ii.*kupaldiz.*arm64') packages beside those for amd64"
-    cp -r /usr/share/doc/libkupaldiz-dev/examples "$room/examples"
-    find "$room/examples" -name '*.gz' -exec gunzip {} +
     export PKG_CONFIG_LIBDIR=/usr/lib/aarch64-linux-gnu/pkgconfig RUN=qemu-aarch64-static CC=aarch64-linux-gnu-gcc
-    make -C "$room/examples" check
-    make -C "$room/examples" clean
-    make -C "$room/examples" check LINK=-static
+    try_examples
     echo "done: the examples by pkg-config, shared and static, under qemu"
     apt-get purge -y libkupaldiz{0.1,-dev}:{amd64,arm64}
     if dpkg -l | grep kupaldiz; then exit 1; fi

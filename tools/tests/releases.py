@@ -4,7 +4,7 @@ import os
 import shutil
 import subprocess
 
-from .trees import ROOT, Case, Fault, of, real
+from .trees import ROOT, Fault, case, of, real
 
 # What the scripts call besides what is in bin/ of the tree.
 BASICS = ("sh bash echo env python3 git make ar awk basename cat chmod cp cut date diff dirname find grep head id install ln ls mkdir mktemp mv nproc readlink realpath "
@@ -16,7 +16,7 @@ CARGO = '#!/bin/sh\nmkdir -p "$CARGO_TARGET_DIR/package" && echo crate >"$CARGO_
 PACKAGES = "#!/bin/sh\necho deb >../libkupaldiz0.1.deb && echo changes >../kupaldiz.changes\n"
 PARTS = ("heap", "composed", "strings", "limits")
 # tools/proof-record.py and what it takes.
-RECORDS = ("proof-record.py", "limits.py", "kit.py")
+RECORDS = ("proof-record.py", "limits.py", "parts.py", "kit.py")
 SOURCES = {
     "crates.txt": "registry_values: std\nlow: registry_values std\nregistry_c staticlib: low std\n",
     **real("crates/registry_values/src/limits.rt", "crates/registry_values/specs/Limits.antt"),
@@ -117,28 +117,21 @@ def refused(*words):
     return ["sh", "-c", '"$@" >said 2>&1; status=$?; cat said; [ $status -eq 2 ] && [ "$(wc -l <said)" -eq 1 ] && exit 2; exit 0', "sh", *words]
 
 
-def making():
-    faults = [
-        Fault("no lintian", "there is no lintian: apt-get install lintian", command=shell("git rm -q --cached bin/lintian; rm bin/lintian")),
-        Fault("no archive", "there is no out/libregistry.a: tools/build-archive.sh proves and builds it", command=shell("rm out/libregistry.a")),
-        Fault("no record", "there is no out/libregistry.proved: tools/build-archive.sh", command=shell("rm out/libregistry.proved")),
-        Fault("a record without a verdict", "has no line 'verdict: ..'", command=shell("sed -i '/^verdict/d' out/libregistry.proved")),
-        Fault("a record with other limits", "has other limits than the sources as they stand", command=shell("sed -i 's/--cpus 64/--cpus 16/' out/libregistry.proved")),
-        Fault("another archive", "isn't the archive that", command=shell("echo other >registry.o; ar r out/libregistry.a registry.o; rm registry.o")),
-        Fault("no archive of objects", "has no object registry.o", command=shell("echo none >out/libregistry.a")),
-        *(Fault(f"another {path}", "was made from other sources", command=shell(f"echo '#' >>{path}", COMMIT)) for path in RECORDED),
-        Fault("an object more in the archive", "or another one beside it", command=shell("echo >more.o; ar rb registry.o out/libregistry.a more.o; rm more.o")),
-        Fault("no program", "tools/prove-program.sh proves and builds it", command=shell("rm program")),
-        Fault("changes that are in no commit", "git commit takes them in", command=shell("echo more >>packaging/INSTALL.md")),
-        Fault("an archive for aarch64 without a record", "build-archive.sh --for aarch64", command=shell("mkdir out/aarch64; cp out/libregistry.a out/aarch64")),
-        Fault("a folder that is no release", "it is no release: --to names another folder", command=["./try", "--to", "rust"]),
-        Fault("another version in the crate", "has another version than registry.h", command=shell("sed -i s/0.1.0/0.2.0/ rust/Cargo.toml", COMMIT)),
-        Fault("lintian finds an error", "this failed: lintian", command=shell("echo 'echo E: wrong; exit 1' >>bin/lintian", COMMIT)),
-        Fault("a build that fails", "this failed: dpkg-buildpackage", command=shell("echo 'exit 1' >>bin/dpkg-buildpackage", COMMIT)),
-        Fault("a licence, of which nothing is to be said", "no word of the licence", command=shell("sed -i 's/^LICENCE =/LICENCE = MIT/' Makefile", COMMIT)),
-    ]
-    return Case("make-release", ["make-release.sh", *RECORDS], TREE, ["./try"], faults, counts=False, prepare=prepare)
-
+case("make-release", ["make-release.sh", *RECORDS], TREE, ["./try"], [
+    Fault("no lintian", "there is no lintian: apt-get install lintian", command=shell("git rm -q --cached bin/lintian; rm bin/lintian")),
+    Fault("no archive", "there is no out/libregistry.a: tools/build-archive.sh proves and builds it", command=shell("rm out/libregistry.a")),
+    Fault("a record without a verdict", "has no line 'verdict: ..'", command=shell("sed -i '/^verdict/d' out/libregistry.proved")),
+    Fault("a record with other limits", "has other limits than the sources as they stand", command=shell("sed -i 's/--cpus 64/--cpus 16/' out/libregistry.proved")),
+    Fault("another archive", "isn't the archive that", command=shell("echo other >registry.o; ar r out/libregistry.a registry.o; rm registry.o")),
+    *(Fault(f"another {path}", "was made from other sources", command=shell(f"echo '#' >>{path}", COMMIT)) for path in RECORDED),
+    Fault("no program", "tools/prove-program.sh proves and builds it", command=shell("rm program")),
+    Fault("changes that are in no commit", "git commit takes them in", command=shell("echo more >>packaging/INSTALL.md")),
+    Fault("an archive for aarch64 without a record", "build-archive.sh --for aarch64", command=shell("mkdir out/aarch64; cp out/libregistry.a out/aarch64")),
+    Fault("a folder that is no release", "it is no release: --to names another folder", command=["./try", "--to", "rust"]),
+    Fault("another version in the crate", "has another version than registry.h", command=shell("sed -i s/0.1.0/0.2.0/ rust/Cargo.toml", COMMIT)),
+    Fault("lintian finds an error", "this failed: lintian", command=shell("echo 'echo E: wrong; exit 1' >>bin/lintian", COMMIT)),
+    Fault("a licence, of which nothing is to be said", "no word of the licence", command=shell("sed -i 's/^LICENCE =/LICENCE = MIT/' Makefile", COMMIT)),
+], counts=False, prepare=prepare)
 
 # tools/build-archive.sh, where the kit and binutils are ours. The kit says which limits it was given.
 PROVES = """#!/bin/sh
@@ -177,43 +170,34 @@ PATH=$PWD/bin:$PATH tools/proof-record.py check $out/libregistry.a
 """,
 }
 OTHER_RECORD = "out/cpus-16-slots-64/libregistry.proved"
-BUILD_TOOLS = ["build-archive.sh", "limits-header.py", "parts.py", *RECORDS]
+BUILD_TOOLS = ["build-archive.sh", *RECORDS]
 # What is asked for, and what is said of it.
 BAD_LIMITS = {
     "--cpus 7": "--cpus may be 8 to 128, in digits or as 2^5; it is 7",
     "--slots 2^8": "--slots may be 32 to 255, in digits or as 2^5; it is 2^8",
     "--slots many": "--slots may be 32 to 255, in digits or as 2^5; it is many",
     "--changes 5": "it takes no --changes",
-    "--cpus 9 --cpus 10": "--cpus is given twice",
+    "--cpus 9 --cpus 10": "may be given once",
 }
 
+SAID, PROVED = "has no last line that begins 'logic=proved'", "echo logic=proved functions=1"
+case("build-archive", BUILD_TOOLS, BUILDS, ["./try"], [
+    *(Fault(words, said, command=["./try", *words.split()]) for words, said in BAD_LIMITS.items()),
+    *of("bin/rt", ("a proof that fails", SAID, PROVED, "echo logic=not-proved"),
+        ("a proof that fails, above one that doesn't", SAID, PROVED, f"{PROVED}; echo logic=not-proved"),
+        ("a source that is changed while it is proved", "began with other sources", "mkdir -p out", "echo less >../low/specs/Lib.antt; mkdir -p out")),
+    Fault("a library that was proved of other sources", "began with other sources",
+          command=["sh", "-c", "./try; rm out/*; mv crates/registry_c/out/libregistry_c.a library; (echo proved: 0; cat said) >log; exec ./try library log"]),
+    Fault("a header that declares no call", "registry.h declares no call", (("crates/registry_c/include/registry.h", "uint32_t registry_enter", "# "),)),
+], counts=False)
 
-def building():
-    said, proved = "has no last line that begins 'logic=proved'", "echo logic=proved functions=1"
-    faults = [
-        *of("bin/rt", ("a proof that fails", said, proved, "echo logic=not-proved"),
-            ("a proof that fails, above one that doesn't", said, proved, f"{proved}; echo logic=not-proved"),
-            ("a source that is changed while it is proved", "began with other sources", "mkdir -p out", "echo less >../low/specs/Lib.antt; mkdir -p out")),
-        Fault("a library that was proved of other sources", "began with other sources",
-              command=["sh", "-c", "./try; rm out/*; mv crates/registry_c/out/libregistry_c.a library; (echo proved: 0; cat said) >log; exec ./try library log"]),
-        Fault("a library without a log", "it takes nothing", command=["./try", "crates.txt"]),
-        Fault("a header that declares no call", "registry.h declares no call", (("crates/registry_c/include/registry.h", "uint32_t registry_enter", "# "),)),
-    ]
-    faults += [Fault(words, said, command=["./try", *words.split()]) for words, said in BAD_LIMITS.items()]
-    return Case("build-archive", BUILD_TOOLS, BUILDS, ["./try"], faults, counts=False)
-
-
-def building_other():
-    source = "crates/registry_values/src/limits.rt"
-    faults = (
-        *of(source, ("a file of limits without one", "says no MOST_CPUS", "pub const MOST_CPUS", "const MOST_CPUS")),
-        *of("crates/registry_values/specs/Limits.antt", ("a range that isn't said", "says no range of MOST_CPUS", "(USUAL_CPUS ≤ MOST_CPUS) ×", "")),
-        Fault("another bias since", "was made from other sources", command=["./try-other", "sed", "-i", "s/1 << 48/1 << 49/", source]),
-        Fault("a record of yet other limits", "has other limits than the sources", command=["./try-other", "sed", "-i", "s/--cpus 16/--cpus 17/", OTHER_RECORD]),
-        Fault("no archive any more", "build-archive.sh --cpus 16 --slots 64 proves", command=["./try-other", "rm", OTHER_RECORD.replace(".proved", ".a")]),
-    )
-    return Case("build-archive, other limits", BUILD_TOOLS, BUILDS, ["./try-other"], faults, counts=False)
-
+SOURCE = "crates/registry_values/src/limits.rt"
+case("build-archive, other limits", BUILD_TOOLS, BUILDS, ["./try-other"], [
+    *of(SOURCE, ("a file of limits without one", "says no MOST_CPUS", "pub const MOST_CPUS", "const MOST_CPUS")),
+    *of("crates/registry_values/specs/Limits.antt", ("a range that isn't said", "says no range of MOST_CPUS", "(USUAL_CPUS ≤ MOST_CPUS) ×", "")),
+    Fault("another bias since", "was made from other sources", command=["./try-other", "sed", "-i", "s/1 << 48/1 << 49/", SOURCE]),
+    Fault("no archive any more", "build-archive.sh --cpus 16 --slots 64 proves", command=["./try-other", "rm", OTHER_RECORD.replace(".proved", ".a")]),
+], counts=False)
 
 # Ends with status 1 if a page below laid/ links to what isn't there. A text may go from line to line.
 FOLLOWS = """import pathlib, re, sys
@@ -221,32 +205,25 @@ links = [(page, it) for page in pathlib.Path("laid").rglob("*.md") for it in re.
 sys.exit(any(not (page.parent / it).exists() for page, it in links))
 """
 
-
-def laid():
-    """What the scripts of packaging/ say of bad input; the source of a release is laid out whole, or not at all."""
-    tree = real("Makefile", "packaging/*.*", "c/programs.mk", "explorer/*.mk", "packaging/debian/*.in", "docs/C.md",
-                "c/examples/client.h", "netbsd/netbsd.map", "netbsd/named.sh", "netbsd/include/sys/param.h", "explorer/bench.h", "c/examples/Makefile", "man/registry.3.in",
-                "rust/*.*", "rust/*/packet.rs", "rust/*/lib.rs", "rust/tests/face.rs", "crates/registry_c/include/*.h",
-                "examples/retire-under-section.*")
-    # An archive with a record, as far as the source of a release asks for them.
-    tree |= {"follows.py": FOLLOWS, "out/libregistry.a": "made\n", "out/libregistry.proved": "made\n"}
-    tree["try"] = """#!/bin/sh
+# What the scripts of packaging/ say of bad input; the source of a release is laid out whole, or not at all.
+LAID = real("Makefile", "packaging/*.*", "c/programs.mk", "explorer/*.mk", "packaging/debian/*.in", "docs/C.md",
+            "c/examples/client.h", "netbsd/netbsd.map", "netbsd/named.sh", "netbsd/include/sys/param.h", "explorer/bench.h", "c/examples/Makefile", "man/registry.3.in",
+            "rust/*.*", "rust/*/packet.rs", "rust/*/lib.rs", "rust/tests/face.rs", "crates/registry_c/include/*.h",
+            "examples/retire-under-section.*")
+# An archive with a record, as far as the source of a release asks for them.
+LAID |= {"follows.py": FOLLOWS, "out/libregistry.a": "made\n", "out/libregistry.proved": "made\n"}
+LAID["try"] = """#!/bin/sh
 sed -i 's/^LICENCE =.*/LICENCE = MIT/' packaging/install.mk
 packaging/dist.sh --lay "$PWD/laid" && [ -f laid/archive/x86_64/libregistry.proved ] && grep -qx 'License: MIT' laid/debian/copyright &&
     grep -qx 'license = "MIT"' laid/rust/Cargo.toml && head -n 1 laid/debian/changelog | grep -q '^kupaldiz ([0-9.]*-1)' && python3 follows.py || { echo "it isn't whole"; exit 1; }
 """
-    script = "packaging/dist.sh"
-    faults = [
-        *of(script, ("a licence that is lost", "it isn't whole", "@LICENCE@", "@NONE@"), ("a link to what isn't there", "it isn't whole", '    mend_links "$to"', "    :")),
-        Fault("no archive", "there is no out/libregistry.a: tools/build-archive.sh", command=["sh", "-c", 'rm out/*.a; exec "$@"', "sh", *refused(script, "out")]),
-        Fault("no record", "there is no out/libregistry.proved", command=["sh", "-c", 'rm out/*.proved; exec "$@"', "sh", *refused(script, "out")]),
-        Fault("no record of another processor", "tools/build-archive.sh --for aarch64 writes it",
-              command=["sh", "-c", 'mkdir out/aarch64; cp out/*.a out/aarch64; exec "$@"', "sh",
-                       *refused("sh", "-c", 'packaging/dist.sh --lay "$PWD/laid"; status=$?; [ ! -e laid ] && exit $status')]),
-        Fault("a folder that is there", "there is a rust already", command=refused(script, "--lay", "rust")),
-    ]
-    return Case("packaging's scripts", [], tree, ["./try"], faults, counts=False)
-
-
-def cases():
-    return [making(), building(), building_other(), laid()]
+SCRIPT = "packaging/dist.sh"
+case("packaging's scripts", [], LAID, ["./try"], [
+    *of(SCRIPT, ("a licence that is lost", "it isn't whole", "@LICENCE@", "@NONE@"), ("a link to what isn't there", "it isn't whole", '    mend_links "$to"', "    :")),
+    Fault("no archive", "there is no out/libregistry.a: tools/build-archive.sh", command=["sh", "-c", 'rm out/*.a; exec "$@"', "sh", *refused(SCRIPT, "out")]),
+    Fault("no record", "there is no out/libregistry.proved", command=["sh", "-c", 'rm out/*.proved; exec "$@"', "sh", *refused(SCRIPT, "out")]),
+    Fault("no record of another processor", "tools/build-archive.sh --for aarch64 writes it",
+          command=["sh", "-c", 'mkdir out/aarch64; cp out/*.a out/aarch64; exec "$@"', "sh",
+                   *refused("sh", "-c", 'packaging/dist.sh --lay "$PWD/laid"; status=$?; [ ! -e laid ] && exit $status')]),
+    Fault("a folder that is there", "there is a rust already", command=refused(SCRIPT, "--lay", "rust")),
+], counts=False)

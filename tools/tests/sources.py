@@ -1,5 +1,5 @@
-"""Faults of sources: tools/limits-header.py, tools/check-imports.py and tools/event-table.py."""
-from .trees import Case, Fault, of, real
+"""Faults of sources: tools/limits.py, tools/check-imports.py and tools/event-table.py."""
+from .trees import Fault, case, of, real
 
 # Each place that says a limit again: a part of the line, with its number.
 PLACES = (
@@ -27,18 +27,18 @@ def check_limits():
     names = [f"{kind}_{it}" for kind in ("MOST", "USUAL") for it in ("CPUS", "SLOTS", "CHANGES", "SECTIONS", "COUNT")] + ["MOST_DEPTH"]
     faults += of(LIMITS, ("a limit that Rattle doesn't say", "MOST_DEPTH is None", "const MOST_DEPTH", "const DEPTH"),
                  *((f"another {it} in Rattle", f"{it} is", f"\npub const {it}:", f"\npub const {it}: u64 = 7;\nconst OTHER_{it}:") for it in names))
-    everywhere = f"sed -i 's/1 << 62/7/' {LIMITS}; for it in {HEADER} {' '.join(COPIES)}; do tools/limits-header.py >$it; done; exec tools/limits-header.py check"
+    everywhere = f"sed -i 's/1 << 62/7/' {LIMITS}; for it in {HEADER} {' '.join(COPIES)}; do tools/limits.py header >$it; done; exec tools/limits.py check"
     faults.append(Fault("another default, in all headers, too", "MOST_SECTIONS is 7, and 4611686018427387904 in the default build", command=["sh", "-c", everywhere]))
     tree = real(LIMITS, VERSION, HEADER, *COPIES, *{path for path, _, _ in PLACES})
-    return Case("limits", ["parts.py", "limits-header.py", "limits.py"], tree, ["tools/limits-header.py", "check"], faults)
+    case("limits", ["parts.py", "limits.py"], tree, ["tools/limits.py", "check"], faults)
 
 
 # The header of the default limits and that of others, which two names tell apart; each is C and C++.
 MAKES = f"""#!/bin/sh
 set -e
 sed -e 's/MOST_CPUS: usize = 64/MOST_CPUS: usize = 16/' -e 's/MOST_SLOTS: usize = 255/MOST_SLOTS: usize = 64/' -e 's/MOST_CHANGES: u64 = .*;/MOST_CHANGES: u64 = 1_000_000;/' {LIMITS} >other.rt
-tools/limits-header.py >default.h
-tools/limits-header.py other.rt >other.h
+tools/limits.py header >default.h
+tools/limits.py header other.rt >other.h
 grep -q 'registry_for_64_cpus_255_slots_v0_1$' default.h && grep -q 'REGISTRY_BUILD	""$' default.h
 grep -q 'registry_for_16_cpus_64_slots_v0_1$' other.h && grep -q 'REGISTRY_BUILD	"-16x64"$' other.h
 for header in default.h other.h; do
@@ -49,12 +49,10 @@ for header in default.h other.h; do
 done
 """
 
-
-def limits_header():
-    faults = [*of(LIMITS, *((f"no {it}", f"limits-header: the file says no {it}", f"const {it}:", f"const SOME_{it}:") for it in ("MOST_CPUS", "MOST_DEPTH"))),
-              *of(VERSION, ("no version", f"limits-header: {VERSION} says no version", "REGISTRY_VERSION_MINOR\t1", "REGISTRY_VERSION_SMALL\t1"))]
-    return Case("limits-header", ["limits-header.py", "limits.py", "parts.py"], {**real(LIMITS, VERSION), "try": MAKES}, ["./try"], faults, counts=False)
-
+case("header of limits", ["limits.py", "parts.py"], {**real(LIMITS, VERSION), "try": MAKES}, ["./try"], [
+    *of(LIMITS, *((f"no {it}", f"limits: the file says no {it}", f"const {it}:", f"const SOME_{it}:") for it in ("MOST_CPUS", "MOST_DEPTH"))),
+    *of(VERSION, ("no version", f"limits: {VERSION} says no version", "REGISTRY_VERSION_MINOR\t1", "REGISTRY_VERSION_SMALL\t1")),
+], counts=False)
 
 IMPORTS = {
     # one passes on what it defines and what low defines; two takes both from there.
@@ -67,19 +65,15 @@ IMPORTS = {
     "crates/two/proofs/Lemma.antt": "use Rattle.one.specs.Common.{Word};\n",
 }
 
-
-def check_imports():
-    word = "use Rattle.low.specs.Words.{Word};\nuse"
-    faults = [
-        *of("crates/two/proofs/Lemma.antt", ("a name that no one takes", "one/specs/Common.antt: no one imports Word", "use Rattle", "-- Rattle"),
-            ("a name of a lower crate that is taken past it", "two/proofs/Lemma.antt imports Word of Rattle.low.specs.Words", "use", word)),
-        *of("crates/two/src/lib.rt", ("a name that is taken past it", "two/src/lib.rt imports Count of Rattle.one.specs.Counts, which Rattle.one.specs.Common",
-                                      "ghost use", "ghost use Rattle.one.specs.Counts.{Count};\nghost use")),
-        *of("crates/one/specs/More.antt", ("a name of a lower crate that its own specs take past it", "one/specs/More.antt imports Word of", "use", word)),
-        *of("crates/one/specs/Common.antt", ("nothing that passes names on", "0 passed, 1 failed", "pub use Rattle.one", None)),
-    ]
-    return Case("check-imports", ["check-imports.py", "parts.py"], IMPORTS, ["tools/check-imports.py"], faults)
-
+WORD = "use Rattle.low.specs.Words.{Word};\nuse"
+case("check-imports", ["check-imports.py", "parts.py"], IMPORTS, ["tools/check-imports.py"], [
+    *of("crates/two/proofs/Lemma.antt", ("a name that no one takes", "one/specs/Common.antt: no one imports Word", "use Rattle", "-- Rattle"),
+        ("a name of a lower crate that is taken past it", "two/proofs/Lemma.antt imports Word of Rattle.low.specs.Words", "use", WORD)),
+    *of("crates/two/src/lib.rt", ("a name that is taken past it", "two/src/lib.rt imports Count of Rattle.one.specs.Counts, which Rattle.one.specs.Common",
+                                  "ghost use", "ghost use Rattle.one.specs.Counts.{Count};\nghost use")),
+    *of("crates/one/specs/More.antt", ("a name of a lower crate that its own specs take past it", "one/specs/More.antt imports Word of", "use", WORD)),
+    *of("crates/one/specs/Common.antt", ("nothing that passes names on", "0 passed, 1 failed", "pub use Rattle.one", None)),
+])
 
 EDITS = "crates/cpu_words/edits/gate.edits"
 KEEPING = "crates/protocol/proofs/keeps/Keeping.antt"
@@ -87,23 +81,17 @@ TABLED = ("crates/protocol/src/event.rt", "crates/protocol/specs/Events.antt", K
           "crates/passive_list/src/*.rt", "crates/passive_list/edits/*.edits", "crates/cpu_words/src/steps/*.rt", "crates/cpu_words/src/operations/*.rt",
           "crates/cpu_words/proofs/steps/**/*.antt", "crates/cpu_words/proofs/operations/**/*.antt", "crates/cpu_words/edits/*.edits")
 
-
-def event_table():
-    page = "not as tools/event-table.py make writes it"
-    event, definition = "crates/protocol/src/event.rt", "crates/protocol/specs/Events.antt"
-    begins = "    /// The CPU begins a section."
-    vacates = "old:     keeper.rows[slot as usize].state = SlotState::Vacant;"
-    faults = [
-        *of(event, ("an event without a step", "Wink: no step makes it", begins, f"    /// It winks.\n    Wink(u8),\n{begins}")),
-        *of(EDITS, ("an edit that is gone", page, "edit: enter_adds_two", "edit: enter_adds_three")),
-        *of("crates/passive_list/edits/gate.edits", ("a step without an edit", "no edit", vacates, "old: gone")),
-        *of(definition, ("an event without a definition", "no definition", "guard (may_enter s c) (some_outcome (after_enter s c) Done)", "None")),
-        *of("crates/passive_core/src/machine/run.rt", ("an event that the machine doesn't make", "no method", "self.step_enter(c)", "enter(c)")),
-        *of("docs/MODEL.md", ("another word in the table", page, "The CPU begins a section", "The CPU ends a section")),
-    ]
-    tools = ["event-table.py", "contracts.py", "parts.py", "edits.py"]
-    return Case("event-table", tools, real(*TABLED), ["tools/event-table.py", "check"], faults)
-
-
-def cases():
-    return [check_limits(), limits_header(), check_imports(), event_table()]
+PAGE = "not as tools/event-table.py make writes it"
+EVENT, DEFINITION = "crates/protocol/src/event.rt", "crates/protocol/specs/Events.antt"
+BEGINS = "    /// The CPU begins a section."
+VACATES = "old:     keeper.rows[slot as usize].state = SlotState::Vacant;"
+TABLES = ["event-table.py", "contracts.py", "parts.py", "edits.py"]
+case("event-table", TABLES, real(*TABLED), ["tools/event-table.py", "check"], [
+    *of(EVENT, ("an event without a step", "Wink: no step makes it", BEGINS, f"    /// It winks.\n    Wink(u8),\n{BEGINS}")),
+    *of(EDITS, ("an edit that is gone", PAGE, "edit: enter_adds_two", "edit: enter_adds_three")),
+    *of("crates/passive_list/edits/gate.edits", ("a step without an edit", "no edit", VACATES, "old: gone")),
+    *of(DEFINITION, ("an event without a definition", "no definition", "guard (may_enter s c) (some_outcome (after_enter s c) Done)", "None")),
+    *of("crates/passive_core/src/machine/run.rt", ("an event that the machine doesn't make", "no method", "self.step_enter(c)", "enter(c)")),
+    *of("docs/MODEL.md", ("another word in the table", PAGE, "The CPU begins a section", "The CPU ends a section")),
+])
+check_limits()

@@ -18,6 +18,12 @@ Fault = collections.namedtuple("Fault", "name said changes command", defaults=((
 # What is tried: a name, the files of tools/ that it takes, a tree of paths and texts, a command that passes there, and the faults. `counts` says whether the
 # last line is 'N passed, M failed'; `prepare` gets the tree before the command runs.
 Case = collections.namedtuple("Case", "name tools tree command faults counts prepare", defaults=(True, lambda tree: None))
+CASES = []
+
+
+def case(*words, **more):
+    """One more thing to be tried."""
+    CASES.append(Case(*words, **more))
 
 
 def of(path, *rows):

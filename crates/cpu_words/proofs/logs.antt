@@ -11,7 +11,6 @@ pub mod Seats
 pub mod Loads
 pub mod Marks
 pub mod OwnLog
-pub mod Dues
 pub mod Walks
 pub mod Standings
 pub mod Slots

@@ -16,7 +16,7 @@ pub use Rattle.cpu_words.specs.Domains.{AreWordsOf}
 pub use Rattle.cpu_words.specs.Draining.{CollectTold, HasAdded, HasCollected, HasKeptSub, HasLookedPassive, IsFoundCollected, KeptSubTold, LookedPassiveTold, MayCollect, MayJoinKeeper, MayKeptSub}
 pub use Rattle.cpu_words.specs.Draining.{MayPassiveLook, MayTotalAdd, MayTotalSub, TotalAddTold, TotalSubTold, keeper_after_join, row_of, with_given_up}
 pub use Rattle.cpu_words.specs.Ended.{EndedRuns, EndsRun, HasClosed, IsGoneFrom, LastView}
-pub use Rattle.cpu_words.specs.Freed.{FreedByKeeper, FreedIsGone, HasGone, IsGone}
+pub use Rattle.cpu_words.specs.Freed.{FreedByKeeper, FreedIsGone, IsGone}
 pub use Rattle.cpu_words.specs.Fresh.{HeadsAreNewest, LookupsAreFresh, PassesAreWhole, RecallsAreLive, RefindsAreLive, WholeInTheList, has_sought, history_length, until_reply, with_reply}
 pub use Rattle.cpu_words.specs.Grace.{HasLooked, HasSnapshot, LookTold, MayGlance, MayLook, MaySnapshot, due_next, keeper_after_look}
 pub use Rattle.cpu_words.specs.Headline.{DrainedIsFree, FoundIsHeld, HeldHaveSlots, IsInHand, MarkTells, MarksAreHonest, RunningHeadline, RunsAsLogged, RunsLawfully, SeatHolds, SectionMayHold}
@@ -43,7 +43,7 @@ pub use Rattle.cpu_words.specs.Publishing.{link_index, links_with}
 pub use Rattle.cpu_words.specs.Publishing.LeadsBelow.{To_end, To_slot}
 pub use Rattle.cpu_words.specs.Reading.{loads_by, tells_local}
 pub use Rattle.cpu_words.specs.Recalls.{HasRecalled, HasRecalledHead, HasRefound, HasSeenMore, IsLiveNumber, IsRefound, MayRecall, MayRefind, RecalledTold, RefindTold}
-pub use Rattle.cpu_words.specs.Rule.{Agrees, GoesOn, Good, HaveViews, IsFresh, IsShown, IsShownAs, IsShownCpu, IsUnused, Reached, Ruled, ShowsViews, Sits, by_number, did, log_from, log_item}
+pub use Rattle.cpu_words.specs.Rule.{Agrees, GoesOn, Good, HaveViews, IsFresh, IsShown, IsShownAs, IsShownCpu, Reached, Ruled, ShowsViews, Sits, by_number, did, log_from, log_item}
 pub use Rattle.cpu_words.specs.Rule.{log_of_events, log_with, number_of_id, number_or_none, reference_to, reply_without_id}
 pub use Rattle.cpu_words.specs.Searching.{Descends, FoundHolds, HasFollowed, HasLoadedLink, HasLoadedWord, HasSearched, HasSought, IsAtWord, LinkHolds, MayLoadLink, MayLoadSearched, MaySeek}
 pub use Rattle.cpu_words.specs.Searching.{MayStandOn, PassTells, SkipsNone, cpu_after_link, cpu_after_record_word, cpu_after_seek, every_word, key_with, link_answer, loaded_answer, loaded_of}

@@ -1,15 +1,9 @@
 -- A CPU that has a share of a ledger, and the CPU without it: what is told of the one is told of the other.
-use Rattle.std.proofs.Common.{◌≡◌, ◌∙◌, ℕ, List, Option, Bool, Result, ap}
+use Rattle.std.proofs.Common.{ℕ, List, Option, Bool, Result, ap}
 use Rattle.name_registry.specs.Types.{Change, Entry, Refusal, Settings, Stage, ReferenceView}
-use Rattle.passive_list.specs.Common.{OnCpu, OnKeeper, OnPlainCpu, HasHeardOn}
+use Rattle.passive_list.specs.Common.{OnCpu, OnKeeper, HasHeardOn}
+use Rattle.passive_list.proofs.Sharing.{sharing}
 use Rattle.name_registry.specs.Common.{HasAttachedFor, HasAttachedIfaceFor, HasAdvancedFor, HasDetachedFor, HasGivenUpFor, Looking, HasBegun, HasGlanced, HasPassedAll, Hold}
-
-abbrev pub sharing : ℕ → OnCpu → OnCpu
-sharing m x = record x { made = m }
-
--- what a box has, lent
-pub shared : (m : ℕ) (p q : OnPlainCpu) (x : OnCpu) → p ≡ q → sharing m q.cpu ≡ x → sharing m p.cpu ≡ x
-shared m p q x same is = ap (λ (o : OnPlainCpu). sharing m o.cpu) same ∙ is
 
 heard : (m : ℕ) (h : List Change) (x y : OnCpu) → HasHeardOn h x y → HasHeardOn h (sharing m x) (sharing m y)
 heard m h x y had = record { told = had.told; pass = had.pass; known_log = had.known_log; is = ap (sharing m) had.is }

@@ -1,10 +1,14 @@
 -- A CPU that has a share of a ledger, and the CPU without it: what is told of a lookup of the one is told of the other.
-use Rattle.std.proofs.Common.{ℕ, Bool, Option, Some, None, inl, inr, refl, ap}
+use Rattle.std.proofs.Common.{◌≡◌, ℕ, Bool, Option, Some, None, inl, inr, refl, ap, ◌∙◌}
 use Rattle.passive_list.specs.Types.{Entry, Key}
-use Rattle.passive_list.specs.Common.{HasEnteredOn, HasExitedOn, HasFound, HasFoundAnew, HasFoundByMemory, HasFoundFromOutside, HasFoundInSection, HasFoundInside, HasFoundKept, HasRecalledAs, HasRecalledHeadOn, HasRecalledInVain, HasRecalledOn, HasRefoundAs, IsAbsentAt, OnCpu, FindsAfterHead, FindsAfterWord, FindsBy, FindsInsideBy, Seen}
+use Rattle.passive_list.specs.Common.{HasEnteredOn, HasExitedOn, HasFound, HasFoundAnew, HasFoundByMemory, HasFoundFromOutside, HasFoundInSection, HasFoundInside, HasFoundKept, HasRecalledAs, HasRecalledHeadOn, HasRecalledInVain, HasRecalledOn, HasRefoundAs, IsAbsentAt, OnCpu, OnPlainCpu, FindsAfterHead, FindsAfterWord, FindsBy, FindsInsideBy, Seen}
 
 abbrev pub sharing : ℕ → OnCpu → OnCpu
 sharing m x = record x { made = m }
+
+-- what a box has, lent
+pub shared : (m : ℕ) (p q : OnPlainCpu) (x : OnCpu) → p ≡ q → sharing m q.cpu ≡ x → sharing m p.cpu ≡ x
+shared m p q x same is = ap (λ (o : OnPlainCpu). sharing m o.cpu) same ∙ is
 
 entered : (m : ℕ) (a b : OnCpu) → HasEnteredOn a b → HasEnteredOn (sharing m a) (sharing m b)
 entered m a b had = record {

@@ -1,4 +1,5 @@
 pub mod Either
+pub mod Made
 pub mod counts
 pub mod history
 pub mod keeps

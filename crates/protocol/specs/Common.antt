@@ -21,13 +21,13 @@ pub use Rattle.protocol.specs.declared.state.SearchPlace.{SearchPlace}
 pub use Rattle.protocol.specs.declared.state.SearchPlace.TheVariants.{AtHead, AtHigh, AtKind, AtLow, AtNext, AtNumber, AtValue}
 pub use Rattle.protocol.specs.Events.{Outcome, after_add, after_collect, after_collected, after_count, after_count_add, after_count_down, after_count_store, after_enter, after_exit, after_hand}
 pub use Rattle.protocol.specs.Events.{after_join_keeper, after_keep, after_kept_sub, after_link_store, after_look, after_look_passive, after_publish, after_row_store, after_seat, after_seeing}
-pub use Rattle.protocol.specs.Events.{after_seek, after_snapshot, after_split, after_sub, after_total, after_unpublish, after_vacate, are_unused, count_down, due_after, entry_if, entry_of, exchange}
-pub use Rattle.protocol.specs.Events.{grows, guard, has_room, hear, id_if, is_bias, is_drainable, is_drained, is_driver_slot, is_free, is_idle, is_iface_slot, is_inside, is_number, is_outside}
-pub use Rattle.protocol.specs.Events.{is_prepared, is_snapshot_due, keeps_rightly, kept_sub, kind_of, least_id, link_at, link_loaded, load_link, load_local, load_passive, load_record, load_searched}
-pub use Rattle.protocol.specs.Events.{look, may_add, may_collect, may_count, may_enter, may_examine, may_exit, may_glance, may_join, may_join_keeper, may_keep, may_look_passive, may_publish, may_seat}
-pub use Rattle.protocol.specs.Events.{may_seek, may_sub, may_vacate, may_write, number_standing, outcome_of, room_of, search_over, snapshot, snapshot_mark, some_outcome, split_back, split_ref}
-pub use Rattle.protocol.specs.Events.{names_lawfully, narrow_step, state_after, step, store_slot, tell, total_add, total_sub, unpublish, with_link_past, with_local, with_retired, with_search_at, with_some, with_word, word}
-pub use Rattle.protocol.specs.Events.{after_confirm, after_live_store, after_take_back, after_taking, after_tried, after_try, compared_slot, confirm, is_honest, has_live, may_confirm, may_hide, may_recall, may_try, show}
+pub use Rattle.protocol.specs.Events.{after_seek, after_snapshot, after_split, after_sub, after_total, after_unpublish, after_vacate, are_unused, due_after, entry_if, entry_of, exchange}
+pub use Rattle.protocol.specs.Events.{grows, guard, has_room, id_if, is_bias, is_drainable, is_drained, is_driver_slot, is_free, is_idle, is_iface_slot, is_inside, is_number, is_outside}
+pub use Rattle.protocol.specs.Events.{is_prepared, is_snapshot_due, keeps_rightly, kind_of, least_id, link_at, link_loaded, load_link, load_local, load_passive, load_record, load_searched}
+pub use Rattle.protocol.specs.Events.{may_add, may_collect, may_count, may_enter, may_examine, may_exit, may_glance, may_join, may_join_keeper, may_keep, may_look_passive, may_publish, may_seat}
+pub use Rattle.protocol.specs.Events.{may_seek, may_sub, may_vacate, may_write, number_standing, outcome_of, room_of, search_over, snapshot_mark, some_outcome, split_back, split_ref}
+pub use Rattle.protocol.specs.Events.{names_lawfully, narrow_step, state_after, step, total_add, total_sub, unpublish, with_link_past, with_local, with_retired, with_search_at, with_some, with_word, word}
+pub use Rattle.protocol.specs.Events.{after_confirm, after_live_store, after_take_back, after_taking, after_tried, after_try, compared_slot, confirm, is_honest, has_live, may_confirm, may_hide, may_recall, may_try}
 pub use Rattle.protocol.specs.Events.{after_refind, may_recall_head, may_refind, refind, take_back, words_of}
 pub use Rattle.protocol.specs.History.{EndsAt, IsAttached, IsLawful, IsLegal, IsLiveAt, IsLookup, IsNewestAt, MayHold, after_change}
 pub use Rattle.protocol.specs.Invariant.{AllBelow, AreRows, Balances, CountsHold, DriversKept, DueHolds, FoundHold, HandHolds, HasShape, HeldStay, Holds, IsCounting, IsIn, IsSnapshotDue, Leads}

@@ -2,7 +2,7 @@
 use Rattle.std.specs.Prelude.{ℕ, zero, suc, ◌+◌, ◌-◌, ◌*◌, ◌==◌, nat_le, nat_lt, List, ◌∷◌, [], ◌++◌, length, replicate, position, Option, Some, None, is_none, is_some, Bool, true, false, not, ◌&&◌, ◌||◌}
 use Rattle.std.specs.Prelude.{if◌then◌else◌, slice_index_or, slice_set, take}
 use Rattle.std.specs.List.{list_all}
-use Rattle.protocol.specs.Types.{MOST_CPUS, Room, Kind, Iface, Driver, Entry, Change, Attach, Detach, Key, Slot, Vacant, Live, Retired, Mark}
+use Rattle.protocol.specs.Types.{MOST_CPUS, Room, Kind, Iface, Driver, Entry, Attach, Detach, Key, Slot, Vacant, Live, Retired, Mark}
 use Rattle.protocol.specs.declared.event.Event.{Event}
 use Rattle.protocol.specs.declared.event.Event.TheVariants.{Seat, Enter, Exit, Seek, LoadLink, LoadRecord, StoreSlot, StoreNext, Publish, Unpublish, Tell, Hear, Snapshot, Look, PassiveAdd, PassiveSub}
 use Rattle.protocol.specs.declared.event.Event.TheVariants.{PassiveLook, CountAdd, SplitRef, JoinRef, CountDown, SplitBack, Collect, TotalAdd, JoinKeeper, TotalSub, Keep, KeptSub, Vacate, Show, Hide, Recall, RecallHead, Refind, Try, Confirm, TakeBack}

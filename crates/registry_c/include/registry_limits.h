@@ -1,7 +1,7 @@
 /*
  * registry_limits.h - the limits that the library was built for
  *
- * tools/limits-header.py makes this file from the limits in the proved code. A build with other limits has another one. registry.h includes it.
+ * tools/limits.py makes this file from the limits in the proved code. A build with other limits has another one. registry.h includes it.
  */
 #ifndef REGISTRY_LIMITS_H
 #define REGISTRY_LIMITS_H

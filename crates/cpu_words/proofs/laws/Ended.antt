@@ -1,15 +1,15 @@
 -- The end of a run: what follows for the last words, from the laws of any table under the rule.
-use Rattle.std.proofs.Common.{◌≡◌, ℕ, ◌<◌, true, List, [], length, Some, refl, sym, ap, ◌∙◌, subst, slice_index}
+use Rattle.std.proofs.Common.{◌≡◌, ℕ, ◌<◌, true, List, [], Some, sym, ap, ◌∙◌, subst}
 use Rattle.std.proofs.lemmas.List.{append-nil}
 use Rattle.atomic_table.specs.Table.{State as Table}
 use Rattle.atomic_table.proofs.Lists.{at_map}
 use Rattle.cpu_words.specs.Types.{Attach, Settings}
 use Rattle.registry_values.specs.Common.{slot_at}
-use Rattle.protocol.specs.Common.{State, opening, after, has_live, is_honest, live_at, number_in}
+use Rattle.protocol.specs.Common.{State, opening, after, is_honest, live_at, number_in}
 use Rattle.protocol.proofs.history.History.{at_within}
 use Rattle.protocol.proofs.keeps.CountKeeps.{live_tells}
 use Rattle.protocol.proofs.runs.Fresh.{honest_tells}
-use Rattle.cpu_words.specs.Common.{Agrees, EndedRuns, IsFreedFrom, IsGone, IsGoneFrom, Keeper, KeeperShown, KeeperView, LogItem, Logged, RunsAsLogged, Shown, View, live_of, part, without_logs}
+use Rattle.cpu_words.specs.Common.{Agrees, EndedRuns, IsGone, IsGoneFrom, KeeperShown, KeeperView, Logged, RunsAsLogged, Shown, View, live_of, part, without_logs}
 use Rattle.cpu_words.proofs.laws.Freed.{gone_by, keeper_did}
 use Rattle.cpu_words.proofs.laws.Safety.{running_headline}
 

@@ -1,6 +1,6 @@
 -- Destroying: an entry whose slot the keeper made vacant has no slot and no holder in any later state.
 use Rattle.cpu_words.proofs.logs.Changes.{run_as_logged}
-use Rattle.std.proofs.Common.{◌≡◌, inr, ⊎_elim, ℕ, ◌&&◌, Bool, true, false, IsTrue, List, [], ◌∷◌, ◌++◌, length, set, Option, Some, None, IsSome, refl, sym, ap, ◌∙◌, subst, append_assoc}
+use Rattle.std.proofs.Common.{◌≡◌, inr, ⊎_elim, ℕ, true, IsTrue, List, [], ◌∷◌, ◌++◌, length, set, Option, Some, IsSome, refl, sym, ap, ◌∙◌, subst, append_assoc}
 use Rattle.std.proofs.Common.{length-append, arith}
 use Rattle.std.proofs.lemmas.List.{append-nil}
 use Rattle.std.proofs.lemmas.Option.{none-some, same_Some}
@@ -9,10 +9,11 @@ use lib.ListN.{get_elem?}
 use mathlib.Core.Option.{some}
 use Rattle.atomic_table.specs.Table.{State as Table}
 use Rattle.atomic_table.proofs.Lists.{at_map}
-use Rattle.cpu_words.specs.Types.{Entry, Change, Attach, Detach, Settings, Vacant, Retired, Event, Vacate, KeptSub, Done}
-use Rattle.registry_values.specs.Common.{are_fit, slot_at, slot_of}
-use Rattle.protocol.specs.Common.{IsAttached, EndsAt, State, opening, kept_at, Outcome, guard, with_some, some_outcome, step, state_after, is_drained, may_vacate, is_iface_slot, after_vacate}
-use Rattle.protocol.specs.Common.{after_kept_sub, Holds, Occupies, IsUnheld, number_in, picture, after, occupant_of, destroyed_slot, IsAllowed}
+use Rattle.cpu_words.specs.Types.{Entry, Change, Attach, Detach, Settings, Vacant, Retired, Event, Vacate, KeptSub, Reply}
+use Rattle.registry_values.specs.Common.{are_fit, slot_at}
+use Rattle.protocol.specs.Common.{IsAttached, EndsAt, State, opening, Outcome, step, state_after}
+use Rattle.protocol.specs.Common.{Holds, Occupies, IsUnheld, number_in, picture, after, occupant_of, destroyed_slot, IsAllowed}
+use Rattle.protocol.proofs.Made.{Made, Vacates, SubsKept, made}
 use Rattle.protocol.proofs.history.History.{one_entry, at_within}
 use Rattle.protocol.proofs.keeps.Keeping.{opening_holds, step_holds}
 use Rattle.protocol.proofs.keeps.MarkKeeps.{is_drained_tells}
@@ -21,7 +22,7 @@ use Rattle.protocol.proofs.runs.Headline.{unheld_unoccupied}
 use Rattle.protocol.proofs.runs.Reuse.{number_is, destroyed_drained}
 use Rattle.protocol.proofs.runs.State.{obeys_laws}
 use Rattle.protocol.proofs.slots.Occupied.{attached_in, in_within, slot_cases}
-use Rattle.cpu_words.specs.Common.{LogItem, Logged, View, Good, ShowsViews, IsDetachedFrom, IsFreedFrom, part, without_logs, AreByOwn, RunsAsLogged, IsGone, HasGone, FreedIsGone, FreedByKeeper, Sits, IsStanding, KeeperView, Keeper}
+use Rattle.cpu_words.specs.Common.{LogItem, Logged, View, Good, ShowsViews, IsDetachedFrom, IsFreedFrom, part, without_logs, AreByOwn, RunsAsLogged, IsGone, FreedIsGone, FreedByKeeper, Sits, IsStanding, KeeperView, Keeper}
 use Rattle.protocol.proofs.history.History.{at_prefix}
 use Rattle.cpu_words.proofs.shown.Passes.{attached_prefix}
 use Rattle.cpu_words.proofs.shown.Showing.{backed}
@@ -37,25 +38,11 @@ use Rattle.cpu_words.proofs.logs.Walks.{walked}
 
 -- The event
 
--- where it is allowed the slot is vacant after it
-abbrev Empties : State → ℕ → Option Outcome → Type 0
-Empties s t None = Unit {0}
-Empties s t (Some o) = o.state.slots ≡ set s.slots t Vacant
-
-empties_guard : (s : State) (t : ℕ) (b : Bool) (o : Option Outcome) → Empties s t o → Empties s t (guard b o)
-empties_guard s t true o empties = empties
-empties_guard s t false o empties = tt
-
-empties_some : {X : Type 0} (s : State) (t : ℕ) (x : Option X) (f : X → Option Outcome) → ((y : X) → Empties s t (f y)) → Empties s t (with_some x f)
-empties_some s t None f empties = tt
-empties_some s t (Some y) f empties = empties y
-
-empties : (s : State) (e : Event) (t : ℕ) → destroyed_slot e ≡ Some t → Empties s t (step s e)
-empties s (Vacate u) t of = empties_guard s t (may_vacate s u) (some_outcome (after_vacate s u) Done) (ap (λ (k : ℕ). set s.slots k Vacant) (same_Some u t of))
-empties s (KeptSub u) t of = empties_some s t (kept_at s.keeps u) _
-    (λ d. empties_some s t (slot_of s.slots d) _ (λ v. empties_guard s t (is_iface_slot (slot_at s.slots u) && is_drained s u) (some_outcome (after_kept_sub s u v) Done)
-    (ap (λ (k : ℕ). set s.slots k Vacant) (same_Some u t of))))
-empties s e t of = absurd (none-some t of)
+-- the slot is vacant after it
+empties : (s n : State) (e : Event) (r : Reply) (t : ℕ) → Made s e n r → destroyed_slot e ≡ Some t → n.slots ≡ set s.slots t Vacant
+empties s _ _ _ t (Vacates u may) of = ap (λ (k : ℕ). set s.slots k Vacant) (same_Some u t of)
+empties s _ _ _ t (SubsKept u d v keeps at may) of = ap (λ (k : ℕ). set s.slots k Vacant) (same_Some u t of)
+empties s _ _ _ t _ of = absurd (none-some t of)
 
 whole : (f : Event) (t : ℕ) → destroyed_slot f ≡ Some t → is_whole f ≡ true
 whole (Vacate u) t of = refl
@@ -73,29 +60,29 @@ record Freed (m n : State) (t k : ℕ) : Type 0 where
 
 freed_now : (cpus : ℕ) (log : List LogItem) (m : State) (e : Event) (o : Outcome) (t k : ℕ) → Holds m → step m e ≡ Some o → destroyed_slot e ≡ Some t → Known cpus log m → IsDetachedFrom t k log
     → Freed m o.state t k
-freed_now cpus log m e o t k on made of known gone =
-    let allowed : IsAllowed m e = subst (λ (p : Option Outcome). IsSome p) (sym made) refl in
+freed_now cpus log m e o t k on is of known gone =
+    let allowed : IsAllowed m e = subst (λ (p : Option Outcome). IsSome p) (sym is) refl in
     let told = is_drained_tells m t on (destroyed_drained m e t of allowed) in
     let f : Entry = told.1.0 in
-    let at : slot_at m.slots t ≡ Retired f = told.1.1 in
-    let was = on.slots.retired t f at in
-    let same : f.number ≡ k = one_detached t f.number k log (known.slots.retired t f at) gone in
-    let slots : o.state.slots ≡ set m.slots t Vacant = subst (Empties m t) made (empties m e t of) in
-    let its = attached_in m.history m.slots t f on.slots (inr at) in
+    let here : slot_at m.slots t ≡ Retired f = told.1.1 in
+    let was = on.slots.retired t f here in
+    let same : f.number ≡ k = one_detached t f.number k log (known.slots.retired t f here) gone in
+    let slots = empties m o.state e o.reply t (made m e o is) of in
+    let its = attached_in m.history m.slots t f on.slots (inr here) in
     record {
       e = f;
       number = same;
       slot = its.1;
       attached = its.0;
       ended = (was.2.0, subst (λ (j : ℕ). EndsAt m.history j was.2.0) same was.2.1);
-      off = λ u is. ⊎_elim
-          (λ (here : (u ≡ t) × (slot_at (set m.slots t Vacant) u ≡ Vacant)). none-some k (sym (ap number_in (ap (λ l. slot_at l u) slots ∙ here.1)) ∙ is))
+      off = λ u at. ⊎_elim
+          (λ (now : (u ≡ t) × (slot_at (set m.slots t Vacant) u ≡ Vacant)). none-some k (sym (ap number_in (ap (λ l. slot_at l u) slots ∙ now.1)) ∙ at))
           (λ (old : (u ≡ t → ⊥) × (slot_at (set m.slots t Vacant) u ≡ slot_at m.slots u)).
-          let has = number_is (slot_at m.slots u) k (ap number_in (sym (ap (λ l. slot_at l u) slots ∙ old.1)) ∙ is) in
+          let has = number_is (slot_at m.slots u) k (ap number_in (sym (ap (λ l. slot_at l u) slots ∙ old.1)) ∙ at) in
           let there = attached_in m.history m.slots u has.0 on.slots has.1 in
           let one : has.0 ≡ f = one_entry m.history has.0 f there.0 its.0 (has.2 ∙ sym same) in
           old.0 (sym there.1 ∙ (ap (λ (g : Entry). g.slot) one ∙ its.1)))
-          (slot_cases m.slots t Vacant u (in_within m.slots t f (inr at)));
+          (slot_cases m.slots t Vacant u (in_within m.slots t f (inr here)));
     }
 
 -- The run

@@ -192,7 +192,7 @@ first_made s (a ∷ more) e es t run = subst (λ (o : Option Outcome). IsSome o)
 longer : (s : State) (es : List Event) → Holds s → length s.history ≤ length (after s es).history
 longer s [] on = omega arith
 longer s (e ∷ es) on =
-    let grows = history_grows s e on in
+    let grows = history_grows s e in
     let size : length (after_event s e).history ≡ length s.history + length grows.0 = ap (λ (h : List Change). length h) grows.1 ∙ length-append s.history grows.0 in
     let rest = longer (after_event s e) es (after_keeps s (step s e) on (step_keeps s e on)) in
     subst (λ (n : State). length s.history ≤ length n.history) (sym (after_more s e es)) (omega (arith, size, rest))

@@ -1,15 +1,15 @@
 -- Kept drivers: an interface keeps the driver that its slot kept as it was attached, and that driver has its slot.
-use Rattle.std.proofs.Common.{◌≡◌, ℕ, suc, ◌+◌, ◌==◌, ◌&&◌, Bool, true, false, not, List, [], ◌∷◌, length, Option, Some, None, refl, sym, ap, ◌∙◌, subst, arith}
-use Rattle.std.proofs.lemmas.Bool.{and_parts, eqb-true}
+use Rattle.std.proofs.Common.{◌≡◌, ℕ, suc, List, [], ◌∷◌, length, Some, refl, sym, ap, ◌∙◌}
 use mathlib.Core.Option.{some}
 use lib.ListN.{get_elem?}
 use Rattle.atomic_table.specs.Table.{State as Table}
-use Rattle.cpu_words.specs.Types.{Settings, Live, Event, Publish, Done}
-use Rattle.registry_values.specs.Common.{key_of, slot_at, is_taken}
-use Rattle.protocol.specs.Common.{State, opening, row_at, kept_at, Outcome, guard, with_some, some_outcome, step, entry_of, may_write, may_publish, has_room, is_prepared, after_publish, Holds}
+use Rattle.cpu_words.specs.Types.{Settings, Live, Event, Publish, Reply, Done}
+use Rattle.registry_values.specs.Common.{slot_at}
+use Rattle.protocol.specs.Common.{State, opening, kept_at, step, Holds}
 use Rattle.protocol.specs.Common.{number_in, after, occupant_of}
+use Rattle.protocol.proofs.Made.{Made, Publishes, made}
 use Rattle.protocol.proofs.keeps.Keeping.{step_holds}
-use Rattle.protocol.proofs.keeps.ListKeeps.{may_write_tells}
+use Rattle.protocol.proofs.keeps.ListKeeps.{may_publish_tells}
 use Rattle.protocol.proofs.model.RefiningEntries.{number_of}
 use Rattle.protocol.proofs.runs.State.{obeys_laws}
 use Rattle.protocol.proofs.slots.Cells.{slot_here}
@@ -22,25 +22,15 @@ use Rattle.cpu_words.proofs.logs.Loads.{same_event}
 use Rattle.cpu_words.proofs.logs.Runs.{Follows, follows_after}
 
 -- an attach gives the next number
-abbrev Numbers : State → ℕ → Option Outcome → Type 0
-Numbers s t None = Unit {0}
-Numbers s t (Some o) = occupant_of o.state t ≡ Some (suc (length s.history))
+abbrev Numbers : State → State → Event → Type 0
+Numbers s n (Publish t) = occupant_of n t ≡ Some (suc (length s.history))
+Numbers s n e = Unit {0}
 
-numbers_guard : (s : State) (t : ℕ) (b : Bool) (o : Option Outcome) → (b ≡ true → Numbers s t o) → Numbers s t (guard b o)
-numbers_guard s t true o numbers = numbers refl
-numbers_guard s t false o numbers = tt
-
-numbers_some : {X : Type 0} (s : State) (t : ℕ) (x : Option X) (f : X → Option Outcome) → ((y : X) → Numbers s t (f y)) → Numbers s t (with_some x f)
-numbers_some s t None f numbers = tt
-numbers_some s t (Some y) f numbers = numbers y
-
-publish_numbers : (s : State) (t : ℕ) → Holds s → Numbers s t (step s (Publish t))
-publish_numbers s t on = numbers_some s t (entry_of t (row_at s.rows t)) _ (λ e. numbers_guard s t (may_publish s t e) (some_outcome (after_publish s t e) Done) (λ may.
-    let p = and_parts (may_write s t) _ may in
-    let q = and_parts (e.number == length s.history + 1) (not (is_taken (key_of e) s.slots) && (has_room s && is_prepared s t e.rec.kind)) p.1 in
-    let number = eqb-true e.number (length s.history + 1) q.0 in
-    let same : e.number ≡ suc (length s.history) = omega (arith, number) in
-    ap number_in (slot_here s.slots t (Live e) (may_write_tells s t on.shape p.0).1) ∙ ap (λ (n : ℕ). Some n) same))
+made_numbers : (s n : State) (e : Event) (r : Reply) → Holds s → Made s e n r → Numbers s n e
+made_numbers s _ _ _ on (Publishes t e of may) =
+    let told = may_publish_tells s t e on.shape may in
+    ap number_in (slot_here s.slots t (Live e) told.within) ∙ ap (λ (n : ℕ). Some n) told.number
+made_numbers s _ _ _ on _ = tt
 
 kept_since : (cpus : ℕ) (log : List LogItem) (m : State) (more : List (ℕ × LogItem)) (es : List Event) (g : State) (t n d : ℕ)
     → Follows m ((0, log_item (Publish t) Done) ∷ more) es g → Holds m → Known cpus log m → n ≡ suc (changes_in log) → keeping t log ≡ Some d → occupant_of g t ≡ Some n → KeepsDriver g t d
@@ -48,10 +38,10 @@ kept_since cpus log m more [] g t n d run on known number keeps is = absurd run
 kept_since cpus log m more (e ∷ es) g t n d run on known number keeps is =
     let o = run.0 in
     let same : Publish t ≡ e = same_event m e (Publish t) (ap (λ (x : LogItem). x.event) run.2) refl in
-    let made : step m (Publish t) ≡ Some o = ap (step m) same ∙ run.1 in
+    let attach : step m (Publish t) ≡ Some o = ap (step m) same ∙ run.1 in
     let holds : Holds o.state = step_holds m o.state e o.reply on run.1 in
-    let has : occupant_of o.state t ≡ Some n = subst (Numbers m t) made (publish_numbers m t on) ∙ ap (λ (k : ℕ). Some (suc k)) known.changes ∙ ap (λ (k : ℕ). Some k) (sym number) in
-    let kept : kept_at o.state.keeps t ≡ Some d = keeps_on t m (Publish t) o on made ∙ (known.kept t ∙ keeps) in
+    let has : occupant_of o.state t ≡ Some n = made_numbers m o.state (Publish t) o.reply on (made m (Publish t) o attach) ∙ ap (λ (k : ℕ). Some (suc k)) known.changes ∙ ap (λ (k : ℕ). Some k) (sym number) in
+    let kept : kept_at o.state.keeps t ≡ Some d = keeps_on t m (Publish t) o on attach ∙ (known.kept t ∙ keeps) in
     let laws = (obeys_laws o.state holds).drivers in
     let stands = laws.stands t d kept in
     let there : occupant_of o.state stands.0 ≡ Some d = number_of (slot_at o.state.slots stands.0) stands.1 stands.2 ∙ ap (λ (k : ℕ). Some k) stands.3 in

@@ -1,78 +1,28 @@
 -- How many changes the keeper's log says there were: as many as the history has.
-use Rattle.std.proofs.Common.{◌≡◌, ◌≢◌, ⊎_elim, ℕ, suc, ◌+◌, ◌≤◌, Bool, true, false, cond, IsTrue, List, [], ◌∷◌, length, Option, Some, None, eq-eqb, ne_eqb, refl, sym, ap, ◌∙◌, subst, arith}
+use Rattle.std.proofs.Common.{◌≡◌, ◌≢◌, ⊎_elim, ℕ, ◌+◌, ◌≤◌, Bool, cond, IsTrue, List, [], ◌∷◌, length, Some, eq-eqb, ne_eqb, refl, sym, ap, ◌∙◌, subst, arith}
 use Rattle.std.proofs.lemmas.Bool.{cases_eq}
 use Rattle.std.proofs.lemmas.List.{length-map}
-use Rattle.std.proofs.lemmas.Option.{none-some, same_Some}
 use Rattle.atomic_table.specs.Table.{State as Table}
-use Rattle.cpu_words.specs.Types.{Settings, Change, Attach, Detach, Slot, Vacant, Live, Retired, Event, Publish, Unpublish, Done}
-use Rattle.registry_values.specs.Common.{slot_at, slot_before, are_fit}
-use Rattle.protocol.specs.Common.{State, opening, row_at, at_rest, Outcome, guard, some_outcome, with_some, step, entry_of, unpublish, with_link_past, may_publish, after_publish, after_unpublish}
+use Rattle.cpu_words.specs.Types.{Settings, Attach, Detach, Event, Publish, Unpublish, Reply}
+use Rattle.registry_values.specs.Common.{are_fit}
+use Rattle.protocol.specs.Common.{State, opening, Outcome, step}
 use Rattle.protocol.specs.Common.{Holds, empty_run, after}
+use Rattle.protocol.proofs.Made.{Made, Publishes, Unpublishes, made}
 use Rattle.protocol.proofs.history.History.{length-after_change}
 use Rattle.protocol.proofs.keeps.Keeping.{step_holds}
-use Rattle.protocol.proofs.runs.Steps.{Sort, Refused, Left, Entered, Exited, Sought, Heard, Recalled, Searched, Published, Unpublished, Kept, Gave_up, Vacated, step_sort}
 use Rattle.cpu_words.specs.Common.{LogItem, Logged, by_number, log_of_events, changes_of, changes_in, part, untold, maker, IsSeatOf, AreByOwn, LoggedRuled, RunsAsLogged}
 use Rattle.cpu_words.proofs.logs.Runs.{Follows, follows}
 
 -- One event
 
--- the outcome, if there is one, has so many changes more
-abbrev pub Grows : State → Event → Option Outcome → Type 0
-Grows s e None = Unit {0}
-Grows s e (Some o) = length o.state.history ≡ changes_of e (length s.history)
+-- it adds so many changes
+made_grows : (s t : State) (e : Event) (r : Reply) → Made s e t r → length t.history ≡ changes_of e (length s.history)
+made_grows s _ _ _ (Publishes t e of may) = length-after_change s.history (Attach e)
+made_grows s _ _ _ (Unpublishes t head next e at rest is) = length-after_change s.history (Detach e.number)
+made_grows s _ _ _ _ = refl
 
-grows_guard : (s : State) (e : Event) (b : Bool) (o : Option Outcome) → Grows s e o → Grows s e (guard b o)
-grows_guard s e true o grows = grows
-grows_guard s e false o grows = tt
-
-grows_some : {X : Type 0} (s : State) (e : Event) (x : Option X) (f : X → Option Outcome) → ((y : X) → Grows s e (f y)) → Grows s e (with_some x f)
-grows_some s e None f grows = tt
-grows_some s e (Some y) f grows = grows y
-
-grows_publish : (s : State) (t : ℕ) → Grows s (Publish t) (step s (Publish t))
-grows_publish s t =
-    grows_some s (Publish t) (entry_of t (row_at s.rows t)) _ (λ e. grows_guard s (Publish t) (may_publish s t e) (some_outcome (after_publish s t e) Done) (length-after_change s.history (Attach e)))
-
-same_unlinked : (s : State) (t : ℕ) (p : Option ℕ) → (with_link_past s t p).history ≡ s.history
-same_unlinked s t None = refl
-same_unlinked s t (Some p) = refl
-
-grows_unpublish : (s : State) (t : ℕ) (x : Slot) → Grows s (Unpublish t) (unpublish s t x)
-grows_unpublish s t Vacant = tt
-grows_unpublish s t (Live e) = grows_guard s (Unpublish t) (at_rest s.due) (some_outcome (after_unpublish s t e) Done)
-    (length-after_change (with_link_past s t (slot_before s.slots s.next t)).history (Detach e.number) ∙ ap (λ (h : List Change). suc (length h)) (same_unlinked s t (slot_before s.slots s.next t)))
-grows_unpublish s t (Retired e) = tt
-
--- whether the event is an attach or a detach
-abbrev pub is_change : Event → Bool
-is_change (Publish t) = true
-is_change (Unpublish t) = true
-is_change e = false
-
--- each other event leaves the history
-sorted : (s : State) (e : Event) (o : Option Outcome) → Sort s e o → is_change e ≡ false → (p : Outcome) → o ≡ Some p → p.state.history ≡ s.history
-sorted s _ _ (Refused e) other p is = absurd (none-some p is)
-sorted s _ _ (Left e o same) other p is = ap (λ (q : Outcome). q.state.history) (sym (same_Some o p is)) ∙ same.history
-sorted s _ _ (Entered c may) other p is = ap (λ (q : Outcome). q.state.history) (sym (same_Some _ p is))
-sorted s _ _ (Exited c may) other p is = ap (λ (q : Outcome). q.state.history) (sym (same_Some _ p is))
-sorted s _ _ (Sought c kind name may) other p is = ap (λ (q : Outcome). q.state.history) (sym (same_Some _ p is))
-sorted s _ _ (Heard c may) other p is = ap (λ (q : Outcome). q.state.history) (sym (same_Some _ p is))
-sorted s _ _ (Recalled e c w hands found none) other p is = ap (λ (q : Outcome). q.state.history) (sym (same_Some _ p is))
-sorted s _ _ (Searched e c q o of under loads answers) other p is = ap (λ (q : Outcome). q.state.history) (sym (same_Some o p is)) ∙ loads.history
-sorted s _ _ (Published t e row may) other p is = absurd (let q : true ≡ false = other in cc)
-sorted s _ _ (Unpublished t e n at gone) other p is = absurd (let q : true ≡ false = other in cc)
-sorted s _ _ (Kept t id d v may) other p is = ap (λ (q : Outcome). q.state.history) (sym (same_Some _ p is))
-sorted s _ _ (Gave_up t d u keeps of ok) other p is = ap (λ (q : Outcome). q.state.history) (sym (same_Some _ p is))
-sorted s _ _ (Vacated t may) other p is = ap (λ (q : Outcome). q.state.history) (sym (same_Some _ p is))
-
-other_grows : (s : State) (e : Event) (o : Option Outcome) → is_change e ≡ false → ((n : ℕ) → changes_of e n ≡ n) → Sort s e o → Grows s e o
-other_grows s e None other none sort = tt
-other_grows s e (Some o) other none sort = ap (λ (h : List Change). length h) (sorted s e (Some o) sort other o refl) ∙ sym (none (length s.history))
-
-pub step_grows : (s : State) (e : Event) → Holds s → Grows s e (step s e)
-step_grows s (Publish t) on = grows_publish s t
-step_grows s (Unpublish t) on = grows_unpublish s t (slot_at s.slots t)
-step_grows s e on = other_grows s e (step s e) refl (λ n. refl) (step_sort s e on)
+pub step_grows : (s : State) (e : Event) (o : Outcome) → step s e ≡ Some o → length o.state.history ≡ changes_of e (length s.history)
+step_grows s e o is = made_grows s o.state e o.reply (made s e o is)
 
 pub changes_up : (e : Event) (n : ℕ) → n ≤ changes_of e n
 changes_up (Publish t) n = omega arith
@@ -104,7 +54,7 @@ counted seat n s (a ∷ more) [] t on holds own = absurd on
 counted seat n s (a ∷ more) (e ∷ es) t on holds own =
     let o = on.0 in
     let rest = counted seat n o.state more es t on.3 (step_holds s o.state e o.reply holds on.1) own.1 in
-    let grows : length o.state.history ≡ changes_of e (length s.history) = subst (Grows s e) on.1 (step_grows s e holds) in
+    let grows = step_grows s e o on.1 in
     let c = changes_in (part 0 more) in
     let here : c + length o.state.history ≡ changes_of a.1.event c + length s.history =
     ap (λ n. c + n) grows ∙ (sym (moves_past e c (length s.history)) ∙ (λ k. (sym (unnamed_changes s e c) ∙ ap (λ (d : LogItem). changes_of d.event c) (sym on.2)) k + length s.history)) in

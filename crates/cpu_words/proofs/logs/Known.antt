@@ -1,22 +1,23 @@
 -- What the keeper's log says of the state, by a walk over the run: how many changes there were, marks and slots.
 use Rattle.std.proofs.Common.{◌≡◌, ◌≢◌, ⊎_elim, ℕ, ◌+◌, ◌<◌, ◌≤◌, Bool, true, false, if◌then◌else◌, nat_lt, List, [], ◌∷◌, ◌++◌, length, set, replicate, Option, Some, None, refl, sym, ap, ◌∙◌, subst}
 use Rattle.std.proofs.Common.{arith}
-use Rattle.cpu_words.specs.Types.{Entry, Mark, Settings, MOST_CPUS, Retired, Event, Publish, Unpublish, Snapshot, Look, PassiveLook, Collect, Due, Rest, Snapshots}
-use Rattle.registry_values.specs.Common.{no_mark, mark_after_look, mark_after_passive_look, mark_after_collect, slot_at}
-use Rattle.protocol.specs.Common.{State, opening, with_cell, section_at, mark_at, kept_at, Outcome, step, snapshot_mark, due_after, Holds, DueHolds}
+use Rattle.cpu_words.specs.Types.{Entry, Mark, Settings, MOST_CPUS, Retired, Event, Reply, Due, Rest, Snapshots, Adding, Subtracting}
+use Rattle.registry_values.specs.Common.{no_mark, mark_after_look, mark_after_passive_look, slot_at}
+use Rattle.protocol.specs.Common.{State, opening, with_cell, section_at, mark_at, count_at, passive_at, kept_at, Outcome, step, snapshot_mark, due_after, Holds, DueHolds}
+use Rattle.protocol.proofs.Made.{Made, Seats, Publishes, Unpublishes, Snaps, Looks, LooksPassive, Collects, AddsTotal, JoinsKeeper, SubsTotal, KeepsDriver, SubsKept, Vacates, made}
+use Rattle.protocol.proofs.keeps.References.{snapshot_due_tells}
 use Rattle.protocol.proofs.keeps.Unlinking.{within_retired}
 use Rattle.protocol.proofs.slots.Cells.{cell_cases, cell_other}
 use Rattle.protocol.proofs.slots.MarkRows.{mark_there}
-use Rattle.cpu_words.specs.Common.{LogItem, Teller, by_number, changes_of, changes_in, AreCountsOf, AreTotalsOf, AreMarksOf, AreSlotsOf, keeping, maker, IsSeatOf}
-use Rattle.cpu_words.proofs.logs.Changes.{Grows, step_grows, unnamed_changes}
-use Rattle.cpu_words.proofs.logs.Kept.{kept_own, kept_off}
-use Rattle.cpu_words.proofs.logs.Counted.{counts_own, counts_off, no_counts}
-use Rattle.cpu_words.proofs.logs.Dues.{DueAfter, Dues, step_dues}
-use Rattle.cpu_words.proofs.logs.Marks.{Marks, IsFirst, marks_after, step_marks, marks_off, fresh, more_marks, no_marks}
+use Rattle.cpu_words.specs.Common.{word_in, LogItem, Teller, by_number, changes_of, changes_in, AreCountsOf, AreTotalsOf, AreMarksOf, AreSlotsOf, keeping, maker, IsSeatOf}
+use Rattle.cpu_words.proofs.logs.Changes.{step_grows, unnamed_changes}
+use Rattle.cpu_words.proofs.logs.Kept.{kept_own}
+use Rattle.cpu_words.proofs.logs.Counted.{counts_own, words_off, no_counts}
+use Rattle.cpu_words.proofs.logs.Marks.{IsFirst, fresh, more_marks, no_marks}
 use Rattle.cpu_words.proofs.logs.Runs.{item_of}
-use Rattle.cpu_words.proofs.logs.Slots.{slots_own, slots_off, no_slots}
+use Rattle.cpu_words.proofs.logs.Slots.{slots_own, no_slots}
 use Rattle.cpu_words.proofs.logs.Standings.{changes_last}
-use Rattle.cpu_words.proofs.logs.Totalled.{totals_own, totals_off, no_totals}
+use Rattle.cpu_words.proofs.logs.Totalled.{totals_own, no_totals}
 use Rattle.cpu_words.proofs.logs.Walks.{Stays}
 
 -- a snapshot that is due wasn't taken yet
@@ -63,77 +64,87 @@ retired_next marks t due now u d j is le =
     let same : u ≡ t = cc in
     ap (λ (k : ℕ). (mark_at (set marks t (replicate MOST_CPUS no_mark)) k j).snapshot) same ∙ ap (λ (m : Mark). m.snapshot) (fresh marks t j)
 
-ahead_after : (s : State) (e : Event) (n : State) → DueAfter s e n → NoneAhead s.due s.marks → NoneAhead n.due (marks_after s e)
-ahead_after s (Unpublish t) n due none = retired_next s.marks t n.due due
-ahead_after s (Snapshot (Some t) c) n due none = taken_next s t c n.due due.0 due.1 none
-ahead_after s (Snapshot None c) n due none = same_snapshots s.due n.due s.marks s.marks due (λ u j. refl) none
-ahead_after s (Look (Some t) c) n due none = same_snapshots s.due n.due s.marks _ due (cell_snapshot s.marks t c (mark_after_look (mark_at s.marks t c) (section_at s c)) refl) none
-ahead_after s (Look None c) n due none = same_snapshots s.due n.due s.marks s.marks due (λ u j. refl) none
-ahead_after s (PassiveLook t c) n due none =
-    same_snapshots s.due n.due s.marks _ due (cell_snapshot s.marks t c (mark_after_passive_look (mark_at s.marks t c) (Rattle.protocol.specs.State.passive_at s.passive c t)) refl) none
-ahead_after s (Collect t c) n due none = same_snapshots s.due n.due s.marks _ due (cell_snapshot s.marks t c (mark_after_collect (mark_at s.marks t c)) refl) none
-ahead_after s e n due none = same_snapshots s.due n.due s.marks s.marks due (λ u j. refl) none
+ahead_after : (s n : State) (e : Event) (r : Reply) → Made s e n r → NoneAhead s.due s.marks → NoneAhead n.due n.marks
+ahead_after s n _ _ (Unpublishes t head next e at rest is) none = retired_next s.marks t n.due refl
+ahead_after s n _ _ (Snaps t c due) none = taken_next s t c n.due refl (snapshot_due_tells s.due t c due) none
+ahead_after s n _ _ (Looks t c may) none = same_snapshots s.due n.due s.marks n.marks (λ u d is. is) (cell_snapshot s.marks t c (mark_after_look (mark_at s.marks t c) (section_at s c)) refl) none
+ahead_after s n _ _ (LooksPassive t c may) none =
+    same_snapshots s.due n.due s.marks n.marks (λ u d is. is) (cell_snapshot s.marks t c (mark_after_passive_look (mark_at s.marks t c) (passive_at s.passive c t)) refl) none
+ahead_after s n _ _ (Collects t c may) none = λ u d j is. absurd (let q : Adding t (count_at s.counts c t) ≡ Snapshots u d = is in cc)
+ahead_after s n _ _ (AddsTotal t old due) none = λ u d j is. absurd (let q : Rest ≡ Snapshots u d = is in cc)
+ahead_after s n _ _ (SubsTotal t due) none = λ u d j is. absurd (let q : Rest ≡ Snapshots u d = is in cc)
+ahead_after s n _ _ (JoinsKeeper id m t at of may) none = λ u d j is. absurd (let q : Subtracting t ≡ Snapshots u d = is in cc)
+ahead_after s n _ _ _ none = none
 
--- a snapshot that is taken was due
-first_taken : (s : State) (e : Event) (n : State) → Holds s → DueAfter s e n → NoneAhead s.due s.marks → IsFirst s e
-first_taken s (Snapshot (Some t) c) n on due none =
-    let now : s.due ≡ Snapshots t c = due.1 in
-    let at : (c < s.settings.cpus) × ((e : Entry) × (slot_at s.slots t ≡ Retired e)) = subst (DueHolds s.settings.cpus s.slots) now on.references.due_at in
+-- a snapshot that is due is the first
+first_due : (s : State) (t c : ℕ) → Holds s → NoneAhead s.due s.marks → s.due ≡ Snapshots t c → IsFirst s t c
+first_due s t c on none due =
+    let at : (c < s.settings.cpus) × ((e : Entry) × (slot_at s.slots t ≡ Retired e)) = subst (DueHolds s.settings.cpus s.slots) due on.references.due_at in
     let lt : t < s.settings.slots = omega (arith, within_retired s.slots t at.1.0 at.1.1, on.shape.slots) in
-    (none t c c now (omega arith), mark_there s t c (snapshot_mark (section_at s c)) on lt at.0)
-first_taken s (Snapshot None c) n on due none = tt
-first_taken s e n on due none = tt
+    (none t c c due (omega arith), mark_there s t c (snapshot_mark (section_at s c)) on lt at.0)
 
 -- The walk
 
+settings_stay : (s n : State) (e : Event) (r : Reply) → Made s e n r → n.settings ≡ s.settings
+settings_stay s _ _ _ (Seats c may) = refl
+settings_stay s _ _ _ _ = refl
+
 known_own : (cpus : ℕ) (log : List LogItem) (s : State) (e : Event) (o : Outcome) (h : Option Teller) → Holds s → step s e ≡ Some o → Known cpus log s
     → Known cpus (log ++ item_of s e o.reply h ∷ []) o.state
-known_own cpus log s e o h on made known =
-    let dues : Dues s e (Some o) = subst (Dues s e) made (step_dues s e) in
-    let marks : Marks s e (Some o) = subst (Marks s e) made (step_marks s e) in
-    let grows : length o.state.history ≡ changes_of e (length s.history) = subst (Grows s e) made (step_grows s e on) in
-    let d : LogItem = item_of s e o.reply h in
-    let slots : AreSlotsOf s.settings.cpus log s.slots = subst (λ (n : ℕ). AreSlotsOf n log s.slots) (sym known.settings) known.slots in
-    record {
-      settings = ap (λ (z : Settings). z.cpus) dues.0 ∙ known.settings;
-      changes = grows ∙ (ap (changes_of e) known.changes ∙ (sym (unnamed_changes s e (changes_in log)) ∙ sym (changes_last log d)));
-      marks = subst (AreMarksOf (log ++ d ∷ [])) (sym marks.0) (more_marks log s e o.reply h marks.1 (first_taken s e o.state on dues.1 known.ahead) known.marks);
-      slots = subst (λ (n : ℕ). AreSlotsOf n (log ++ d ∷ []) o.state.slots) known.settings (slots_own log s e o h on made known.changes known.marks slots);
-      kept = λ t. kept_own log s e o h on made known.kept t;
-      ahead = subst (NoneAhead o.state.due) (sym marks.0) (ahead_after s e o.state dues.1 known.ahead);
-      counts = counts_own log s e o h on made known.changes known.counts;
-      totals = totals_own log s e o h on made (record { changes = known.changes; kept = known.kept; counts = known.counts; totals = known.totals });
-    }
-
-changes_off : (seat : ℕ → ℕ) (n i : ℕ) (s : State) (e : Event) (m : ℕ) → IsSeatOf seat n i (maker (by_number s e)) → i ≢ 0 → changes_of e m ≡ m
-changes_off seat n i s (Publish t) m is off = absurd (off is)
-changes_off seat n i s (Unpublish t) m is off = absurd (off is)
-changes_off seat n i s e m is off = refl
-
-due_off : (seat : ℕ → ℕ) (n i : ℕ) (s : State) (e : Event) (t : State) → IsSeatOf seat n i (maker (by_number s e)) → i ≢ 0 → DueAfter s e t → (u d : ℕ) → t.due ≡ Snapshots u d → s.due ≡ Snapshots u d
-due_off seat n i s (Unpublish v) t is off due = absurd (off is)
-due_off seat n i s (Snapshot None c) t is off due = due
-due_off seat n i s (Snapshot (Some v) c) t is off due = absurd (off is)
-due_off seat n i s e t is off due = due
-
-known_off : (seat : ℕ → ℕ) (n cpus i : ℕ) (log : List LogItem) (s : State) (e : Event) (o : Outcome) → IsSeatOf seat n i (maker (by_number s e)) → i ≢ 0 → Holds s → step s e ≡ Some o
-    → Known cpus log s → Known cpus log o.state
-known_off seat n cpus i log s e o is off on made known =
-    let dues : Dues s e (Some o) = subst (Dues s e) made (step_dues s e) in
-    let marks : Marks s e (Some o) = subst (Marks s e) made (step_marks s e) in
-    let same : o.state.marks ≡ s.marks = marks.0 ∙ marks_off seat n i s e is off in
-    let grows : length o.state.history ≡ changes_of e (length s.history) = subst (Grows s e) made (step_grows s e on) in
+known_own cpus log s e o h on is known =
+    let n = o.state in
+    let r = o.reply in
+    let m : Made s e n r = made s e o is in
+    let d : LogItem = item_of s e r h in
     let slots : AreSlotsOf s.settings.cpus log s.slots = subst (λ (k : ℕ). AreSlotsOf k log s.slots) (sym known.settings) known.slots in
     record {
-      settings = ap (λ (z : Settings). z.cpus) dues.0 ∙ known.settings;
-      changes = grows ∙ (changes_off seat n i s e (length s.history) is off ∙ known.changes);
-      marks = subst (AreMarksOf log) (sym same) known.marks;
-      slots = subst (λ (k : ℕ). AreSlotsOf k log o.state.slots) known.settings (slots_off seat n i log s e o is off on made known.marks slots);
-      kept = λ t. ap (λ (k : List (Option ℕ)). kept_at k t) (kept_off seat n i s e o is off on made) ∙ known.kept t;
-      ahead = subst (NoneAhead o.state.due) (sym same) (same_snapshots s.due o.state.due s.marks s.marks (due_off seat n i s e o.state is off dues.1) (λ u j. refl) known.ahead);
-      counts = counts_off seat n i log s e o is off on made known.counts;
-      totals = totals_off seat n i log s e o is off made known.totals;
+      settings = ap (λ (z : Settings). z.cpus) (settings_stay s n e r m) ∙ known.settings;
+      changes = step_grows s e o is ∙ (ap (changes_of e) known.changes ∙ (sym (unnamed_changes s e (changes_in log)) ∙ sym (changes_last log d)));
+      marks = more_marks log s n e r h m (λ t c due. first_due s t c on known.ahead due) known.marks;
+      slots = subst (λ (k : ℕ). AreSlotsOf k (log ++ d ∷ []) n.slots) known.settings (slots_own log s n e r h on m known.changes known.marks slots);
+      kept = λ t. kept_own log s e o h on is known.kept t;
+      ahead = ahead_after s n e r m known.ahead;
+      counts = counts_own log s n e r h on m known.changes known.counts;
+      totals = totals_own log s n e r h on m (record { changes = known.changes; kept = known.kept; counts = known.counts; totals = known.totals });
     }
+
+-- n, with all of s that the keeper's log tells
+abbrev with_told : State → State → State
+with_told s n = record n { settings = s.settings; history = s.history; slots = s.slots; marks = s.marks; keeps = s.keeps; totals = s.totals; due = s.due }
+
+-- an event of another seat leaves all of that
+told_stays : (seat : ℕ → ℕ) (k i : ℕ) (s n : State) (e : Event) (r : Reply) → IsSeatOf seat k i (maker (by_number s e)) → i ≢ 0 → Made s e n r → with_told s n ≡ n
+told_stays seat k i s _ _ _ is off (Publishes t e of may) = absurd (off is)
+told_stays seat k i s _ _ _ is off (Unpublishes t head next e at rest past) = absurd (off is)
+told_stays seat k i s _ _ _ is off (Snaps t c due) = absurd (off is)
+told_stays seat k i s _ _ _ is off (Looks t c may) = absurd (off is)
+told_stays seat k i s _ _ _ is off (LooksPassive t c may) = absurd (off is)
+told_stays seat k i s _ _ _ is off (Collects t c may) = absurd (off is)
+told_stays seat k i s _ _ _ is off (AddsTotal t old due) = absurd (off is)
+told_stays seat k i s _ _ _ is off (JoinsKeeper id n t at of may) = absurd (off is)
+told_stays seat k i s _ _ _ is off (SubsTotal t due) = absurd (off is)
+told_stays seat k i s _ _ _ is off (KeepsDriver t id n u at of may) = absurd (off is)
+told_stays seat k i s _ _ _ is off (SubsKept t d u keeps of may) = absurd (off is)
+told_stays seat k i s _ _ _ is off (Vacates t may) = absurd (off is)
+told_stays seat k i s _ _ _ is off _ = refl
+
+known_off : (seat : ℕ → ℕ) (k cpus i : ℕ) (log : List LogItem) (s : State) (e : Event) (o : Outcome) → IsSeatOf seat k i (maker (by_number s e)) → i ≢ 0 → Holds s → step s e ≡ Some o
+    → Known cpus log s → Known cpus log o.state
+known_off seat k cpus i log s e o is off on made_it known =
+    let n = o.state in
+    let m : Made s e n o.reply = made s e o made_it in
+    let same = told_stays seat k i s n e o.reply is off m in
+    let word : (t c : ℕ) → word_in (with_told s n) t c ≡ word_in s t c = λ t c. ap (λ (g : State). word_in g t c) same ∙ words_off seat k i s n e o.reply is off on m t c in
+    subst (Known cpus log) same (record {
+      settings = known.settings;
+      changes = known.changes;
+      marks = known.marks;
+      slots = known.slots;
+      kept = known.kept;
+      ahead = known.ahead;
+      counts = record { occupants = known.counts.occupants; words = λ t c. known.counts.words t c ∙ sym (word t c) };
+      totals = record { total = known.totals.total; later = known.totals.later };
+    })
 
 pub known_stays : (seat : ℕ → ℕ) (n cpus : ℕ) → Stays seat n (Known cpus)
 known_stays seat n cpus = record {

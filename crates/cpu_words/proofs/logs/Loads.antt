@@ -1,15 +1,16 @@
 -- What a run does to the section of each CPU that an item of a seat is in, and what an item that loads a section word tells of the state.
-use Rattle.std.proofs.Common.{◌≡◌, ◌≢◌, ◌⊎◌, inl, inr, ⊎_elim, ℕ, suc, ◌+◌, ◌*◌, ◌<◌, ◌≤◌, ◌==◌, ◌&&◌, Bool, true, false, cond, nat_lt, List, [], ◌∷◌, ◌++◌, length, set, get_or, Option, Some, None}
-use Rattle.std.proofs.Common.{eq-eqb, ne_eqb, refl, sym, ap, ◌∙◌, subst, length-append, get_or-set_same, get_or-set_other, arith}
+use Rattle.std.proofs.Common.{◌≡◌, ◌≢◌, ◌⊎◌, inl, inr, ⊎_elim, ℕ, suc, ◌+◌, ◌*◌, ◌≤◌, ◌==◌, ◌&&◌, Bool, true, false, cond, nat_lt, List, [], ◌∷◌, ◌++◌, length, set, get_or, Option, Some, None}
+use Rattle.std.proofs.Common.{eq-eqb, ne_eqb, refl, sym, ap, ◌∙◌, length-append, get_or-set_same, get_or-set_other, arith}
 use Rattle.std.proofs.lemmas.Bool.{and_parts, cases_eq}
 use Rattle.std.proofs.lemmas.Option.{none-some, same_Some}
 use Rattle.cpu_words.specs.Types.{Event, LoadRecord, Snapshot, Look, JoinRef, JoinKeeper, Keep, Reply, Word, Ref}
-use Rattle.protocol.specs.Common.{State, section_at, begin_at, Outcome, guard, some_outcome, step, state_after, is_idle, is_outside, is_inside, after_enter, after_exit, may_glance, Holds}
+use Rattle.protocol.specs.Common.{State, section_at, begin_at, Outcome, guard, some_outcome, step, is_idle, is_outside, is_inside, may_glance, Holds}
+use Rattle.protocol.proofs.Either.{either}
+use Rattle.protocol.proofs.Made.{Made, Enters, Exits, made}
 use Rattle.protocol.proofs.keeps.Keeping.{step_holds}
 use Rattle.protocol.proofs.keeps.SectionKeeps.{idle_parts}
-use Rattle.protocol.proofs.runs.Steps.{Sort, Refused, Left, Entered, Exited, Sought, Heard, Recalled, Searched, Published, Unpublished, Kept, Gave_up, Vacated, step_sort}
-use Rattle.cpu_words.specs.Common.{LogItem, by_number, reply_without_id, changes_of, has_taken, has_found, part}
-use Rattle.cpu_words.proofs.logs.Changes.{Grows, step_grows, changes_up}
+use Rattle.cpu_words.specs.Common.{LogItem, by_number, reply_without_id, has_taken, has_found, part}
+use Rattle.cpu_words.proofs.logs.Changes.{step_grows, changes_up}
 use Rattle.cpu_words.proofs.logs.Runs.{item_of, Follows, same_first, same_rest}
 
 -- What an event does to the section of a CPU
@@ -32,47 +33,27 @@ still n = omega arith
 pub since_same : (c : ℕ) (s t : State) → Same c s t → Since c s t
 since_same c s t same = (omega (arith, same.0), inl same)
 
-pub lists_same : (c : ℕ) (s t : State) → t.section ≡ s.section → t.begins ≡ s.begins → Since c s t
-lists_same c s t words begins = since_same c s t (ap (λ (xs : List ℕ). get_or xs c 0) words, ap (λ (xs : List (Option ℕ)). get_or xs c None) begins)
+-- a section of j begins or ends: its word is one more, and the begin that it has then isn't before s
+moved_since : (c j : ℕ) (s n : State) (x : Option ℕ) → Holds s → is_idle s j ≡ true → n.section ≡ set s.section j (section_at s j + 1) → n.begins ≡ set s.begins j x
+    → ((b : ℕ) → x ≡ Some b → length s.history ≤ b) → Since c s n
+moved_since c j s n x on is words begins late =
+    let idle = idle_parts s j is in
+    let word = ap (λ (xs : List ℕ). get_or xs c 0) words in
+    let begin = ap (λ (xs : List (Option ℕ)). get_or xs c None) begins in
+    either (cases_eq c j)
+    (λ same.
+    let here = ap (λ (d : ℕ). get_or (set s.section j (section_at s j + 1)) d 0) same ∙ get_or-set_same s.section j (section_at s j + 1) 0 (omega (arith, idle.0, on.seats.within, on.shape.sections)) in
+    let began = ap (λ (d : ℕ). get_or (set s.begins j x) d None) same ∙ get_or-set_same s.begins j x None (omega (arith, idle.0, on.seats.within, on.shape.begins)) in
+    let was = ap (section_at s) same in
+    (omega (arith, word, here, was), inr (λ b at. late b (sym (begin ∙ began) ∙ at))))
+    (λ off. since_same c s n (word ∙ get_or-set_other s.section j c (section_at s j + 1) 0 off, begin ∙ get_or-set_other s.begins j c x None off))
 
-pub stepped_since : (c : ℕ) (s : State) (e : Event) (o : Option Outcome) → Sort s e o → Holds s → Since c s (state_after s o)
-stepped_since c s _ _ (Refused e) on = since_same c s s (refl, refl)
-stepped_since c s _ _ (Left e o same) on = lists_same c s o.state same.section same.begins
-stepped_since c s _ _ (Entered j may) on =
-    let idle = idle_parts s j (and_parts (is_idle s j) (is_outside s j && nat_lt (section_at s j) (2 * s.settings.section_limit)) may).0 in
-    let in_section : j < length s.section = omega (arith, idle.0, on.seats.within, on.shape.sections) in
-    let in_begins : j < length s.begins = omega (arith, idle.0, on.seats.within, on.shape.begins) in
-    ⊎_elim
-    (λ (same : c ≡ j).
-    let word = get_or-set_same s.section j (section_at s j + 1) 0 in_section in
-    let begin = get_or-set_same s.begins j (Some (length s.history)) None in_begins in (
-      subst (λ (d : ℕ). section_at s d ≤ get_or (set s.section j (section_at s j + 1)) d 0) (sym same) (omega (arith, word)),
-      inr (λ b is. let n : length s.history ≡ b = same_Some _ b (sym begin ∙ (ap (λ (d : ℕ). get_or (set s.begins j (Some (length s.history))) d None) (sym same) ∙ is)) in omega (arith, n)),
-    ))
-    (λ (off : c ≡ j → ⊥). since_same c s (after_enter s j) (get_or-set_other s.section j c _ 0 off, get_or-set_other s.begins j c _ None off))
-    (cases_eq c j)
-stepped_since c s _ _ (Exited j may) on =
-    let idle = idle_parts s j (and_parts (is_idle s j) (is_inside s j && (get_or s.depths j 0 == 1)) may).0 in
-    let in_section : j < length s.section = omega (arith, idle.0, on.seats.within, on.shape.sections) in
-    let in_begins : j < length s.begins = omega (arith, idle.0, on.seats.within, on.shape.begins) in
-    ⊎_elim
-    (λ (same : c ≡ j).
-    let word = get_or-set_same s.section j (section_at s j + 1) 0 in_section in
-    let begin = get_or-set_same s.begins j None None in_begins in (
-      subst (λ (d : ℕ). section_at s d ≤ get_or (set s.section j (section_at s j + 1)) d 0) (sym same) (omega (arith, word)),
-      inr (λ b is. absurd (none-some b (sym begin ∙ (ap (λ (d : ℕ). get_or (set s.begins j None) d None) (sym same) ∙ is)))),
-    ))
-    (λ (off : c ≡ j → ⊥). since_same c s (after_exit s j) (get_or-set_other s.section j c _ 0 off, get_or-set_other s.begins j c _ None off))
-    (cases_eq c j)
-stepped_since c s _ _ (Sought j kind name may) on = (still (section_at s c), inl (refl, refl))
-stepped_since c s _ _ (Heard j may) on = (still (section_at s c), inl (refl, refl))
-stepped_since c s _ _ (Recalled e j w hands found none) on = (still (section_at s c), inl (refl, refl))
-stepped_since c s _ _ (Searched e j q o of under loads answers) on = lists_same c s o.state loads.section loads.begins
-stepped_since c s _ _ (Published u e row may) on = (still (section_at s c), inl (refl, refl))
-stepped_since c s _ _ (Unpublished u e n at gone) on = lists_same c s n gone.section gone.begins
-stepped_since c s _ _ (Kept u id d v may) on = (still (section_at s c), inl (refl, refl))
-stepped_since c s _ _ (Gave_up u d v keeps of ok) on = (still (section_at s c), inl (refl, refl))
-stepped_since c s _ _ (Vacated u may) on = (still (section_at s c), inl (refl, refl))
+made_since : (c : ℕ) (s n : State) (e : Event) (r : Reply) → Holds s → Made s e n r → Since c s n
+made_since c s n _ _ on (Enters j may) = moved_since c j s n (Some (length s.history)) on
+    (and_parts (is_idle s j) (is_outside s j && nat_lt (section_at s j) (2 * s.settings.section_limit)) may).0 refl refl (λ b is. let same = same_Some (length s.history) b is in omega (arith, same))
+made_since c s n _ _ on (Exits j may) =
+    moved_since c j s n None on (and_parts (is_idle s j) (is_inside s j && (get_or s.depths j 0 == 1)) may).0 refl refl (λ b is. absurd (none-some b is))
+made_since c s n _ _ on _ = since_same c s s (refl, refl)
 
 -- what was so of an open section stays
 pub late_on : (n c : ℕ) (s t : State) → n ≤ length s.history → Late n c s → Same c s t ⊎ Late (length s.history) c t → Late n c t
@@ -103,8 +84,8 @@ run_since c s [] (e ∷ es) t run on = absurd run
 run_since c s (a ∷ more) [] t run on = absurd run
 run_since c s (a ∷ more) (e ∷ es) t run on =
     let o = run.0 in
-    let first : Since c s o.state = subst (λ (p : Option Outcome). Since c s (state_after s p)) run.1 (stepped_since c s e (step s e) (step_sort s e on) on) in
-    let grows : length o.state.history ≡ changes_of e (length s.history) = subst (Grows s e) run.1 (step_grows s e on) in
+    let first : Since c s o.state = made_since c s o.state e o.reply on (made s e o run.1) in
+    let grows = step_grows s e o run.1 in
     let up = changes_up e (length s.history) in
     let le : length s.history ≤ length o.state.history = omega arith in
     let rest = run_since c o.state more es t run.3 (step_holds s o.state e o.reply on run.1) in

@@ -1,38 +1,50 @@
 -- What the keeper knows of its own log once it hears: it has all changes of the history, its marks and slots, and section words that grow.
-use Rattle.std.proofs.Common.{◌≡◌, ⊎_elim, ℕ, suc, Some, List, [], ◌∷◌, ◌++◌, length, refl, sym, ap, ◌∙◌, subst, arith}
+use Rattle.std.proofs.Common.{◌≡◌, ⊎_elim, ℕ, suc, true, Some, List, [], ◌∷◌, ◌++◌, length, refl, sym, ap, ◌∙◌, subst, arith}
 use mathlib.Core.Option.{some}
 use mathlib.Core.List.{IsPrefix}
 use lib.ListN.{get_elem?}
 use Rattle.atomic_table.specs.Table.{State as Table}
 use Rattle.atomic_table.proofs.Lists.{at_map}
-use Rattle.cpu_words.specs.Types.{Entry, Settings, Retired, Change, Event, Publish, Snapshot, Look, Done, Word}
+use Rattle.cpu_words.specs.Types.{Entry, Settings, Retired, Change, Event, Publish, Snapshot, Look, Reply, Done, Word}
 use Rattle.registry_values.specs.Common.{slot_at}
 use Rattle.protocol.specs.Common.{State, opening, section_at, kept_at, Outcome, step, Holds, destroyed_slot}
+use Rattle.protocol.proofs.Made.{Made, Glances, Snaps, LooksAgain, Looks, made}
 use Rattle.protocol.proofs.keeps.Keeping.{opening_holds}
 use Rattle.cpu_words.specs.Common.{LogItem, CpuView, KeeperView, Logged, View, Keeper, Cpu, log_item, changes_in, AreMarksOf, AreSlotsOf, FindsWord, WordsGrow, IsFreedFrom, IsAttachedKeeping}
 use Rattle.cpu_words.specs.Common.{IsShownAfter, IsOwnLog, keeping, part, LoggedRuled, with_note, keeper_with_note}
 use Rattle.cpu_words.proofs.logs.Changes.{run_of, fit_of}
-use Rattle.cpu_words.proofs.logs.Loads.{place, same_event, word_of, replied_word, run_since}
+use Rattle.cpu_words.proofs.logs.Loads.{place, is_whole, same_event, word_of, replied_word, run_since}
 use Rattle.cpu_words.proofs.logs.Known.{Known, known_stays, known_first}
-use Rattle.cpu_words.proofs.logs.Marks.{HasReply, Marks, step_marks}
 use Rattle.cpu_words.proofs.logs.Walks.{walked}
 use Rattle.cpu_words.proofs.logs.Runs.{item_of, Follows, follows_holds, cut}
 
 -- Words grow
 
+-- a load of a section word returns that word
+abbrev HasReply : State → Event → Reply → Type 0
+HasReply s (Snapshot to c) r = r ≡ Word (section_at s c)
+HasReply s (Look to c) r = r ≡ Word (section_at s c)
+HasReply s e r = Unit {0}
+
+made_replies : (s t : State) (e : Event) (r : Reply) → Made s e t r → HasReply s e r
+made_replies s _ _ _ (Glances c) = refl
+made_replies s _ _ _ (Snaps t c due) = refl
+made_replies s _ _ _ (LooksAgain c) = refl
+made_replies s _ _ _ (Looks t c may) = refl
+made_replies s _ _ _ _ = tt
+
 found_word : (s : State) (e : Event) (o : Outcome) (c w : ℕ) (d : LogItem) → step s e ≡ Some o → d ≡ item_of s e o.reply d.teller → FindsWord c w d → section_at s c ≡ w
-found_word s e o c w d made is finds =
-    let answers : HasReply s e o.reply = (subst (Marks s e) made (step_marks s e)).1 in
+found_word s e o c w d is item finds =
     ⊎_elim
-    (λ (p : d ≡ log_item (Snapshot finds.0 c) (Word w)).
-    let event : Snapshot finds.0 c ≡ e = same_event s e (Snapshot finds.0 c) (ap (λ (x : LogItem). x.event) (sym p ∙ is)) refl in
-    let reply : o.reply ≡ Word (section_at s c) = subst (λ (x : Event). HasReply s x o.reply) (sym event) answers in
-    sym (replied_word o.reply w (ap (λ (x : LogItem). x.reply) (sym p ∙ is)) ∙ ap word_of reply))
-    (λ (p : d ≡ log_item (Look finds.0 c) (Word w)).
-    let event : Look finds.0 c ≡ e = same_event s e (Look finds.0 c) (ap (λ (x : LogItem). x.event) (sym p ∙ is)) refl in
-    let reply : o.reply ≡ Word (section_at s c) = subst (λ (x : Event). HasReply s x o.reply) (sym event) answers in
-    sym (replied_word o.reply w (ap (λ (x : LogItem). x.reply) (sym p ∙ is)) ∙ ap word_of reply))
+    (λ (p : d ≡ log_item (Snapshot finds.0 c) (Word w)). found (Snapshot finds.0 c) refl (λ r has. has) p)
+    (λ (p : d ≡ log_item (Look finds.0 c) (Word w)). found (Look finds.0 c) refl (λ r has. has) p)
     finds.1
+  where
+    found : (f : Event) → is_whole f ≡ true → ((r : Reply) → HasReply s f r → r ≡ Word (section_at s c)) → d ≡ log_item f (Word w) → section_at s c ≡ w
+    found f whole loads p =
+        let event : f ≡ e = same_event s e f (ap (λ (x : LogItem). x.event) (sym p ∙ item)) whole in
+        let reply = loads o.reply (subst (λ (x : Event). HasReply s x o.reply) (sym event) (made_replies s o.state e o.reply (made s e o is))) in
+        sym (replied_word o.reply w (ap (λ (x : LogItem). x.reply) (sym p ∙ item)) ∙ ap word_of reply)
 
 starts_word : (s : State) (d : LogItem) (c w : ℕ) (more : List (ℕ × LogItem)) (es : List Event) (t : State) → Follows s ((0, d) ∷ more) es t → FindsWord c w d → section_at s c ≡ w
 starts_word s d c w more [] t run finds = absurd run

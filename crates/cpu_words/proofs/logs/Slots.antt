@@ -1,46 +1,25 @@
 -- What the keeper's log says of slots: which entry each has, and that all CPUs have passed for the last one where a slot is vacant.
-use Rattle.std.proofs.Common.{◌≡◌, ◌≢◌, ◌⊎◌, inl, inr, ⊎_elim, ℕ, suc, ◌+◌, ◌<◌, ◌==◌, ◌&&◌, Bool, true, false, not, if◌then◌else◌, List, [], ◌∷◌, ◌++◌, length, set, replicate, Option, Some, None}
+use Rattle.std.proofs.Common.{◌≡◌, inl, inr, ⊎_elim, ℕ, suc, ◌<◌, Bool, true, false, if◌then◌else◌, List, [], ◌∷◌, ◌++◌, length, set, replicate, Option, None}
 use Rattle.std.proofs.Common.{eq-eqb, ne_eqb, refl, sym, ap, ◌∙◌, subst, arith}
-use Rattle.std.proofs.lemmas.Bool.{and_parts, eqb-true}
-use Rattle.std.proofs.lemmas.Option.{none-some, same_Some}
+use Rattle.std.proofs.lemmas.Bool.{and_parts}
 use Rattle.cpu_words.specs.Types.{Entry, Slot, Vacant, Live, Retired, Settings, Event, Publish, Unpublish, Reply, Done}
-use Rattle.registry_values.specs.Common.{key_of, slot_at, slot_before, is_taken}
-use Rattle.protocol.specs.Common.{State, opening, row_at, at_rest, Outcome, guard, some_outcome, with_some, step, unpublish, entry_of, may_write, may_publish, has_room, is_prepared, after_publish}
-use Rattle.protocol.specs.Common.{with_link_past, after_unpublish, is_drained, Holds}
-use Rattle.protocol.proofs.keeps.ListKeeps.{may_write_tells}
+use Rattle.registry_values.specs.Common.{slot_at}
+use Rattle.protocol.specs.Common.{State, opening}
+use Rattle.protocol.specs.Common.{is_drained, Holds}
+use Rattle.protocol.proofs.Made.{Made, Publishes, Unpublishes, SubsKept, Vacates}
+use Rattle.protocol.proofs.keeps.ListKeeps.{may_publish_tells}
 use Rattle.protocol.proofs.keeps.MarkKeeps.{is_drained_tells}
 use Rattle.protocol.proofs.keeps.Unlinking.{within_live, within_retired}
-use Rattle.protocol.proofs.runs.Steps.{Sort, Refused, Left, Entered, Exited, Sought, Heard, Recalled, Searched, Published, Unpublished, Kept, Gave_up, Vacated, step_sort}
 use Rattle.protocol.proofs.slots.Cells.{get_or_all}
 use Rattle.protocol.proofs.slots.Occupied.{live_one, not_vacant, retired_one, slot_cases}
-use Rattle.cpu_words.specs.Common.{LogItem, Teller, by_number, changes_in, HasPassedOn, AreMarksOf, Standing, nothing, attached, detached, number_of, standing, is_change_at, AreSlotsOf, maker}
-use Rattle.cpu_words.specs.Common.{IsSeatOf}
-use Rattle.cpu_words.proofs.logs.Changes.{is_change}
+use Rattle.cpu_words.specs.Common.{LogItem, Teller, changes_in, HasPassedOn, AreMarksOf, Standing, nothing, attached, detached, number_of, standing, is_change_at, AreSlotsOf}
 use Rattle.cpu_words.proofs.logs.Marks.{passed_more}
 use Rattle.cpu_words.proofs.logs.Runs.{item_as, item_of}
-use Rattle.cpu_words.proofs.logs.Standings.{standing_last, left_standing, no_change_at, no_detach_from}
+use Rattle.cpu_words.proofs.logs.Standings.{standing_last, left_standing, no_detach_from}
 
 -- The events that are no attach and no detach
 
--- the slots stay, or one that was drained becomes vacant
-abbrev pub SlotsLeft : State → State → Type 0
-SlotsLeft s n = (n.slots ≡ s.slots) ⊎ ((t : ℕ) × (is_drained s t ≡ true) × (n.slots ≡ set s.slots t Vacant))
-
-slots_left : (s : State) (e : Event) (o : Option Outcome) → Sort s e o → is_change e ≡ false → (p : Outcome) → o ≡ Some p → SlotsLeft s p.state
-slots_left s _ _ (Refused e) other p is = absurd (none-some p is)
-slots_left s _ _ (Left e o same) other p is = inl (ap (λ (q : Outcome). q.state.slots) (sym (same_Some o p is)) ∙ same.slots)
-slots_left s _ _ (Entered c may) other p is = inl (ap (λ (q : Outcome). q.state.slots) (sym (same_Some _ p is)))
-slots_left s _ _ (Exited c may) other p is = inl (ap (λ (q : Outcome). q.state.slots) (sym (same_Some _ p is)))
-slots_left s _ _ (Sought c kind name may) other p is = inl (ap (λ (q : Outcome). q.state.slots) (sym (same_Some _ p is)))
-slots_left s _ _ (Heard c may) other p is = inl (ap (λ (q : Outcome). q.state.slots) (sym (same_Some _ p is)))
-slots_left s _ _ (Recalled e c w hands found none) other p is = inl (ap (λ (q : Outcome). q.state.slots) (sym (same_Some _ p is)))
-slots_left s _ _ (Searched e c q o of under loads answers) other p is = inl (ap (λ (x : Outcome). x.state.slots) (sym (same_Some o p is)) ∙ loads.slots)
-slots_left s _ _ (Published t e row may) other p is = absurd (let q : true ≡ false = other in cc)
-slots_left s _ _ (Unpublished t e n at gone) other p is = absurd (let q : true ≡ false = other in cc)
-slots_left s _ _ (Kept t id d v may) other p is = inl (ap (λ (q : Outcome). q.state.slots) (sym (same_Some _ p is)))
-slots_left s _ _ (Gave_up t d u keeps of ok) other p is = inr (t, ok, ap (λ (q : Outcome). q.state.slots) (sym (same_Some _ p is)))
-slots_left s _ _ (Vacated t may) other p is = inr (t, (and_parts _ (is_drained s t) may).1, ap (λ (q : Outcome). q.state.slots) (sym (same_Some _ p is)))
-
+-- a slot that was drained becomes vacant
 vacated_slots : (s : State) (t : ℕ) (log : List LogItem) → Holds s → is_drained s t ≡ true → AreMarksOf log s.marks → AreSlotsOf s.settings.cpus log s.slots
     → AreSlotsOf s.settings.cpus log (set s.slots t Vacant)
 vacated_slots s t log on drained marks are =
@@ -60,13 +39,6 @@ vacated_slots s t log on drained marks are =
           (λ (old : (u ≡ t → ⊥) × (slot_at new u ≡ slot_at s.slots u)). are.vacant u n c (sym old.1 ∙ is) gone low)
           (slot_cases s.slots t Vacant u lt);
     }
-
--- the log stays
-pub left_slots : (s n : State) (log : List LogItem) → Holds s → SlotsLeft s n → AreMarksOf log s.marks → AreSlotsOf s.settings.cpus log s.slots → AreSlotsOf s.settings.cpus log n.slots
-left_slots s n log on left marks are = ⊎_elim
-    (λ (same : n.slots ≡ s.slots). subst (AreSlotsOf s.settings.cpus log) (sym same) are)
-    (λ (p : (t : ℕ) × (is_drained s t ≡ true) × (n.slots ≡ set s.slots t Vacant)). subst (AreSlotsOf s.settings.cpus log) (sym p.2) (vacated_slots s p.0 log on p.1 marks are))
-    left
 
 -- the log goes on
 more_slots : (cpus : ℕ) (log : List LogItem) (slots : List Slot) (d : LogItem) → ((t : ℕ) → is_change_at t d.event ≡ false) → AreSlotsOf cpus log slots → AreSlotsOf cpus (log ++ d ∷ []) slots
@@ -125,62 +97,20 @@ detached_slots cpus log slots t r e at are =
     ∙ (ap (λ (x : Standing). detached (number_of x)) (are.live t e at) ∙ ap detached (sym (ap (λ (g : Entry). g.number) (retired_one f e (Retired e) refl (inr is)))))))
     (λ is. let q : Retired e ≡ Vacant = is in cc)
 
--- Each event
+-- The keeper's next item
 
--- so the slots are with the outcome, if there is one
-abbrev Gives : List LogItem → State → Event → Option Outcome → Type 0
-Gives log s e None = Unit {0}
-Gives log s e (Some o) = AreSlotsOf s.settings.cpus (log ++ item_of s e o.reply None ∷ []) o.state.slots
-
-gives_guard : (log : List LogItem) (s : State) (e : Event) (b : Bool) (o : Option Outcome) → (b ≡ true → Gives log s e o) → Gives log s e (guard b o)
-gives_guard log s e true o gives = gives refl
-gives_guard log s e false o gives = tt
-
-gives_some : {X : Type 0} (log : List LogItem) (s : State) (e : Event) (x : Option X) (f : X → Option Outcome) → ((y : X) → Gives log s e (f y)) → Gives log s e (with_some x f)
-gives_some log s e None f gives = tt
-gives_some log s e (Some y) f gives = gives y
-
-publish_gives : (log : List LogItem) (s : State) (t : ℕ) → Holds s → length s.history ≡ changes_in log → AreSlotsOf s.settings.cpus log s.slots → Gives log s (Publish t) (step s (Publish t))
-publish_gives log s t on changes are =
-    gives_some log s (Publish t) (entry_of t (row_at s.rows t)) _ (λ e. gives_guard log s (Publish t) (may_publish s t e) (some_outcome (after_publish s t e) Done) (λ may.
-    let p = and_parts (may_write s t) _ may in
-    let q = and_parts (e.number == length s.history + 1) (not (is_taken (key_of e) s.slots) && (has_room s && is_prepared s t e.rec.kind)) p.1 in
-    let number = eqb-true e.number (length s.history + 1) q.0 in
-    attached_slots s.settings.cpus log s.slots t Done e (may_write_tells s t on.shape p.0).1 (omega (arith, number, changes)) are))
-
-unlinked_slots : (s : State) (t : ℕ) (p : Option ℕ) → (with_link_past s t p).slots ≡ s.slots
-unlinked_slots s t None = refl
-unlinked_slots s t (Some p) = refl
-
-unpublish_gives : (log : List LogItem) (s : State) (t : ℕ) (x : Slot) → slot_at s.slots t ≡ x → AreSlotsOf s.settings.cpus log s.slots → Gives log s (Unpublish t) (unpublish s t x)
-unpublish_gives log s t Vacant at are = tt
-unpublish_gives log s t (Live e) at are = gives_guard log s (Unpublish t) (at_rest s.due) (some_outcome (after_unpublish s t e) Done) (λ rest.
-    subst (λ (slots : List Slot). AreSlotsOf s.settings.cpus (log ++ item_as (Unpublish t) Done None ∷ []) (set slots t (Retired e))) (sym (unlinked_slots s t (slot_before s.slots s.next t)))
-    (detached_slots s.settings.cpus log s.slots t Done e at are))
-unpublish_gives log s t (Retired e) at are = tt
-
-other_gives : (log : List LogItem) (s : State) (e : Event) (o : Outcome) (h : Option Teller) → Holds s → step s e ≡ Some o → is_change e ≡ false → AreMarksOf log s.marks
+pub slots_own : (log : List LogItem) (s n : State) (e : Event) (r : Reply) (h : Option Teller) → Holds s → Made s e n r → length s.history ≡ changes_in log → AreMarksOf log s.marks
     → AreSlotsOf s.settings.cpus log s.slots
-    → AreSlotsOf s.settings.cpus (log ++ item_of s e o.reply h ∷ []) o.state.slots
-other_gives log s e o h on made other marks are =
-    more_slots s.settings.cpus log o.state.slots (item_of s e o.reply h) (λ t. no_change_at t s e other)
-    (left_slots s o.state log on (slots_left s e (step s e) (step_sort s e on) other o made) marks are)
-
--- the keeper's next item
-pub slots_own : (log : List LogItem) (s : State) (e : Event) (o : Outcome) (h : Option Teller) → Holds s → step s e ≡ Some o → length s.history ≡ changes_in log → AreMarksOf log s.marks
-    → AreSlotsOf s.settings.cpus log s.slots
-    → AreSlotsOf s.settings.cpus (log ++ item_of s e o.reply h ∷ []) o.state.slots
-slots_own log s (Publish t) o h on made changes marks are = subst (Gives log s (Publish t)) made (publish_gives log s t on changes are)
-slots_own log s (Unpublish t) o h on made changes marks are = subst (Gives log s (Unpublish t)) made (unpublish_gives log s t (slot_at s.slots t) refl are)
-slots_own log s e o h on made changes marks are = other_gives log s e o h on made refl marks are
-
--- an event of another seat
-pub slots_off : (seat : ℕ → ℕ) (n i : ℕ) (log : List LogItem) (s : State) (e : Event) (o : Outcome) → IsSeatOf seat n i (maker (by_number s e)) → i ≢ 0 → Holds s → step s e ≡ Some o
-    → AreMarksOf log s.marks → AreSlotsOf s.settings.cpus log s.slots
-    → AreSlotsOf s.settings.cpus log o.state.slots
-slots_off seat n i log s (Publish t) o is off on made marks are = absurd (off is)
-slots_off seat n i log s (Unpublish t) o is off on made marks are = absurd (off is)
-slots_off seat n i log s e o is off on made marks are = left_slots s o.state log on (slots_left s e (step s e) (step_sort s e on) refl o made) marks are
+    → AreSlotsOf s.settings.cpus (log ++ item_of s e r h ∷ []) n.slots
+slots_own log s _ _ _ h on (Publishes t e of may) changes marks are =
+    let told = may_publish_tells s t e on.shape may in
+    attached_slots s.settings.cpus log s.slots t Done e told.within (omega (arith, told.number, changes)) are
+slots_own log s _ _ _ h on (Unpublishes t head next e at rest is) changes marks are = detached_slots s.settings.cpus log s.slots t Done e at are
+slots_own log s n e r h on (SubsKept t d u keeps of may) changes marks are =
+    more_slots s.settings.cpus log n.slots (item_of s e r h) (λ v. refl) (vacated_slots s t log on (and_parts _ (is_drained s t) may).1 marks are)
+slots_own log s n e r h on (Vacates t may) changes marks are =
+    more_slots s.settings.cpus log n.slots (item_of s e r h) (λ v. refl) (vacated_slots s t log on (and_parts _ (is_drained s t) may).1 marks are)
+slots_own log s n e r h on _ changes marks are = more_slots s.settings.cpus log s.slots (item_of s e r h) (λ t. refl) are
 
 -- before all events each slot is vacant, and had no entry
 pub no_slots : (z : Settings) → AreSlotsOf z.cpus [] (opening z).slots

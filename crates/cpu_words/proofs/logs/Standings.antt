@@ -1,10 +1,9 @@
 -- What slots have by a log, and how that goes on.
-use Rattle.std.proofs.Common.{◌≡◌, ℕ, suc, ◌+◌, Bool, true, false, if◌then◌else◌, List, [], ◌∷◌, ◌++◌, refl, sym, ap, ◌∙◌, arith}
+use Rattle.std.proofs.Common.{◌≡◌, ℕ, suc, ◌+◌, Bool, false, if◌then◌else◌, List, [], ◌∷◌, ◌++◌, refl, sym, ap, ◌∙◌, arith}
 use Rattle.cpu_words.specs.Types.{Event, Publish, Unpublish}
-use Rattle.protocol.specs.Common.{State}
-use Rattle.cpu_words.specs.Common.{LogItem, by_number, changes_of, changes_in, is_detach_from, KeepsEntry, Standing, nothing, attached, detached, number_of, stands_after, stands_from, standing}
+use Rattle.cpu_words.specs.Common.{LogItem, changes_of, changes_in, is_detach_from, KeepsEntry, Standing, nothing, attached, detached, number_of, stands_after, stands_from, standing}
 use Rattle.cpu_words.specs.Common.{IsDetachedFrom, is_change_at, KeepsSlot}
-use Rattle.cpu_words.proofs.logs.Changes.{is_change, moves_past}
+use Rattle.cpu_words.proofs.logs.Changes.{moves_past}
 
 pushes : (e : Event) (a b : ℕ) → changes_of e (a + b) ≡ changes_of e a + b
 pushes (Publish t) a b = omega arith
@@ -38,12 +37,6 @@ pub left_standing : (t n : ℕ) (e : Event) (x : Standing) → is_change_at t e 
 left_standing t n (Publish u) x other = ap (λ (b : Bool). if b then attached (suc n) else x) other
 left_standing t n (Unpublish u) x other = ap (λ (b : Bool). if b then detached (number_of x) else x) other
 left_standing t n e x other = refl
-
--- no attach or detach at all
-pub no_change_at : (t : ℕ) (s : State) (e : Event) → is_change e ≡ false → is_change_at t (by_number s e) ≡ false
-no_change_at t s (Publish u) other = absurd (let q : true ≡ false = other in cc)
-no_change_at t s (Unpublish u) other = absurd (let q : true ≡ false = other in cc)
-no_change_at t s e other = refl
 
 pub no_detach_from : (t : ℕ) (e : Event) → is_change_at t e ≡ false → is_detach_from t e ≡ false
 no_detach_from t (Unpublish u) other = other

@@ -1,6 +1,6 @@
 -- What the keeper's log says of totals: of each occupied slot the words that were collected, less the references given up.
-use Rattle.cpu_words.specs.Types.{Reply, Entry, Mark, Settings, MOST_CPUS, Slot, Vacant, Live, Retired, Event, Publish, Unpublish, Snapshot, Collect, TotalAdd, JoinKeeper, TotalSub, KeptSub, Vacate}
-use Rattle.cpu_words.specs.Types.{Due, Rest, Snapshots, Subtracting}
+use Rattle.cpu_words.specs.Types.{Reply, Entry, Mark, Settings, MOST_CPUS, Slot, Vacant, Live, Retired, Event, Publish, Collect, TotalAdd, JoinKeeper, TotalSub, KeptSub}
+use Rattle.cpu_words.specs.Types.{Due, Rest, Snapshots, Adding, Subtracting, Done, Word}
 use Rattle.std.proofs.Common.{◌≡◌, inl, inr, ⊎_elim, ℕ, zero, suc, ◌+◌, ◌-◌, ◌*◌, ◌<◌, ◌≤◌, ◌==◌, ◌&&◌, nat_lt, not, Bool, true, false, if◌then◌else◌, List, [], ◌∷◌, ◌++◌, length, get_or, set, sum_by}
 use Rattle.std.proofs.Common.{Option, Some, None, eq-eqb, ne_eqb, refl, sym, ap, ◌∙◌, subst, append_assoc, arith}
 use Rattle.std.specs.List.{zip, list_all}
@@ -9,24 +9,27 @@ use Rattle.std.proofs.lemmas.Bool.{and_parts, cases_eq, cases_lt, eqb-true}
 use Rattle.std.proofs.lemmas.List.{append-nil}
 use Rattle.std.proofs.lemmas.List.Sums.{sum_by-cons}
 use Rattle.std.proofs.lemmas.Option.{same_Some}
-use Rattle.registry_values.specs.Common.{bias, no_mark, is_retired, is_taken, key_of, slot_at, slot_of}
+use Rattle.registry_values.specs.Common.{bias, no_mark, is_retired, slot_at, slot_of}
 use Rattle.registry_values.proofs.Fit.{ranges}
-use Rattle.protocol.specs.Common.{State, opening, mark_at, count_at, total_at, kept_at, at_rest, Outcome, step, due_after, may_write, may_examine, may_join, is_drainable, has_room, is_prepared}
-use Rattle.protocol.specs.Common.{are_unused, keeps_rightly, is_bias, Holds, IsIn, one_if, addition_due_at, is_adding_at, subtraction_due_at}
+use Rattle.protocol.specs.Common.{may_publish, after_publish, may_collect, after_collect, after_total, number_standing, local_at, may_join_keeper, after_join_keeper, is_drained, after_kept_sub}
+use Rattle.protocol.specs.Common.{State, opening, mark_at, count_at, total_at, kept_at, at_rest, may_examine, may_join, is_drainable}
+use Rattle.protocol.specs.Common.{is_bias, Holds, IsIn, one_if, addition_due_at, is_adding_at, subtraction_due_at}
+use Rattle.protocol.proofs.Either.{either}
+use Rattle.protocol.proofs.Made.{Made, Publishes, Unpublishes, Snaps, Collects, AddsTotal, SubsTotal, JoinsKeeper, SubsKept, Vacates}
 use Rattle.protocol.proofs.counts.Bounds.{adding_range, adding_within, driver_positive, subtracting_range}
 use Rattle.protocol.proofs.counts.HeldSums.{one_self, one_other}
-use Rattle.protocol.proofs.keeps.ListKeeps.{may_write_tells, false_from}
+use Rattle.protocol.proofs.keeps.ListKeeps.{may_publish_tells, false_from}
 use Rattle.protocol.proofs.keeps.MarkKeeps.{is_drained_tells, may_examine_tells}
+use Rattle.protocol.proofs.keeps.References.{snapshot_due_tells}
 use Rattle.protocol.proofs.slots.Cells.{total_here, total_other}
 use Rattle.protocol.proofs.slots.Occupied.{at_rest_tells, fresh_unoccupied, in_within, one_number, slot_has}
 use Rattle.cpu_words.specs.Common.{LogItem, Teller, KeeperView, number_at, collected_net, collected_one, GivesUp, KeeperShown, Good, number_or_none, by_number, changes_of, changes_in, keeping, names}
-use Rattle.cpu_words.specs.Common.{occupant_after, occupant, word_after, word_collected, replied, occupant_of, word_if, AreCountsOf, given_by, given_after, given_up, sum_below, is_there, word_or_none}
-use Rattle.cpu_words.specs.Common.{words_collected, sum_collected, AreTotalsOf, maker, IsSeatOf}
+use Rattle.cpu_words.specs.Common.{occupant_after, occupant, word_after, word_collected, occupant_of, word_if, AreCountsOf, given_by, given_after, given_up, sum_below, is_there, word_or_none}
+use Rattle.cpu_words.specs.Common.{words_collected, sum_collected, AreTotalsOf}
 use Rattle.cpu_words.proofs.by_keeper.Marked.{due_alike}
 use Rattle.cpu_words.proofs.by_keeper.Totals.{one_subtracted}
 use Rattle.cpu_words.proofs.logs.Changes.{changes_up, unnamed_changes}
 use Rattle.cpu_words.proofs.logs.Counted.{no_word, occupant_next, undrawn_slot, undrawn_mark, word_next}
-use Rattle.cpu_words.proofs.logs.Dues.{DueAfter, Dues, SameTotals, TotalsAfter, step_dues}
 use Rattle.cpu_words.proofs.logs.Runs.{item_of}
 use Rattle.cpu_words.proofs.logs.Standings.{changes_last}
 
@@ -142,31 +145,34 @@ collected_sum : (total add given words due sub sum now new words_now due_now sub
 collected_sum total add given words due sub sum now new words_now due_now sub_now sum_now given_now w there there_now word word_now one much no_there is_there no_word is_word more even same
     no_add no_due no_sub is_new is_due is_sub = omega (arith, one, much, no_there, is_there, no_word, is_word, more, even, same, no_add, no_due, no_sub, is_new, is_due, is_sub)
 
-told_sum : (total add given words due sub sum words_now sum_now given_now : ℕ) → words_now ≡ words → sum_now ≡ sum → given_now ≡ given
-    → total + add + given + bias * words ≡ bias * (1 + due) + sum + sub → total + add + given_now + bias * words_now ≡ bias * (1 + due) + sum_now + sub
-told_sum total add given words due sub sum words_now sum_now given_now same alike more even = omega (arith, same, alike, more, even)
+-- after the event, too
+abbrev Next : List LogItem → State → Event → State → Reply → Option Teller → ℕ → ℕ → Type 0
+Next log s e g r h t n = IsEven (log ++ item_of s e r h ∷ []) g t n
 
 -- the slot's words stay
-as_much : (log : List LogItem) (s : State) (e : Event) (o : Outcome) (t n : ℕ) → ((c : ℕ) → word_after t c e o.reply (word_collected t c log) ≡ word_collected t c log)
-    → IsAsMuch log s e o.state t n → IsEven log s t n → IsEven (log ++ item_of s e o.reply None ∷ []) o.state t n
-as_much log s e o t n stay much even =
-    let d : LogItem = item_of s e o.reply None in
-    let word : (c : ℕ) → word_collected t c (log ++ d ∷ []) ≡ word_collected t c log = λ c. word_next t c log s e o.reply None ∙ stay c in
+as_much : (log : List LogItem) (s : State) (e : Event) (g : State) (r : Reply) (h : Option Teller) (t n : ℕ) → ((c : ℕ) → word_after t c e r (word_collected t c log) ≡ word_collected t c log)
+    → IsAsMuch log s e g t n → IsEven log s t n → Next log s e g r h t n
+as_much log s e g r h t n stay much even =
+    let d : LogItem = item_of s e r h in
+    let word : (c : ℕ) → word_collected t c (log ++ d ∷ []) ≡ word_collected t c log = λ c. word_next t c log s e r h ∙ stay c in
     let words : words_collected t (log ++ d ∷ []) ≡ words_collected t log =
     sum_other (λ c. is_there (word_collected t c log)) (λ c. is_there (word_collected t c (log ++ d ∷ []))) MOST_CPUS (λ c lt. ap is_there (word c)) in
     let sum : sum_collected t (log ++ d ∷ []) ≡ sum_collected t log =
     sum_other (λ c. word_or_none (word_collected t c log)) (λ c. word_or_none (word_collected t c (log ++ d ∷ []))) MOST_CPUS (λ c lt. ap word_or_none (word c)) in
     let given : given_up n (log ++ d ∷ []) ≡ given_up n log + given_by log n (by_number s e) = given_more n log d in
     as_much_sum (total_at s.totals t) (addition_due_at t s.due) (given_up n log) (words_collected t log) (is_adding_at t s.due) (subtraction_due_at t s.due) (sum_collected t log)
-    (total_at o.state.totals t) (addition_due_at t o.state.due) (given_by log n (by_number s e)) (words_collected t (log ++ d ∷ [])) (is_adding_at t o.state.due) (subtraction_due_at t o.state.due)
+    (total_at g.totals t) (addition_due_at t g.due) (given_by log n (by_number s e)) (words_collected t (log ++ d ∷ [])) (is_adding_at t g.due) (subtraction_due_at t g.due)
     (sum_collected t (log ++ d ∷ [])) (given_up n (log ++ d ∷ [])) words sum given much even
 
--- totals stay, and what is due, and nothing is given up
-untouched : (log : List LogItem) (s : State) (e : Event) (n : State) (t m : ℕ) → given_by log m (by_number s e) ≡ 0 → SameTotals s n → IsAsMuch log s e n t m
-untouched log s e n t m none same =
-    let total = ap (λ (x : List ℕ). total_at x t) same.0 in
-    let d = due_alike n.due s.due same.1 t in
-    omega (arith, none, total, d.0, d.1, d.2)
+-- the slot's total and what is due for it stay, and nothing is given up
+level : (total add due sub : ℕ) → total + add + 0 + bias * due + sub ≡ total + add + bias * due + sub
+level total add due sub = omega arith
+
+untouched : (log : List LogItem) (s : State) (e : Event) (r : Reply) (h : Option Teller) (t n : ℕ) → ((c : ℕ) → word_after t c e r (word_collected t c log) ≡ word_collected t c log)
+    → given_by log n (by_number s e) ≡ 0 → IsEven log s t n → Next log s e s r h t n
+untouched log s e r h t n stay none even = as_much log s e s r h t n stay
+    (ap (λ (m : ℕ). total_at s.totals t + addition_due_at t s.due + m + bias * is_adding_at t s.due + subtraction_due_at t s.due) none
+    ∙ level (total_at s.totals t) (addition_due_at t s.due) (is_adding_at t s.due) (subtraction_due_at t s.due)) even
 
 -- nothing is due for any total, before and after
 abbrev IsQuiet : Due → ℕ → Type 0
@@ -182,9 +188,6 @@ quiet_if : (t u c : ℕ) (b : Bool) → IsQuiet (if b then Snapshots u c else Re
 quiet_if t u c true = (refl, refl, refl)
 quiet_if t u c false = (refl, refl, refl)
 
-quiet_after : (s : State) (due : Due) (t u c : ℕ) → due ≡ due_after s u c → IsQuiet due t
-quiet_after s due t u c is = subst (λ (x : Due). IsQuiet x t) (sym is) (quiet_if t u (c + 1) (nat_lt (c + 1) s.settings.cpus))
-
 -- totals stay, nothing is due for any, and nothing is given up
 quietly : (log : List LogItem) (s : State) (e : Event) (n : State) (t m : ℕ) → given_by log m (by_number s e) ≡ 0 → n.totals ≡ s.totals → IsQuiet s.due t → IsQuiet n.due t → IsAsMuch log s e n t m
 quietly log s e n t m none same before after =
@@ -192,10 +195,6 @@ quietly log s e n t m none same before after =
     omega (arith, none, total, before.0, before.1, before.2, after.0, after.1, after.2)
 
 -- Each event
-
--- after the event, too
-abbrev Next : List LogItem → State → Event → Outcome → ℕ → ℕ → Type 0
-Next log s e o t n = IsEven (log ++ item_of s e o.reply None ∷ []) o.state t n
 
 -- the event is at the slot t, or at another
 
@@ -206,265 +205,167 @@ if_off : {X : Type 0} (u t : ℕ) (x y : X) → (u ≡ t → ⊥) → (if u == t
 if_off u t x y off = ap (λ (b : Bool). if b then x else y) (ne_eqb u t off)
 
 -- a slot is published with its total at the bias; nothing was collected for the new entry, and nothing given up
-published_next : (log : List LogItem) (s : State) (u : ℕ) (o : Outcome) (t n : ℕ) → Holds s → TotalsAfter s (Publish u) o → occupant_after t (changes_in log) (Publish u) (occupant t log) ≡ Some n
-    → SaidBefore log s → Next log s (Publish u) o t n
-published_next log s u o t n on does is known = ⊎_elim
-    (λ (same : u ≡ t).
-    let number : suc (changes_in log) ≡ n = same_Some (suc (changes_in log)) n (sym (if_here u t (Some (suc (changes_in log))) (occupant t log) same) ∙ is) in
+published_here : (log : List LogItem) (s : State) (u : ℕ) (e : Entry) (h : Option Teller) (n : ℕ) → Holds s → may_publish s u e ≡ true → suc (changes_in log) ≡ n → SaidBefore log s
+    → Next log s (Publish u) (after_publish s u e) Done h u n
+published_here log s u e h n on may number known =
+    let told = may_publish_tells s u e on.shape may in
     let none : given_up n log ≡ 0 = known.totals.later n (omega (arith, number)) in
-    let may = and_parts (may_write s u) _ does.0.1 in
-    let e = does.0.0 in
-    let p1 = and_parts (e.number == length s.history + 1) (not (is_taken (key_of e) s.slots) && (has_room s && is_prepared s u e.rec.kind)) may.1 in
-    let p2 = and_parts (not (is_taken (key_of e) s.slots)) (has_room s && is_prepared s u e.rec.kind) p1.1 in
-    let p3 = and_parts (has_room s) (is_prepared s u e.rec.kind) p2.1 in
-    let p4 = and_parts (get_or s.next u 0 == s.head) (are_unused s u && keeps_rightly (kept_at s.keeps u) e.rec.kind) p3.1 in
-    let p5 = and_parts (are_unused s u) (keeps_rightly (kept_at s.keeps u) e.rec.kind) p4.1 in
-    let p6 = and_parts (list_all is_bias (take s.settings.cpus (get_or s.counts u []))) (total_at s.totals u == bias) p5.0 in
-    let told = may_write_tells s u on.shape may.0 in
-    let vacant : is_retired (slot_at s.slots t) ≡ false = ap is_retired (ap (slot_at s.slots) (sym same) ∙ told.2) in
-    let total : total_at o.state.totals t ≡ bias = ap (λ (x : List ℕ). total_at x t) does.1.0 ∙ (ap (total_at s.totals) (sym same) ∙ eqb-true (total_at s.totals u) bias p6.1) in
-    let quiet = quiet_rest o.state.due t (does.1.1 ∙ told.0) in
-    let d : LogItem = item_of s (Publish u) o.reply None in
-    let word : (c : ℕ) → word_collected t c (log ++ d ∷ []) ≡ None = λ c. word_next t c log s (Publish u) o.reply None ∙ (known.counts.words t c ∙ no_word s t c (undrawn_slot s t c vacant)) in
-    let words : words_collected t (log ++ d ∷ []) ≡ 0 = sum_other (λ c. 0) (λ c. is_there (word_collected t c (log ++ d ∷ []))) MOST_CPUS (λ c lt. ap is_there (word c)) in
-    let sum : sum_collected t (log ++ d ∷ []) ≡ 0 = sum_other (λ c. 0) (λ c. word_or_none (word_collected t c (log ++ d ∷ []))) MOST_CPUS (λ c lt. ap word_or_none (word c)) in
+    let unused = and_parts (list_all is_bias (take s.settings.cpus (get_or s.counts u []))) (total_at s.totals u == bias) told.unused in
+    let quiet = quiet_rest s.due u told.rest in
+    let d : LogItem = item_of s (Publish u) Done h in
+    let word : (c : ℕ) → word_collected u c (log ++ d ∷ []) ≡ None =
+    λ c. word_next u c log s (Publish u) Done h ∙ (known.counts.words u c ∙ no_word s u c (undrawn_slot s u c (ap is_retired told.vacant))) in
+    let words : words_collected u (log ++ d ∷ []) ≡ 0 = sum_other (λ c. 0) (λ c. is_there (word_collected u c (log ++ d ∷ []))) MOST_CPUS (λ c lt. ap is_there (word c)) in
+    let sum : sum_collected u (log ++ d ∷ []) ≡ 0 = sum_other (λ c. 0) (λ c. word_or_none (word_collected u c (log ++ d ∷ []))) MOST_CPUS (λ c lt. ap word_or_none (word c)) in
     let given : given_up n (log ++ d ∷ []) ≡ given_up n log + 0 = given_more n log d in
-    published_sum (total_at o.state.totals t) (addition_due_at t o.state.due) (given_up n (log ++ d ∷ [])) (words_collected t (log ++ d ∷ [])) (is_adding_at t o.state.due)
-    (subtraction_due_at t o.state.due) (sum_collected t (log ++ d ∷ [])) (given_up n log) total quiet.0 quiet.1 quiet.2 words sum given none)
-    (λ (off : u ≡ t → ⊥).
-    as_much log s (Publish u) o t n (λ c. refl) (untouched log s (Publish u) o.state t n refl does.1)
-    (known.totals.total t n (sym (if_off u t (Some (suc (changes_in log))) (occupant t log) off) ∙ is)))
-    (cases_eq u t)
+    published_sum (total_at s.totals u) (addition_due_at u s.due) (given_up n (log ++ d ∷ [])) (words_collected u (log ++ d ∷ [])) (is_adding_at u s.due)
+    (subtraction_due_at u s.due) (sum_collected u (log ++ d ∷ [])) (given_up n log) (eqb-true (total_at s.totals u) bias unused.1) quiet.0 quiet.1 quiet.2 words sum given none
 
-unpublished_next : (log : List LogItem) (s : State) (u : ℕ) (o : Outcome) (t n : ℕ) → DueAfter s (Unpublish u) o.state → TotalsAfter s (Unpublish u) o → occupant t log ≡ Some n → SaidBefore log s
-    → Next log s (Unpublish u) o t n
-unpublished_next log s u o t n due does is known = as_much log s (Unpublish u) o t n (λ c. refl)
-    (quietly log s (Unpublish u) o.state t n refl does.1 (quiet_rest s.due t (at_rest_tells s.due does.0)) (quiet_snapshots o.state.due t u 0 due)) (known.totals.total t n is)
-
-snapped_next : (log : List LogItem) (s : State) (u c : ℕ) (o : Outcome) (t n : ℕ) → DueAfter s (Snapshot (Some u) c) o.state → TotalsAfter s (Snapshot (Some u) c) o → occupant t log ≡ Some n
-    → SaidBefore log s → Next log s (Snapshot (Some u) c) o t n
-snapped_next log s u c o t n due does is known = as_much log s (Snapshot (Some u) c) o t n (λ d. refl)
-    (quietly log s (Snapshot (Some u) c) o.state t n refl does (quiet_snapshots s.due t u c due.1) (quiet_after s o.state.due t u c due.0)) (known.totals.total t n is)
+published_next : (log : List LogItem) (s : State) (u : ℕ) (e : Entry) (h : Option Teller) (t n : ℕ) → Holds s → may_publish s u e ≡ true
+    → occupant_after t (changes_in log) (Publish u) (occupant t log) ≡ Some n → SaidBefore log s → Next log s (Publish u) (after_publish s u e) Done h t n
+published_next log s u e h t n on may is known = either (cases_eq u t)
+    (λ same.
+    let number = same_Some (suc (changes_in log)) n (sym (if_here u t (Some (suc (changes_in log))) (occupant t log) same) ∙ is) in
+    subst (λ (v : ℕ). Next log s (Publish u) (after_publish s u e) Done h v n) same (published_here log s u e h n on may number known))
+    (λ off. untouched log s (Publish u) Done h t n (λ c. refl) refl (known.totals.total t n (sym (if_off u t (Some (suc (changes_in log))) (occupant t log) off) ∙ is)))
 
 -- the word that is collected is one more, and counts once it is added
 
-collected_here : (log : List LogItem) (s : State) (c : ℕ) (o : Outcome) (t n : ℕ) → Holds s → TotalsAfter s (Collect t c) o → occupant t log ≡ Some n → SaidBefore log s
-    → Next log s (Collect t c) o t n
-collected_here log s c o t n on does is known =
+collected_here : (log : List LogItem) (s : State) (c : ℕ) (h : Option Teller) (t n : ℕ) → Holds s → may_collect s t c ≡ true → occupant t log ≡ Some n → SaidBefore log s
+    → Next log s (Collect t c) (after_collect s t c) (Word (count_at s.counts c t)) h t n
+collected_here log s c h t n on may is known =
     let w = count_at s.counts c t in
-    let p = and_parts (may_examine s t c) (is_drainable s t && not (mark_at s.marks t c).collected) does.0 in
+    let p = and_parts (may_examine s t c) (is_drainable s t && not (mark_at s.marks t c).collected) may in
     let q = and_parts (is_drainable s t) (not (mark_at s.marks t c).collected) p.1 in
     let told = may_examine_tells s t c p.0 in
     let low : c < MOST_CPUS = omega (arith, told.1, (ranges s.settings on.fit).cpus) in
-    let d : LogItem = item_of s (Collect t c) o.reply None in
+    let d : LogItem = item_of s (Collect t c) (Word w) h in
     let old : word_collected t c log ≡ None = known.counts.words t c ∙ no_word s t c (undrawn_mark s t c (false_from (mark_at s.marks t c).collected q.1)) in
     let here = eq-eqb t t refl in
-    let new : word_collected t c (log ++ d ∷ []) ≡ Some w = word_next t c log s (Collect t c) o.reply None
-    ∙ ((λ k. if here k && eq-eqb c c refl k then replied o.reply else word_collected t c log) ∙ ap replied does.1) in
-    let other : (j : ℕ) → (j ≡ c → ⊥) → word_collected t j (log ++ d ∷ []) ≡ word_collected t j log = λ j off. word_next t j log s (Collect t c) o.reply None
-    ∙ (λ k. if here k && ne_eqb c j (λ same. off (sym same)) k then replied o.reply else word_collected t j log) in
+    let new : word_collected t c (log ++ d ∷ []) ≡ Some w = word_next t c log s (Collect t c) (Word w) h
+    ∙ (λ k. if here k && eq-eqb c c refl k then Some w else word_collected t c log) in
+    let other : (j : ℕ) → (j ≡ c → ⊥) → word_collected t j (log ++ d ∷ []) ≡ word_collected t j log = λ j off. word_next t j log s (Collect t c) (Word w) h
+    ∙ (λ k. if here k && ne_eqb c j (λ same. off (sym same)) k then Some w else word_collected t j log) in
     let words = sum_changed (λ j. is_there (word_collected t j log)) (λ j. is_there (word_collected t j (log ++ d ∷ []))) c MOST_CPUS low (λ j off. ap is_there (other j off)) in
     let sum = sum_changed (λ j. word_or_none (word_collected t j log)) (λ j. word_or_none (word_collected t j (log ++ d ∷ []))) c MOST_CPUS low (λ j off. ap word_or_none (other j off)) in
-    let one_old : is_there (word_collected t c log) ≡ 0 = ap is_there old in
-    let one_new : is_there (word_collected t c (log ++ d ∷ [])) ≡ 1 = ap is_there new in
-    let word_old : word_or_none (word_collected t c log) ≡ 0 = ap word_or_none old in
-    let word_new : word_or_none (word_collected t c (log ++ d ∷ [])) ≡ w = ap word_or_none new in
     let given : given_up n (log ++ d ∷ []) ≡ given_up n log + 0 = given_more n log d in
-    let even : IsEven log s t n = known.totals.total t n is in
-    let total : total_at o.state.totals t ≡ total_at s.totals t = ap (λ (x : List ℕ). total_at x t) does.2 in
     let quiet = quiet_rest s.due t told.0 in
-    let added : addition_due_at t o.state.due ≡ w = ap (addition_due_at t) does.3 ∙ if_here t t w 0 refl in
-    let adding : is_adding_at t o.state.due ≡ 1 = ap (is_adding_at t) does.3 ∙ one_self t t refl in
-    let none : subtraction_due_at t o.state.due ≡ 0 = ap (subtraction_due_at t) does.3 in
     collected_sum (total_at s.totals t) (addition_due_at t s.due) (given_up n log) (words_collected t log) (is_adding_at t s.due) (subtraction_due_at t s.due) (sum_collected t log)
-    (total_at o.state.totals t) (addition_due_at t o.state.due) (words_collected t (log ++ d ∷ [])) (is_adding_at t o.state.due) (subtraction_due_at t o.state.due)
+    (total_at s.totals t) (addition_due_at t (Adding t w)) (words_collected t (log ++ d ∷ [])) (is_adding_at t (Adding t w)) (subtraction_due_at t (Adding t w))
     (sum_collected t (log ++ d ∷ [])) (given_up n (log ++ d ∷ [])) w (is_there (word_collected t c log)) (is_there (word_collected t c (log ++ d ∷ [])))
-    (word_or_none (word_collected t c log)) (word_or_none (word_collected t c (log ++ d ∷ []))) words sum one_old one_new word_old word_new given even total quiet.0 quiet.1 quiet.2 added adding none
+    (word_or_none (word_collected t c log)) (word_or_none (word_collected t c (log ++ d ∷ []))) words sum (ap is_there old) (ap is_there new) (ap word_or_none old) (ap word_or_none new) given
+    (known.totals.total t n is) refl quiet.0 quiet.1 quiet.2 (if_here t t w 0 refl) (one_self t t refl) refl
 
-collected_off : (log : List LogItem) (s : State) (u c : ℕ) (o : Outcome) (t n : ℕ) → (u ≡ t → ⊥) → TotalsAfter s (Collect u c) o → occupant t log ≡ Some n → SaidBefore log s
-    → Next log s (Collect u c) o t n
-collected_off log s u c o t n off does is known =
+collected_off : (log : List LogItem) (s : State) (u c : ℕ) (h : Option Teller) (t n : ℕ) → (u ≡ t → ⊥) → may_collect s u c ≡ true → occupant t log ≡ Some n → SaidBefore log s
+    → Next log s (Collect u c) (after_collect s u c) (Word (count_at s.counts c u)) h t n
+collected_off log s u c h t n off may is known =
     let w = count_at s.counts c u in
-    let p = and_parts (may_examine s u c) (is_drainable s u && not (mark_at s.marks u c).collected) does.0 in
-    let quiet = quiet_rest s.due t (may_examine_tells s u c p.0).0 in
-    let total : total_at o.state.totals t ≡ total_at s.totals t = ap (λ (x : List ℕ). total_at x t) does.2 in
-    let added : addition_due_at t o.state.due ≡ 0 = ap (addition_due_at t) does.3 ∙ if_off u t w 0 off in
-    let adding : is_adding_at t o.state.due ≡ 0 = ap (is_adding_at t) does.3 ∙ one_other u t off in
-    let none : subtraction_due_at t o.state.due ≡ 0 = ap (subtraction_due_at t) does.3 in
-    let much : IsAsMuch log s (Collect u c) o.state t n = omega (arith, quiet.0, quiet.1, quiet.2, total, added, adding, none) in
-    as_much log s (Collect u c) o t n (λ j. ap (λ (b : Bool). if b && c == j then replied o.reply else word_collected t j log) (ne_eqb u t off)) much (known.totals.total t n is)
+    let p = and_parts (may_examine s u c) (is_drainable s u && not (mark_at s.marks u c).collected) may in
+    let after : IsQuiet (Adding u w) t = (if_off u t w 0 off, one_other u t off, refl) in
+    as_much log s (Collect u c) (after_collect s u c) (Word w) h t n (λ j. ap (λ (b : Bool). if b && c == j then Some w else word_collected t j log) (ne_eqb u t off))
+    (quietly log s (Collect u c) (after_collect s u c) t n refl refl (quiet_rest s.due t (may_examine_tells s u c p.0).0) after) (known.totals.total t n is)
 
-collected_next : (log : List LogItem) (s : State) (u c : ℕ) (o : Outcome) (t n : ℕ) → Holds s → TotalsAfter s (Collect u c) o → occupant t log ≡ Some n → SaidBefore log s
-    → Next log s (Collect u c) o t n
-collected_next log s u c o t n on does is known = ⊎_elim
-    (λ (same : u ≡ t). subst (λ (v : ℕ). TotalsAfter s (Collect v c) o → Next log s (Collect v c) o t n) (sym same) (λ here. collected_here log s c o t n on here is known) does)
-    (λ (off : u ≡ t → ⊥). collected_off log s u c o t n off does is known)
-    (cases_eq u t)
+collected_next : (log : List LogItem) (s : State) (u c : ℕ) (h : Option Teller) (t n : ℕ) → Holds s → may_collect s u c ≡ true → occupant t log ≡ Some n → SaidBefore log s
+    → Next log s (Collect u c) (after_collect s u c) (Word (count_at s.counts c u)) h t n
+collected_next log s u c h t n on may is known = either (cases_eq u t)
+    (λ same.
+    let here = collected_here log s c h u n on may (ap (λ (v : ℕ). occupant v log) same ∙ is) known in
+    subst (λ (v : ℕ). Next log s (Collect u c) (after_collect s u c) (Word (count_at s.counts c u)) h v n) same here)
+    (λ off. collected_off log s u c h t n off may is known)
 
 -- what was collected is in the total then, less its bias
-added_next : (log : List LogItem) (s : State) (u : ℕ) (o : Outcome) (t n : ℕ) → Holds s → TotalsAfter s (TotalAdd u) o → occupant t log ≡ Some n → SaidBefore log s → Next log s (TotalAdd u) o t n
-added_next log s u o t n on does is known =
-    let old = does.0 in
-    let due = does.1 in
-    let after = quiet_rest o.state.due t does.3 in
-    let none : subtraction_due_at t s.due ≡ 0 = ap (subtraction_due_at t) due in
-    let much : IsAsMuch log s (TotalAdd u) o.state t n = ⊎_elim
-    (λ (same : u ≡ t).
+added_much : (log : List LogItem) (s : State) (u old t n : ℕ) → Holds s → s.due ≡ Adding u old → IsAsMuch log s (TotalAdd u) (after_total s u (total_at s.totals u + old - bias)) t n
+added_much log s u old t n on due =
+    let before = due_alike s.due (Adding u old) due t in
+    either (cases_eq u t)
+    (λ same.
     let range = (adding_range s u old on due).0 in
     let lt : u < length s.totals = omega (arith, adding_within s u old on due, on.shape.totals) in
-    let total : total_at o.state.totals t ≡ total_at s.totals u + old - bias =
-    ap (λ (x : List ℕ). total_at x t) does.2 ∙ (ap (total_at (set s.totals u (total_at s.totals u + old - bias))) (sym same) ∙ total_here s.totals u (total_at s.totals u + old - bias) lt) in
-    let was : total_at s.totals t ≡ total_at s.totals u = ap (total_at s.totals) (sym same) in
-    let added : addition_due_at t s.due ≡ old = ap (addition_due_at t) due ∙ if_here u t old 0 same in
-    let adding : is_adding_at t s.due ≡ 1 = ap (is_adding_at t) due ∙ one_self u t same in
-    omega (arith, range, total, was, added, adding, none, after.0, after.1, after.2))
-    (λ (off : u ≡ t → ⊥).
-    let total : total_at o.state.totals t ≡ total_at s.totals t = ap (λ (x : List ℕ). total_at x t) does.2 ∙ total_other s.totals u (total_at s.totals u + old - bias) t (λ same. off (sym same)) in
-    let added : addition_due_at t s.due ≡ 0 = ap (addition_due_at t) due ∙ if_off u t old 0 off in
-    let adding : is_adding_at t s.due ≡ 0 = ap (is_adding_at t) due ∙ one_other u t off in
-    omega (arith, total, added, adding, none, after.0, after.1, after.2))
-    (cases_eq u t) in
-    as_much log s (TotalAdd u) o t n (λ c. refl) much (known.totals.total t n is)
+    let total = ap (total_at (set s.totals u (total_at s.totals u + old - bias))) (sym same) ∙ total_here s.totals u (total_at s.totals u + old - bias) lt in
+    let was = ap (total_at s.totals) same in
+    let added = if_here u t old 0 same in
+    let adding = one_self u t same in
+    omega (arith, range, total, was, before.0, before.1, before.2, added, adding))
+    (λ off.
+    let total = total_other s.totals u (total_at s.totals u + old - bias) t (λ same. off (sym same)) in
+    let added = if_off u t old 0 off in
+    let adding = one_other u t off in
+    omega (arith, total, before.0, before.1, before.2, added, adding))
 
 -- the reference that was given up is subtracted
-subtracted_next : (log : List LogItem) (s : State) (u : ℕ) (o : Outcome) (t n : ℕ) → Holds s → TotalsAfter s (TotalSub u) o → occupant t log ≡ Some n → SaidBefore log s → Next log s (TotalSub u) o t n
-subtracted_next log s u o t n on does is known =
-    let range = subtracting_range s u on does.0 in
+subtracted_much : (log : List LogItem) (s : State) (u t n : ℕ) → Holds s → s.due ≡ Subtracting u → IsAsMuch log s (TotalSub u) (after_total s u (total_at s.totals u - 1)) t n
+subtracted_much log s u t n on due =
+    let range = subtracting_range s u on due in
     let less = one_subtracted s.totals u (omega (arith, range.0, on.shape.totals)) range.1 t in
-    let total = ap (λ (x : List ℕ). total_at x t) does.1 in
-    let before = due_alike s.due (Subtracting u) does.0 t in
-    let after = quiet_rest o.state.due t does.2 in
-    as_much log s (TotalSub u) o t n (λ c. refl) (omega (arith, less, total, before.0, before.1, before.2, after.0, after.1, after.2)) (known.totals.total t n is)
+    let before = due_alike s.due (Subtracting u) due t in
+    omega (arith, less, before.0, before.1, before.2)
 
 -- a reference is given up, and is due for subtraction from its entry's slot
-joined_next : (log : List LogItem) (s : State) (id : ℕ) (o : Outcome) (t n : ℕ) → Holds s → TotalsAfter s (JoinKeeper id) o → occupant t log ≡ Some n → SaidBefore log s
-    → Next log s (JoinKeeper id) o t n
-joined_next log s id o t n on does is known =
-    let m = does.0 in
-    let u = does.1 in
-    let may = and_parts (is_retired (slot_at s.slots u)) (may_join s u) does.4 in
-    let rest = at_rest_tells s.due (and_parts (at_rest s.due) _ may.1).0 in
-    let alike = one_alike s t n u m on (sym (known.counts.occupants t) ∙ is) (at_slot s m u does.3) in
-    let given : given_by log n (by_number s (JoinKeeper id)) ≡ one_if (m == n) = ap (λ (x : Option ℕ). one_if (number_or_none x == n)) does.2 in
-    let total = ap (λ (x : List ℕ). total_at x t) does.5 in
-    let before = quiet_rest s.due t rest in
-    let after = due_alike o.state.due (Subtracting u) does.6 t in
-    as_much log s (JoinKeeper id) o t n (λ c. refl) (omega (arith, alike, given, total, before.0, before.1, before.2, after.0, after.1, after.2)) (known.totals.total t n is)
+joined_much : (log : List LogItem) (s : State) (id m u t n : ℕ) → Holds s → number_standing (local_at s.locals id) ≡ Some m → slot_of s.slots m ≡ Some u → may_join_keeper s u ≡ true
+    → occupant t log ≡ Some n → SaidBefore log s → IsAsMuch log s (JoinKeeper id) (after_join_keeper s id u) t n
+joined_much log s id m u t n on at of may is known =
+    let join = and_parts (is_retired (slot_at s.slots u)) (may_join s u) may in
+    let before = quiet_rest s.due t (at_rest_tells s.due (and_parts (at_rest s.due) _ join.1).0) in
+    let alike = one_alike s t n u m on (sym (known.counts.occupants t) ∙ is) (at_slot s m u of) in
+    let given : given_by log n (by_number s (JoinKeeper id)) ≡ one_if (m == n) = ap (λ (x : Option ℕ). one_if (number_or_none x == n)) at in
+    omega (arith, alike, given, before.0, before.1, before.2)
 
 -- of another slot than the one made vacant: the driver's total is 1 less, and one more reference to it is given up
-gave_up_next : (log : List LogItem) (s : State) (v : ℕ) (o : Outcome) (t n : ℕ) → Holds s → TotalsAfter s (KeptSub v) o → occupant_after t (changes_in log) (KeptSub v) (occupant t log) ≡ Some n
-    → SaidBefore log s → Next log s (KeptSub v) o t n
-gave_up_next log s v o t n on does is known = ⊎_elim
-    (λ (same : v ≡ t). absurd (let q : ◌≡◌ {A = Option ℕ} None (Some n) = sym (if_here v t None (occupant t log) same) ∙ is in cc))
-    (λ (off : v ≡ t → ⊥).
-    let d = does.0 in
-    let u = does.1 in
-    let was : occupant t log ≡ Some n = sym (if_off v t None (occupant t log) off) ∙ is in
-    let alike = one_alike s t n u d on (sym (known.counts.occupants t) ∙ was) (at_slot s d u does.3) in
-    let given : given_by log n (KeptSub v) ≡ one_if (d == n) = ap (λ (x : Option ℕ). one_if (names x n)) (sym (known.kept v) ∙ does.2) in
-    let lt : u < length s.totals = omega (arith, (slot_has s.slots d u does.3).0, on.shape.slots, on.shape.totals) in
-    let less = one_subtracted s.totals u lt (driver_positive s v d u on does.2 does.3 does.4) t in
-    let total = ap (λ (x : List ℕ). total_at x t) does.5 in
-    let rest = (is_drained_tells s v on does.4).0 in
-    let before = quiet_rest s.due t rest in
-    let after = quiet_rest o.state.due t (does.6 ∙ rest) in
-    as_much log s (KeptSub v) o t n (λ c. if_off v t None (word_collected t c log) off) (omega (arith, alike, given, less, total, before.0, before.1, before.2, after.0, after.1, after.2))
-    (known.totals.total t n was))
-    (cases_eq v t)
+gave_up_much : (log : List LogItem) (s : State) (v d u t n : ℕ) → Holds s → kept_at s.keeps v ≡ Some d → slot_of s.slots d ≡ Some u → is_drained s v ≡ true
+    → occupant t log ≡ Some n → SaidBefore log s → IsAsMuch log s (KeptSub v) (after_kept_sub s v u) t n
+gave_up_much log s v d u t n on keeps of drained is known =
+    let alike = one_alike s t n u d on (sym (known.counts.occupants t) ∙ is) (at_slot s d u of) in
+    let given : given_by log n (KeptSub v) ≡ one_if (d == n) = ap (λ (x : Option ℕ). one_if (names x n)) (sym (known.kept v) ∙ keeps) in
+    let lt : u < length s.totals = omega (arith, (slot_has s.slots d u of).0, on.shape.slots, on.shape.totals) in
+    let less = one_subtracted s.totals u lt (driver_positive s v d u on keeps of drained) t in
+    let before = quiet_rest s.due t (is_drained_tells s v on drained).0 in
+    omega (arith, alike, given, less, before.0, before.1, before.2)
 
-vacated_next : (log : List LogItem) (s : State) (v : ℕ) (o : Outcome) (t n : ℕ) → TotalsAfter s (Vacate v) o → occupant_after t (changes_in log) (Vacate v) (occupant t log) ≡ Some n → SaidBefore log s
-    → Next log s (Vacate v) o t n
-vacated_next log s v o t n does is known = ⊎_elim
-    (λ (same : v ≡ t). absurd (let q : ◌≡◌ {A = Option ℕ} None (Some n) = sym (if_here v t None (occupant t log) same) ∙ is in cc))
-    (λ (off : v ≡ t → ⊥).
-    as_much log s (Vacate v) o t n (λ c. if_off v t None (word_collected t c log) off) (untouched log s (Vacate v) o.state t n refl does)
-    (known.totals.total t n (sym (if_off v t None (occupant t log) off) ∙ is)))
-    (cases_eq v t)
+-- an event that makes the slot v vacant leaves the words of another
+vacated_next : (log : List LogItem) (v t n : ℕ) (x : Option ℕ) → (if v == t then None else x) ≡ Some n → (x ≡ Some n) × ((y : Option ℕ) → (if v == t then None else y) ≡ y)
+vacated_next log v t n x is = either (cases_eq v t)
+    (λ same. absurd (let q : ◌≡◌ {A = Option ℕ} None (Some n) = sym (if_here v t None x same) ∙ is in cc))
+    (λ off. (sym (if_off v t None x off) ∙ is, λ y. if_off v t None y off))
 
-total_next : (log : List LogItem) (s : State) (e : Event) (o : Outcome) (t n : ℕ) → Holds s → DueAfter s e o.state → TotalsAfter s e o → occupant_after t (changes_in log) e (occupant t log) ≡ Some n
-    → SaidBefore log s → Next log s e o t n
-total_next log s (Publish u) o t n on due does is known = published_next log s u o t n on does is known
-total_next log s (Unpublish u) o t n on due does is known = unpublished_next log s u o t n due does is known
-total_next log s (Snapshot (Some u) c) o t n on due does is known = snapped_next log s u c o t n due does is known
-total_next log s (Snapshot None c) o t n on due does is known = as_much log s (Snapshot None c) o t n (λ d. refl) (untouched log s (Snapshot None c) o.state t n refl does) (known.totals.total t n is)
-total_next log s (Collect u c) o t n on due does is known = collected_next log s u c o t n on does is known
-total_next log s (TotalAdd u) o t n on due does is known = added_next log s u o t n on does is known
-total_next log s (TotalSub u) o t n on due does is known = subtracted_next log s u o t n on does is known
-total_next log s (JoinKeeper id) o t n on due does is known = joined_next log s id o t n on does is known
-total_next log s (KeptSub v) o t n on due does is known = gave_up_next log s v o t n on does is known
-total_next log s (Vacate v) o t n on due does is known = vacated_next log s v o t n does is known
-total_next log s e o t n on due does is known = as_much log s e o t n (λ c. refl) (untouched log s e o.state t n refl does) (known.totals.total t n is)
+total_next : (log : List LogItem) (s g : State) (e : Event) (r : Reply) (h : Option Teller) (t n : ℕ) → Holds s → Made s e g r → occupant_after t (changes_in log) e (occupant t log) ≡ Some n
+    → SaidBefore log s → Next log s e g r h t n
+total_next log s g _ _ h t n on (Publishes u e of may) is known = published_next log s u e h t n on may is known
+total_next log s g e r h t n on (Unpublishes u head next f at rest past) is known = as_much log s e g r h t n (λ c. refl)
+    (quietly log s e g t n refl refl (quiet_rest s.due t (at_rest_tells s.due rest)) (refl, refl, refl)) (known.totals.total t n is)
+total_next log s g e r h t n on (Snaps u c due) is known = as_much log s e g r h t n (λ d. refl)
+    (quietly log s e g t n refl refl (quiet_snapshots s.due t u c (snapshot_due_tells s.due u c due)) (quiet_if t u (c + 1) (nat_lt (c + 1) s.settings.cpus))) (known.totals.total t n is)
+total_next log s g _ _ h t n on (Collects u c may) is known = collected_next log s u c h t n on may is known
+total_next log s g e r h t n on (AddsTotal u old due) is known = as_much log s e g r h t n (λ c. refl) (added_much log s u old t n on due) (known.totals.total t n is)
+total_next log s g e r h t n on (SubsTotal u due) is known = as_much log s e g r h t n (λ c. refl) (subtracted_much log s u t n on due) (known.totals.total t n is)
+total_next log s g e r h t n on (JoinsKeeper id m u at of may) is known =
+    as_much log s e g r h t n (λ c. refl) (joined_much log s id m u t n on at of may is known) (known.totals.total t n is)
+total_next log s g e r h t n on (SubsKept v d u keeps of may) is known =
+    let was = vacated_next log v t n (occupant t log) is in
+    as_much log s e g r h t n (λ c. was.1 (word_collected t c log)) (gave_up_much log s v d u t n on keeps of (and_parts _ (is_drained s v) may).1 was.0 known) (known.totals.total t n was.0)
+total_next log s g e r h t n on (Vacates v may) is known =
+    let was = vacated_next log v t n (occupant t log) is in
+    untouched log s e r h t n (λ c. was.1 (word_collected t c log)) refl (known.totals.total t n was.0)
+total_next log s g e r h t n on _ is known = untouched log s e r h t n (λ c. refl) refl (known.totals.total t n is)
 
 -- nothing is given up to an entry that isn't there yet
-none_given : (log : List LogItem) (s : State) (e : Event) (o : Outcome) (n : ℕ) → Holds s → TotalsAfter s e o → SaidBefore log s → changes_in log < n → given_by log n (by_number s e) ≡ 0
-none_given log s (JoinKeeper id) o n on does known above =
-    ap (λ (x : Option ℕ). one_if (number_or_none x == n)) does.2 ∙ none_above s n does.0 does.1 on does.3 (omega (arith, above, known.changes))
-none_given log s (KeptSub v) o n on does known above =
-    ap (λ (x : Option ℕ). one_if (names x n)) (sym (known.kept v) ∙ does.2) ∙ none_above s n does.0 does.1 on does.3 (omega (arith, above, known.changes))
-none_given log s e o n on does known above = refl
+none_given : (log : List LogItem) (s g : State) (e : Event) (r : Reply) (n : ℕ) → Holds s → Made s e g r → SaidBefore log s → changes_in log < n → given_by log n (by_number s e) ≡ 0
+none_given log s g _ _ n on (JoinsKeeper id m u at of may) known above = ap (λ (x : Option ℕ). one_if (number_or_none x == n)) at ∙ none_above s n m u on of (omega (arith, above, known.changes))
+none_given log s g _ _ n on (SubsKept v d u keeps of may) known above =
+    ap (λ (x : Option ℕ). one_if (names x n)) (sym (known.kept v) ∙ keeps) ∙ none_above s n d u on of (omega (arith, above, known.changes))
+none_given log s g _ _ n on _ known above = refl
 
 -- The walk
 
--- who told a note that the keeper heard counts for nothing here
-whoever_told : (log : List LogItem) (s : State) (e : Event) (r : Reply) (h : Option Teller) (t : State) → AreTotalsOf (log ++ item_of s e r None ∷ []) t → AreTotalsOf (log ++ item_of s e r h ∷ []) t
-whoever_told log s e r h g are =
-    let d : LogItem = item_of s e r None in
-    let f : LogItem = item_of s e r h in
-    let given : (n : ℕ) → given_up n (log ++ f ∷ []) ≡ given_up n (log ++ d ∷ []) = λ n. given_more n log f ∙ sym (given_more n log d) in
-    let word : (t c : ℕ) → word_collected t c (log ++ f ∷ []) ≡ word_collected t c (log ++ d ∷ []) = λ t c. word_next t c log s e r h ∙ sym (word_next t c log s e r None) in
-    record {
-      total = λ t n is.
-          let even = are.total t n (occupant_next t log s e r None ∙ (sym (occupant_next t log s e r h) ∙ is)) in
-          let words : words_collected t (log ++ f ∷ []) ≡ words_collected t (log ++ d ∷ []) =
-          sum_other (λ c. is_there (word_collected t c (log ++ d ∷ []))) (λ c. is_there (word_collected t c (log ++ f ∷ []))) MOST_CPUS (λ c lt. ap is_there (word t c)) in
-          let sum : sum_collected t (log ++ f ∷ []) ≡ sum_collected t (log ++ d ∷ []) =
-          sum_other (λ c. word_or_none (word_collected t c (log ++ d ∷ []))) (λ c. word_or_none (word_collected t c (log ++ f ∷ []))) MOST_CPUS (λ c lt. ap word_or_none (word t c)) in
-          told_sum (total_at g.totals t) (addition_due_at t g.due) (given_up n (log ++ d ∷ [])) (words_collected t (log ++ d ∷ [])) (is_adding_at t g.due) (subtraction_due_at t g.due)
-          (sum_collected t (log ++ d ∷ [])) (words_collected t (log ++ f ∷ [])) (sum_collected t (log ++ f ∷ [])) (given_up n (log ++ f ∷ [])) words sum (given n) even;
-      later = λ n above. given n ∙ are.later n (let a = changes_last log f in let b = changes_last log d in omega (arith, above, a, b));
-    }
-
-plain_totals : (log : List LogItem) (s : State) (e : Event) (o : Outcome) → Holds s → step s e ≡ Some o → SaidBefore log s → AreTotalsOf (log ++ item_of s e o.reply None ∷ []) o.state
-plain_totals log s e o on made known =
-    let dues : Dues s e (Some o) = subst (Dues s e) made (step_dues s e) in
-    let d : LogItem = item_of s e o.reply None in record {
-      total = λ t n is. total_next log s e o t n on dues.1 dues.2 (sym (occupant_next t log s e o.reply None) ∙ is) known;
+-- the keeper's next item
+pub totals_own : (log : List LogItem) (s g : State) (e : Event) (r : Reply) (h : Option Teller) → Holds s → Made s e g r → SaidBefore log s → AreTotalsOf (log ++ item_of s e r h ∷ []) g
+totals_own log s g e r h on made known =
+    let d : LogItem = item_of s e r h in record {
+      total = λ t n is. total_next log s g e r h t n on made (sym (occupant_next t log s e r h) ∙ is) known;
       later = λ n above.
           let grows : changes_in (log ++ d ∷ []) ≡ changes_of e (changes_in log) = changes_last log d ∙ unnamed_changes s e (changes_in log) in
           let low : changes_in log < n = omega (arith, above, grows, changes_up e (changes_in log)) in
           let given : given_up n (log ++ d ∷ []) ≡ given_up n log + given_by log n (by_number s e) = given_more n log d in
-          omega (arith, given, known.totals.later n low, none_given log s e o n on dues.2 known low);
-    }
-
--- the keeper's next item
-pub totals_own : (log : List LogItem) (s : State) (e : Event) (o : Outcome) (h : Option Teller) → Holds s → step s e ≡ Some o → SaidBefore log s
-    → AreTotalsOf (log ++ item_of s e o.reply h ∷ []) o.state
-totals_own log s e o h on made known = whoever_told log s e o.reply h o.state (plain_totals log s e o on made known)
-
--- an event of another seat leaves totals, and what is due
-left_off : (seat : ℕ → ℕ) (n i : ℕ) (s : State) (e : Event) (o : Outcome) → IsSeatOf seat n i (maker (by_number s e)) → (i ≡ 0 → ⊥) → TotalsAfter s e o → SameTotals s o.state
-left_off seat n i s (Publish t) o is off does = absurd (off is)
-left_off seat n i s (Unpublish t) o is off does = absurd (off is)
-left_off seat n i s (Snapshot (Some t) c) o is off does = absurd (off is)
-left_off seat n i s (Snapshot None c) o is off does = does
-left_off seat n i s (Collect t c) o is off does = absurd (off is)
-left_off seat n i s (TotalAdd t) o is off does = absurd (off is)
-left_off seat n i s (TotalSub t) o is off does = absurd (off is)
-left_off seat n i s (JoinKeeper id) o is off does = absurd (off is)
-left_off seat n i s (KeptSub t) o is off does = absurd (off is)
-left_off seat n i s e o is off does = does
-
-pub totals_off : (seat : ℕ → ℕ) (n i : ℕ) (log : List LogItem) (s : State) (e : Event) (o : Outcome) → IsSeatOf seat n i (maker (by_number s e)) → (i ≡ 0 → ⊥) → step s e ≡ Some o → AreTotalsOf log s
-    → AreTotalsOf log o.state
-totals_off seat n i log s e o is off made are =
-    let dues : Dues s e (Some o) = subst (Dues s e) made (step_dues s e) in
-    let same = left_off seat n i s e o is off dues.2 in record {
-      total = λ t m at.
-          let even : IsEven log s t m = are.total t m at in
-          let total = ap (λ (x : List ℕ). total_at x t) same.0 in
-          let due = due_alike o.state.due s.due same.1 t in
-          omega (arith, even, total, due.0, due.1, due.2);
-      later = are.later;
+          omega (arith, given, known.totals.later n low, none_given log s g e r n on made known low);
     }
 
 -- before all events no slot is occupied

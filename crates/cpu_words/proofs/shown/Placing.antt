@@ -1,11 +1,11 @@
 -- Where the words lie: no two share a place, and one step changes one word.
-use Rattle.std.proofs.Common.{◌≡◌, ℕ, ◌+◌, ◌*◌, ◌<◌, ◌≤◌, List, length, get_or, set, IsTrue, refl, sym, ap, ◌∙◌, subst, arith, length-set, get_or-set_same, get_or-set_other}
+use Rattle.std.proofs.Common.{◌≡◌, ℕ, ◌+◌, ◌*◌, ◌<◌, ◌≤◌, List, length, get_or, set, refl, sym, ap, ◌∙◌, subst, arith, length-set, get_or-set_same, get_or-set_other}
 use Rattle.std.proofs.lemmas.Nat.{same_from_place, row_fits}
 use mathlib.Core.Logic.{dite}
 use native.Mathlib.Decide.{ℕ_discrete}
 use Rattle.cpu_words.specs.Types.{Settings}
 use Rattle.protocol.specs.Common.{State}
-use Rattle.cpu_words.specs.Common.{Spot, section_of, passive_of, count_of, head_word, live_of, next_of, record_of, total_of, index, IsSpot, rows_from, stride_of, words_of, word_at, Agrees, IsUnused}
+use Rattle.cpu_words.specs.Common.{Spot, section_of, passive_of, count_of, head_word, live_of, next_of, record_of, total_of, index, IsSpot, rows_from, stride_of, words_of, word_at, Agrees}
 
 -- two places of rows that are one: one row, and one place in it
 in_rows : (z : Settings) (c d a b : ℕ) → a < stride_of z.slots → b < stride_of z.slots → rows_from z.slots + c * stride_of z.slots + a ≡ rows_from z.slots + d * stride_of z.slots + b → (c ≡ d) × (a ≡ b)

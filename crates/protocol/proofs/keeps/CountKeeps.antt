@@ -1,8 +1,8 @@
 -- The events on local references keep the invariant.
-use Rattle.std.proofs.Common.{Bool, List, None, Some, [], ap, arith, false, get_or, get_or-set_other, get_or-set_same, inl, leb-true, inr, length, length-set, ltb-true, not, refl, set, subst, sym, true, ℕ, ◌&&◌, ◌+◌, ◌-◌, ◌<◌, ◌∙◌, ◌≡◌, ◌==◌, ◌≤◌}
+use Rattle.std.proofs.Common.{Bool, List, None, Some, [], ap, arith, false, get_or, get_or-set_other, get_or-set_same, inl, leb-true, inr, length, length-set, ltb-true, not, refl, set, subst, sym, true, ℕ, ◌&&◌, ◌+◌, ◌-◌, ◌<◌, ◌∙◌, ◌≡◌, ◌≤◌}
 use Rattle.std.proofs.lemmas.Bool.{and_parts, cases_Bool, cases_eq, cases_lt, eq-eqb, eqb-true}
 use Rattle.std.proofs.lemmas.List.{get_or_past}
-use Rattle.std.specs.Prelude.{if◌then◌else◌, is_none, nat_le, nat_lt}
+use Rattle.std.specs.Prelude.{is_none, nat_le, nat_lt}
 use Rattle.protocol.proofs.counts.Counts as C
 use Rattle.protocol.proofs.keeps.ListKeeps.{CountsOf, cell_sized, may_write_tells, false_from}
 use Rattle.protocol.proofs.keeps.MarkKeeps.{cpus_fit, mark_place, may_examine_tells}
@@ -15,9 +15,9 @@ use Rattle.protocol.proofs.keeps.References.{back_holds, due_adding, due_subtrac
 use Rattle.protocol.proofs.keeps.References.{references_join, references_join_keeper, references_keep, references_split, references_split_back, references_total, references_unheld, seats_hand}
 use Rattle.protocol.proofs.keeps.SectionKeeps.{idle_parts, idle_tells, none_from, see_keeps}
 use Rattle.protocol.proofs.keeps.Sections.{tries_hand}
-use Rattle.protocol.specs.Common.{after_collect, after_collected, after_count_add, after_count_down, after_count_store, after_hand, after_join_keeper, after_keep, after_split, after_total, after_confirm, after_taking, after_take_back, after_try, exchange}
-use Rattle.protocol.specs.Common.{is_drainable, is_driver_slot, is_idle, is_number, may_collect, may_count, may_examine, may_join, may_join_keeper, may_keep, may_write, may_try, may_confirm, has_live, search_at, some_outcome, Holds}
-use Rattle.protocol.specs.Common.{IsCounting, IsIn, IsSeenInHand, SeatsShow, TriesSeen, seen_at, SnapshotsStand, at_rest, State, count_at, found_at, hand_at, kept_at, local_at, mark_at, passive_at, total_at, trying_at, trying_of, with_cell, Keeps, Collected, Word, Due, Adding}
+use Rattle.protocol.specs.Common.{after_collect, after_collected, after_count_add, after_count_down, after_count_store, after_hand, after_join_keeper, after_keep, after_split, after_total, after_confirm, after_taking, after_take_back, after_try}
+use Rattle.protocol.specs.Common.{is_drainable, is_driver_slot, is_idle, is_number, may_collect, may_count, may_examine, may_join, may_join_keeper, may_keep, may_write, may_try, may_confirm, has_live, search_at, Holds}
+use Rattle.protocol.specs.Common.{IsCounting, IsIn, IsSeenInHand, SeatsShow, TriesSeen, seen_at, SnapshotsStand, at_rest, State, count_at, found_at, hand_at, kept_at, local_at, mark_at, passive_at, total_at, trying_at, trying_of, with_cell, Due, Adding}
 use Rattle.protocol.specs.Common.{Rest, Snapshots, Subtracting, Hand, Back, Empty, Giving, Taking, Trying, Lifted, Standing}
 use Rattle.registry_values.specs.Common.{mark_after_collect, are_clear, have_passed, is_clear, is_some_collected, no_mark, is_retired, slot_of, slot_at, bias}
 use Rattle.protocol.specs.Types.{Entry, Slot, Vacant, Live, Retired}
@@ -224,15 +224,6 @@ keep_keeps s t id n u on at of may =
       references_keep s.settings.cpus s.slots s.hands s.due s.locals id n at on.references,
       drivers_keep s.slots s.keeps t n u told.2 of q.1 on.kept_drivers,
     )
-
--- the word decides between counting down and handing back
-pub exchange_keeps : (s : State) (c n id t : ℕ) → Holds s → hand_at s c ≡ Giving n id → slot_of s.slots n ≡ Some t → Keeps (exchange s c n id t)
-exchange_keeps s c n id t on hand of = go (count_at s.counts c t == count_at s.nets c t) refl
-  where
-    go : (b : Bool) → (count_at s.counts c t == count_at s.nets c t) ≡ b
-        → Keeps (if b then some_outcome (after_count_down s c t id) (Word (count_at s.counts c t)) else some_outcome (after_collected s c n id) Collected)
-    go true is = count_down_keeps s c n id t on hand of (eqb-true (count_at s.counts c t) (count_at s.nets c t) is)
-    go false is = collected_keeps s c n id on hand
 
 -- A passive reference without a section
 

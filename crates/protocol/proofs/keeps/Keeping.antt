@@ -1,10 +1,12 @@
 -- Each event keeps the core invariant.
-use Rattle.std.proofs.Common.{◌≡◌, ℕ, ◌-◌, inr, List, [], ◌∷◌, length-set, get_or, take, Option, Some, None, Bool, true, false, ◌&&◌, ◌==◌, IsTrue, refl, ap, subst, sym, ◌∙◌, arith, ltb-true}
-use Rattle.std.specs.Prelude.{if◌then◌else◌, is_none, nat_lt}
+use Rattle.std.proofs.Common.{◌≡◌, ℕ, ◌-◌, inr, List, [], ◌∷◌, length-set, get_or, take, Option, Some, None, true, ◌==◌, IsTrue, refl, subst, sym, ◌∙◌, arith, ltb-true}
+use Rattle.std.specs.Prelude.{is_none, nat_lt}
 use Rattle.std.specs.List.{list_all}
 use Rattle.std.proofs.lemmas.Bool.{and_parts, eqb-true}
+use Rattle.protocol.proofs.Made.{Made, Seats, Enters, Exits, Seeks, LoadsEnd, LoadsSlot, LoadsWord, LoadsLast, StoresRow, StoresCount, StoresLink, Publishes, Unpublishes, Hears, Snaps, Looks, AddsPassive, SubsPassive, LooksPassive, made, each_event}
+use Rattle.protocol.proofs.Made.{Counts, Splits, Joins, CountsDown, FindsCollected, SplitsBack, Collects, AddsTotal, JoinsKeeper, SubsTotal, KeepsDriver, SubsKept, Vacates, Shows, Hides, Recalls, RecallsHead, Refinds, Tries, ConfirmsTry, TakesBack}
 use Rattle.protocol.proofs.counts.CountBounds.{bias_at, none_held_at_bias}
-use Rattle.protocol.proofs.keeps.CountKeeps.{collect_keeps, count_add_keeps, count_store_keeps, exchange_keeps, fit_of, join_keeper_keeps, join_keeps, keep_keeps, only_slot, split_back_keeps}
+use Rattle.protocol.proofs.keeps.CountKeeps.{collect_keeps, count_add_keeps, count_down_keeps, count_store_keeps, collected_keeps, fit_of, join_keeper_keeps, join_keeps, keep_keeps, only_slot, split_back_keeps}
 use Rattle.protocol.proofs.keeps.CountKeeps.{confirm_keeps, split_keeps, take_back_keeps, total_add_keeps, total_sub_keeps, try_keeps}
 use Rattle.protocol.proofs.counts.Counts as C
 use Rattle.protocol.proofs.keeps.Drivers.{drivers_kept_sub, drivers_opening, drivers_publish, drivers_unpublish, drivers_vacate, kept_found}
@@ -17,18 +19,16 @@ use Rattle.protocol.proofs.keeps.References.{references_kept_sub, references_ope
 use Rattle.protocol.proofs.keeps.References.{snapshot_due_tells}
 use Rattle.protocol.proofs.keeps.SearchKeeps.{link_keeps, record_keeps, seek_keeps}
 use Rattle.protocol.proofs.keeps.SectionKeeps.{enter_keeps, exit_keeps, hear_keeps, recall_head_keeps, recall_keeps, refind_keeps, seat_keeps}
-use Rattle.protocol.specs.Common.{Outcome, after_count_store, after_kept_sub, after_look, after_look_passive, after_publish, after_row_store, after_snapshot, after_unpublish, after_vacate, count_down}
-use Rattle.protocol.specs.Common.{compared_slot, entry_of, exchange, guard, hear, is_bias, is_drained, is_iface_slot, is_idle, is_snapshot_due, kept_sub, load_record, look, may_add, may_collect, may_count}
-use Rattle.protocol.specs.Common.{may_enter, may_examine, may_exit, may_glance, may_join_keeper, may_keep, may_look_passive, may_publish, may_seat, may_seek, may_sub, may_vacate, may_write, snapshot}
-use Rattle.protocol.specs.Common.{confirm, may_confirm, may_try, take_back}
-use Rattle.protocol.specs.Common.{after_live_store, may_hide, may_recall, may_recall_head, may_refind, refind, show, snapshot_mark, split_back, split_ref, number_standing, state_after, step, store_slot, some_outcome, tell, total_add, total_sub, unpublish, with_some, Holds, held_at}
-use Rattle.protocol.specs.Common.{Run, run_of_events, run_with_event, at_rest, State, found_at, hand_at, kept_at, local_at, mark_at, opening, passive_at, row_at, search_at, section_at, total_at}
-use Rattle.protocol.specs.Common.{Keeps, Event, Seat, Enter, Exit, Seek, LoadLink, LoadRecord, StoreSlot, StoreNext, Publish, Unpublish, Tell, Hear, Snapshot, Look, PassiveAdd, PassiveSub}
-use Rattle.protocol.specs.Common.{PassiveLook, CountAdd, SplitRef, JoinRef, CountDown, SplitBack, Collect, TotalAdd, JoinKeeper, TotalSub, Keep, KeptSub, Vacate, Show, Hide, Recall, RecallHead, Refind, Try, Confirm, TakeBack, RecordOf, Reply, Done, Due, Adding}
-use Rattle.protocol.specs.Common.{Snapshots, Subtracting, Hand, Back, Giving, Taking, Trying, Standing}
+use Rattle.protocol.specs.Common.{Outcome, after_kept_sub, after_look, after_look_passive, after_publish, after_snapshot, after_unpublish, after_vacate}
+use Rattle.protocol.specs.Common.{entry_of, is_bias, is_drained, is_iface_slot, is_snapshot_due}
+use Rattle.protocol.specs.Common.{may_examine, may_look_passive, may_publish, may_vacate, may_write}
+use Rattle.protocol.specs.Common.{with_retired, count_at, after_live_store, snapshot_mark, state_after, step, Holds, held_at}
+use Rattle.protocol.specs.Common.{Run, run_of_events, run_with_event, at_rest, State, kept_at, local_at, mark_at, opening, passive_at, row_at, section_at, total_at}
+use Rattle.protocol.specs.Common.{Keeps, Event}
+use Rattle.protocol.specs.Common.{Reply}
+use Rattle.protocol.specs.Common.{Snapshots}
 use Rattle.registry_values.specs.Common.{mark_after_passive_look, mark_after_look, slot_of, slot_at, are_fit, bias}
-use Rattle.protocol.specs.Types.{Entry, Settings, Slot, Live, Retired}
-use Rattle.protocol.specs.declared.event.RecordOf.TheVariants.{Search as OfSearch, Passive as OfPassive, Local as OfLocal, Compared as OfCompared}
+use Rattle.protocol.specs.Types.{Entry, Settings, Live, Retired}
 
 -- The list
 
@@ -92,140 +92,62 @@ kept_sub_keeps s t d u on keeps of drained =
 pub opening_holds : (z : Settings) → IsTrue (are_fit z) → Holds (opening z)
 opening_holds z fit = M.opening_holds z fit (C.opening z) (references_opening z.cpus z.slots) (drivers_opening z.slots z.slots)
 
--- Each event
-
-pub guard_keeps : (b : Bool) (o : Option Outcome) → (b ≡ true → Keeps o) → Keeps (guard b o)
-guard_keeps true o keeps = keeps refl
-guard_keeps false o keeps = tt
-
-pub some_keeps : {X : Type 0} (o : Option X) (f : X → Option Outcome) → ((x : X) → o ≡ Some x → Keeps (f x)) → Keeps (with_some o f)
-some_keeps None f keeps = tt
-some_keeps (Some x) f keeps = keeps x refl
-
--- what is in a place
-pub standing_keeps : (s : State) (id : ℕ) (f : ℕ → Option Outcome) → ((n : ℕ) → local_at s.locals id ≡ Standing n → Keeps (f n)) → Keeps (with_some (number_standing (local_at s.locals id)) f)
-standing_keeps s id f keeps = some_keeps (number_standing (local_at s.locals id)) f (λ n is. keeps n (standing_tells (local_at s.locals id) n is))
-
-store_slot_keeps : (s : State) (t k v : ℕ) → Holds s → Keeps (store_slot s t k v)
-store_slot_keeps s t k v on = elim (nat_lt k 5) as (λ (b : Bool). Keeps (if b then guard (may_write s t) (some_outcome (after_row_store s t k v) Done)
-    else guard (may_write s t && nat_lt (k - 5) s.settings.cpus) (some_outcome (after_count_store s t (k - 5) v) Done))) [
-      | true ↦ guard_keeps (may_write s t) _ (λ may. L.row_store_keeps s t k v on may)
-      | false ↦ guard_keeps (may_write s t && nat_lt (k - 5) s.settings.cpus) _ (λ may.
-          let p = and_parts (may_write s t) (nat_lt (k - 5) s.settings.cpus) may in
-          count_store_keeps s t (k - 5) v on p.0 (ltb-true (k - 5) s.settings.cpus p.1))
-    ]
-
-unpublish_slot_keeps : (s : State) (t : ℕ) (x : Slot) → Holds s → slot_at s.slots t ≡ x → Keeps (unpublish s t x)
-unpublish_slot_keeps s t (Live e) on is = guard_keeps (at_rest s.due) _ (λ rest. unpublish_keeps s t e on is rest)
-unpublish_slot_keeps s t _ on is = tt
-
-tell_keeps : (s : State) (to : Option ℕ) → Holds s → Keeps (tell s to)
-tell_keeps s None on = guard_keeps (at_rest s.due) _ (λ rest. on)
-tell_keeps s (Some c) on = guard_keeps (is_idle s c) _ (λ idle. on)
-
-hear_one_keeps : (s : State) (to : Option ℕ) → Holds s → Keeps (hear s to)
-hear_one_keeps s None on = guard_keeps (at_rest s.due) _ (λ rest. on)
-hear_one_keeps s (Some c) on = guard_keeps (is_idle s c) _ (λ idle. hear_keeps s c on idle)
-
-snapshot_one_keeps : (s : State) (to : Option ℕ) (c : ℕ) → Holds s → Keeps (snapshot s to c)
-snapshot_one_keeps s None c on = guard_keeps (may_glance s c) _ (λ may. on)
-snapshot_one_keeps s (Some t) c on = guard_keeps (is_snapshot_due s.due t c) _ (λ due. snapshot_keeps s t c on due)
-
-look_one_keeps : (s : State) (to : Option ℕ) (c : ℕ) → Holds s → Keeps (look s to c)
-look_one_keeps s None c on = guard_keeps (may_glance s c) _ (λ may. on)
-look_one_keeps s (Some t) c on = guard_keeps (may_examine s t c) _ (λ may. look_keeps s t c on may)
-
-load_record_keeps : (s : State) (of : RecordOf) → Holds s → Keeps (load_record s of)
-load_record_keeps s (OfSearch c) on = some_keeps (search_at s c) _ (λ q is. record_keeps s c q on is)
-load_record_keeps s (OfPassive c n k) on = some_keeps (slot_of s.slots n) _ (λ t of. guard_keeps (is_idle s c && (nat_lt 0 (passive_at s.passive c t) && nat_lt k 5)) _ (λ may. on))
-load_record_keeps s (OfLocal id k) on = standing_keeps s id _ (λ n at. some_keeps (slot_of s.slots n) _ (λ t of. guard_keeps (nat_lt k 5) _ (λ may. on)))
-load_record_keeps s (OfCompared c) on = some_keeps (search_at s c) _ (λ q is. some_keeps (compared_slot q.place) _ (λ t at. on))
-
-split_hand_keeps : (s : State) (c : ℕ) (h : Hand) → Holds s → hand_at s c ≡ h → Keeps (split_ref s c h)
-split_hand_keeps s c (Taking n) on is = split_keeps s c n on is
-split_hand_keeps s c _ on is = tt
-
-count_down_hand_keeps : (s : State) (c : ℕ) (h : Hand) → Holds s → hand_at s c ≡ h → Keeps (count_down s c h)
-count_down_hand_keeps s c (Giving n id) on is = some_keeps (slot_of s.slots n) (exchange s c n id) (λ t of. exchange_keeps s c n id t on is of)
-count_down_hand_keeps s c _ on is = tt
-
-split_back_hand_keeps : (s : State) (c : ℕ) (h : Hand) → Holds s → hand_at s c ≡ h → Keeps (split_back s c h)
-split_back_hand_keeps s c (Back n id) on is = split_back_keeps s c n id on is
-split_back_hand_keeps s c _ on is = tt
-
-total_add_due_keeps : (s : State) (t : ℕ) (due : Due) → Holds s → s.due ≡ due → Keeps (total_add s t due)
-total_add_due_keeps s t (Adding u old) on is = guard_keeps (u == t) _ (λ same. total_add_keeps s t old on (is ∙ ap (λ (k : ℕ). Adding k old) (eqb-true u t same)))
-total_add_due_keeps s t _ on is = tt
-
-total_sub_due_keeps : (s : State) (t : ℕ) (due : Due) → Holds s → s.due ≡ due → Keeps (total_sub s t due)
-total_sub_due_keeps s t (Subtracting u) on is = guard_keeps (u == t) _ (λ same. total_sub_keeps s t on (is ∙ ap Subtracting (eqb-true u t same)))
-total_sub_due_keeps s t _ on is = tt
-
-kept_sub_one_keeps : (s : State) (t : ℕ) → Holds s → Keeps (kept_sub s t)
-kept_sub_one_keeps s t on = some_keeps (kept_at s.keeps t) _ (λ d is. some_keeps (slot_of s.slots d) _ (λ u of. guard_keeps (is_iface_slot (slot_at s.slots t) && is_drained s t) _ (λ may.
-    kept_sub_keeps s t d u on is of (and_parts (is_iface_slot (slot_at s.slots t)) (is_drained s t) may).1)))
-
 -- no clause speaks of the live words, but for their number
 live_store_keeps : (s : State) (t v : ℕ) → Holds s → Holds (after_live_store s t v)
 live_store_keeps s t v on = assumption (length-set s.lives t v ∙ on.shape.lives)
 
-show_keeps : (s : State) (t : ℕ) (x : Slot) → Holds s → Keeps (show s t x)
-show_keeps s t (Live e) on = guard_keeps (at_rest s.due) _ (λ rest. live_store_keeps s t e.number on)
-show_keeps s t _ on = tt
+-- Each event
 
-refind_slot_keeps : (s : State) (c t n : ℕ) (x : Slot) → Holds s → slot_at s.slots t ≡ x → Keeps (refind s c t n x)
-refind_slot_keeps s c t n (Live e) on is = guard_keeps (may_refind s c t n e) _ (λ may. refind_keeps s c t n e on is may)
-refind_slot_keeps s c t n _ on is = tt
-
-confirm_hand_keeps : (s : State) (c : ℕ) (h : Hand) → Holds s → hand_at s c ≡ h → Keeps (confirm s c h)
-confirm_hand_keeps s c (Trying t n) on is = guard_keeps (may_confirm s c n (slot_at s.slots t)) _ (λ may. confirm_keeps s c t n on is may)
-confirm_hand_keeps s c _ on is = tt
-
-take_back_hand_keeps : (s : State) (c : ℕ) (h : Hand) → Holds s → hand_at s c ≡ h → Keeps (take_back s c h)
-take_back_hand_keeps s c (Trying t n) on is = take_back_keeps s c t n on is
-take_back_hand_keeps s c _ on is = tt
-
-pub step_keeps : (s : State) (e : Event) → Holds s → Keeps (step s e)
-step_keeps s (Seat c) on = guard_keeps (may_seat s c) _ (λ may. seat_keeps s c on may)
-step_keeps s (Enter c) on = guard_keeps (may_enter s c) _ (λ may. enter_keeps s c on may)
-step_keeps s (Exit c) on = guard_keeps (may_exit s c) _ (λ may. exit_keeps s c on may)
-step_keeps s (Seek c kind name) on = guard_keeps (may_seek s c) _ (λ may. seek_keeps s c (record { kind = kind; name = name }) on may)
-step_keeps s (LoadLink c) on = some_keeps (search_at s c) _ (λ q is. link_keeps s c q on is)
-step_keeps s (LoadRecord of) on = load_record_keeps s of on
-step_keeps s (StoreSlot t k v) on = store_slot_keeps s t k v on
-step_keeps s (StoreNext t v) on = guard_keeps (may_write s t) _ (λ may. L.link_store_keeps s t v on may)
-step_keeps s (Publish t) on = some_keeps (entry_of t (row_at s.rows t)) _ (λ e is. guard_keeps (may_publish s t e) _ (λ may. publish_keeps s t e on is may))
-step_keeps s (Unpublish t) on = unpublish_slot_keeps s t (slot_at s.slots t) on refl
-step_keeps s (Tell to) on = tell_keeps s to on
-step_keeps s (Hear to) on = hear_one_keeps s to on
-step_keeps s (Snapshot to c) on = snapshot_one_keeps s to c on
-step_keeps s (Look to c) on = look_one_keeps s to c on
-step_keeps s (PassiveAdd c n) on = some_keeps (slot_of s.slots n) _ (λ t of. guard_keeps (may_add s c n t) _ (λ may. M.add_keeps s c n t on of may))
-step_keeps s (PassiveSub c n) on = some_keeps (slot_of s.slots n) _ (λ t of. guard_keeps (may_sub s c t) _ (λ may. M.sub_keeps s c t on may))
-step_keeps s (PassiveLook t c) on = guard_keeps (may_look_passive s t c) _ (λ may. look_passive_keeps s t c on may)
-step_keeps s (CountAdd c) on = some_keeps (found_at s c) _ (λ e is. some_keeps (slot_of s.slots e.number) _ (λ t of. guard_keeps (may_count s c t) _ (λ may. count_add_keeps s c t e on is of may)))
-step_keeps s (SplitRef c) on = split_hand_keeps s c (hand_at s c) on refl
-step_keeps s (JoinRef c id) on = standing_keeps s id _ (λ n at. guard_keeps (is_idle s c) _ (λ idle. join_keeps s c n id on at idle))
-step_keeps s (CountDown c) on = count_down_hand_keeps s c (hand_at s c) on refl
-step_keeps s (SplitBack c) on = split_back_hand_keeps s c (hand_at s c) on refl
-step_keeps s (Collect t c) on = guard_keeps (may_collect s t c) _ (λ may. collect_keeps s t c on may)
-step_keeps s (TotalAdd t) on = total_add_due_keeps s t s.due on refl
-step_keeps s (JoinKeeper id) on = standing_keeps s id _ (λ n at. some_keeps (slot_of s.slots n) _ (λ t of. guard_keeps (may_join_keeper s t) _ (λ may. join_keeper_keeps s id n t on at of may)))
-step_keeps s (TotalSub t) on = total_sub_due_keeps s t s.due on refl
-step_keeps s (Keep t id) on = standing_keeps s id _ (λ n at. some_keeps (slot_of s.slots n) _ (λ u of. guard_keeps (may_keep s t u) _ (λ may. keep_keeps s t id n u on at of may)))
-step_keeps s (KeptSub t) on = kept_sub_one_keeps s t on
-step_keeps s (Vacate t) on = guard_keeps (may_vacate s t) _ (λ may. vacate_keeps s t on may)
-step_keeps s (Show t) on = show_keeps s t (slot_at s.slots t) on
-step_keeps s (Hide t) on = guard_keeps (may_hide s t) _ (λ may. live_store_keeps s t 0 on)
-step_keeps s (Recall c t) on = guard_keeps (may_recall s c t) _ (λ may. recall_keeps s c t on may)
-step_keeps s (RecallHead c) on = guard_keeps (may_recall_head s c) _ (λ may. recall_head_keeps s c on may)
-step_keeps s (Refind c t n) on = refind_slot_keeps s c t n (slot_at s.slots t) on refl
-step_keeps s (Try c t n) on = guard_keeps (may_try s c t n) _ (λ may. try_keeps s c t n on may)
-step_keeps s (Confirm c) on = confirm_hand_keeps s c (hand_at s c) on refl
-step_keeps s (TakeBack c) on = take_back_hand_keeps s c (hand_at s c) on refl
+made_keeps : (s t : State) (e : Event) (r : Reply) → Holds s → Made s e t r → Holds t
+made_keeps s _ _ _ on (Seats c may) = seat_keeps s c on may
+made_keeps s _ _ _ on (Enters c may) = enter_keeps s c on may
+made_keeps s _ _ _ on (Exits c may) = exit_keeps s c on may
+made_keeps s _ _ _ on (Seeks c kind name may) = seek_keeps s c (record { kind = kind; name = name }) on may
+made_keeps s _ _ _ on (LoadsEnd c q at is) = subst Keeps is (link_keeps s c q on at)
+made_keeps s _ _ _ on (LoadsSlot c t q at is) = subst Keeps is (link_keeps s c q on at)
+made_keeps s _ _ _ on (LoadsWord c w q p at is) = subst Keeps is (record_keeps s c q on at)
+made_keeps s _ _ _ on (LoadsLast c q e at is) = subst Keeps is (record_keeps s c q on at)
+made_keeps s _ _ _ on (StoresRow t k v may) = L.row_store_keeps s t k v on may
+made_keeps s _ _ _ on (StoresCount t k v may) =
+    let p = and_parts (may_write s t) (nat_lt (k - 5) s.settings.cpus) may in
+    count_store_keeps s t (k - 5) v on p.0 (ltb-true (k - 5) s.settings.cpus p.1)
+made_keeps s _ _ _ on (StoresLink t v may) = L.link_store_keeps s t v on may
+made_keeps s _ _ _ on (Publishes t e of may) = publish_keeps s t e on of may
+made_keeps s _ _ _ on (Unpublishes t head next e at rest is) = subst (λ (x : State). Holds (with_retired x t e)) is (unpublish_keeps s t e on at rest)
+made_keeps s _ _ _ on (Hears c idle) = hear_keeps s c on idle
+made_keeps s _ _ _ on (Snaps t c due) = snapshot_keeps s t c on due
+made_keeps s _ _ _ on (Looks t c may) = look_keeps s t c on may
+made_keeps s _ _ _ on (AddsPassive c n t of may) = M.add_keeps s c n t on of may
+made_keeps s _ _ _ on (SubsPassive c n t of may) = M.sub_keeps s c t on may
+made_keeps s _ _ _ on (LooksPassive t c may) = look_passive_keeps s t c on may
+made_keeps s _ _ _ on (Counts c t e found of may) = count_add_keeps s c t e on found of may
+made_keeps s _ _ _ on (Splits c n hand) = split_keeps s c n on hand
+made_keeps s _ _ _ on (Joins c n id at idle) = join_keeps s c n id on (standing_tells (local_at s.locals id) n at) idle
+made_keeps s _ _ _ on (CountsDown c n id t hand of same) = count_down_keeps s c n id t on hand of (eqb-true (count_at s.counts c t) (count_at s.nets c t) same)
+made_keeps s _ _ _ on (FindsCollected c n id hand) = collected_keeps s c n id on hand
+made_keeps s _ _ _ on (SplitsBack c n id hand) = split_back_keeps s c n id on hand
+made_keeps s _ _ _ on (Collects t c may) = collect_keeps s t c on may
+made_keeps s _ _ _ on (AddsTotal t old due) = total_add_keeps s t old on due
+made_keeps s _ _ _ on (JoinsKeeper id n t at of may) = join_keeper_keeps s id n t on (standing_tells (local_at s.locals id) n at) of may
+made_keeps s _ _ _ on (SubsTotal t due) = total_sub_keeps s t on due
+made_keeps s _ _ _ on (KeepsDriver t id n u at of may) = keep_keeps s t id n u on (standing_tells (local_at s.locals id) n at) of may
+made_keeps s _ _ _ on (SubsKept t d u keeps of may) = kept_sub_keeps s t d u on keeps of (and_parts (is_iface_slot (slot_at s.slots t)) (is_drained s t) may).1
+made_keeps s _ _ _ on (Vacates t may) = vacate_keeps s t on may
+made_keeps s _ _ _ on (Shows t v) = live_store_keeps s t v on
+made_keeps s _ _ _ on (Hides t) = live_store_keeps s t 0 on
+made_keeps s _ _ _ on (Recalls c t may) = recall_keeps s c t on may
+made_keeps s _ _ _ on (RecallsHead c may) = recall_head_keeps s c on may
+made_keeps s _ _ _ on (Refinds c t n e at may) = refind_keeps s c t n e on at may
+made_keeps s _ _ _ on (Tries c t n may) = try_keeps s c t n on may
+made_keeps s _ _ _ on (ConfirmsTry c t n hand may) = confirm_keeps s c t n on hand may
+made_keeps s _ _ _ on (TakesBack c t n hand) = take_back_keeps s c t n on hand
+made_keeps s _ _ _ on _ = on
 
 pub step_holds : (s t : State) (e : Event) (r : Reply) → Holds s → step s e ≡ Some (record { state = t; reply = r }) → Holds t
-step_holds s t e r on is = subst Keeps is (step_keeps s e on)
+step_holds s t e r on is = made_keeps s t e r on (made s e (record { state = t; reply = r }) is)
+
+pub step_keeps : (s : State) (e : Event) → Holds s → Keeps (step s e)
+step_keeps s e on = each_event Keeps s e tt (λ n r made. made_keeps s n e r on made)
 
 -- the state after an event, made or not
 pub after_keeps : (s : State) (o : Option Outcome) → Holds s → Keeps o → Holds (state_after s o)

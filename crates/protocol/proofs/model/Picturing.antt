@@ -1,7 +1,7 @@
 -- When two model states are the same, what written lists show, and runs of few steps.
-use Rattle.std.proofs.Common.{◌≡◌, ℕ, ◌<◌, List, length, get_or, set, cond, Bool, true, false, Option, Some, None, refl, sym, ap, subst, ◌∙◌, get_or-set_same, get_or-set_other}
+use Rattle.std.proofs.Common.{◌≡◌, ℕ, ◌<◌, List, length, get_or, set, cond, Bool, refl, sym, ap, subst, ◌∙◌, get_or-set_same, get_or-set_other}
 use Rattle.std.proofs.lemmas.Bool.{cases_eq, eq-eqb, ne_eqb}
-use Rattle.protocol.specs.Common.{Outcome, guard, with_some, Holds, put, Model, IsModelStep, IsModelRun, Stays, Goes_on, picture}
+use Rattle.protocol.specs.Common.{put, Model, IsModelStep, IsModelRun, Stays, Goes_on}
 use Rattle.protocol.specs.Model.{Keeps}
 use Rattle.protocol.specs.Common.{Enters, Exits, Sees, Seeks, Answers, Attaches, Detaches, Acquires, Copies, Releases, Takes, Counts, Uncounts, Vacates, Gives_up}
 use Rattle.protocol.proofs.slots.Occupied.{written_cases}
@@ -98,16 +98,3 @@ pub unwritten : {X Y : Type 0} (f : X → Y) (d : X) (xs : List X) (c : ℕ) (x 
 unwritten f d xs c x stays j = either (written_cases d xs c x j)
     (λ here. ap (λ (k : ℕ). f (get_or xs k d)) here.0 ∙ (stays ∙ ap f (sym here.1)))
     (λ off. ap f (sym off.1))
-
--- what an outcome must give: from the invariant after it, a run from m to its picture, in which references are taken without a section only as `MayTake` says
-abbrev pub Makes : (ℕ → ℕ → Type 0) → Model → Option Outcome → Type 0
-Makes MayTake m None = Unit {0}
-Makes MayTake m (Some o) = Holds o.state → IsModelRun MayTake m (picture o.state)
-
-pub makes_guard : (MayTake : ℕ → ℕ → Type 0) (m : Model) (b : Bool) (o : Option Outcome) → (b ≡ true → Makes MayTake m o) → Makes MayTake m (guard b o)
-makes_guard MayTake m true o made = made refl
-makes_guard MayTake m false o made = tt
-
-pub makes_some : {X : Type 0} (MayTake : ℕ → ℕ → Type 0) (m : Model) (o : Option X) (f : X → Option Outcome) → ((x : X) → o ≡ Some x → Makes MayTake m (f x)) → Makes MayTake m (with_some o f)
-makes_some MayTake m None f made = tt
-makes_some MayTake m (Some x) f made = made x refl

@@ -3,9 +3,9 @@ use Rattle.std.proofs.Common.{◌≡◌, ℕ, ◌+◌, ◌-◌, ◌<◌, ◌⊎�
 use Rattle.std.proofs.lemmas.Bool.{and_parts, cases_eq, cases_lt}
 use Rattle.std.proofs.lemmas.Option.{none-some, same_Some}
 use Rattle.protocol.specs.Types.{Entry, Change, Attach, Detach, Slot, Vacant, Live, Retired}
-use Rattle.protocol.specs.Common.{Free, Standing, Due, Rest, after_change, IsLegal, EndsAt, State, row_at, passive_at, kept_at, local_at, after_row_store, after_count_store, after_link_store}
+use Rattle.protocol.specs.Common.{Free, Standing, Due, Rest, after_change, IsLegal, EndsAt, State, row_at, passive_at, kept_at, local_at}
 use Rattle.protocol.specs.Common.{may_write, entry_of, may_publish, after_publish, with_retired, with_link_past, after_unpublish, is_driver_slot, may_keep, after_keep, is_drained, after_kept_sub}
-use Rattle.protocol.specs.Common.{may_vacate, after_vacate, Holds, IsIn, SlotsShow, held_at, standing_of, in_hand, put, IsUnheld, IsDriverHere, IsModelRun, Stays, number_in, passive_in}
+use Rattle.protocol.specs.Common.{may_vacate, after_vacate, Holds, IsIn, SlotsShow, held_at, standing_of, in_hand, put, IsUnheld, IsDriverHere, IsModelRun, number_in, passive_in}
 use Rattle.protocol.specs.Common.{Hand, trying_at, subtractions_due, locals_of, picture, TakesNone}
 use Rattle.registry_values.specs.Common.{slot_at, slot_of, slot_before}
 use Rattle.protocol.specs.Model
@@ -57,15 +57,6 @@ waiting_rest : (slots : List Slot) (n : ℕ) (due : Due) → due ≡ Rest → su
 waiting_rest slots n due is = ap (subtractions_due slots n) is
 
 -- Stores to a vacant slot show nothing.
-
-pub row_store_refines : (s : State) (t k v : ℕ) → IsModelRun TakesNone (picture s) (picture (after_row_store s t k v))
-row_store_refines s t k v = Stays
-
-pub count_store_refines : (s : State) (t c v : ℕ) → IsModelRun TakesNone (picture s) (picture (after_count_store s t c v))
-count_store_refines s t c v = Stays
-
-pub link_store_refines : (s : State) (t v : ℕ) → IsModelRun TakesNone (picture s) (picture (after_link_store s t v))
-link_store_refines s t v = Stays
 
 -- Publish and Unpublish
 

@@ -5,8 +5,8 @@ use Rattle.std.proofs.lemmas.Bool.{and_parts, or_cases}
 use Rattle.protocol.specs.Types.{Entry, Slot, Retired}
 use Rattle.protocol.specs.Common.{Hand, Empty, Taking, Giving, Back, Trying, LocalPlace, Free, Standing, Lifted, Due, Rest, Snapshots, Adding, Subtracting, State, with_cell, found_at, hand_at, passive_at}
 use Rattle.protocol.specs.Common.{count_at, local_at, is_idle, is_number, may_add, after_add, may_sub, after_sub, may_count, after_count_add, least_id, with_local, after_split, after_hand}
-use Rattle.protocol.specs.Common.{after_count_down, after_collected, is_snapshot_due, after_snapshot, due_after, after_look, after_look_passive, may_collect, after_collect, after_total}
-use Rattle.protocol.specs.Common.{may_join_keeper, may_join, after_join_keeper, Holds, DueHolds, one_if, put, IsModelRun, Stays, passive_in, number_in, subtractions_due, locals_of, picture, TakesNone}
+use Rattle.protocol.specs.Common.{after_count_down, after_collected, is_snapshot_due, after_snapshot, due_after, may_collect, after_collect, after_total}
+use Rattle.protocol.specs.Common.{may_join_keeper, may_join, after_join_keeper, Holds, DueHolds, one_if, put, IsModelRun, passive_in, number_in, subtractions_due, locals_of, picture, TakesNone}
 use Rattle.protocol.specs.Common.{after_confirm, after_take_back, after_taking, after_tried, after_try, has_live, may_confirm, may_try, cell, trying_at, trying_of, in_hand, IsIn}
 use Rattle.registry_values.specs.Common.{slot_at, slot_of, has_number}
 use Rattle.protocol.specs.Model
@@ -298,12 +298,6 @@ pub snapshot_refines : (s : State) (t c : ℕ) → is_snapshot_due s.due t c ≡
 snapshot_refines s t c ok =
     locals_same s s.hands (due_after s t c) s.locals (λ j u. refl)
     (λ n. omega (arith, waiting_else s.slots n s.due (Snapshots t c) (snapshot_due_tells s.due t c ok) refl, waiting_snapshots s.slots n t (c + 1) (nat_lt (c + 1) s.settings.cpus)))
-
-pub look_refines : (s : State) (t c : ℕ) → IsModelRun TakesNone (picture s) (picture (after_look s t c))
-look_refines s t c = Stays
-
-pub look_passive_refines : (s : State) (t c : ℕ) → IsModelRun TakesNone (picture s) (picture (after_look_passive s t c))
-look_passive_refines s t c = Stays
 
 pub collect_refines : (s : State) (t c : ℕ) → may_collect s t c ≡ true → IsModelRun TakesNone (picture s) (picture (after_collect s t c))
 collect_refines s t c ok =

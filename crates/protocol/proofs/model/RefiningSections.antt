@@ -1,20 +1,16 @@
 -- Seats, sections, notes and lookups make steps of the model.
-use Rattle.std.proofs.Common.{◌≡◌, ℕ, zero, suc, ◌*◌, ◌<◌, List, length, get_or, set, Option, Some, None, true, ◌&&◌, nat_eq, nat_lt, refl, sym, ap, subst, ◌∙◌, arith, get_or-set_other, get_or-set_same, length-set}
+use Rattle.std.proofs.Common.{◌≡◌, ℕ, ◌*◌, ◌<◌, List, length, get_or, set, Option, Some, None, true, ◌&&◌, nat_eq, nat_lt, refl, sym, ap, subst, ◌∙◌, arith, get_or-set_other, get_or-set_same, length-set}
 use Rattle.std.proofs.lemmas.Bool.{and_parts, cases_eq}
 use Rattle.protocol.specs.Types.{Entry, Key, Live}
 use Rattle.registry_values.specs.Common.{key_of, slot_at}
 use Rattle.protocol.proofs.Either.{either}
-use Rattle.protocol.specs.Common.{Loaded, On, Over, SearchPlace, AtHead, AtNumber, Search, IsLawful, State, section_at, begin_at, depth_at, seen_at, search_at, loaded_at, row_of_place, is_idle}
-use Rattle.protocol.specs.Common.{is_outside, is_inside, after_refind, may_recall, may_recall_head, may_refind, after_seat, may_enter, after_enter, may_exit, after_exit, after_seeing, may_seek, after_seek, with_search_at, search_over, with_some, link_at}
-use Rattle.protocol.specs.Common.{link_loaded, load_link, load_searched, outcome_of, Holds, IsModelStep, IsModelRun, Stays, Goes_on, lookup_of, picture, TakesNone}
+use Rattle.protocol.specs.Common.{SearchPlace, AtHead, AtNumber, Search, IsLawful, State, section_at, begin_at, depth_at, seen_at, search_at, is_idle}
+use Rattle.protocol.specs.Common.{is_outside, is_inside, after_refind, may_recall, may_recall_head, may_refind, may_enter, after_enter, may_exit, after_exit, after_seeing, may_seek, after_seek, with_search_at, search_over}
+use Rattle.protocol.specs.Common.{Holds, IsModelStep, IsModelRun, Stays, Goes_on, lookup_of, picture, TakesNone}
 use Rattle.protocol.specs.Model
 use Rattle.protocol.proofs.keeps.Searching.{within_some}
 use Rattle.protocol.proofs.keeps.SectionKeeps.{none_from, some_from, idle_parts, idle_tells, recall_head_tells, recall_tells, refind_tells}
-use Rattle.protocol.proofs.keeps.SearchKeeps.{AnswersLookup, link_answers, record_answers}
-use Rattle.protocol.proofs.model.Picturing.{Alike, Makes, same_model, no_step, one_step, written, unwritten}
-
-pub seat_refines : (s : State) (c : ℕ) → IsModelRun TakesNone (picture s) (picture (after_seat s c))
-seat_refines s c = Stays
+use Rattle.protocol.proofs.model.Picturing.{Alike, same_model, no_step, one_step, written, unwritten}
 
 pub enter_refines : (s : State) (c : ℕ) → Holds s → may_enter s c ≡ true → IsModelRun TakesNone (picture s) (picture (after_enter s c))
 enter_refines s c on ok =
@@ -131,23 +127,3 @@ pub followed_refines : (s : State) (c : ℕ) (q : Search) (t : ℕ) → Holds s 
 followed_refines s c q t on is =
     one_step (picture s) (picture (after_seeing s c)) (picture (with_search_at (after_seeing s c) c q (AtNumber t))) (see_step s c on (omega (arith, within_some s.searches c q is, on.shape.searches)))
     (going_on_alike (after_seeing s c) c q (AtNumber t) is)
-
-link_loaded_makes : (s : State) (c : ℕ) (q : Search) (x : ℕ) → Holds s → search_at s c ≡ Some q → AnswersLookup c q (link_loaded s c q x) → Makes TakesNone (picture s) (link_loaded s c q x)
-link_loaded_makes s c q zero on is lawful = λ now. missed_refines s c q on is lawful
-link_loaded_makes s c q (suc t) on is lawful = λ now. followed_refines s c q t on is
-
-followed_makes : (s : State) (c : ℕ) (q : Search) (x : Option ℕ) → Holds s → search_at s c ≡ Some q → AnswersLookup c q (with_some x (link_loaded s c q))
-    → Makes TakesNone (picture s) (with_some x (link_loaded s c q))
-followed_makes s c q None on is lawful = tt
-followed_makes s c q (Some x) on is lawful = link_loaded_makes s c q x on is lawful
-
-pub link_makes : (s : State) (c : ℕ) (q : Search) → Holds s → search_at s c ≡ Some q → Makes TakesNone (picture s) (load_link s c q q.place)
-link_makes s c q on is = followed_makes s c q (link_at s q.place) on is (link_answers s c q on is)
-
-outcome_makes : (s : State) (c : ℕ) (q : Search) (o : Option Loaded) → Holds s → search_at s c ≡ Some q → AnswersLookup c q (outcome_of s c q o) → Makes TakesNone (picture s) (outcome_of s c q o)
-outcome_makes s c q None on is lawful = tt
-outcome_makes s c q (Some (On p w)) on is lawful = λ now. going_on_refines s c q p is
-outcome_makes s c q (Some (Over e)) on is lawful = λ now. over_refines s c q (Some e) on is lawful
-
-pub record_makes : (s : State) (c : ℕ) (q : Search) → Holds s → search_at s c ≡ Some q → Makes TakesNone (picture s) (load_searched s c q q.place)
-record_makes s c q on is = outcome_makes s c q (loaded_at q q.place (row_of_place s.rows q.place)) on is (record_answers s c q on is)

@@ -5,7 +5,7 @@ use Rattle.protocol.specs.Common.{Event, State, opening, kept_at, step, keeps_ri
 use Rattle.protocol.proofs.keeps.Keeping.{step_keeps, after_keeps}
 use Rattle.protocol.proofs.slots.Occupied.{attached_in}
 use Rattle.protocol.proofs.history.History.{at_within}
-use Rattle.protocol.proofs.runs.Steps.{step_sort, after_more}
+use Rattle.protocol.proofs.runs.Steps.{after_more}
 use Rattle.protocol.proofs.runs.Reuse.{every_run_keeps, number_is, goes, comes, given_vacant, keeps_same, goes_or_stays}
 use Rattle.protocol.proofs.runs.Answers.{history_grows}
 use Rattle.protocol.proofs.keeps.Drivers.{rightly_some}
@@ -20,7 +20,7 @@ length_more (x ∷ xs) ys = let more = length_more xs ys in omega (arith, more)
 
 longer : (s : State) (e : Event) → Holds s → length s.history ≤ length (after_event s e).history
 longer s e on =
-    let grows = history_grows s e on in
+    let grows = history_grows s e in
     subst (λ (h : List Change). length s.history ≤ length h) (sym grows.1) (length_more s.history grows.0)
 
 never : (s : State) (es : List Event) (t n : ℕ) → Holds s → n ≤ length s.history → (occupant_of s t ≡ Some n → ⊥) → occupant_of (after s es) t ≡ Some n → ⊥
@@ -28,7 +28,7 @@ never s [] t n on old off is = off is
 never s (e ∷ es) t n on old off is =
     let grows = longer s e on in
     never (after_event s e) es t n (after_holds s e on) (omega (arith, old, grows))
-    (λ now. let c = comes s e (step s e) t n on (step_sort s e on) off now in omega (arith, c.2, old))
+    (λ now. let c = comes s e t n on off now in omega (arith, c.2, old))
     (sym (ap (λ (k : State). occupant_of k t) (after_more s e es)) ∙ is)
 
 -- an occupant's number is one of the history
@@ -42,7 +42,7 @@ numbered s t n on is =
 stays : (s : State) (e : Event) (t u d : ℕ) → Holds s → kept_at s.keeps t ≡ Some d → occupant_of s u ≡ Some d → occupant_of (after_event s e) u ≡ Some d
 stays s e t u d on keeps is = either (goes_or_stays (occupant_of (after_event s e) u) d)
     (λ stays. stays)
-    (λ off. absurd ((goes s e (step s e) u d on (step_sort s e on) is off).2.keeps t keeps))
+    (λ off. absurd ((goes s e u d on is off).2.keeps t keeps))
 
 throughout : (s : State) (es : List Event) (t u n d : ℕ) → Holds s → occupant_of s t ≡ Some n → kept_at s.keeps t ≡ Some d → occupant_of s u ≡ Some d → occupant_of (after s es) t ≡ Some n
     → (kept_at (after s es).keeps t ≡ Some d) × (occupant_of (after s es) u ≡ Some d)
@@ -55,14 +55,14 @@ throughout s (e ∷ es) t u n d on is keeps stands last =
     let old = numbered s t n on is in
     either (goes_or_stays (occupant_of (after_event s e) t) n)
     (λ now.
-    let rest = throughout (after_event s e) es t u n d (after_holds s e on) now (keeps_same s e (step s e) t n on (step_sort s e on) is now ∙ keeps) (stays s e t u d on keeps stands) also in
+    let rest = throughout (after_event s e) es t u n d (after_holds s e on) now (keeps_same s e t n on is now ∙ keeps) (stays s e t u d on keeps stands) also in
     (ap (λ (k : State). kept_at k.keeps t) same ∙ rest.0, ap (λ (k : State). occupant_of k u) same ∙ rest.1))
     (λ off. absurd (never (after_event s e) es t n (after_holds s e on) (omega (arith, old, grows)) off also))
 
 pub reuses_safely : (s : State) → Holds s → ReusesSafely s
 reuses_safely s on = record {
-  goes = λ event t n is off. goes s event (step s event) t n on (step_sort s event on) is off;
-  comes = λ event t n off is. comes s event (step s event) t n on (step_sort s event on) off is;
+  goes = λ event t n is off. goes s event t n on is off;
+  comes = λ event t n off is. comes s event t n on off is;
   given = λ event t of allowed. given_vacant s event t on of allowed;
   never = λ later t n old off is. never s later t n on old off is;
 }
@@ -72,7 +72,7 @@ outlive_interfaces s on = record {
   keeps = λ t e is kind. rightly_some (kept_at s.keeps t) (ap (keeps_rightly (kept_at s.keeps t)) (sym kind) ∙ on.kept_drivers.rightly t e is);
   stands = λ t d is. on.kept_drivers.drivers t d is;
   stays = λ event t u d keeps is. stays s event t u d on keeps is;
-  same = λ event t n is now. keeps_same s event (step s event) t n on (step_sort s event on) is now;
+  same = λ event t n is now. keeps_same s event t n on is now;
   throughout = λ later t u n d is keeps stands last. throughout s later t u n d on is keeps stands last;
 }
 

@@ -6,10 +6,10 @@ use Rattle.std.proofs.lemmas.List.{append-nil}
 use Rattle.std.proofs.lemmas.Option.{none-some, same_Some}
 use Rattle.protocol.specs.Types.{Entry, Change, Attach, Detach, Key, Slot, Live}
 use Rattle.protocol.specs.Common.{Leads, To_end, To_entry, IsNewestAt, RecallsNewest, NewestRecalls, Refind, after_refind, found_at, may_recall_head, may_refind, refind}
-use Rattle.protocol.specs.Common.{Event, Seek, Reply, Done, Word, Found, Missed, Search, SearchPlace, AtHead, AtNumber, Loaded, On, Over}
+use Rattle.protocol.specs.Common.{Event, Seek, Reply, Done, Word, Found, Missed, Search, SearchPlace, AtHead, AtNumber}
 use Rattle.protocol.specs.Common.{EndsAt, IsLiveAt, IsLawful, IsLegal, IsLookup, State, opening, seen_at, search_at, begin_at, Outcome, step, state_after, guard, is_idle, is_inside}
-use Rattle.protocol.specs.Common.{may_enter, may_seek, may_recall, may_confirm, confirm, is_honest, has_live, live_at, hand_at, Hand, Trying, IsAttached, after_confirm, after_seek, after_enter, after_seeing, after_change, with_some, link_at, link_loaded, load_link, load_searched, outcome_of, some_outcome}
-use Rattle.protocol.specs.Common.{Holds, PlaceHolds, after, after_event, IsAllowed, IsLoadOf, answer_of, loaded_at, row_of_place}
+use Rattle.protocol.specs.Common.{may_enter, may_seek, may_recall, may_confirm, confirm, is_honest, has_live, live_at, hand_at, Hand, Trying, IsAttached, after_confirm, after_seek, after_enter, after_seeing, after_change, with_some, load_link, load_searched, some_outcome}
+use Rattle.protocol.specs.Common.{Holds, PlaceHolds, after, after_event, IsAllowed, IsLoadOf, answer_of}
 use Rattle.protocol.specs.History.{change_at}
 use Rattle.registry_values.specs.Common.{key_of, slot_at}
 use Rattle.protocol.specs.Common.{seek_for, IsNoSeek, SeeksNone, AnswersFreshly, SeesAll, RecallsLive, FreshAnswers, WholePasses, LiveRecalls}
@@ -20,7 +20,9 @@ use Rattle.protocol.proofs.keeps.SectionKeeps.{idle_parts, recall_head_tells, re
 use Rattle.protocol.proofs.keeps.CountKeeps.{confirm_tells, live_tells, tried_seen, trying_tells}
 use Rattle.protocol.proofs.keeps.Searching.{Walks, Steps, IsStep, load_link_steps, load_searched_steps, weight, placed, within_some, seen_now, searching_within}
 use Rattle.protocol.proofs.runs.Answers.{history_grows}
-use Rattle.protocol.proofs.runs.Steps.{Sort, Refused, Left, Entered, Exited, Sought, Heard, Recalled, Searched, Published, Unpublished, IsOn, step_sort, after_more}
+use Rattle.protocol.proofs.Made.{Made, Enters, Exits, Seeks, LoadsEnd, LoadsSlot, LoadsWord, LoadsLast, Publishes, Unpublishes, Hears, Recalls, RecallsHead, Refinds, ConfirmsTry, each_event}
+use Rattle.protocol.proofs.slots.Cells.{by_place}
+use Rattle.protocol.proofs.runs.Steps.{after_more}
 use Rattle.protocol.proofs.runs.Reuse.{every_run_keeps}
 use Rattle.protocol.proofs.Either.{either}
 
@@ -70,10 +72,6 @@ going_none s c from key none q is = absurd (none-some q (sym none ∙ is))
 
 -- Its own loads
 
-abbrev pub GoingAfter : ℕ → ℕ → Key → Option Outcome → Type 0
-GoingAfter c from key None = Unit {0}
-GoingAfter c from key (Some o) = Going o.state c from key
-
 over_none : (s : State) (c : ℕ) (q : Search) → search_at s c ≡ Some q → get_or (set s.searches c None) c None ≡ None
 over_none s c q is = get_or-set_same s.searches c None None (within_some s.searches c q is)
 
@@ -87,88 +85,72 @@ placed_goes s n c from left key q place w was history begin le steps r is =
       seen = inr le;
     }
 
-link_going : (s : State) (c from left : ℕ) (key : Key) (q : Search) (x : ℕ) → Holds s → search_at s c ≡ Some q → Goes s c from key q → Steps c from q left (link_loaded s c q x)
-    → GoingAfter c from key (link_loaded s c q x)
-link_going s c from left key q zero on is was steps = going_none _ c from key (over_none s c q is)
-link_going s c from left key q (suc t) on is was steps =
-    placed_goes s _ c from left key q (AtNumber t) (suc t) was refl refl (omega (arith, was.walk.by_now, seen_now s c on (searching_within s c q on is))) steps
+-- what a load of the search leaves is a step of the walk
 
-followed_going : (s : State) (c from left : ℕ) (key : Key) (q : Search) (x : Option ℕ) → Holds s → search_at s c ≡ Some q → Goes s c from key q → Steps c from q left (with_some x (link_loaded s c q))
-    → GoingAfter c from key (with_some x (link_loaded s c q))
-followed_going s c from left key q None on is was steps = tt
-followed_going s c from left key q (Some x) on is was steps = link_going s c from left key q x on is was steps
+link_steps : (s : State) (c from : ℕ) (key : Key) (q : Search) → Holds s → search_at s c ≡ Some q → Goes s c from key q → Steps c from q (weight s q.place) (load_link s c q q.place)
+link_steps s c from key q on is was = load_link_steps s c from q q.place on was.walk is was.stands
 
-outcome_going : (s : State) (c from left : ℕ) (key : Key) (q : Search) (o : Option Loaded) → search_at s c ≡ Some q → Goes s c from key q → from ≤ seen_at s c → Steps c from q left (outcome_of s c q o)
-    → GoingAfter c from key (outcome_of s c q o)
-outcome_going s c from left key q None is was le steps = tt
-outcome_going s c from left key q (Some (On p w)) is was le steps = placed_goes s _ c from left key q p w was refl refl le steps
-outcome_going s c from left key q (Some (Over e)) is was le steps = going_none _ c from key (over_none s c q is)
+record_steps : (s : State) (c from : ℕ) (key : Key) (q : Search) → Holds s → search_at s c ≡ Some q → Goes s c from key q → Steps c from q (weight s q.place) (load_searched s c q q.place)
+record_steps s c from key q on is was = either was.seen
+    (λ head. subst (Steps c from q (weight s q.place)) (ap (load_searched s c q) (sym head)) tt)
+    (λ le. load_searched_steps s c from q q.place on was.walk le is was.stands)
 
--- what a load of the search leaves: a step of the walk, and a search that goes
-record Own (s : State) (c from : ℕ) (key : Key) (q : Search) (o : Option Outcome) : Type 0 where
-  steps : Steps c from q (weight s q.place) o
-  going : GoingAfter c from key o
-
-link_own : (s : State) (c from : ℕ) (key : Key) (q : Search) → Holds s → search_at s c ≡ Some q → Goes s c from key q → Own s c from key q (load_link s c q q.place)
-link_own s c from key q on is was =
-    let steps = load_link_steps s c from q q.place on was.walk is was.stands in
-    record { steps = steps; going = followed_going s c from (weight s q.place) key q (link_at s q.place) on is was steps }
-
-record_own : (s : State) (c from : ℕ) (key : Key) (q : Search) → Holds s → search_at s c ≡ Some q → Goes s c from key q → Own s c from key q (load_searched s c q q.place)
-record_own s c from key q on is was = either was.seen
-    (λ head. subst (λ (o : Option Outcome). Own s c from key q o) (ap (load_searched s c q) (sym head)) (record { steps = tt; going = tt }))
-    (λ le.
-    let steps = load_searched_steps s c from q q.place on was.walk le is was.stands in
-    record { steps = steps; going = outcome_going s c from (weight s q.place) key q (loaded_at q q.place (row_of_place s.rows q.place)) is was le steps })
-
-own : (s : State) (c from : ℕ) (key : Key) (q : Search) (e : Event) → Holds s → search_at s c ≡ Some q → Goes s c from key q → IsLoadOf c e → Own s c from key q (step s e)
-own s c from key q e on is was of = either of
-    (λ link. subst (Own s c from key q) (ap (λ (o : Option Search). with_some o (λ (r : Search). load_link s c r r.place)) (sym is) ∙ ap (step s) (sym link)) (link_own s c from key q on is was))
-    (λ rec. subst (Own s c from key q) (ap (λ (o : Option Search). with_some o (λ (r : Search). load_searched s c r r.place)) (sym is) ∙ ap (step s) (sym rec)) (record_own s c from key q on is was))
+own_steps : (s : State) (c from : ℕ) (key : Key) (q : Search) (e : Event) → Holds s → search_at s c ≡ Some q → Goes s c from key q → IsLoadOf c e → Steps c from q (weight s q.place) (step s e)
+own_steps s c from key q e on is was of = either of
+    (λ link. subst (Steps c from q (weight s q.place)) (ap (λ (o : Option Search). with_some o (λ (r : Search). load_link s c r r.place)) (sym is) ∙ ap (step s) (sym link)) (link_steps s c from key q on is was))
+    (λ rec. subst (Steps c from q (weight s q.place)) (ap (λ (o : Option Search). with_some o (λ (r : Search). load_searched s c r r.place)) (sym is) ∙ ap (step s) (sym rec)) (record_steps s c from key q on is was))
 
 -- Every event
 
--- the search of another CPU
-other_going : (s n : State) (c j from : ℕ) (key : Key) (old : Search) → ¬ (c ≡ j) → n.history ≡ s.history → n.begins ≡ s.begins → (n.seen ≡ s.seen) ⊎ (n.seen ≡ (after_seeing s j).seen)
-    → IsOn s j old n → Going s c from key → Going n c from key
-other_going s n c j from key old off history begins seen on going = going_same s n c from key history (ap (λ (xs : List (Option ℕ)). get_or xs c None) begins)
-    (either seen
-    (λ same. ap (λ (xs : List ℕ). get_or xs c 0) same)
-    (λ sees. ap (λ (xs : List ℕ). get_or xs c 0) sees ∙ get_or-set_other s.seen j c (length s.history) 0 off))
-    (either on
-    (λ over. ap (λ (xs : List (Option Search)). get_or xs c None) over ∙ get_or-set_other s.searches j c None None off)
-    (λ at. ap (λ (xs : List (Option Search)). get_or xs c None) at.1 ∙ get_or-set_other s.searches j c _ None off))
-    going
+-- the CPU j, which has no search, sees all of the history
+seen_going : (s n : State) (c j from : ℕ) (key : Key) → search_at s j ≡ None → n.history ≡ s.history → n.begins ≡ s.begins → n.seen ≡ set s.seen j (length s.history) → n.searches ≡ s.searches
+    → Going s c from key → Going n c from key
+seen_going s n c j from key none history begins seen searches going =
+    let same_search = ap (λ (xs : List (Option Search)). get_or xs c None) searches in
+    either (cases_eq c j)
+    (λ same. going_none n c from key (same_search ∙ (ap (search_at s) same ∙ none)))
+    (λ off. going_same s n c from key history (ap (λ (xs : List (Option ℕ)). get_or xs c None) begins)
+    (ap (λ (xs : List ℕ). get_or xs c 0) seen ∙ get_or-set_other s.seen j c (length s.history) 0 off) same_search going)
 
-goes_on : (s : State) (c from : ℕ) (key : Key) (e : Event) (o : Option Outcome) → Holds s → IsNoSeek c e → Going s c from key → Sort s e o → step s e ≡ o → Going (state_after s o) c from key
-goes_on s c from key _ _ on off_seek going (Refused e) made = going
-goes_on s c from key _ _ on off_seek going (Left e o same) made = going_same s o.state c from key same.history (ap (λ (xs : List (Option ℕ)). get_or xs c None) same.begins)
-    (ap (λ (xs : List ℕ). get_or xs c 0) same.seen) (ap (λ (xs : List (Option Search)). get_or xs c None) same.searches) going
-goes_on s c from key _ _ on off_seek going (Entered j may) made = either (cases_eq c j)
-    (λ same. going_none (after_enter s j) c from key (ap (search_at s) same ∙ (idle_parts s j (and_parts (is_idle s j) _ may).0).1))
-    (λ off. going_same s (after_enter s j) c from key refl (get_or-set_other s.begins j c _ None off) (get_or-set_other s.seen j c _ 0 off) refl going)
-goes_on s c from key _ _ on off_seek going (Exited j may) made = either (cases_eq c j)
-    (λ same. going_none _ c from key (ap (search_at s) same ∙ (idle_parts s j (and_parts (is_idle s j) _ may).0).1))
-    (λ off. going_same s _ c from key refl (get_or-set_other s.begins j c _ None off) refl refl going)
-goes_on s c from key _ _ on off_seek going (Sought j kind name may) made = either (cases_eq c j)
+made_going : (s n : State) (c from : ℕ) (key : Key) (e : Event) (r : Reply) → Holds s → IsNoSeek c e → Going s c from key → Made s e n r → Going n c from key
+made_going s n c from key _ _ on off_seek going (Enters j may) = either (cases_eq c j)
+    (λ same. going_none n c from key (ap (search_at s) same ∙ (idle_parts s j (and_parts (is_idle s j) _ may).0).1))
+    (λ off. going_same s n c from key refl (get_or-set_other s.begins j c _ None off) (get_or-set_other s.seen j c _ 0 off) refl going)
+made_going s n c from key _ _ on off_seek going (Exits j may) = either (cases_eq c j)
+    (λ same. going_none n c from key (ap (search_at s) same ∙ (idle_parts s j (and_parts (is_idle s j) _ may).0).1))
+    (λ off. going_same s n c from key refl (get_or-set_other s.begins j c _ None off) refl refl going)
+made_going s n c from key _ _ on off_seek going (Seeks j kind name may) = either (cases_eq c j)
     (λ same. absurd (off_seek (record { kind = kind; name = name }) (ap (λ (k : ℕ). Seek k kind name) (sym same))))
-    (λ off. going_same s _ c from key refl refl refl (get_or-set_other s.searches j c _ None off) going)
-goes_on s c from key _ _ on off_seek going (Heard j may) made = either (cases_eq c j)
-    (λ same. going_none _ c from key (ap (search_at s) same ∙ (idle_parts s j may).1))
-    (λ off. going_same s _ c from key refl refl (get_or-set_other s.seen j c _ 0 off) refl going)
-goes_on s c from key _ _ on off_seek going (Recalled e j w hands found none) made = either (cases_eq c j)
-    (λ same. going_none _ c from key (ap (search_at s) same ∙ none))
-    (λ off. going_same s _ c from key refl refl (get_or-set_other s.seen j c _ 0 off) refl going)
-goes_on s c from key _ _ on off_seek going (Searched e j q o of under loads answers) made = either (cases_eq c j)
-    (λ same.
-    let is : search_at s c ≡ Some q = ap (search_at s) same ∙ under in
-    let its : IsLoadOf c e = subst (λ (k : ℕ). IsLoadOf k e) (sym same) of in
-    subst (GoingAfter c from key) made (own s c from key q e on is (going q is) its).going)
-    (λ off. other_going s o.state c j from key q off loads.history loads.begins loads.seen loads.searches going)
-goes_on s c from key _ _ on off_seek going (Published t e row may) made = going_changed s _ (Attach e) c from key refl refl refl refl going
-goes_on s c from key _ _ on off_seek going (Unpublished t e n at gone) made = going_changed s n (Detach e.number) c from key gone.history (ap (λ (xs : List (Option ℕ)). get_or xs c None) gone.begins)
-    (ap (λ (xs : List ℕ). get_or xs c 0) gone.seen) (ap (λ (xs : List (Option Search)). get_or xs c None) gone.searches) going
-goes_on s c from key _ _ on off_seek going _ made = going_same s _ c from key refl refl refl refl going
+    (λ off. going_same s n c from key refl refl refl (get_or-set_other s.searches j c _ None off) going)
+made_going s n c from key _ _ on off_seek going (LoadsEnd j q at is) = by_place (λ k. Going s k from key → Going n k from key) j c
+    (λ was. going_none n j from key (over_none s j q at))
+    (λ off was. going_same s n c from key refl refl (get_or-set_other s.seen j c _ 0 off) (get_or-set_other s.searches j c _ None off) was)
+    going
+made_going s n c from key _ _ on off_seek going (LoadsSlot j t q at is) = by_place (λ k. Going s k from key → Going n k from key) j c
+    (λ was.
+    let goes = was q at in
+    placed_goes s n j from (weight s q.place) key q (AtNumber t) (suc t) goes refl refl (omega (arith, goes.walk.by_now, seen_now s j on (searching_within s j q on at)))
+    (subst (Steps j from q (weight s q.place)) is (link_steps s j from key q on at goes)))
+    (λ off was. going_same s n c from key refl refl (get_or-set_other s.seen j c _ 0 off) (get_or-set_other s.searches j c _ None off) was)
+    going
+made_going s n c from key _ _ on off_seek going (LoadsWord j w q p at is) = by_place (λ k. Going s k from key → Going n k from key) j c
+    (λ was. either (was q at).seen
+    (λ head. absurd (none-some _ (ap (load_searched s j q) (sym head) ∙ is)))
+    (λ le. placed_goes s n j from (weight s q.place) key q p w (was q at) refl refl le (subst (Steps j from q (weight s q.place)) is (record_steps s j from key q on at (was q at)))))
+    (λ off was. going_same s n c from key refl refl refl (get_or-set_other s.searches j c _ None off) was)
+    going
+made_going s n c from key _ _ on off_seek going (LoadsLast j q e at is) = by_place (λ k. Going s k from key → Going n k from key) j c
+    (λ was. going_none n j from key (over_none s j q at))
+    (λ off was. going_same s n c from key refl refl refl (get_or-set_other s.searches j c _ None off) was)
+    going
+made_going s n c from key _ _ on off_seek going (Hears j may) = seen_going s n c j from key (idle_parts s j may).1 refl refl refl refl going
+made_going s n c from key _ _ on off_seek going (Recalls j t may) = seen_going s n c j from key (recall_tells s j t may).1 refl refl refl refl going
+made_going s n c from key _ _ on off_seek going (RecallsHead j may) = seen_going s n c j from key (recall_head_tells s j may).1 refl refl refl refl going
+made_going s n c from key _ _ on off_seek going (Refinds j t i e at may) = seen_going s n c j from key (refind_tells s j t i e may).1 refl refl refl refl going
+made_going s n c from key _ _ on off_seek going (ConfirmsTry j t i at may) = seen_going s n c j from key (confirm_tells s j i (slot_at s.slots t) may).0 refl refl refl refl going
+made_going s n c from key _ _ on off_seek going (Publishes t e of may) = going_changed s n (Attach e) c from key refl refl refl refl going
+made_going s n c from key _ _ on off_seek going (Unpublishes t head next e at rest is) = going_changed s n (Detach e.number) c from key refl refl refl refl going
+made_going s n c from key _ _ on off_seek going _ = going_same s n c from key refl refl refl refl going
 
 -- Over the events since
 
@@ -179,10 +161,10 @@ record Since (h : List Change) (s : State) (c : ℕ) (key : Key) : Type 0 where
 
 since_event : (h : List Change) (s : State) (c : ℕ) (key : Key) (e : Event) → IsNoSeek c e → Since h s c key → Since h (after_event s e) c key
 since_event h s c key e other is =
-    let grows = history_grows s e is.holds in
+    let grows = history_grows s e in
     let more : List Change = is.grown.0 in record {
       holds = after_keeps s (step s e) is.holds (step_keeps s e is.holds);
-      going = goes_on s c (length h) key e (step s e) is.holds other is.going (step_sort s e is.holds) refl;
+      going = each_event (λ o. Going (state_after s o) c (length h) key) s e is.going (λ n r made. made_going s n c (length h) key e r is.holds other is.going made);
       grown = (more ++ grows.0, grows.1 ∙ (ap (λ (l : List Change). l ++ grows.0) is.grown.1 ∙ append_assoc h more grows.0));
     }
 
@@ -241,7 +223,7 @@ load_lawful h s c key e o answer is of made reply =
     let search = load_searches s c e o (search_at s c) of refl made in
     let was : Goes s c (length h) key search.0 = is.going search.0 search.1 in
     let steps : Steps c (length h) search.0 (weight s search.0.place) (Some o) =
-    subst (Steps c (length h) search.0 (weight s search.0.place)) made (own s c (length h) key search.0 e is.holds search.1 was of).steps in
+    subst (Steps c (length h) search.0 (weight s search.0.place)) made (own_steps s c (length h) key search.0 e is.holds search.1 was of) in
     subst (λ (k : Key). IsLawful o.state.history (length h) (seen_at o.state c) k answer) was.sought
     (answered_by o.state c (length h) (weight s search.0.place) search.0 o.reply answer steps reply)
 
@@ -271,7 +253,7 @@ answers_freshly s on c key since event o answer allowed none of made reply =
     let n : State = after (after_event s (seek_for c key)) since in
     let is : Since s.history n c key = since_events s.history (after_event s (seek_for c key)) c key since none (since_seek s c key on allowed) in
     let lawful = load_lawful s.history n c key event o answer is of made reply in
-    let last = history_grows n event is.holds in
+    let last = history_grows n event in
     let more : List Change = is.grown.0 ++ last.0 in
     let grown : o.state.history ≡ s.history ++ more =
     ap (λ (x : Option Outcome). (state_after n x).history) (sym made) ∙ (last.1 ∙ (ap (λ (l : List Change). l ++ last.0) is.grown.1 ∙ append_assoc s.history is.grown.0 last.0)) in
@@ -297,13 +279,13 @@ confirms s c (Trying t n) allowed =
 confirms s c _ allowed = absurd (let q : ◌≡◌ {A = Bool} false true = allowed in cc)
 
 -- an allowed Refind: the slot has a live entry
-record Refinds (s : State) (c t n : ℕ) (x : Slot) : Type 0 where
+record AllowsRefind (s : State) (c t n : ℕ) (x : Slot) : Type 0 where
   entry : Entry
   live : x ≡ Live entry
   may : may_refind s c t n entry ≡ true
   state : state_after s (refind s c t n x) ≡ after_refind s c entry
 
-refinds : (s : State) (c t n : ℕ) (x : Slot) → IsSome (refind s c t n x) → Refinds s c t n x
+refinds : (s : State) (c t n : ℕ) (x : Slot) → IsSome (refind s c t n x) → AllowsRefind s c t n x
 refinds s c t n (Live e) allowed =
     let may : may_refind s c t n e ≡ true = allowed_guard (may_refind s c t n e) _ allowed in
     record { entry = e; live = refl; may = may; state = guarded s (after_refind s c e) (may_refind s c t n e) (Word (live_at s.lives t)) may }

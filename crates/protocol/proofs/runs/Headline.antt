@@ -62,7 +62,7 @@ is_safe s on = record {
   balanced = λ rest t n is. slot_balanced s t n on rest is;
   vacant = λ rest t lt is. vacant_balanced s t on lt is;
   answered = λ event o answer is reply. answers_lawful s event o answer on is reply;
-  begun = λ event c q is. search_begun s event c q on is;
+  begun = λ event c q is. search_begun s event c q is;
 }
 
 pub headline : Headline

@@ -11,7 +11,8 @@ use Rattle.protocol.proofs.Either.{either}
 use Rattle.protocol.proofs.history.History.{at_cases, at_empty}
 use Rattle.protocol.proofs.keeps.Keeping.{after_keeps, opening_holds, step_keeps}
 use Rattle.protocol.proofs.keeps.ListKeeps.{entry_shows}
-use Rattle.protocol.proofs.runs.Steps.{Sort, Refused, Left, Searched, Published, Unpublished, step_sort, turned_state}
+use Rattle.protocol.proofs.Made.{Made, Publishes, Unpublishes, each_event}
+use Rattle.protocol.proofs.runs.Steps.{turned_state}
 
 guard_tells : (b : Bool) (o : Option Outcome) (x : Outcome) → guard b o ≡ Some x → (b ≡ true) × (o ≡ Some x)
 guard_tells true o x is = (refl, is)
@@ -79,24 +80,18 @@ named_attach h e lawful named f att = either (at_cases h (Attach e) f.number (At
 named_detach : (h : List Change) (n : ℕ) → AreNamedLawfully h → AreNamedLawfully (after_change h (Detach n))
 named_detach h n named f att = either (at_cases h (Detach n) f.number (Attach f) att) (λ old. named f old.was) (λ new. absurd (let q : ◌≡◌ {A = Change} (Attach f) (Detach n) = new.is in cc))
 
-same_history : (h k : List Change) → k ≡ h → AreNamedLawfully h → AreNamedLawfully k
-same_history h k same named = subst AreNamedLawfully (sym same) named
-
 -- the name of a row that the pure machine publishes
 name_of_row : (s : State) (t : ℕ) (e : Entry) → entry_of t (row_at s.rows t) ≡ Some e → names_lawfully s (Publish t) ≡ true → IsTrue (is_lawful e.rec.name)
 name_of_row s t e is lawful = subst (λ (r : RecordWords). are_name_words r.high r.low ≡ true) (entry_shows t (row_at s.rows t) e is).1 lawful
 
-sort_named : (s : State) (event : Event) (o : Option Outcome) → Sort s event o → names_lawfully s event ≡ true → AreNamedLawfully s.history → AreNamedLawfully (state_after s o).history
-sort_named s _ _ (Refused e) lawful named = named
-sort_named s _ _ (Left e o leaves) lawful named = same_history s.history o.state.history leaves.history named
-sort_named s _ _ (Searched e c q o of is loads answers) lawful named = same_history s.history o.state.history loads.history named
-sort_named s _ _ (Published t e is may) lawful named = named_attach s.history e (name_of_row s t e is lawful) named
-sort_named s _ _ (Unpublished t e n is retires) lawful named = same_history (after_change s.history (Detach e.number)) n.history retires.history (named_detach s.history e.number named)
-sort_named s _ _ _ lawful named = named
+made_named : (s n : State) (e : Event) (r : Reply) → Made s e n r → names_lawfully s e ≡ true → AreNamedLawfully s.history → AreNamedLawfully n.history
+made_named s _ _ _ (Publishes t e is may) lawful named = named_attach s.history e (name_of_row s t e is lawful) named
+made_named s _ _ _ (Unpublishes t head next e at rest is) lawful named = named_detach s.history e.number named
+made_named s _ _ _ _ lawful named = named
 
-named_if : (s : State) (event : Event) (b : Bool) → names_lawfully s event ≡ b → Holds s → AreNamedLawfully s.history → AreNamedLawfully (state_after s (guard b (step s event))).history
-named_if s event true is on named = sort_named s event (step s event) (step_sort s event on) is named
-named_if s event false is on named = named
+named_if : (s : State) (event : Event) (b : Bool) → names_lawfully s event ≡ b → AreNamedLawfully s.history → AreNamedLawfully (state_after s (guard b (step s event))).history
+named_if s event true is named = each_event (λ o. AreNamedLawfully (state_after s o).history) s event named (λ n r made. made_named s n event r made is named)
+named_if s event false is named = named
 
 holds_if : (s : State) (event : Event) (b : Bool) → Holds s → Holds (state_after s (guard b (step s event)))
 holds_if s event true on = after_keeps s (step s event) on (step_keeps s event on)
@@ -108,7 +103,7 @@ ran_named r (e ∷ es) on named =
     let turned = turned_state r (narrow_step r.state e) in
     ran_named (run_with_event r (narrow_step r.state e)) es
     (subst Holds (sym turned) (holds_if r.state e (names_lawfully r.state e) on))
-    (subst (λ (s : State). AreNamedLawfully s.history) (sym turned) (named_if r.state e (names_lawfully r.state e) refl on named))
+    (subst (λ (s : State). AreNamedLawfully s.history) (sym turned) (named_if r.state e (names_lawfully r.state e) refl named))
 
 pub narrow_names : NarrowNames
 narrow_names z events fit = ran_named (empty_run (opening z)) events (opening_holds z fit) (λ e att. absurd (at_empty e.number (Attach e) att))

@@ -1,5 +1,5 @@
 -- `opening_words`: that each turn of its loop keeps the invariants.
-use Rattle.std.proofs.Common.{◌≡◌, ◌∙◌, ◌+◌, ◌*◌, ◌<◌, ℕ, List, ap, arith, sym, get_or, get_or-set_other, get_or-set_same, length, length-set, replicate, set, ⊎_elim}
+use Rattle.std.proofs.Common.{◌≡◌, ◌∙◌, ◌<◌, ℕ, List, ap, arith, sym, get_or, get_or-set_other, get_or-set_same, length, length-set, replicate, set, ⊎_elim}
 use Rattle.std.proofs.lemmas.Bool.{cases_eq}
 use Rattle.std.proofs.lemmas.List.{length-replicate}
 use Rattle.protocol.proofs.slots.Cells.{get_or_all}

@@ -3,6 +3,7 @@ use Rattle.std.proofs.Common.{◌≤◌, ◌∙◌, List, length, take, sym, ap,
 use Rattle.passive_list.specs.Types.{Entry, Settings}
 use Rattle.passive_list.specs.Common.{OnCpu, OnPlainCpu, HasWalked}
 use Rattle.passive_list.proofs.GoingOver.{all_written, walked_by}
+use Rattle.passive_list.proofs.Sharing.{shared, sharing}
 use Rattle.passive_list.proofs.walks.walk.Goals as goal
 
 pub returns-clause-walked : goal.returns-clause-walked
@@ -14,5 +15,5 @@ returns-clause-walked g c =
     let x : OnCpu = c.deref_mut.result.now.cpu in
     let y : OnCpu = c.walk_on.new.cpu.cpu in
     let made = c.cpu.inside.share.amount in
-    subst (λ (v : OnCpu). HasWalked v (record y { made = made }) (take c.walk_on.result c.walk_on.new.row)) (ap (λ (p : OnPlainCpu). record p.cpu { made = made }) c.deref_mut.ensures.value ∙ c.cpu.view_is)
-    (subst (λ (row : List Entry). HasWalked (record x { made = made }) (record y { made = made }) row) (sym same) (walked_by x y made had.0 had.2))
+    subst (λ (v : OnCpu). HasWalked v (sharing made y) (take c.walk_on.result c.walk_on.new.row)) (shared made _ _ _ c.deref_mut.ensures.value c.cpu.view_is)
+    (subst (λ (row : List Entry). HasWalked (sharing made x) (sharing made y) row) (sym same) (walked_by x y made had.0 had.2))

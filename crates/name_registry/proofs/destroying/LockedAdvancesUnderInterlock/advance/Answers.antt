@@ -4,7 +4,8 @@ use Rattle.name_registry.specs.Types.{Settings}
 use Rattle.passive_list.specs.Common.{OnCpu}
 use Rattle.name_registry.specs.Common.{HasAdvancedFor, IsStageOf}
 use Rattle.name_registry.proofs.Counted.{advanced_for_same, still_booked}
-use Rattle.name_registry.proofs.Sharing.{advanced, shared, sharing}
+use Rattle.passive_list.proofs.Sharing.{shared, sharing}
+use Rattle.name_registry.proofs.Sharing.{advanced}
 use Rattle.name_registry.proofs.Turned.{told_turn}
 use Rattle.name_registry.proofs.destroying.LockedAdvancesUnderInterlock.advance.Goals as goal
 

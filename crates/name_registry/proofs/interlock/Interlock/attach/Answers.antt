@@ -5,7 +5,8 @@ use Rattle.passive_list.specs.Common.{OnCpu}
 use Rattle.name_registry.specs.Common.{HasAttachedFor, attach_answer}
 use Rattle.name_registry.proofs.Counted.{attach_counted, attach_numbered, few_changes, one_made}
 use Rattle.name_registry.proofs.Owned.{attach_may, attach_owned}
-use Rattle.name_registry.proofs.Sharing.{attached, shared, sharing}
+use Rattle.passive_list.proofs.Sharing.{shared, sharing}
+use Rattle.name_registry.proofs.Sharing.{attached}
 use Rattle.name_registry.proofs.interlock.Interlock.attach.Goals as goal
 
 pub returns-clause-may : goal.returns-clause-may

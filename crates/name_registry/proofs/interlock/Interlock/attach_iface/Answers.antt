@@ -9,7 +9,8 @@ use Rattle.registry_values.specs.Common.{is_iface}
 use Rattle.name_registry.specs.Common.{HasAttachedIfaceFor, attach_iface_answer, IsAttachRefusal, is_inside}
 use Rattle.name_registry.proofs.Counted.{attach_counted, iface_numbered, few_changes, one_made}
 use Rattle.name_registry.proofs.Owned.{iface_may, iface_owned, iface_refused}
-use Rattle.name_registry.proofs.Sharing.{iface_attached, shared, sharing}
+use Rattle.passive_list.proofs.Sharing.{shared, sharing}
+use Rattle.name_registry.proofs.Sharing.{iface_attached}
 use Rattle.name_registry.proofs.interlock.Interlock.attach_iface.Goals as goal
 
 pub returns-in-Ok-clause-may : goal.returns-in-Ok-clause-may

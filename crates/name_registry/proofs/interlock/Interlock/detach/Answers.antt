@@ -5,7 +5,8 @@ use Rattle.passive_list.specs.Common.{OnCpu}
 use Rattle.name_registry.specs.Common.{HasDetachedFor, IsDetachAnswer}
 use Rattle.name_registry.proofs.Counted.{detach_counted, detach_numbered, few_changes, one_made}
 use Rattle.name_registry.proofs.Owned.{detach_may, detach_owned}
-use Rattle.name_registry.proofs.Sharing.{detached, shared, sharing}
+use Rattle.passive_list.proofs.Sharing.{shared, sharing}
+use Rattle.name_registry.proofs.Sharing.{detached}
 use Rattle.name_registry.proofs.interlock.Interlock.detach.Goals as goal
 
 pub returns-clause-may : goal.returns-clause-may

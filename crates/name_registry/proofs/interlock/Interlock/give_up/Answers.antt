@@ -4,7 +4,8 @@ use Rattle.name_registry.specs.Types.{ReferenceView}
 use Rattle.passive_list.specs.Common.{OnCpu}
 use Rattle.name_registry.specs.Common.{HasGivenUpFor}
 use Rattle.name_registry.proofs.GivenUp.{knows_given, learns_given}
-use Rattle.name_registry.proofs.Sharing.{given_up, shared, sharing}
+use Rattle.passive_list.proofs.Sharing.{shared, sharing}
+use Rattle.name_registry.proofs.Sharing.{given_up}
 use Rattle.name_registry.proofs.interlock.Interlock.give_up.Goals as goal
 
 pub returns : goal.returns

@@ -4,7 +4,8 @@ use Rattle.name_registry.specs.Types.{Settings}
 use Rattle.passive_list.specs.Common.{OnCpu}
 use Rattle.name_registry.specs.Common.{HasBegun}
 use Rattle.name_registry.proofs.Counted.{begun_same, still_booked}
-use Rattle.name_registry.proofs.Sharing.{begun, shared, sharing}
+use Rattle.passive_list.proofs.Sharing.{shared, sharing}
+use Rattle.name_registry.proofs.Sharing.{begun}
 use Rattle.name_registry.proofs.performing.LockedUnderInterlock.begin.Goals as goal
 
 pub invariant_of-deref_mut-clause-counted : goal.invariant_of-deref_mut-clause-counted

@@ -4,7 +4,8 @@ use Rattle.name_registry.specs.Types.{Settings}
 use Rattle.passive_list.specs.Common.{OnCpu}
 use Rattle.name_registry.specs.Common.{HasGlanced}
 use Rattle.name_registry.proofs.Counted.{glanced_same, still_booked}
-use Rattle.name_registry.proofs.Sharing.{glanced, shared, sharing}
+use Rattle.passive_list.proofs.Sharing.{shared, sharing}
+use Rattle.name_registry.proofs.Sharing.{glanced}
 use Rattle.name_registry.proofs.performing.LockedUnderInterlock.glance.Goals as goal
 
 pub invariant_of-deref_mut-clause-counted : goal.invariant_of-deref_mut-clause-counted

@@ -5,7 +5,7 @@ use Rattle.cpu_words.specs.Common.{HasClosed}
 use Rattle.passive_list.specs.Common.{OnCpu}
 use Rattle.name_registry.specs.Common.{ClosesRun}
 use Rattle.name_registry.proofs.Closed.{closes_run}
-use Rattle.name_registry.proofs.Sharing.{shared}
+use Rattle.passive_list.proofs.Sharing.{shared}
 use Rattle.name_registry.proofs.registry.Registry.close.Goals as goal
 
 pub returns-clause-run : goal.returns-clause-run
