@@ -128,26 +128,26 @@ row_stays k l t r slot total keeps had = record {
 pub note_heard : (a : Settings) (k : KeeperView) (h : List Change) (rows : List KeptSlot) (n : ℕ) → IsOurKeeper a k rows n → IsShown (keeper_with_note k h) → IsOurKeeper a (keeper_with_note k h) rows n
 note_heard a k h rows n had shown = record {
   view =
-    let rest = had.view in
-    let sized = rest.sized in
-    record {
-      settings = rest.settings;
-      fit = rest.fit;
-      rest = rest.rest;
-      seated = rest.seated;
-      sized = record {
-        slots = sized.slots;
-        marks = sized.marks;
-        mark_rows = sized.mark_rows;
-        keeps = sized.keeps;
-        next = sized.next;
-        rows = sized.rows;
-        totals = sized.totals;
-        counts = sized.counts;
-        count_rows = sized.count_rows;
+      let rest = had.view in
+      let sized = rest.sized in
+      record {
+        settings = rest.settings;
+        fit = rest.fit;
+        rest = rest.rest;
+        seated = rest.seated;
+        sized = record {
+          slots = sized.slots;
+          marks = sized.marks;
+          mark_rows = sized.mark_rows;
+          keeps = sized.keeps;
+          next = sized.next;
+          rows = sized.rows;
+          totals = sized.totals;
+          counts = sized.counts;
+          count_rows = sized.count_rows;
+        };
+        room = rest.room;
       };
-      room = rest.room;
-    };
   is_shown = shown;
   changes = had.changes;
   rows = record { size = had.rows.size; each = λ t lt. row_stays k (keeper_with_note k h) t (row_at rows t) refl refl refl (had.rows.each t lt) };
