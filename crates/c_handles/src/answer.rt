@@ -22,7 +22,7 @@ pub struct AuditAnswer {
 
 impl Model for AuditAnswer {
     ghost use base.Fml.{fsep};
-    ghost use Rattle.c_handles.specs.Handles.{lends_cpus};
+    ghost use Rattle.c_handles.specs.Lent.{lends_cpus};
     ghost use Rattle.c_handles.specs.values.Lent.{lends_balances, lends_number};
 
     ghost also_owns = { λ a. fsep (fsep (lends_number a.place.at a.place.value) (lends_balances a.list.at a.list.value)) (lends_cpus a.cpus.at a.cpus.value) };
@@ -39,7 +39,7 @@ pub struct OpenedAnswer {
 impl Model for OpenedAnswer {
     ghost use base.Fml.{fsep};
     ghost use Rattle.c_handles.specs.values.Lent.{gives_settings};
-    ghost use Rattle.c_handles.specs.Handles.{lends_cpus};
+    ghost use Rattle.c_handles.specs.Lent.{lends_cpus};
 
     ghost also_owns = { λ a. fsep (gives_settings a.settings.share a.settings.at a.settings.settings) (lends_cpus a.cpus.at a.cpus.value) };
 }

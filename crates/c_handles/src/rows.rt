@@ -16,7 +16,7 @@ pub struct CpusPlace {
 }
 
 impl Model for CpusPlace {
-    ghost use Rattle.c_handles.specs.Handles.{lends_cpus};
+    ghost use Rattle.c_handles.specs.Lent.{lends_cpus};
 
     ghost also_owns = { λ p. lends_cpus p.at p.value };
 }
