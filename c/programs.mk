@@ -9,7 +9,7 @@ PLANTED = main $(addprefix registry_,attach detach advance audit enter look_up a
 # Where the programs lie.
 vpath %.c c/examples c/tests
 
-PROGRAMS = smallest row packet shared misuse refuse allocs changes built $(OVER_WAITING) turns history largest planted names crowd forwarder device_switch $(PROGRAMS_$(PROCESSOR)) $(BENCHED)
+PROGRAMS = smallest packet shared misuse refuse allocs changes built $(OVER_WAITING) turns history largest planted names crowd forwarder device_switch $(PROGRAMS_$(PROCESSOR)) $(BENCHED)
 # Tests of waiting.h: each is compiled with it.
 OVER_WAITING = deferred together interrupted reclaims lent
 # They read registers of x86-64.
@@ -18,7 +18,7 @@ PROGRAMS_x86_64 = recalls
 BENCH = bench
 BENCHED = $(if $(wildcard $(BENCH)/common.c),speed)
 # In the checking build, too, which says nothing of them.
-CHECKING = smallest row packet shared crowd forwarder device_switch together
+CHECKING = smallest packet shared crowd forwarder device_switch together
 
 all: $(PROGRAMS:%=$(OUT)/%) $(OUT)/checked $(CHECKING:%=$(OUT)/checked-%)
 
@@ -60,7 +60,7 @@ $(OUT)/checked $(CHECKING:%=$(OUT)/checked-%): c/src/check.c c/src/waiting.c c/i
 	$(CC) $(STRICT) $(CPPFLAGS) $(CFLAGS) -DREGISTRY_CHECK $(INCLUDES) $(LDFLAGS) -o $@ $(filter %.c,$^) $(ARCHIVE) -pthread $(LINK)
 
 # refuse has an allocator of its own, which the sanitizers' would fight; history is brief without one.
-SANITIZED = smallest row packet shared misuse built history names crowd forwarder device_switch $(WAITING_SANITIZED)
+SANITIZED = smallest packet shared misuse built history names crowd forwarder device_switch $(WAITING_SANITIZED)
 # The address sanitizer takes the stack of a cancelled thread for one in use.
 WAITING_SANITIZED = reclaims lent
 
@@ -119,15 +119,11 @@ words_forwarder = 200
 words_device_switch = 20
 NETBSD_CHECKED = threads copies drivers model kernel
 
-check: $(CHECKED:%=check-%) check-row check-limits $(NETBSD_CHECKED:%=check-netbsd-%)
+check: $(CHECKED:%=check-%) check-limits $(NETBSD_CHECKED:%=check-netbsd-%)
 	@echo "$(words $^) passed, 0 failed"
 
 $(CHECKED:%=check-%): check-%: $(OUT)/%
 	$(RUN) ./$< $(words_$*)
-
-check-row: $(OUT)/row
-	sed -n '1,/^# It prints:$$/d; s/^# //p' examples/retire-under-section.txt >$(OUT)/row.wanted
-	$(RUN) ./$< | diff - $(OUT)/row.wanted
 
 # Programs that are compiled for other limits than the archive's.
 check-limits: $(ARCHIVE)
@@ -144,4 +140,4 @@ clean:
 	rm -f $(PROGRAMS:%=$(OUT)/%) $(OUT)/checked $(CHECKING:%=$(OUT)/checked-%) $(SANITIZED:%=$(OUT)/sanitized-%) $(STRESSES) $(RACED:%=$(OUT)/raced-%) $(ORDERED:%=$(OUT)/ordered-%) $(OUT)/waiting.o $(OUT)/checked-part-*.o $(OUT)/libkupaldiz*
 	rm -rf $(OUT)/installed-netbsd $(OUT)/installed-bench
 
-.PHONY: all sanitized stresses ordered clean check check-row check-limits netbsd-programs $(CHECKED:%=check-%) $(NETBSD_CHECKED:%=check-netbsd-%)
+.PHONY: all sanitized stresses ordered clean check check-limits netbsd-programs $(CHECKED:%=check-%) $(NETBSD_CHECKED:%=check-netbsd-%)

@@ -4,7 +4,7 @@ failed=0
 log=$(mktemp)
 
 forget_log() {
-    rm -f "$log" "$log.said" "$log.wanted"
+    rm -f "$log" "$log.said"
 }
 
 # Counts one check.
@@ -47,21 +47,9 @@ prints_nothing() {
     [ -z "$said" ] || { echo "$said"; return 1; }
 }
 
-# says FILE COMMAND..: the command's status is 0, and it prints what is in the file.
-says() {
-    local wanted=$1
-    shift
-    limited "$@" >"$log.said" && diff "$log.said" "$wanted"
-}
-
-row_says() {
-    sed -n '1,/^# It prints:$/d; s/^# //p' examples/retire-under-section.txt >"$log.wanted"
-    says "$log.wanted" "$@"
-}
-
+# Its status is 0, and it prints this line.
 smallest_says() {
-    echo 'wm0 has value 1500' >"$log.wanted"
-    says "$log.wanted" "$@"
+    limited "$@" >"$log.said" && diff "$log.said" - <<<'wm0 has value 1500'
 }
 
 # apt_install WORD..: what these words of apt-get name, without asking.
@@ -69,13 +57,13 @@ apt_install() {
     { apt-get update && DEBIAN_FRONTEND=noninteractive apt-get -o DPkg::Lock::Timeout=300 install -y "$@"; } </dev/null
 }
 
-# programs KIND HOW BEFORE PROGRAM..: each program with its words; what is before its name runs it. Two say what they did.
+# programs KIND HOW BEFORE PROGRAM..: each program with its words; what is before its name runs it. `smallest` says what it did.
 # shellcheck disable=SC2086
 programs() {
     local kind=$1 how=$2 before=$3 program
     for program in "${@:4}"; do
         case $program in
-        smallest | row) check "$kind $program$how" ${program}_says $before$program ;;
+        smallest) check "$kind $program$how" smallest_says $before$program ;;
         *) check "$kind $program$how" $before$program ;;
         esac
     done

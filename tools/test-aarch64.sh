@@ -78,7 +78,7 @@ test_clients() {
     check "refuse is built over a shared C library" make -s CC="${cross}gcc" "out/$processor/refuse"
     check "the clients in C are built, no warning" make_for . all
     check "each allocation refused" emulated -L "/usr/$processor-linux-gnu" "$out/refuse"
-    programs C: "" "emulated $out/" smallest row packet shared misuse built 'crowd 20' names 'turns emulated' 'deferred 200 1' \
+    programs C: "" "emulated $out/" smallest packet shared misuse built 'crowd 20' names 'turns emulated' 'deferred 200 1' \
         'forwarder 200' 'device_switch 20' 'together 20'
     counted "programs compiled for other limits" env CC="${cross}gcc" RUN="$emulator" packaging/other-limits.sh crates/registry_c/include "$out/libregistry.a"
 }
