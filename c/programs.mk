@@ -9,7 +9,7 @@ PLANTED = main $(addprefix registry_,attach detach advance audit enter look_up a
 # Where the programs lie.
 vpath %.c c/examples c/tests
 
-PROGRAMS = smallest packet shared misuse refuse allocs changes built $(OVER_WAITING) turns history largest planted names crowd forwarder device_switch $(PROGRAMS_$(PROCESSOR)) $(BENCHED)
+PROGRAMS = smallest packet shared misuse allocs changes built $(OVER_WAITING) turns history largest planted names crowd forwarder device_switch $(PROGRAMS_$(PROCESSOR)) $(BENCHED)
 # Tests of waiting.h: each is compiled with it.
 OVER_WAITING = deferred together interrupted reclaims lent
 # They read registers of x86-64.
@@ -32,8 +32,8 @@ $(OUT)/largest: CFLAGS += -DMODEL_OF_THE_LARGEST
 $(addprefix $(OUT)/,deferred history largest planted): c/tests/model.c c/tests/model.h
 $(OUT)/planted: c/tests/history.c
 $(OUT)/allocs: c/src/heap.c
-$(addprefix $(OUT)/,history largest planted refuse allocs recalls): c/tests/wrapped_heap.h
-$(addprefix $(OUT)/,history largest refuse allocs): LINK = $(WRAP)
+$(addprefix $(OUT)/,history largest planted allocs recalls): c/tests/wrapped_heap.h
+$(addprefix $(OUT)/,history largest allocs): LINK = $(WRAP)
 $(OUT)/planted: LINK = $(WRAP) $(PLANTED:%=-Wl,--wrap=%)
 $(addprefix $(OUT)/,shared crowd forwarder device_switch turns $(OVER_WAITING) $(BENCHED)): c/src/waiting.c c/include/waiting.h
 $(OUT)/forwarder $(OUT)/device_switch: c/examples/workers.h
@@ -59,7 +59,7 @@ $(CHECKING:%=$(OUT)/checked-%): $(OUT)/checked-%: %.c
 $(OUT)/checked $(CHECKING:%=$(OUT)/checked-%): c/src/check.c c/src/waiting.c c/include/registry_check.h c/include/waiting.h c/examples/client.h c/examples/expect.h c/examples/workers.h $(FACE) $(ARCHIVE) | $(OUT)
 	$(CC) $(STRICT) $(CPPFLAGS) $(CFLAGS) -DREGISTRY_CHECK $(INCLUDES) $(LDFLAGS) -o $@ $(filter %.c,$^) $(ARCHIVE) -pthread $(LINK)
 
-# refuse has an allocator of its own, which the sanitizers' would fight; history is brief without one.
+# history is brief without an allocator of its own, which the sanitizers' would fight.
 SANITIZED = smallest packet shared misuse built history names crowd forwarder device_switch $(WAITING_SANITIZED)
 # The address sanitizer takes the stack of a cancelled thread for one in use.
 WAITING_SANITIZED = reclaims lent
@@ -111,7 +111,7 @@ $(ORDERED:%=$(OUT)/ordered-%): $(OUT)/ordered-%: %.c c/tests/ordered.c c/example
 	    -Wl,--wrap=malloc,--wrap=free,--wrap=registry_open
 
 # What ends with status 0 where it finds nothing wrong, with the words that make it brief; and the names of the pages, plain.
-CHECKED = smallest packet shared checked misuse refuse built turns $(OVER_WAITING) history names crowd forwarder device_switch
+CHECKED = smallest packet shared checked misuse built turns $(OVER_WAITING) history names crowd forwarder device_switch
 words_history = 300000
 words_together = 20
 words_crowd = 50

@@ -274,7 +274,7 @@ VALGRIND = "valgrind -q --fair-sched=try --error-exitcode=99 --leak-check=full -
 OVER_WAITING = {"turns": [], "reclaims": [], "lent": [], "deferred": [], "interrupted": [], "together": ["20"]}
 # What is C of the archive, and the programs that see each part, with their words.
 PARTS = {
-    "heap": {"allocs": [], "refuse": [], "history": ["3000"], "misuse": []},
+    "heap": {"allocs": [], "history": ["3000"], "misuse": []},
     "composed": {"history": ["3000"], "misuse": [], "sanitized-history": ["3000"]},
     "strings": {"names": [], "sanitized-names": []},
 }

@@ -6,7 +6,8 @@
  * A registry of 8 CPUs and 32 slots has room for CHANGES changes, by default ten million, and goes through them (`long`); in the program `largest` it has
  * 64 CPUs and 255 slots. Smaller ones meet each limit (`small`), and two have very many references (`counts`). PART names one of these, to run alone.
  *
- * Now and then a call gets an empty handle, a NULL, a kind or a name that is none, or several of these; or it gets no place for what it writes.
+ * Now and then a call gets an empty handle, a NULL, a kind or a name that is none, or several of these; or it gets no place for what it writes; or there is
+ * no memory for it. At an opening each allocation is refused in turn.
  *
  * The linker leads malloc, realloc and free here (--wrap), except in the brief program: each call takes and frees as many blocks of memory as the model
  * says, and a registry that is closed has none any more. So the test knows the words of a registry's table, too. The section word of a CPU says how many
@@ -27,6 +28,8 @@ enum { MANY = 70001, MORE = 1000001, SMALL = 200 };
 
 /* The blocks that the archive's calls have taken, and those that they have freed. */
 static uint64_t taken, freed;
+/* How many more allocations aren't refused. */
+static uint64_t allowed = UINT64_MAX;
 /* The last registry, by its model, and its CPUs, for planted.c. */
 const struct model *modelled;
 const struct registry_cpu *first_cpu;
@@ -42,9 +45,14 @@ enum { BLOCKS_ARE_COUNTED = false };
 #define __real_free free
 #else
 enum { BLOCKS_ARE_COUNTED = true };
+static bool is_refused(void)
+{
+	return allowed == 0 || allowed-- == 0;
+}
+
 void *__wrap_malloc(size_t size)
 {
-	void *block = __real_malloc(size);
+	void *block = is_refused() ? NULL : __real_malloc(size);
 	taken += block != NULL;
 	if (size == table_bytes && alike_count < ALIKE)
 		alike[alike_count++] = block;
@@ -54,7 +62,7 @@ void *__wrap_malloc(size_t size)
 /* A block that grows is neither taken nor freed. */
 void *__wrap_realloc(void *block, size_t size)
 {
-	void *moved = __real_realloc(block, size);
+	void *moved = is_refused() ? NULL : __real_realloc(block, size);
 	taken += block == NULL && moved != NULL;
 	return moved;
 }
@@ -613,7 +621,11 @@ static enum writer act(struct world *world)
 	unsigned i = 0;
 	while (which >= deeds[i].often)
 		which -= deeds[i++].often;
+	world->model.no_memory = BLOCKS_ARE_COUNTED && below(world, 4) == 0;
+	allowed = world->model.no_memory ? 0 : UINT64_MAX;
 	deeds[i].act(world);
+	world->model.no_memory = false;
+	allowed = UINT64_MAX;
 	same_counts(world);
 	return deeds[i].writer;
 }
@@ -652,6 +664,23 @@ static void same_writers(const struct world *world, enum writer writer)
 	}
 }
 
+/* Opens it once enough allocations aren't refused. Until then nothing is opened, and no memory kept. */
+static void open_at_last(struct world *world)
+{
+	const struct registry_settings *settings = &world->model.settings;
+	registry_answer answer = REGISTRY_NO_MEMORY;
+	for (uint64_t enough = BLOCKS_ARE_COUNTED ? 0 : UINT64_MAX; answer == REGISTRY_NO_MEMORY; enough++) {
+		EXPECT(taken == freed && registry_settings_of(&world->keeper, NULL) == REGISTRY_EMPTY_HANDLE);
+		for (unsigned c = 0; c < settings->cpus; c++)
+			EXPECT(registry_enter(&world->cpus[c]) == REGISTRY_EMPTY_HANDLE);
+		alike_count = 0;
+		allowed = enough;
+		answer = registry_open(settings, &world->keeper, world->cpus, settings->cpus);
+		allowed = UINT64_MAX;
+	}
+	DONE(answer);
+}
+
 static struct world *opened(const struct registry_settings *settings, uint64_t seed)
 {
 	struct world *world = calloc(1, sizeof *world);
@@ -661,9 +690,7 @@ static struct world *opened(const struct registry_settings *settings, uint64_t s
 	first_cpu = world->cpus;
 	world->random = seed * 0x9e3779b97f4a7c15 | 1;
 	table_bytes = TABLE_BYTES(settings->slots, settings->cpus);
-	alike_count = 0;
-	EXPECT(taken == freed);
-	DONE(registry_open(settings, &world->keeper, world->cpus, settings->cpus));
+	open_at_last(world);
 	EXPECT(!BLOCKS_ARE_COUNTED || taken - freed == SHARED + OF_KEEPER + settings->cpus * OF_CPU);
 	world->taken = taken;
 	world->freed = freed;
@@ -692,10 +719,11 @@ static void close_keeper(struct world *world)
 	EXPECT(registry_close_keeper(&world->keeper) == REGISTRY_EMPTY_HANDLE);
 }
 
-/* All or none is closed, whichever CPU is inside. Some are closed before, in either order. */
+/* All or none is closed, whichever CPU is inside. Some are closed before, in either order. It takes no memory. */
 static void closed(struct world *world)
 {
 	const unsigned cpus = (unsigned)world->model.settings.cpus;
+	allowed = 0;
 	for (unsigned c = 0; c < cpus; c++)
 		if (same(registry_enter(&world->cpus[c]), model_enter(&world->model, c)) == REGISTRY_DONE) {
 			EXPECT(registry_close_cpu(&world->cpus[c]) == REGISTRY_INSIDE);
@@ -714,6 +742,7 @@ static void closed(struct world *world)
 	for (unsigned c = 0; c < cpus; c++)
 		EXPECT(registry_inside(&world->cpus[c], NULL) == REGISTRY_EMPTY_HANDLE);
 	EXPECT(taken == freed && registry_settings_of(&world->keeper, NULL) == REGISTRY_EMPTY_HANDLE);
+	allowed = UINT64_MAX;
 	__real_free(world);
 }
 
