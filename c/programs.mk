@@ -3,13 +3,11 @@
 
 INCLUDES = -Ic/include -Ic/examples -Ic/tests -I$(HEADER)
 WRAP = -Wl,--wrap=malloc,--wrap=realloc,--wrap=free
-# What planted.c spoils of history, and the main of history.
-PLANTED = main $(addprefix registry_,attach detach advance audit enter look_up acquire get local_acquire local_release)
 
 # Where the programs lie.
 vpath %.c c/examples c/tests
 
-PROGRAMS = smallest packet shared misuse allocs changes built $(OVER_WAITING) turns history largest planted names crowd forwarder device_switch $(PROGRAMS_$(PROCESSOR)) $(BENCHED)
+PROGRAMS = smallest packet shared misuse allocs changes built $(OVER_WAITING) turns history largest names crowd forwarder device_switch $(PROGRAMS_$(PROCESSOR)) $(BENCHED)
 # Tests of waiting.h: each is compiled with it.
 OVER_WAITING = deferred together interrupted reclaims lent
 # They read registers of x86-64.
@@ -29,12 +27,10 @@ $(OUT):
 $(filter-out $(OUT)/largest,$(PROGRAMS:%=$(OUT)/%)): $(OUT)/%: %.c
 $(OUT)/largest: c/tests/history.c
 $(OUT)/largest: CFLAGS += -DMODEL_OF_THE_LARGEST
-$(addprefix $(OUT)/,deferred history largest planted): c/tests/model.c c/tests/model.h
-$(OUT)/planted: c/tests/history.c
+$(addprefix $(OUT)/,deferred history largest): c/tests/model.c c/tests/model.h
 $(OUT)/allocs: c/src/heap.c
-$(addprefix $(OUT)/,history largest planted allocs recalls): c/tests/wrapped_heap.h
+$(addprefix $(OUT)/,history largest allocs recalls): c/tests/wrapped_heap.h
 $(addprefix $(OUT)/,history largest allocs): LINK = $(WRAP)
-$(OUT)/planted: LINK = $(WRAP) $(PLANTED:%=-Wl,--wrap=%)
 $(addprefix $(OUT)/,shared crowd forwarder device_switch turns $(OVER_WAITING) $(BENCHED)): c/src/waiting.c c/include/waiting.h
 $(OUT)/forwarder $(OUT)/device_switch: c/examples/workers.h
 $(OUT)/recalls: STRICT = -std=c11 -D_GNU_SOURCE -mno-red-zone $(WARNINGS)

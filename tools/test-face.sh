@@ -136,7 +136,7 @@ test_page() {
 
 test_c() {
     programs C: "" "$out/" smallest packet 'shared 2000' misuse allocs built turns deferred together interrupted reclaims lent history \
-        'largest 30000 1 long' planted names recalls 'crowd 2000' forwarder device_switch 'speed 2 8 1000' 'changes 20' 'changes 20 2 4' 'changes 20 64 255' checked
+        'largest 30000 1 long' names recalls 'crowd 2000' forwarder device_switch 'speed 2 8 1000' 'changes 20' 'changes 20 2 4' 'changes 20 64 255' checked
     programs C: " in the checking build" "$out/checked-" smallest packet 'shared 500' 'crowd 200' 'forwarder 200' 'device_switch 20' 'together 20'
     counted "C: programs compiled for other limits" packaging/other-limits.sh "${header%/*}" "$out/libregistry.a"
     counted "C: installed, used by pkg-config alone, and uninstalled" tools/test-install.sh

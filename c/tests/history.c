@@ -30,11 +30,8 @@ enum { MANY = 70001, MORE = 1000001, SMALL = 200 };
 static uint64_t taken, freed;
 /* How many more allocations aren't refused. */
 static uint64_t allowed = UINT64_MAX;
-/* The last registry, by its model, and its CPUs, for planted.c. */
-const struct model *modelled;
-const struct registry_cpu *first_cpu;
-/* Its table, and the table's bytes: the first block of that size that an opening takes and doesn't free. */
-uint64_t *table;
+/* The last registry's table, and the table's bytes: the first block of that size that an opening takes and doesn't free. */
+static uint64_t *table;
 static size_t table_bytes;
 enum { ALIKE = 16 };
 static void *alike[ALIKE];
@@ -686,8 +683,6 @@ static struct world *opened(const struct registry_settings *settings, uint64_t s
 	struct world *world = calloc(1, sizeof *world);
 	EXPECT(world != NULL);
 	world->model.settings = *settings;
-	modelled = &world->model;
-	first_cpu = world->cpus;
 	world->random = seed * 0x9e3779b97f4a7c15 | 1;
 	table_bytes = TABLE_BYTES(settings->slots, settings->cpus);
 	open_at_last(world);
