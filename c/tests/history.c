@@ -268,34 +268,54 @@ LOOK(look_up, A_CPU | A_SECTION | A_NAME | A_KIND)
 LOOK(enter_find, A_CPU | A_SECTION | A_NAME | A_KIND)
 LOOK(get, A_CPU | A_SECTION | A_NAME | A_KIND)
 
+/* Room for all entries, or less; where there is no row, also for more than memory has. */
+static size_t any_room(struct world *world, bool lacks)
+{
+	size_t room = below(world, 4) ? SLOTS : below(world, SLOTS);
+	return lacks && room == SLOTS ? SIZE_MAX : room;
+}
+
 static void walk(struct world *world)
 {
 	struct registry_entry row[SLOTS] = {0}, wanted[SLOTS] = {0};
 	const struct given given = any_given(world);
-	size_t count = 99, length = 99, room = below(world, 4) ? SLOTS : below(world, SLOTS);
+	size_t count = 99, length = 99, room = any_room(world, given.lacks);
 	uint32_t answer = registry_walk(given.cpu, given.lacks ? NULL : row, room, given.wants ? &count : NULL);
 	same(answer, WANTED(room != 0 ? A_CPU | THE_REST : A_CPU, model_walk(&world->model, given.at, wanted, room, &length)));
 	EXPECT((count == length || !given.wants) && memcmp(row, wanted, sizeof row) == 0);
+}
+
+/* A cursor that isn't begun, as the call that begins it is refused, is at its end. */
+static void same_unbegun(const struct world *world, const struct given *call, struct registry_cursor *cursor, struct registry_entry *entry)
+{
+	const struct given given = *call;
+	const bool is_outside = world->model.cpus[given.at].depth == 0;
+	same(registry_next(given.cpu, cursor, entry), WANTED(A_CPU | THE_REST, is_outside ? REGISTRY_OUTSIDE : REGISTRY_NO_MORE));
+	EXPECT(entry->number == 0);
 }
 
 /* All entries by a cursor are those of a walk. Behind the last one there is none, however often it is asked for. */
 static void go_over(struct world *world)
 {
 	struct registry_entry entry = {0}, row[SLOTS] = {0}, met[SLOTS];
-	struct registry_cursor cursor = {.row = met, .room = SLOTS};
-	const struct given given = any_given(world);
+	struct given given = any_given(world);
+	struct registry_cursor all = {.row = below(world, 8) ? met : NULL, .next = below(world, 2)};
+	struct registry_cursor *cursor = given.lacks ? NULL : &all;
 	size_t length = 0;
-	uint32_t wanted = WANTED(A_CPU | THE_REST, model_walk(&world->model, given.at, row, SLOTS, &length));
-	uint32_t answer = registry_first(given.cpu, given.lacks ? NULL : &cursor, &entry);
+	all.room = any_room(world, all.row == NULL);
+	given.lacks = cursor == NULL || (all.row == NULL && all.room != 0);
+	uint32_t wanted = WANTED(A_CPU | THE_REST, model_walk(&world->model, given.at, row, all.room, &length));
+	uint32_t answer = registry_first(given.cpu, cursor, given.wants ? &entry : NULL);
 	if (wanted != REGISTRY_DONE) {
 		same(answer, wanted);
-		same(registry_next(given.cpu, given.lacks ? NULL : &cursor, &entry), wanted);
+		given.lacks = cursor == NULL;
+		same_unbegun(world, &given, cursor, &entry);
 		return;
 	}
-	for (size_t i = 0; i < length; i++, answer = registry_next(given.cpu, &cursor, &entry))
-		DONE(same_entry(answer, &entry, REGISTRY_DONE, &row[i]));
+	for (size_t i = 0; i < length; i++, answer = registry_next(given.cpu, cursor, given.wants ? &entry : NULL))
+		DONE(same_wanted(&given, answer, &entry, REGISTRY_DONE, &row[i]));
 	same(answer, REGISTRY_NO_MORE);
-	same(registry_next(given.cpu, &cursor, NULL), REGISTRY_NO_MORE);
+	same(registry_next(given.cpu, cursor, NULL), REGISTRY_NO_MORE);
 	EXPECT(length == 0 || memcmp(&entry, &row[length - 1], sizeof entry) == 0);
 }
 
@@ -532,25 +552,56 @@ static void begin_wait(struct world *world)
 	world->begun = answer == REGISTRY_DONE || world->begun;
 }
 
+/* Now and then on a wait that was never begun, which stays as it is. */
 static void turn_wait(struct world *world)
 {
 	uint64_t waited = 99, wanted = 99;
 	const struct given given = any_given(world);
+	const bool is_spoilt = below(world, 8) == 0;
+	world->wait.begun ^= is_spoilt;
+	const struct registry_wait before = world->wait;
 	uint32_t answer = registry_perform_turn(given.keeper, given.cpu, given.lacks ? NULL : &world->wait, given.wants ? &waited : NULL);
-	same(answer, WANTED(A_KEEPER | A_CPU | THE_REST, world->begun ? model_perform_turn(&world->model, given.at, &wanted) : REGISTRY_NOT_BEGUN));
-	EXPECT(waited == wanted || !given.wants);
+	const bool is_begun = world->begun && !is_spoilt;
+	same(answer, WANTED(A_KEEPER | A_CPU | THE_REST, is_begun ? model_perform_turn(&world->model, given.at, &wanted) : REGISTRY_NOT_BEGUN));
+	EXPECT((waited == wanted || !given.wants) && (is_begun || memcmp(&world->wait, &before, sizeof before) == 0));
+	world->wait.begun ^= is_spoilt;
+}
+
+/* The CPUs in their order; or too few, too many, an empty handle among them, or another order. */
+static size_t any_cpus(struct world *world, struct registry_cpu *cpus)
+{
+	const size_t count = world->model.settings.cpus;
+	memcpy(cpus, world->cpus, count * sizeof *cpus);
+	cpus[count] = no_cpu;
+	switch (below(world, 16)) {
+	case 0:
+		return below(world, count);
+	case 1:
+		return count + 1;
+	case 2:
+		cpus[below(world, count)] = no_cpu;
+		return count;
+	case 3:
+		cpus[0] = cpus[count - 1];
+		cpus[count - 1] = world->cpus[0];
+	}
+	return count;
 }
 
 /* What the program counts of a registry: nothing of it is written if the call fails, except how much room it takes. */
 static void audit(struct world *world)
 {
 	struct registry_balance list[SLOTS], wanted[SLOTS];
-	const struct given given = any_given(world);
-	size_t length = 99, count = model_audit(&world->model, wanted), room = below(world, 4) ? SLOTS : below(world, SLOTS);
+	struct registry_cpu cpus[CPUS + 1];
+	struct given given = any_given(world);
+	const bool lacks_list = given.lacks, lacks_cpus = below(world, 16) == 0;
+	size_t length = 99, count = model_audit(&world->model, wanted), room = any_room(world, lacks_list), given_cpus = any_cpus(world, cpus);
+	const bool is_missing = given_cpus != world->model.settings.cpus || memcmp(cpus, world->cpus, given_cpus * sizeof *cpus) != 0;
 	list[0].number = 0;
-	uint32_t answer = registry_audit(given.keeper, world->cpus, world->model.settings.cpus, given.lacks ? NULL : list, room, given.wants ? &length : NULL);
-	same(answer, WANTED(room != 0 ? A_KEEPER | THE_REST : A_KEEPER, count > room ? REGISTRY_NO_ROOM : REGISTRY_DONE));
-	EXPECT(length == (wrong != REGISTRY_DONE || !given.wants ? 99 : count));
+	uint32_t answer = registry_audit(given.keeper, lacks_cpus ? NULL : cpus, given_cpus, lacks_list ? NULL : list, room, given.wants ? &length : NULL);
+	given.lacks = (lacks_list && room != 0) || (lacks_cpus && given_cpus != 0);
+	same(answer, WANTED(A_KEEPER | THE_REST, is_missing ? REGISTRY_MISSING_CPU : count > room ? REGISTRY_NO_ROOM : REGISTRY_DONE));
+	EXPECT(length == (wrong != REGISTRY_DONE || is_missing || !given.wants ? 99 : count));
 	EXPECT(answer == REGISTRY_DONE ? memcmp(list, wanted, count * sizeof *list) == 0 : list[0].number == 0);
 	same(registry_settings_of(given.keeper, NULL), wrong_with(&world->model, &given, A_KEEPER));
 }
