@@ -3,13 +3,11 @@
 
 INCLUDES = -Ic/include -Ic/examples -Ic/tests -I$(HEADER)
 WRAP = -Wl,--wrap=malloc,--wrap=realloc,--wrap=free
-# What planted.c spoils of history, and the main of history.
-PLANTED = main $(addprefix registry_,attach detach advance audit enter look_up acquire get local_acquire local_release)
 
 # Where the programs lie.
 vpath %.c c/examples c/tests
 
-PROGRAMS = smallest row packet shared misuse refuse allocs changes built $(OVER_WAITING) turns history largest planted names crowd forwarder device_switch $(PROGRAMS_$(PROCESSOR)) $(BENCHED)
+PROGRAMS = smallest packet shared misuse allocs changes built $(OVER_WAITING) turns history largest names crowd forwarder device_switch $(PROGRAMS_$(PROCESSOR)) $(BENCHED)
 # Tests of waiting.h: each is compiled with it.
 OVER_WAITING = deferred together interrupted reclaims lent
 # They read registers of x86-64.
@@ -18,7 +16,7 @@ PROGRAMS_x86_64 = recalls
 BENCH = bench
 BENCHED = $(if $(wildcard $(BENCH)/common.c),speed)
 # In the checking build, too, which says nothing of them.
-CHECKING = smallest row packet shared crowd forwarder device_switch together
+CHECKING = smallest packet shared crowd forwarder device_switch together
 
 all: $(PROGRAMS:%=$(OUT)/%) $(OUT)/checked $(CHECKING:%=$(OUT)/checked-%)
 
@@ -29,12 +27,10 @@ $(OUT):
 $(filter-out $(OUT)/largest,$(PROGRAMS:%=$(OUT)/%)): $(OUT)/%: %.c
 $(OUT)/largest: c/tests/history.c
 $(OUT)/largest: CFLAGS += -DMODEL_OF_THE_LARGEST
-$(addprefix $(OUT)/,deferred history largest planted): c/tests/model.c c/tests/model.h
-$(OUT)/planted: c/tests/history.c
+$(addprefix $(OUT)/,deferred history largest): c/tests/model.c c/tests/model.h
 $(OUT)/allocs: c/src/heap.c
-$(addprefix $(OUT)/,history largest planted refuse allocs recalls): c/tests/wrapped_heap.h
-$(addprefix $(OUT)/,history largest refuse allocs): LINK = $(WRAP)
-$(OUT)/planted: LINK = $(WRAP) $(PLANTED:%=-Wl,--wrap=%)
+$(addprefix $(OUT)/,history largest allocs recalls): c/tests/wrapped_heap.h
+$(addprefix $(OUT)/,history largest allocs): LINK = $(WRAP)
 $(addprefix $(OUT)/,shared crowd forwarder device_switch turns $(OVER_WAITING) $(BENCHED)): c/src/waiting.c c/include/waiting.h
 $(OUT)/forwarder $(OUT)/device_switch: c/examples/workers.h
 $(OUT)/recalls: STRICT = -std=c11 -D_GNU_SOURCE -mno-red-zone $(WARNINGS)
@@ -59,8 +55,8 @@ $(CHECKING:%=$(OUT)/checked-%): $(OUT)/checked-%: %.c
 $(OUT)/checked $(CHECKING:%=$(OUT)/checked-%): c/src/check.c c/src/waiting.c c/include/registry_check.h c/include/waiting.h c/examples/client.h c/examples/expect.h c/examples/workers.h $(FACE) $(ARCHIVE) | $(OUT)
 	$(CC) $(STRICT) $(CPPFLAGS) $(CFLAGS) -DREGISTRY_CHECK $(INCLUDES) $(LDFLAGS) -o $@ $(filter %.c,$^) $(ARCHIVE) -pthread $(LINK)
 
-# refuse has an allocator of its own, which the sanitizers' would fight; history is brief without one.
-SANITIZED = smallest row packet shared misuse built history names crowd forwarder device_switch $(WAITING_SANITIZED)
+# history is brief without an allocator of its own, which the sanitizers' would fight.
+SANITIZED = smallest packet shared misuse built history names crowd forwarder device_switch $(WAITING_SANITIZED)
 # The address sanitizer takes the stack of a cancelled thread for one in use.
 WAITING_SANITIZED = reclaims lent
 
@@ -111,7 +107,7 @@ $(ORDERED:%=$(OUT)/ordered-%): $(OUT)/ordered-%: %.c c/tests/ordered.c c/example
 	    -Wl,--wrap=malloc,--wrap=free,--wrap=registry_open
 
 # What ends with status 0 where it finds nothing wrong, with the words that make it brief; and the names of the pages, plain.
-CHECKED = smallest packet shared checked misuse refuse built turns $(OVER_WAITING) history names crowd forwarder device_switch
+CHECKED = smallest packet shared checked misuse built turns $(OVER_WAITING) history names crowd forwarder device_switch
 words_history = 300000
 words_together = 20
 words_crowd = 50
@@ -119,15 +115,11 @@ words_forwarder = 200
 words_device_switch = 20
 NETBSD_CHECKED = threads copies drivers model kernel
 
-check: $(CHECKED:%=check-%) check-row check-limits $(NETBSD_CHECKED:%=check-netbsd-%)
+check: $(CHECKED:%=check-%) check-limits $(NETBSD_CHECKED:%=check-netbsd-%)
 	@echo "$(words $^) passed, 0 failed"
 
 $(CHECKED:%=check-%): check-%: $(OUT)/%
 	$(RUN) ./$< $(words_$*)
-
-check-row: $(OUT)/row
-	sed -n '1,/^# It prints:$$/d; s/^# //p' examples/retire-under-section.txt >$(OUT)/row.wanted
-	$(RUN) ./$< | diff - $(OUT)/row.wanted
 
 # Programs that are compiled for other limits than the archive's.
 check-limits: $(ARCHIVE)
@@ -144,4 +136,4 @@ clean:
 	rm -f $(PROGRAMS:%=$(OUT)/%) $(OUT)/checked $(CHECKING:%=$(OUT)/checked-%) $(SANITIZED:%=$(OUT)/sanitized-%) $(STRESSES) $(RACED:%=$(OUT)/raced-%) $(ORDERED:%=$(OUT)/ordered-%) $(OUT)/waiting.o $(OUT)/checked-part-*.o $(OUT)/libkupaldiz*
 	rm -rf $(OUT)/installed-netbsd $(OUT)/installed-bench
 
-.PHONY: all sanitized stresses ordered clean check check-row check-limits netbsd-programs $(CHECKED:%=check-%) $(NETBSD_CHECKED:%=check-netbsd-%)
+.PHONY: all sanitized stresses ordered clean check check-limits netbsd-programs $(CHECKED:%=check-%) $(NETBSD_CHECKED:%=check-netbsd-%)

@@ -84,7 +84,7 @@ mend_links() {
 # lay TO: the whole source.
 lay() {
     local to=$1
-    mkdir -p "$to/examples" "$to/docs"
+    mkdir -p "$to/docs"
     make -s pages
     cp -r Makefile c man netbsd explorer packaging "$to"
     rm -rf "$to/packaging/debian"
@@ -92,7 +92,6 @@ lay() {
     cp packaging/INSTALL.md "$to/README.md"
     cp docs/C.md "$to/docs"
     cp -r "$(first include crates/registry_c/include)" "$to/include"
-    cp examples/*.txt "$to/examples"
     mkdir "$to/rust"
     cp -rL rust/Cargo.toml rust/README.md rust/build.rs rust/registry_limits.h rust/src rust/examples rust/tests "$to/rust"
     lay_archive x86_64 "$to"

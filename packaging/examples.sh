@@ -20,7 +20,7 @@ mkdir -p "$to/netbsd"
 for name in Makefile CMakeLists.txt; do
     put "c/examples/$name" "$name"
 done
-for name in smallest packet row shared forwarder device_switch; do
+for name in smallest packet shared forwarder device_switch; do
     put "c/examples/$name.c" "$name.c"
 done
 for name in client expect workers; do

@@ -59,21 +59,9 @@ prints_nothing() {
     [ -z "$said" ] || { echo "$said"; return 1; }
 }
 
-# says FILE COMMAND..: the command's status is 0, and it prints what is in the file.
-says() {
-    local wanted=$1
-    shift
-    limited "$@" >"$log.said" && diff "$log.said" "$wanted"
-}
-
-row_says() {
-    sed -n '1,/^# It prints:$/d; s/^# //p' examples/retire-under-section.txt >"$log.wanted"
-    says "$log.wanted" "$@"
-}
-
+# Its status is 0, and it prints this line.
 smallest_says() {
-    echo 'wm0 has value 1500' >"$log.wanted"
-    says "$log.wanted" "$@"
+    limited "$@" >"$log.said" && diff "$log.said" - <<<'wm0 has value 1500'
 }
 
 apt_install() {
@@ -90,13 +78,13 @@ install_missing() {
     [ "${#missing[@]}" -eq 0 ] || check "installed ${missing[*]}" apt_install $1 "${missing[@]}"
 }
 
-# programs KIND HOW BEFORE PROGRAM..: each program with its words; what is before its name runs it. Two say what they did.
+# programs KIND HOW BEFORE PROGRAM..: each program with its words; what is before its name runs it. `smallest` says what it did.
 # shellcheck disable=SC2086
 programs() {
     local kind=$1 how=$2 before=$3 program
     for program in "${@:4}"; do
         case $program in
-        smallest | row) check "$kind $program$how" ${program}_says $before$program ;;
+        smallest) check "$kind $program$how" smallest_says $before$program ;;
         *) check "$kind $program$how" $before$program ;;
         esac
     done

@@ -194,7 +194,7 @@ BENCH = {"counts": [], "drivers": [], "finds": [], "callouts": [], "failures": [
 OVER_WAITING = {"turns": [], "reclaims": [], "lent": [], "deferred": [], "interrupted": [], "together": ["20"]}
 # What is C of the archive, and the programs that see each part, with their words.
 PARTS = {
-    "heap": {"allocs": [], "refuse": [], "history": ["3000"], "misuse": []},
+    "heap": {"allocs": [], "history": ["3000"], "misuse": []},
     "composed": {"history": ["3000"], "misuse": [], "sanitized-history": ["3000"]},
     "strings": {"names": [], "sanitized-names": []},
 }

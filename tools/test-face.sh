@@ -111,9 +111,9 @@ test_page() {
 }
 
 test_c() {
-    programs C: "" "$out/" smallest row packet 'shared 2000' misuse refuse allocs built turns deferred together interrupted reclaims lent history \
-        'largest 30000 1 long' planted names recalls 'crowd 2000' forwarder device_switch 'speed 2 8 1000' 'changes 20' 'changes 20 2 4' 'changes 20 64 255' checked
-    programs C: " in the checking build" "$out/checked-" smallest row packet 'shared 500' 'crowd 200' 'forwarder 200' 'device_switch 20' 'together 20'
+    programs C: "" "$out/" smallest packet 'shared 2000' misuse allocs built turns deferred together interrupted reclaims lent history \
+        'largest 30000 1 long' names recalls 'crowd 2000' forwarder device_switch 'speed 2 8 1000' 'changes 20' 'changes 20 2 4' 'changes 20 64 255' checked
+    programs C: " in the checking build" "$out/checked-" smallest packet 'shared 500' 'crowd 200' 'forwarder 200' 'device_switch 20' 'together 20'
     counted "C: programs compiled for other limits" packaging/other-limits.sh "${header%/*}" "$out/libregistry.a"
     counted "C: installed, used by pkg-config alone, and uninstalled" tools/test-install.sh
     counted "C: built as users build" tools/test-builds.sh
@@ -121,9 +121,8 @@ test_c() {
 
 # The same programs, where each access of the client's, or of all, is watched.
 test_watched() {
-    programs C: " under valgrind" "watched all $out/" smallest row packet 'shared 20' misuse built interrupted reclaims lent 'history 3000 1 small' names 'crowd 20' \
-        refuse
-    programs C: " with sanitizers" "$out/sanitized-" smallest row misuse packet 'shared 500' built reclaims lent 'history 100000' names 'crowd 300' forwarder \
+    programs C: " under valgrind" "watched all $out/" smallest packet 'shared 20' misuse built interrupted reclaims lent 'history 3000 1 small' names 'crowd 20'
+    programs C: " with sanitizers" "$out/sanitized-" smallest misuse packet 'shared 500' built reclaims lent 'history 100000' names 'crowd 300' forwarder \
         device_switch
 }
 

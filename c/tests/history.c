@@ -6,7 +6,8 @@
  * A registry of 8 CPUs and 32 slots has room for CHANGES changes, by default ten million, and goes through them (`long`); in the program `largest` it has
  * 64 CPUs and 255 slots. Smaller ones meet each limit (`small`), and two have very many references (`counts`). PART names one of these, to run alone.
  *
- * Now and then a call gets an empty handle, a NULL, a kind or a name that is none, or several of these; or it gets no place for what it writes.
+ * Now and then a call gets an empty handle, a NULL, a kind or a name that is none, or several of these; or it gets no place for what it writes; or there is
+ * no memory for it. At an opening each allocation is refused in turn.
  *
  * The linker leads malloc, realloc and free here (--wrap), except in the brief program: each call takes and frees as many blocks of memory as the model
  * says, and a registry that is closed has none any more. So the test knows the words of a registry's table, too. The section word of a CPU says how many
@@ -27,11 +28,10 @@ enum { MANY = 70001, MORE = 1000001, SMALL = 200 };
 
 /* The blocks that the archive's calls have taken, and those that they have freed. */
 static uint64_t taken, freed;
-/* The last registry, by its model, and its CPUs, for planted.c. */
-const struct model *modelled;
-const struct registry_cpu *first_cpu;
-/* Its table, and the table's bytes: the first block of that size that an opening takes and doesn't free. */
-uint64_t *table;
+/* How many more allocations aren't refused. */
+static uint64_t allowed = UINT64_MAX;
+/* The last registry's table, and the table's bytes: the first block of that size that an opening takes and doesn't free. */
+static uint64_t *table;
 static size_t table_bytes;
 enum { ALIKE = 16 };
 static void *alike[ALIKE];
@@ -42,9 +42,14 @@ enum { BLOCKS_ARE_COUNTED = false };
 #define __real_free free
 #else
 enum { BLOCKS_ARE_COUNTED = true };
+static bool is_refused(void)
+{
+	return allowed == 0 || allowed-- == 0;
+}
+
 void *__wrap_malloc(size_t size)
 {
-	void *block = __real_malloc(size);
+	void *block = is_refused() ? NULL : __real_malloc(size);
 	taken += block != NULL;
 	if (size == table_bytes && alike_count < ALIKE)
 		alike[alike_count++] = block;
@@ -54,7 +59,7 @@ void *__wrap_malloc(size_t size)
 /* A block that grows is neither taken nor freed. */
 void *__wrap_realloc(void *block, size_t size)
 {
-	void *moved = __real_realloc(block, size);
+	void *moved = is_refused() ? NULL : __real_realloc(block, size);
 	taken += block == NULL && moved != NULL;
 	return moved;
 }
@@ -263,34 +268,54 @@ LOOK(look_up, A_CPU | A_SECTION | A_NAME | A_KIND)
 LOOK(enter_find, A_CPU | A_SECTION | A_NAME | A_KIND)
 LOOK(get, A_CPU | A_SECTION | A_NAME | A_KIND)
 
+/* Room for all entries, or less; where there is no row, also for more than memory has. */
+static size_t any_room(struct world *world, bool lacks)
+{
+	size_t room = below(world, 4) ? SLOTS : below(world, SLOTS);
+	return lacks && room == SLOTS ? SIZE_MAX : room;
+}
+
 static void walk(struct world *world)
 {
 	struct registry_entry row[SLOTS] = {0}, wanted[SLOTS] = {0};
 	const struct given given = any_given(world);
-	size_t count = 99, length = 99, room = below(world, 4) ? SLOTS : below(world, SLOTS);
+	size_t count = 99, length = 99, room = any_room(world, given.lacks);
 	uint32_t answer = registry_walk(given.cpu, given.lacks ? NULL : row, room, given.wants ? &count : NULL);
 	same(answer, WANTED(room != 0 ? A_CPU | THE_REST : A_CPU, model_walk(&world->model, given.at, wanted, room, &length)));
 	EXPECT((count == length || !given.wants) && memcmp(row, wanted, sizeof row) == 0);
+}
+
+/* A cursor that isn't begun, as the call that begins it is refused, is at its end. */
+static void same_unbegun(const struct world *world, const struct given *call, struct registry_cursor *cursor, struct registry_entry *entry)
+{
+	const struct given given = *call;
+	const bool is_outside = world->model.cpus[given.at].depth == 0;
+	same(registry_next(given.cpu, cursor, entry), WANTED(A_CPU | THE_REST, is_outside ? REGISTRY_OUTSIDE : REGISTRY_NO_MORE));
+	EXPECT(entry->number == 0);
 }
 
 /* All entries by a cursor are those of a walk. Behind the last one there is none, however often it is asked for. */
 static void go_over(struct world *world)
 {
 	struct registry_entry entry = {0}, row[SLOTS] = {0}, met[SLOTS];
-	struct registry_cursor cursor = {.row = met, .room = SLOTS};
-	const struct given given = any_given(world);
+	struct given given = any_given(world);
+	struct registry_cursor all = {.row = below(world, 8) ? met : NULL, .next = below(world, 2)};
+	struct registry_cursor *cursor = given.lacks ? NULL : &all;
 	size_t length = 0;
-	uint32_t wanted = WANTED(A_CPU | THE_REST, model_walk(&world->model, given.at, row, SLOTS, &length));
-	uint32_t answer = registry_first(given.cpu, given.lacks ? NULL : &cursor, &entry);
+	all.room = any_room(world, all.row == NULL);
+	given.lacks = cursor == NULL || (all.row == NULL && all.room != 0);
+	uint32_t wanted = WANTED(A_CPU | THE_REST, model_walk(&world->model, given.at, row, all.room, &length));
+	uint32_t answer = registry_first(given.cpu, cursor, given.wants ? &entry : NULL);
 	if (wanted != REGISTRY_DONE) {
 		same(answer, wanted);
-		same(registry_next(given.cpu, given.lacks ? NULL : &cursor, &entry), wanted);
+		given.lacks = cursor == NULL;
+		same_unbegun(world, &given, cursor, &entry);
 		return;
 	}
-	for (size_t i = 0; i < length; i++, answer = registry_next(given.cpu, &cursor, &entry))
-		DONE(same_entry(answer, &entry, REGISTRY_DONE, &row[i]));
+	for (size_t i = 0; i < length; i++, answer = registry_next(given.cpu, cursor, given.wants ? &entry : NULL))
+		DONE(same_wanted(&given, answer, &entry, REGISTRY_DONE, &row[i]));
 	same(answer, REGISTRY_NO_MORE);
-	same(registry_next(given.cpu, &cursor, NULL), REGISTRY_NO_MORE);
+	same(registry_next(given.cpu, cursor, NULL), REGISTRY_NO_MORE);
 	EXPECT(length == 0 || memcmp(&entry, &row[length - 1], sizeof entry) == 0);
 }
 
@@ -527,25 +552,56 @@ static void begin_wait(struct world *world)
 	world->begun = answer == REGISTRY_DONE || world->begun;
 }
 
+/* Now and then on a wait that was never begun, which stays as it is. */
 static void turn_wait(struct world *world)
 {
 	uint64_t waited = 99, wanted = 99;
 	const struct given given = any_given(world);
+	const bool is_spoilt = below(world, 8) == 0;
+	world->wait.begun ^= is_spoilt;
+	const struct registry_wait before = world->wait;
 	uint32_t answer = registry_perform_turn(given.keeper, given.cpu, given.lacks ? NULL : &world->wait, given.wants ? &waited : NULL);
-	same(answer, WANTED(A_KEEPER | A_CPU | THE_REST, world->begun ? model_perform_turn(&world->model, given.at, &wanted) : REGISTRY_NOT_BEGUN));
-	EXPECT(waited == wanted || !given.wants);
+	const bool is_begun = world->begun && !is_spoilt;
+	same(answer, WANTED(A_KEEPER | A_CPU | THE_REST, is_begun ? model_perform_turn(&world->model, given.at, &wanted) : REGISTRY_NOT_BEGUN));
+	EXPECT((waited == wanted || !given.wants) && (is_begun || memcmp(&world->wait, &before, sizeof before) == 0));
+	world->wait.begun ^= is_spoilt;
+}
+
+/* The CPUs in their order; or too few, too many, an empty handle among them, or another order. */
+static size_t any_cpus(struct world *world, struct registry_cpu *cpus)
+{
+	const size_t count = world->model.settings.cpus;
+	memcpy(cpus, world->cpus, count * sizeof *cpus);
+	cpus[count] = no_cpu;
+	switch (below(world, 16)) {
+	case 0:
+		return below(world, count);
+	case 1:
+		return count + 1;
+	case 2:
+		cpus[below(world, count)] = no_cpu;
+		return count;
+	case 3:
+		cpus[0] = cpus[count - 1];
+		cpus[count - 1] = world->cpus[0];
+	}
+	return count;
 }
 
 /* What the program counts of a registry: nothing of it is written if the call fails, except how much room it takes. */
 static void audit(struct world *world)
 {
 	struct registry_balance list[SLOTS], wanted[SLOTS];
-	const struct given given = any_given(world);
-	size_t length = 99, count = model_audit(&world->model, wanted), room = below(world, 4) ? SLOTS : below(world, SLOTS);
+	struct registry_cpu cpus[CPUS + 1];
+	struct given given = any_given(world);
+	const bool lacks_list = given.lacks, lacks_cpus = below(world, 16) == 0;
+	size_t length = 99, count = model_audit(&world->model, wanted), room = any_room(world, lacks_list), given_cpus = any_cpus(world, cpus);
+	const bool is_missing = given_cpus != world->model.settings.cpus || memcmp(cpus, world->cpus, given_cpus * sizeof *cpus) != 0;
 	list[0].number = 0;
-	uint32_t answer = registry_audit(given.keeper, world->cpus, world->model.settings.cpus, given.lacks ? NULL : list, room, given.wants ? &length : NULL);
-	same(answer, WANTED(room != 0 ? A_KEEPER | THE_REST : A_KEEPER, count > room ? REGISTRY_NO_ROOM : REGISTRY_DONE));
-	EXPECT(length == (wrong != REGISTRY_DONE || !given.wants ? 99 : count));
+	uint32_t answer = registry_audit(given.keeper, lacks_cpus ? NULL : cpus, given_cpus, lacks_list ? NULL : list, room, given.wants ? &length : NULL);
+	given.lacks = (lacks_list && room != 0) || (lacks_cpus && given_cpus != 0);
+	same(answer, WANTED(A_KEEPER | THE_REST, is_missing ? REGISTRY_MISSING_CPU : count > room ? REGISTRY_NO_ROOM : REGISTRY_DONE));
+	EXPECT(length == (wrong != REGISTRY_DONE || is_missing || !given.wants ? 99 : count));
 	EXPECT(answer == REGISTRY_DONE ? memcmp(list, wanted, count * sizeof *list) == 0 : list[0].number == 0);
 	same(registry_settings_of(given.keeper, NULL), wrong_with(&world->model, &given, A_KEEPER));
 }
@@ -613,7 +669,11 @@ static enum writer act(struct world *world)
 	unsigned i = 0;
 	while (which >= deeds[i].often)
 		which -= deeds[i++].often;
+	world->model.no_memory = BLOCKS_ARE_COUNTED && below(world, 4) == 0;
+	allowed = world->model.no_memory ? 0 : UINT64_MAX;
 	deeds[i].act(world);
+	world->model.no_memory = false;
+	allowed = UINT64_MAX;
 	same_counts(world);
 	return deeds[i].writer;
 }
@@ -652,18 +712,31 @@ static void same_writers(const struct world *world, enum writer writer)
 	}
 }
 
+/* Opens it once enough allocations aren't refused. Until then nothing is opened, and no memory kept. */
+static void open_at_last(struct world *world)
+{
+	const struct registry_settings *settings = &world->model.settings;
+	registry_answer answer = REGISTRY_NO_MEMORY;
+	for (uint64_t enough = BLOCKS_ARE_COUNTED ? 0 : UINT64_MAX; answer == REGISTRY_NO_MEMORY; enough++) {
+		EXPECT(taken == freed && registry_settings_of(&world->keeper, NULL) == REGISTRY_EMPTY_HANDLE);
+		for (unsigned c = 0; c < settings->cpus; c++)
+			EXPECT(registry_enter(&world->cpus[c]) == REGISTRY_EMPTY_HANDLE);
+		alike_count = 0;
+		allowed = enough;
+		answer = registry_open(settings, &world->keeper, world->cpus, settings->cpus);
+		allowed = UINT64_MAX;
+	}
+	DONE(answer);
+}
+
 static struct world *opened(const struct registry_settings *settings, uint64_t seed)
 {
 	struct world *world = calloc(1, sizeof *world);
 	EXPECT(world != NULL);
 	world->model.settings = *settings;
-	modelled = &world->model;
-	first_cpu = world->cpus;
 	world->random = seed * 0x9e3779b97f4a7c15 | 1;
 	table_bytes = TABLE_BYTES(settings->slots, settings->cpus);
-	alike_count = 0;
-	EXPECT(taken == freed);
-	DONE(registry_open(settings, &world->keeper, world->cpus, settings->cpus));
+	open_at_last(world);
 	EXPECT(!BLOCKS_ARE_COUNTED || taken - freed == SHARED + OF_KEEPER + settings->cpus * OF_CPU);
 	world->taken = taken;
 	world->freed = freed;
@@ -692,10 +765,11 @@ static void close_keeper(struct world *world)
 	EXPECT(registry_close_keeper(&world->keeper) == REGISTRY_EMPTY_HANDLE);
 }
 
-/* All or none is closed, whichever CPU is inside. Some are closed before, in either order. */
+/* All or none is closed, whichever CPU is inside. Some are closed before, in either order. It takes no memory. */
 static void closed(struct world *world)
 {
 	const unsigned cpus = (unsigned)world->model.settings.cpus;
+	allowed = 0;
 	for (unsigned c = 0; c < cpus; c++)
 		if (same(registry_enter(&world->cpus[c]), model_enter(&world->model, c)) == REGISTRY_DONE) {
 			EXPECT(registry_close_cpu(&world->cpus[c]) == REGISTRY_INSIDE);
@@ -714,6 +788,7 @@ static void closed(struct world *world)
 	for (unsigned c = 0; c < cpus; c++)
 		EXPECT(registry_inside(&world->cpus[c], NULL) == REGISTRY_EMPTY_HANDLE);
 	EXPECT(taken == freed && registry_settings_of(&world->keeper, NULL) == REGISTRY_EMPTY_HANDLE);
+	allowed = UINT64_MAX;
 	__real_free(world);
 }
 

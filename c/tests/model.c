@@ -339,9 +339,17 @@ uint32_t model_release(struct model *model, unsigned cpu, uint64_t number)
 	return REGISTRY_DONE;
 }
 
+/* There is no block for a local reference: the CPU keeps none, and there is no memory. */
+static bool lacks_block(const struct model *model, unsigned cpu)
+{
+	return model->no_memory && !model->cpus[cpu].spare;
+}
+
 /* A block for a local reference, if one is acquired: the CPU's, or a new one, which the CPU keeps if the call fails. */
 static uint32_t take_block(struct model *model, unsigned cpu, uint32_t answer)
 {
+	if (lacks_block(model, cpu))
+		return answer;
 	model->taken += !model->cpus[cpu].spare;
 	model->cpus[cpu].spare = answer != REGISTRY_DONE;
 	return answer;
@@ -362,6 +370,8 @@ static uint32_t acquire_last(struct model *model, unsigned cpu, uint64_t *number
 		return REGISTRY_NOTHING_FOUND;
 	if (slot->net[cpu] == (int64_t)model->settings.count_limit)
 		return REGISTRY_LOCAL_FULL;
+	if (lacks_block(model, cpu))
+		return REGISTRY_NO_MEMORY;
 	slot->net[cpu]++;
 	slot->locals++;
 	*number = slot->entry.number;

@@ -52,6 +52,7 @@ struct model {
 	struct registry_settings settings;
 	uint64_t changes;
 	uint64_t taken, freed;		/* blocks of local references */
+	bool no_memory;			/* each block that a call takes is refused */
 	struct model_slot slots[SLOTS];
 	struct model_cpu cpus[CPUS];
 	struct model_wait wait;

@@ -112,9 +112,3 @@ fn each_public_type_is_in_the_table() {
     assert_eq!(exported, table().iter().map(|row| row.0).collect());
     assert!(!root.contains("pub mod ") && !root.contains("pub struct ") && !root.contains("pub enum "));
 }
-
-/// The four kinds of `T` are what they are said to be.
-#[test]
-fn the_kinds_are_told_apart() {
-    assert_eq!((kinds!(T, Send), kinds!(T, Sync)), ("bs".to_string(), "by".to_string()));
-}

@@ -72,9 +72,3 @@ fn what_is_wrong_is_refused_for_just_that_reason() {
     let told: Vec<String> = wrong.iter().map(|(name, expected, said)| format!("{name}: not {expected}\n{said}")).collect();
     assert!(told.is_empty(), "{}", told.join("\n"));
 }
-
-#[test]
-fn the_errors_of_a_message_are_told_apart() {
-    let message = "error[E0505]: cannot move\n  --> x\nerror: lifetime\nwarning: error[E0001]\nerror: aborting due to 2 previous errors\n";
-    assert_eq!(errors_in(message), ["E0505: cannot move", "lifetime"]);
-}

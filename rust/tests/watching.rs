@@ -1,9 +1,8 @@
 //! The tests' own eyes: who watches the archive's calls names each that the crate makes, and sees two that are made at once.
-#![allow(unknown_lints, unexpected_cfgs)]
 
 mod common;
 
-use common::{local, watched, with_driver};
+use common::watched;
 use std::collections::BTreeSet;
 use std::env;
 use std::process::Command;
@@ -25,17 +24,6 @@ fn each_call_with_a_handle_is_watched() {
     watched.retain(|call| call.starts_with("registry_"));
     assert_eq!(watched, made);
     assert!(made.len() > 20);
-}
-
-#[test]
-#[cfg_attr(not(registry_watched), ignore)]
-fn the_calls_are_led_here() {
-    let (_registry, cpus) = with_driver(7);
-    let before = watched::locals();
-    let reference = local(&cpus[0], "wm");
-    assert_eq!(watched::locals(), before + 1);
-    kupaldiz::LocalRef::release(reference, &cpus[1]).unwrap();
-    assert_eq!(watched::locals(), before);
 }
 
 /// In a program of its own, since it ends that.

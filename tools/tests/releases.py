@@ -208,8 +208,7 @@ sys.exit(any(not (page.parent / it).exists() for page, it in links))
 # What the scripts of packaging/ say of bad input; the source of a release is laid out whole, or not at all.
 LAID = real("Makefile", "packaging/*.*", "c/programs.mk", "explorer/*.mk", "packaging/debian/*.in", "docs/C.md",
             "c/examples/client.h", "netbsd/netbsd.map", "netbsd/named.sh", "netbsd/include/sys/param.h", "explorer/bench.h", "c/examples/Makefile", "man/registry.3.in",
-            "rust/*.*", "rust/*/packet.rs", "rust/*/lib.rs", "rust/tests/face.rs", "crates/registry_c/include/*.h",
-            "examples/retire-under-section.*")
+            "rust/*.*", "rust/*/packet.rs", "rust/*/lib.rs", "rust/tests/face.rs", "crates/registry_c/include/*.h")
 # An archive with a record, as far as the source of a release asks for them.
 LAID |= {"follows.py": FOLLOWS, "out/libregistry.a": "made\n", "out/libregistry.proved": "made\n"}
 LAID["try"] = """#!/bin/sh
