@@ -76,8 +76,8 @@ case("check-imports", ["check-imports.py", "parts.py"], IMPORTS, ["tools/check-i
 ])
 
 EDITS = "crates/cpu_words/edits/gate.edits"
-KEEPING = "crates/protocol/proofs/keeps/Keeping.antt"
-TABLED = ("crates/protocol/src/event.rt", "crates/protocol/specs/Events.antt", KEEPING, "crates/passive_core/src/machine/run.rt", "docs/MODEL.md",
+MADE, KEEPING = "crates/protocol/proofs/Made.antt", "crates/protocol/proofs/keeps/Keeping.antt"
+TABLED = ("crates/protocol/src/event.rt", "crates/protocol/specs/Events.antt", MADE, KEEPING, "crates/passive_core/src/machine/run.rt", "docs/MODEL.md",
           "crates/passive_list/src/*.rt", "crates/passive_list/edits/*.edits", "crates/cpu_words/src/steps/*.rt", "crates/cpu_words/src/operations/*.rt",
           "crates/cpu_words/proofs/steps/**/*.antt", "crates/cpu_words/proofs/operations/**/*.antt", "crates/cpu_words/edits/*.edits")
 
