@@ -59,10 +59,10 @@ def definitions(event):
 
 
 def keeping(event):
-    """The lemmas that `made_keeps` cites for what the event may be; itself, where the state stays as it is."""
-    cases = re.findall(rf"^  (\w+) :(?:(?!^  \w+ :).)*?→ Made s \(?{event}\b", MADE.read_text(), re.M | re.S)
-    lines = re.findall(rf"^made_keeps s _ _ _ on \((?:{'|'.join(cases)})\b(?:(?!^made_keeps).)*", KEEPING.read_text(), re.M | re.S)
-    return list(dict.fromkeys(it for it in re.findall(r"\w+_keeps\b", " ".join(lines)))) or ["made_keeps"]
+    """The lemmas that `made_keeps` cites for what the event may be; for what leaves the state, which its last line serves, itself."""
+    cases = re.findall(rf"^  (\w+) :(?:(?!^  \w+ :|^$).)*? Made s \(?{event}\b", MADE.read_text(), re.M | re.S)
+    lines = dict(re.findall(r"^made_keeps s _ _ _ on \((\w+)((?:(?!^made_keeps).)*)", KEEPING.read_text(), re.M | re.S))
+    return list(dict.fromkeys(it for case in cases for it in re.findall(r"\w+_keeps\b", lines.get(case, "made_keeps"))))
 
 
 def method(event):

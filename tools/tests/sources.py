@@ -91,6 +91,7 @@ case("event-table", TABLES, real(*TABLED), ["tools/event-table.py", "check"], [
     *of(EDITS, ("an edit that is gone", PAGE, "edit: enter_adds_two", "edit: enter_adds_three")),
     *of("crates/passive_list/edits/gate.edits", ("a step without an edit", "no edit", VACATES, "old: gone")),
     *of(DEFINITION, ("an event without a definition", "no definition", "guard (may_enter s c) (some_outcome (after_enter s c) Done)", "None")),
+    *of(MADE, ("an event of which nothing says what it is", "no second lemma", "Made s (Enter c)", "Made s (Exit c)")),
     *of("crates/passive_core/src/machine/run.rt", ("an event that the machine doesn't make", "no method", "self.step_enter(c)", "enter(c)")),
     *of("docs/MODEL.md", ("another word in the table", PAGE, "The CPU begins a section", "The CPU ends a section")),
 ])
