@@ -45,7 +45,8 @@ PERCENTILES = "clock read_p50 read_p99 read_p999 replace_p50 replace_p99 replace
 LABELS = {
     OURS: "here, in a section", "remembered": "here, look_up", "changed": "here, from C", "from-C": "here, look_up, C", "from-Rust": "here, look_up, Rust",
     "urcu-memb": "liburcu (default)", "urcu-mb": "liburcu mb", "urcu-qsbr": "liburcu qsbr", "dpdk-qsbr": "DPDK qsbr", "ck_epoch": "ck_epoch",
-    "crossbeam-epoch": "crossbeam-epoch", "arc-swap": "arc-swap", "pthread_rwlock": "reader-writer lock", "pthread_mutex": "mutex", "hand-packed": "unpadded words",
+    "crossbeam-epoch": "crossbeam-epoch", "arc-swap": "arc-swap", "pthread_rwlock": "reader-writer lock", "pthread_mutex": "mutex",
+    "hand-packed": "unpadded words",
 }
 STYLE = """<style>
 text { font: 12px sans-serif; fill: #1f2328 } .title { font: bold 15px sans-serif } .name { font: bold 12px sans-serif }
@@ -114,7 +115,8 @@ class Operations:
         for operation, ratio, goal in AIMS:
             pairs = list(zip(*(self.row(name, operation) for name in ratio.split("/"))))
             if None not in pairs[0]:
-                self.aim(f"{operation}: {ratio.replace('/', ' / ').replace('section', 'our lookup in a section')}", [one / other for one, other in pairs], float(goal))
+                called = ratio.replace("/", " / ").replace("section", "our lookup in a section")
+                self.aim(f"{operation}: {called}", [one / other for one, other in pairs], float(goal))
         many = [other / ours for other, ours in zip(self.row("pthread_rwlock", "lookup"), self.row("ours", "lookup"))][-len(self.lists):]
         self.aim(f"lookup: pthread_rwlock / ours, {self.threads[-1]} threads", many, 8 if self.threads[-1] >= 4 else 3, True)
         self.scaling()
@@ -133,7 +135,8 @@ class Operations:
             print(f"\nNo hand-written contender takes more than {NOISY:.2f} times as long with {most} threads as with 1.")
             return
         print(f"lookup: ours, {most} threads / 1 thread: not shown: {', '.join(f'{it:.2f}' for it in ours)}")
-        print(f"\nThe machine was not quiet: THIS RUN SHOWS NOTHING OF SCALING. With {most} threads these take so many times as long as with 1, and share nothing:")
+        print("\nThe machine was not quiet: THIS RUN SHOWS NOTHING OF SCALING. "
+              f"With {most} threads these take so many times as long as with 1, and share nothing:")
         for name, operation, entries, by in noises:
             print(f"  {name}, {operation}, list of {entries}: {by:.2f}")
 
@@ -238,13 +241,15 @@ def chart(operations, spread, title):
         ("a lookup, one thread", 1, [(name, one) for name, one, _ in lookups if name != "hand-packed"]),
         ("a lookup, each of four threads", 1, [(name, most) for name, _, most in lookups] if is_quiet else []),
         ("99 of 100 lookups beside changes", 0, [(name, of["read_p99"]) for name, of in spread.items() if name in LABELS]),
-        ("a replacement beside three readers, median", 0, [("changed" if it == "from-C" else it, of["replace_p50"]) for it, of in spread.items() if it in LABELS]),
+        ("a replacement beside three readers, median", 0,
+         [("changed" if it == "from-C" else it, of["replace_p50"]) for it, of in spread.items() if it in LABELS]),
     ]
     upper, lower = (60 + ROW * max(len(times) for *_, times in two) for two in (panels[:2], panels[2:]))
     size = f'width="{2 * WIDTH}" height="{62 + upper + lower}"'
     yield f'<svg xmlns="http://www.w3.org/2000/svg" {size} viewBox="0 0 {2 * WIDTH} {62 + upper + lower}" role="img">'
     yield "<title>Nanoseconds of a lookup on one thread and on four, and beside changes</title>"
-    yield from (STYLE, '<rect class="paper" width="100%" height="100%"/>', text(10, 22, "title", "Nanoseconds, list of 8"), text(10, 40, "faint", f"{title}; less is better"))
+    yield from (STYLE, '<rect class="paper" width="100%" height="100%"/>')
+    yield from (text(10, 22, "title", "Nanoseconds, list of 8"), text(10, 40, "faint", f"{title}; less is better"))
     for number, (called, digits, times) in enumerate(panels):
         if times:
             yield from panel(WIDTH * (number % 2), 50 + upper * (number > 1), called, digits, times)

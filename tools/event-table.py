@@ -32,8 +32,6 @@ SHARED = {"guard", "with_some", "some_outcome"}
 IMPORT = re.compile(r"use Rattle\.cpu_words\.((?:specs|proofs)\.[\w.]+)\.\{([^}]*)\}")
 LEMMAS = ("proofs.by_", "proofs.seats.")
 LIST = ROOT / "crates/passive_list/src"
-# Operations that several steps call: their edits are no one step's.
-SEVERAL = ("by_cpu", "by_keeper", "by_reference")
 FUNCTION = re.compile(r"(?:pub\(crate\) )?fn (\w+)")
 Step = collections.namedtuple("Step", "event function ensures")
 
@@ -61,10 +59,10 @@ def definitions(event):
 
 
 def keeping(event):
-    """The lemmas that `made_keeps` cites for what the event may be; itself, where the state stays as it is."""
-    cases = re.findall(rf"^  (\w+) :(?:(?!^  \w+ :).)*?→ Made s \(?{event}\b", MADE.read_text(), re.M | re.S)
-    lines = re.findall(rf"^made_keeps s _ _ _ on \((?:{'|'.join(cases)})\b(?:(?!^made_keeps).)*", KEEPING.read_text(), re.M | re.S)
-    return list(dict.fromkeys(it for it in re.findall(r"\w+_keeps\b", " ".join(lines)))) or ["made_keeps"]
+    """The lemmas that `made_keeps` cites for what the event may be; for what leaves the state, which its last line serves, itself."""
+    cases = re.findall(rf"^  (\w+) :(?:(?!^  \w+ :|^$).)*? Made s \(?{event}\b", MADE.read_text(), re.M | re.S)
+    lines = dict(re.findall(r"^made_keeps s _ _ _ on \((\w+)((?:(?!^made_keeps).)*)", KEEPING.read_text(), re.M | re.S))
+    return list(dict.fromkeys(it for case in cases for it in re.findall(r"\w+_keeps\b", lines.get(case, "made_keeps"))))
 
 
 def method(event):
@@ -125,8 +123,7 @@ def edits_of(step, tried):
     """The edits of the step's body or of its operation; where there are none, those of the function of `passive_list` that calls it."""
     body, text = step.function, step.function.text
     own = [edit for edit, path, line in tried if path == body.path and body.first <= line <= body.last]
-    single = (it for it in tried if it[1].parent == WORDS / "src/operations" and it[1].stem not in SEVERAL)
-    own += [edit for edit, path, line in single if (operation(path, line) or "?") in text]
+    own += [edit for edit, path, line in tried if path.parent == WORDS / "src/operations" and (operation(path, line) or "?") in text]
     above = [edit for edit, path, line in tried if path.parent == LIST and any(
         it.first <= line <= it.last and re.search(rf"\b{body.name}\(", it.text) for it in functions_of(path))]
     return [link(it.name, file_of(it.crate, it.kind)) + (" *" if it.kind == BY_HAND else "") for it in dict.fromkeys(own or above)]

@@ -93,8 +93,7 @@ epoch() {
 
 # finds NAME ARGUMENT..: a test of ck's meets memory that was freed, in one of so many runs: in a run the readers may come too late.
 finds() {
-    local run
-    for run in {1..20}; do
+    for _ in {1..20}; do
         ! epoch "$@" && grep -q 'AddressSanitizer: heap-use-after-free' "$work/$1.log" && return
     done
     return 1

@@ -76,8 +76,8 @@ case("check-imports", ["check-imports.py", "parts.py"], IMPORTS, ["tools/check-i
 ])
 
 EDITS = "crates/cpu_words/edits/gate.edits"
-KEEPING = "crates/protocol/proofs/keeps/Keeping.antt"
-TABLED = ("crates/protocol/src/event.rt", "crates/protocol/specs/Events.antt", KEEPING, "crates/passive_core/src/machine/run.rt", "docs/MODEL.md",
+MADE, KEEPING = "crates/protocol/proofs/Made.antt", "crates/protocol/proofs/keeps/Keeping.antt"
+TABLED = ("crates/protocol/src/event.rt", "crates/protocol/specs/Events.antt", MADE, KEEPING, "crates/passive_core/src/machine/run.rt", "docs/MODEL.md",
           "crates/passive_list/src/*.rt", "crates/passive_list/edits/*.edits", "crates/cpu_words/src/steps/*.rt", "crates/cpu_words/src/operations/*.rt",
           "crates/cpu_words/proofs/steps/**/*.antt", "crates/cpu_words/proofs/operations/**/*.antt", "crates/cpu_words/edits/*.edits")
 
@@ -91,6 +91,7 @@ case("event-table", TABLES, real(*TABLED), ["tools/event-table.py", "check"], [
     *of(EDITS, ("an edit that is gone", PAGE, "edit: enter_adds_two", "edit: enter_adds_three")),
     *of("crates/passive_list/edits/gate.edits", ("a step without an edit", "no edit", VACATES, "old: gone")),
     *of(DEFINITION, ("an event without a definition", "no definition", "guard (may_enter s c) (some_outcome (after_enter s c) Done)", "None")),
+    *of(MADE, ("an event of which nothing says what it is", "no second lemma", "Made s (Enter c)", "Made s (Exit c)")),
     *of("crates/passive_core/src/machine/run.rt", ("an event that the machine doesn't make", "no method", "self.step_enter(c)", "enter(c)")),
     *of("docs/MODEL.md", ("another word in the table", PAGE, "The CPU begins a section", "The CPU ends a section")),
 ])
