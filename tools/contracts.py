@@ -122,6 +122,8 @@ def body_begins(function):
 
 def main():
     revision, *crates = sys.argv[1:] or ["."]
+    if revision.startswith("-"):
+        sys.exit(__doc__)
     found = [
         block
         for path, lines in sources(revision)

@@ -41,7 +41,7 @@ int main(void)
 	printf("wm0 has value %" PRIu64 "\n", found.value);
 	check("release", registry_release(&cpus[0], found.number));
 
-	/* Nothing holds the entry. Else repeat the call while it returns REGISTRY_STILL_HELD. */
+	/* Nothing holds the entry. Else repeat the destroy while it returns REGISTRY_STILL_HELD. */
 	check("detach", registry_detach(&keeper, &cpus[1], REGISTRY_DRIVER, &name, &found));
 	check("destroy", registry_destroy(&keeper, &cpus[1], found.number, NULL));
 	check("close", registry_close(cpus, 2, &keeper));
