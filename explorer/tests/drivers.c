@@ -70,8 +70,7 @@ HANDLER(detach_device, KASSERT(devsw_detach(0) == 0); KASSERT(users == 0))
 static void make_device(void)
 {
 	devsw_init();
-	KASSERT(devsw_attach(0, &device) == 0 && devsw_attach(0, &device) == EEXIST && cdev_open(1, 0) == ENXIO);
-	KASSERT(cdev_close(0, 1) == 0 && cdev_close(0, 2) == EIO);
+	KASSERT(devsw_attach(0, &device) == 0 && devsw_attach(0, &device) == EEXIST && cdev_open(1, 0) == ENXIO && cdev_close(1, 0) == ENXIO);
 }
 
 /* ---- ioctl.c: an entry is read while it is replaced and deleted. ---- */
