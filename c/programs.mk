@@ -113,7 +113,7 @@ words_together = 20
 words_crowd = 50
 words_forwarder = 200
 words_device_switch = 20
-NETBSD_CHECKED = threads copies drivers model kernel
+NETBSD_CHECKED = threads drivers model kernel
 
 check: $(CHECKED:%=check-%) check-limits $(NETBSD_CHECKED:%=check-netbsd-%)
 	@echo "$(words $^) passed, 0 failed"

@@ -13,7 +13,7 @@ umask 022
 # put FILE AS: the file with the names under which the headers are installed.
 put() {
     sed -E -e 's|#include "registry\.h"|#include <kupaldiz/registry.h>|' -e 's|#include "waiting\.h"|#include <kupaldiz/registry_waiting.h>|' \
-        -e 's|#include "\.\./\.\./c/examples/expect\.h"|#include "expect.h"|' -e 's|#include "\.\./examples/drivers\.h"|#include "drivers.h"|' "$1" >"$to/$2"
+        -e 's,#include "\.\./\.\./(c|netbsd)/(examples|tests)/,#include ",' -e 's|#include "\.\./bench\.h"|#include "bench.h"|' "$1" >"$to/$2"
 }
 
 mkdir -p "$to/netbsd"
@@ -26,6 +26,6 @@ done
 for name in client expect workers; do
     put "c/examples/$name.h" "$name.h"
 done
-for path in netbsd/examples/*.[ch] netbsd/tests/{drivers.c,test.h,bodies.h}; do
+for path in netbsd/examples/*.[ch] netbsd/tests/bodies.h explorer/bench.h explorer/tests/{drivers.c,cases.h} explorer/threads/threads.c; do
     put "$path" "netbsd/$(basename "$path")"
 done

@@ -70,7 +70,7 @@ test_netbsd() {
     check "the manual pages' own names are built, no warning" make_for netbsd plain
     # Where a program ends by a signal, the emulator says a line of its own: so not those that compare all that is said there.
     for test in $(make_for netbsd list-plain); do
-        grep -q '"stops.h"' "netbsd/tests/$test.c" && continue
+        grep -qs '"stops.h"' "netbsd/tests/$test.c" && continue
         check "$test, of the manual pages' names" emulated "$out/netbsd/plain/$test"
     done
 }

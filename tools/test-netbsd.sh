@@ -6,10 +6,12 @@
 . "$(dirname "$0")/checks.sh"
 folder=netbsd
 out=out/netbsd
+# Of each case of the drivers, each in a process of its own.
+export BENCH_RUNS=40
 
 # A program of a way in which the Makefile builds it. Some count their cases, as stops.h does.
 try_program() {
-    if grep -qE 'run_cases\(|passed, %' "$folder/tests/$1.c"; then
+    if grep -qsE 'run_cases\(|passed, %' "$folder/tests/$1.c"; then
         counted "each case of $1, $2" "$out/$2/$1"
     else
         check "$1, $2" "$out/$2/$1"

@@ -1,5 +1,5 @@
 /*
- * drivers - the seven drivers of netbsd/examples, right as they are: no schedule of their threads breaks anything
+ * drivers - the seven drivers of netbsd/examples, right as they are: no schedule of their threads breaks anything; nor do real threads, with threads.c
  *
  *     drivers [CASE [SCHEDULE]]
  */
@@ -28,8 +28,7 @@ static unsigned first = 1;
 static void make_bridge(void)
 {
 	bridge_init();
-	(void)bridge_add(2);
-	(void)bridge_add(1);
+	KASSERT(bridge_add(2) == 0 && bridge_add(1) == 0 && bridge_add(1) == EEXIST && bridge_delete(3) == ENOENT);
 }
 
 /* ---- ifindex.c: a packet goes by an interface while that is detached, or while the table grows. ---- */
@@ -44,7 +43,7 @@ HANDLER(transmit, (void)if_transmit(1, transmit_one))
 HANDLER(detach_one, KASSERT(if_detach(1) == 0))
 HANDLER(attach_one, (void)if_attach())
 
-static void make_interface(void) { ifindex_init(); (void)if_attach(); }
+static void make_interface(void) { ifindex_init(); KASSERT(if_attach() == 1 && if_detach(2) == ENXIO && if_limit() == 2); }
 
 /* ---- devsw.c: a device is opened while its driver is detached. ---- */
 
@@ -68,7 +67,11 @@ static const struct devsw device = {open_it, close_it};
 HANDLER(open_device, int error = cdev_open(0, 0); KASSERT(error == 0 || error == ENXIO))
 HANDLER(detach_device, KASSERT(devsw_detach(0) == 0); KASSERT(users == 0))
 
-static void make_device(void) { devsw_init(); (void)devsw_attach(0, &device); }
+static void make_device(void)
+{
+	devsw_init();
+	KASSERT(devsw_attach(0, &device) == 0 && devsw_attach(0, &device) == EEXIST && cdev_open(1, 0) == ENXIO && cdev_close(1, 0) == ENXIO);
+}
 
 /* ---- ioctl.c: an entry is read while it is replaced and deleted. ---- */
 
@@ -76,7 +79,7 @@ BODY(get_entry)
 {
 	struct entry_request request = {.er_key = 1};
 	int error = entry_ioctl(ENTRYGET, &request);
-	KASSERT(error == ENOENT || (error == 0 && request.er_value >= 5));
+	KASSERT(error == ENOENT || (error == 0 && request.er_value >= 5 && strcmp(request.er_name, "entry") == 0));
 }
 
 BODY(delete_entry)
@@ -87,15 +90,15 @@ BODY(delete_entry)
 
 BODY(set_entry)
 {
-	struct entry_request request = {.er_key = 1, .er_value = 6};
+	struct entry_request request = {.er_key = 1, .er_value = 6, .er_name = "entry"};
 	KASSERT(entry_ioctl(ENTRYSET, &request) == 0);
 }
 
 static void make_entry(void)
 {
-	struct entry_request request = {.er_key = 1, .er_value = 5};
+	struct entry_request request = {.er_key = 1, .er_value = 5, .er_name = "entry"};
 	entry_init();
-	(void)entry_ioctl(ENTRYSET, &request);
+	KASSERT(entry_ioctl(ENTRYDEL, &request) == ENOENT && entry_ioctl(ENTRYSET, NULL) == EFAULT && entry_ioctl(ENTRYSET, &request) == 0);
 }
 
 /* ---- rxintr.c: a packet comes in while a listener goes. ---- */
@@ -153,7 +156,7 @@ static void end_counters(void)
 {
 	uint64_t sums[COUNTERS];
 	counters_sum(sums);
-	KASSERT(sums[COUNT_IN] == 3);
+	KASSERT(sums[COUNT_IN] == 3 && sums[COUNT_OUT] == 0 && sums[COUNT_DROPPED] == 0);
 	counters_fini();
 }
 
@@ -173,7 +176,7 @@ HANDLER(unload, KASSERT(kupaldiz_ticker_modcmd(MODULE_CMD_FINI, NULL) == 0))
 static void begin_unload(void)
 {
 	int error = kupaldiz_ticker_modcmd(MODULE_CMD_INIT, NULL);
-	KASSERT(error == 0 || error == ENOMEM);
+	KASSERT((error == 0 || error == ENOMEM) && kupaldiz_ticker_modcmd(MODULE_CMD_STAT, NULL) == ENOTTY);
 	bench_thread("call", call_hook, NULL);
 	if (error == 0)
 		bench_thread("unload", unload, NULL);

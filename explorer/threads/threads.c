@@ -165,7 +165,7 @@ int bench_explore(void (*setup)(void), const struct bench_options *options)
 	time_t until = time(NULL) + (time_t)number_of("BENCH_SECONDS", 60);
 	outcome = mmap(NULL, BENCH_TEXT, PROT_READ | PROT_WRITE, MAP_SHARED | MAP_ANONYMOUS, -1, 0);
 	yields = getenv("BENCH_YIELD") != NULL;
-	*found = (struct bench_found){.bound = -1};
+	*found = (struct bench_found){.bound = -1, .complete = true};
 	while (found->schedules < runs && time(NULL) < until && found->first == 0)
 		if (!run_once(setup, options))
 			found->first = found->schedules;

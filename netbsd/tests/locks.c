@@ -105,10 +105,11 @@ static void *read_and_write(void *arg)
 
 static void test_rwlocks(void)
 {
+	const krw_t kind = RW_READER;
 	pair[0] = pair[1] = 0;
 	run_all(read_and_write);
 	EXPECT(pair[0] == THREADS * TURNS / 8 && !rw_lock_held(&rw));
-	rw_enter(&rw, RW_READER);
+	rw_enter(&rw, kind);
 	EXPECT(!rw_tryenter(&rw, RW_WRITER) && rw_tryenter(&rw, RW_READER) && !rw_tryupgrade(&rw));
 	rw_exit(&rw);
 	EXPECT(rw_tryupgrade(&rw) && rw_write_held(&rw) && !rw_tryenter(&rw, RW_READER));
