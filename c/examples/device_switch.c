@@ -1,5 +1,5 @@
 /*
- * device_switch - a driver is loaded and unloaded while three CPUs open its device
+ * device_switch - a driver is loaded, upgraded and unloaded while three CPUs open its device
  *
  * An open looks the driver up and takes a local reference along: the open file. Its close may be made by another thread, on another CPU. Whoever
  * unloads the driver detaches it and waits until no file is open; then the driver's memory is freed. Its entry's value points to that memory. Each open
@@ -112,29 +112,47 @@ static void *open_all(void *arg)
 	return NULL;
 }
 
-/* Loads a driver, lets it be opened, unloads it, and frees its memory. How often it was opened. */
-static uint64_t load_and_unload(uint64_t version)
+/* Frees a driver's memory, which nobody uses any more. How often the driver was opened. */
+static uint64_t free_softc(struct softc *softc)
 {
-	const struct registry_lock lock = registry_lock_of_mutex(&interlock);
-	struct registry_cpu *cpu = &cpus[OPENERS];
-	struct softc *softc = load_softc(version);
-	struct registry_entry entry;
-	struct registry_stage met;
 	uint64_t opens = 0;
-	lock.take(lock.of);
-	DONE(registry_attach(&keeper, cpu, &disk, (uint64_t)(uintptr_t)softc, &entry));
-	lock.give(lock.of);
-	wait_for_rounds(OPENS_A_LOAD);
-	lock.take(lock.of);
-	DONE(registry_detach(&keeper, cpu, REGISTRY_DRIVER, &disk, &entry));
-	lock.give(lock.of);
-	DONE(registry_destroy_wait(&lock, &keeper, cpu, entry.number, NULL, &met));
 	AFTER_FREED(softc);
 	for (unsigned i = 0; i < OPENERS; i++)
 		opens += softc->opens[i];
 	memset(softc, 0xdb, sizeof *softc);
 	free(softc);
 	return opens;
+}
+
+/* Loads a newer driver instead of the one that is loaded. How often the old one was opened. */
+static uint64_t upgrade(struct registry_cpu *cpu, struct softc *fresh)
+{
+	const struct registry_lock lock = registry_lock_of_mutex(&interlock);
+	struct registry_entry gone;
+	lock.take(lock.of);
+	DONE(registry_replace(&keeper, cpu, &disk, (uint64_t)(uintptr_t)fresh, &gone, NULL));
+	lock.give(lock.of);
+	DONE(registry_destroy_wait(&lock, &keeper, cpu, gone.number, NULL, NULL));
+	return free_softc((struct softc *)(uintptr_t)gone.value);
+}
+
+/* Loads a driver, lets it be opened, upgrades and unloads it, and frees its memory. How often both versions were opened. */
+static uint64_t load_and_unload(uint64_t version)
+{
+	const struct registry_lock lock = registry_lock_of_mutex(&interlock);
+	struct registry_cpu *cpu = &cpus[OPENERS];
+	struct registry_entry entry;
+	lock.take(lock.of);
+	DONE(registry_attach(&keeper, cpu, &disk, (uint64_t)(uintptr_t)load_softc(version), &entry));
+	lock.give(lock.of);
+	wait_for_rounds(OPENS_A_LOAD / 2);
+	uint64_t opens = upgrade(cpu, load_softc(version + 1));
+	wait_for_rounds(OPENS_A_LOAD / 2);
+	lock.take(lock.of);
+	DONE(registry_detach(&keeper, cpu, REGISTRY_DRIVER, &disk, &entry));
+	lock.give(lock.of);
+	DONE(registry_destroy_wait(&lock, &keeper, cpu, entry.number, NULL, NULL));
+	return opens + free_softc((struct softc *)(uintptr_t)entry.value);
 }
 
 int main(void)
