@@ -16,7 +16,7 @@ import sys
 
 OURS = "registry_bench"
 OPERATIONS = "lookup batch walk passive local read look_up absent get".split()
-# Of each aim the operation, what is divided by what, and how much it may be at most. `section` is our lookup in a section.
+# An aim: the operation, what is divided by what, and how much it may be at most. `section` is our lookup in a section.
 AIMS = [line.split() for line in """\
 lookup ours/hand-padded 1.25
 lookup ours/hand-pointed 1.15

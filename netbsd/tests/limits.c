@@ -196,7 +196,7 @@ static void test_sections(unsigned rounds)
 	free(atomic_load(&shown));
 }
 
-/* ---- The end of all registries, as the bench comes to it after each run: whatever was left, each handle is closed, and each reference forgotten. ---- */
+/* ---- The end of all registries, as the bench comes to it after each run: each handle is closed, and each reference that was left is forgotten. ---- */
 
 enum { LIVE = 2 * ROWS + 1, LEFT = 3 };
 

@@ -53,7 +53,7 @@ static void test_memory(void)
 static pthread_key_t latest;
 static bool is_over;
 
-/* Of a thread that has ended the layer keeps nothing by which a destructor would call it again: the memory may be another one's by then. */
+/* The layer keeps nothing of a thread that has ended, so no destructor calls it again: the memory may be another one's by then. */
 static void judge_end(void *of)
 {
 	static unsigned rounds;
