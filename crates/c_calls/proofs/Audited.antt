@@ -1,4 +1,4 @@
--- The audit: how it lets all know the same, one CPU and one slot more, the whole, and what it answers.
+-- The audit: how it lets all know the same, one CPU and one slot more, the whole, and its result.
 use Rattle.std.proofs.Common.{◌≡◌, ◌≢◌, ℕ, ◌+◌, ◌<◌, ◌≤◌, List, length, Option, Some, None, sym, ap, ◌∙◌, subst, arith, ⊎_elim, true, [], ◌∷◌, refl, zero, suc, get_or, set, inl, inr, ◌^◌, ℤ, ◌+ℤ◌, pos, neg_ℤ, ◌≤ℤ◌, ◌++◌, map, replicate, take, drop, add-one, length-append, length-set}
 use Rattle.std.proofs.lemmas.Bool.{cases_lt, false≢true, cases_eq}
 use Rattle.std.proofs.lemmas.List.{length-map, drop-drop, drop-set-lt, get_or-set_other, get_or-set_same, map-append, map_more, take_more_set}

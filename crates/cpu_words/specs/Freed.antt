@@ -67,12 +67,12 @@ AttachedKeeps = (z : Settings) (s : Table ℕ Logged) (i : ℕ) (l : Logged) (t 
 
 -- The end of a run: no thread shares the words any more. What the laws say of the list of events that led to them.
 
--- the last words, and the settings by which they have their places
+-- the last words, and the settings that give them their places
 pub record LastView : Type 0 where
   pub words : List ℕ
   pub settings : Settings
 
--- the words are those of a table under the rule, in which the keeper's seat has this view and did just this
+-- the words are those of a table under the rule, in which the keeper's seat has this view and did what this log says
 pub record HasClosed (z : Settings) (k : KeeperView) (log : List LogItem) (last : List ℕ) : Type 0 where
   pub table : Table ℕ Logged
   pub ruled : LoggedRuled z table

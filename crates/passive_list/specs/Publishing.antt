@@ -1,4 +1,4 @@
--- An entry is published or retired: what changes of the keeper, and which live entries stand beside it.
+-- An entry is published or retired: what changes of the keeper, and which live entries there are beside it.
 use Rattle.std.specs.Prelude.{ℕ, ◌+◌, Bool, true, ◌&&◌, nat_lt, if◌then◌else◌, Option, Some, None, ◌≡◌, zero, suc, ◌<◌, ◌≤◌, List, [], ◌++◌, length, slice_index_or, slice_set, IsTrue, false, ◌⊎◌, replicate}
 use Rattle.passive_list.specs.Types.{Slot, Vacant, Live, Retired, Entry, Attach, StoreSlot, StoreNext, Publish, Show, Done, Settings, RecordWords, KeeperView, Keeper, LogItem, Hide, Unpublish, Snapshot, Word, Mark, Rest, MOST_CPUS}
 use Rattle.registry_values.specs.Common.{bias, key_of, is_taken, live_count, slot_at, is_key, no_mark}

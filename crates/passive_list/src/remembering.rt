@@ -1,6 +1,6 @@
 //! Lookups by memory, from outside: by one load, where the CPU remembers an entry with this kind and name that is live; by two, where it
 //! remembers that none had them, and the newest live entry is the same. Beneath it the recall of an entry that a CPU has seen: by one load, in
-//! a section or outside, whatever the length of the list; and no word is written.
+//! a section or outside; the length of the list makes no difference, and no word is written.
 
 ghost use Rattle.std.specs.Prelude.{◌≡◌, ◌≢◌, ◌<◌, ◌≤◌, None, ◌↔◌, IfSome, IsTrue, true};
 ghost use Rattle.cpu_words.specs.Common.{AreWordsOf, key_with};

@@ -40,7 +40,7 @@ unfolding change_at
 at_within h zero x e = absurd (none-some x e)
 at_within h (suc k) x e = (omega arith, slice_get_within h k x e)
 
--- what stands in a prefix stands in the whole
+-- what a prefix has at a place, the whole has there
 pub at_prefix : (p zs : List Change) (k : ℕ) → k ≤ length p → change_at (p ++ zs) k ≡ change_at p k
 at_prefix p [] k le = ap (λ l. change_at l k) (append-nil p)
 at_prefix p (z ∷ zs) k le =

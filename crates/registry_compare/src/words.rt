@@ -73,7 +73,7 @@ pub const MANY_NAMES: &[&[u8]] = &[
     b"st", b"tap", b"tun", b"vlan", b"w", b"wd", b"wi", b"wm0",
 ];
 
-/// The words that a letter may stand for, if they are no numbers or names of the script's own; and words that are just out of its range.
+/// The words that a letter may be replaced by, if they are no numbers or names of the script's own; and words that are just out of its range.
 pub fn words_of(letter: u8) -> (&'static [&'static [u8]], &'static [&'static [u8]]) {
     match letter {
         b'A' | b'B' | b'G' | b'N' | b'X' | b'Y' | b'Z' => (LABELS, &[b"`", b"{", b"ab", b"A"]),
