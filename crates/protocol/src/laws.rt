@@ -11,6 +11,7 @@ ghost use Rattle.protocol.specs.Rows.{CollectRace, FrozenLink, TryRace};
 ///    kept one holds it;
 /// 2. whenever the keeper is at rest, each slot's balance is exactly its local references held;
 /// 3. the result of each lookup is the registry's at some point of its one history, not before what the caller had seen.
+#[tactic(auto, using(crate::proofs::runs::Headline::headline))]
 pub fn headline()
     ensures { Headline }
 {}
@@ -21,6 +22,7 @@ pub fn headline()
 /// - `modelled`: a run of the model reaches the picture of the state. In it a CPU takes a reference without a section only to a number that it was
 ///   trying at an allowed Confirm of the list.
 /// - `untried`: where no event is a Try, no CPU is trying, so each passive word counts references alone.
+#[tactic(auto, using(crate::proofs::runs::Reuse::every_run_keeps, crate::proofs::model::Refining::every_run_is_model_run, crate::proofs::runs::Untried::untried_runs))]
 pub fn every_run_keeps()
     ensures keeps { EveryRunKeeps }
     ensures modelled { EveryRunIsModelRun }
@@ -32,12 +34,14 @@ pub fn every_run_keeps()
 /// - `reuse`: an occupant goes only by `Vacate` or `KeptSub`, detached and without a holder. One comes only by `Publish`, into a slot
 ///   without one.
 /// - `drivers`: no driver's slot goes while an interface that keeps the driver is live or retired.
+#[tactic(auto, using(crate::proofs::runs::Headline::safe_reuse, crate::proofs::runs::Headline::drivers_outlive))]
 pub fn safe_reuse()
     ensures reuse { SafeReuse }
     ensures drivers { DriversOutlive }
 {}
 
 /// Theorem, no effect at run time: the result of each lookup is the registry's at some point from the search's start to the CPU's new pass.
+#[tactic(auto, using(crate::proofs::runs::Answers::lawful_answers))]
 pub fn lawful_answers()
     ensures { LawfulAnswers }
 {}
@@ -50,6 +54,7 @@ pub fn lawful_answers()
 /// - `live`: an entry that a CPU recalls, finds again, or confirms a reference to, is live at that very point of the history. What it confirms
 ///   it had seen before.
 /// - `newest`: the head that a CPU recalls leads to the newest entry that is live at that very point, or no entry is.
+#[tactic(auto, using(crate::proofs::runs::Fresh::fresh_answers, crate::proofs::runs::Fresh::whole_passes, crate::proofs::runs::Fresh::live_recalls, crate::proofs::runs::Fresh::newest_recalls))]
 pub fn fresh_answers()
     ensures fresh { FreshAnswers }
     ensures whole { WholePasses }
@@ -58,6 +63,7 @@ pub fn fresh_answers()
 {}
 
 /// Theorem, no effect at run time: at rest the balance of each slot is its local references held.
+#[tactic(auto, using(crate::proofs::runs::Headline::balance_at_rest))]
 pub fn balance_at_rest()
     ensures { BalanceAtRest }
 {}
@@ -85,6 +91,7 @@ pub fn invariant_suffices()
 /// - `events`: each of its events is one of `step`.
 /// - `runs`: each of its lists is one of `step`, without what it alone refuses: same state, as many events made, same last reply.
 /// - `names`: each entry that it ever attaches has a lawful name.
+#[tactic(auto, using(crate::proofs::runs::Narrow::narrow_events, crate::proofs::runs::Narrow::narrow_names, crate::proofs::runs::Narrow::narrow_runs))]
 pub fn narrow_runs()
     ensures events { NarrowEvents }
     ensures runs { NarrowRuns }

@@ -31,6 +31,7 @@ pub fn id_of_name(name: Name) -> Option<u64>
 ///
 /// - `back`: an id's name gives the id back.
 /// - `names`: a name that gives an id is that id's name.
+#[tactic(auto, using(crate::proofs::Names::ids_come_back, crate::proofs::Names::names_come_back))]
 pub fn id_laws()
     ensures back { IdsComeBack }
     ensures names { NamesComeBack }

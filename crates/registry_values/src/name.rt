@@ -49,6 +49,7 @@ impl Name {
     /// The name that is any 1 to 16 bytes but zero bytes alone, such as "eth0.100", an address or a number's bytes. Its words are these bytes,
     /// followed by zero bytes up to 16, so bytes that differ in zero bytes at the end alone are one name. `None` for no byte, for more than
     /// 16, and if all are 0.
+    #[tactic(auto, using(crate::proofs::Names::key_from))]
     pub fn from_key_bytes(bytes: &[u8]) -> Option<Name>
         ensures value { result ≡ key_of_bytes bytes.now }
         ensures key { IfSome result (λ name. IsTrue (is_key name)) }
@@ -97,6 +98,7 @@ impl Name {
         Name { high, low }
     }
 
+    #[tactic(auto, using(crate::proofs::Names::lawful_words, crate::proofs::Names::names_are_keys))]
     pub(crate) fn from_bytes(text: &[u8]) -> Name
         requires { IsTrue (is_name text.now) }
         ensures value { result ≡ name_of text.now }
@@ -123,6 +125,7 @@ impl Name {
 /// - `keys`: a lawful name is a key.
 /// - `round_trip`: a name's words give the name back.
 /// - `written`: what two words give is the name of some bytes, so there is `None` exactly where no name has them.
+#[tactic(auto, using(crate::proofs::Names::names_are_keys, crate::proofs::Names::round_trip, crate::proofs::Names::written))]
 pub fn name_laws()
     ensures keys { NamesAreKeys }
     ensures round_trip { RoundTrip }

@@ -6,9 +6,3 @@ use Rattle.protocol.proofs.laws.every_run_keeps.Goals as goal
 
 pub returns-clause-keeps : goal.returns-clause-keeps
 returns-clause-keeps c = every_run_keeps
-
-pub returns-clause-modelled : goal.returns-clause-modelled
-returns-clause-modelled c = every_run_is_model_run
-
-pub returns-clause-untried : goal.returns-clause-untried
-returns-clause-untried c = untried_runs

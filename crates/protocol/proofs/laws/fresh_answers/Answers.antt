@@ -5,11 +5,5 @@ use Rattle.protocol.proofs.laws.fresh_answers.Goals as goal
 pub returns-clause-fresh : goal.returns-clause-fresh
 returns-clause-fresh c = fresh_answers
 
-pub returns-clause-whole : goal.returns-clause-whole
-returns-clause-whole c = whole_passes
-
-pub returns-clause-live : goal.returns-clause-live
-returns-clause-live c = live_recalls
-
 pub returns-clause-newest : goal.returns-clause-newest
 returns-clause-newest c = newest_recalls
