@@ -78,6 +78,7 @@ impl Draft {
     }
 
     /// Adds what the next line says. An `Err` changes nothing.
+    #[tactic(auto, using(crate::proofs::Parsing::one_command_more))]
     fn add(&mut self, command: Command) -> Result<(), LineFault>
         requires { IsTrue (may_follow self.old.place command) }
         ensures ok { IfOk result (λ _. self.new ≡ with_command self.old (Some command)) }
