@@ -22,7 +22,7 @@ pub fn headline()
 /// - `modelled`: a run of the model reaches the picture of the state. In it a CPU takes a reference without a section only to a number that it was
 ///   trying at an allowed Confirm of the list.
 /// - `untried`: where no event is a Try, no CPU is trying, so each passive word counts references alone.
-#[tactic(auto, using(crate::proofs::runs::Reuse::every_run_keeps, crate::proofs::model::Refining::every_run_is_model_run, crate::proofs::runs::Untried::untried_runs))]
+#[tactic(auto, using(crate::proofs::model::Refining::every_run_is_model_run, crate::proofs::runs::Untried::untried_runs))]
 pub fn every_run_keeps()
     ensures keeps { EveryRunKeeps }
     ensures modelled { EveryRunIsModelRun }
@@ -54,7 +54,7 @@ pub fn lawful_answers()
 /// - `live`: an entry that a CPU recalls, finds again, or confirms a reference to, is live at that very point of the history. What it confirms
 ///   it had seen before.
 /// - `newest`: the head that a CPU recalls leads to the newest entry that is live at that very point, or no entry is.
-#[tactic(auto, using(crate::proofs::runs::Fresh::fresh_answers, crate::proofs::runs::Fresh::whole_passes, crate::proofs::runs::Fresh::live_recalls, crate::proofs::runs::Fresh::newest_recalls))]
+#[tactic(auto, using(crate::proofs::runs::Fresh::whole_passes, crate::proofs::runs::Fresh::live_recalls))]
 pub fn fresh_answers()
     ensures fresh { FreshAnswers }
     ensures whole { WholePasses }

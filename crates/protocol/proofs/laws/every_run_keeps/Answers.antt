@@ -1,7 +1,5 @@
--- `every_run_keeps`: its clauses `keeps`, `modelled` and `untried`.
+-- `every_run_keeps`: its clause `keeps`.
 use Rattle.protocol.proofs.runs.Reuse.{every_run_keeps}
-use Rattle.protocol.proofs.model.Refining.{every_run_is_model_run}
-use Rattle.protocol.proofs.runs.Untried.{untried_runs}
 use Rattle.protocol.proofs.laws.every_run_keeps.Goals as goal
 
 pub returns-clause-keeps : goal.returns-clause-keeps

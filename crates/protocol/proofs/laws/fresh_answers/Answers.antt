@@ -1,5 +1,5 @@
--- `fresh_answers`: its clauses `fresh`, `whole`, `live` and `newest`.
-use Rattle.protocol.proofs.runs.Fresh.{fresh_answers, whole_passes, live_recalls, newest_recalls}
+-- `fresh_answers`: its clauses `fresh` and `newest`.
+use Rattle.protocol.proofs.runs.Fresh.{fresh_answers, newest_recalls}
 use Rattle.protocol.proofs.laws.fresh_answers.Goals as goal
 
 pub returns-clause-fresh : goal.returns-clause-fresh
