@@ -22,6 +22,7 @@ ghost use Rattle.cpu_words.specs.Fresh.{HeadsAreNewest, LookupsAreFresh, Recalls
 /// - `waiting`: earlier sections have ended.
 /// - `freed`, `freed_by`: nothing holds a detached entry whose slot was vacated.
 /// - `kept`: an interface's slot keeps its driver.
+#[tactic(auto, using(crate::proofs::laws::Safety::running_headline, crate::proofs::laws::Fresh::heads_are_newest, crate::proofs::laws::Fresh::lookups_are_fresh, crate::proofs::laws::Fresh::recalls_are_live, crate::proofs::laws::Fresh::refinds_are_live, crate::proofs::laws::Fresh::whole_in_the_list, crate::proofs::laws::Called::ordered_in_time, crate::proofs::laws::Called::keeper_hears_later))]
 pub fn running_headline()
     ensures run { RunningHeadline }
     ensures held { HeldHaveSlots }
@@ -50,6 +51,7 @@ pub fn running_headline()
 /// - `words`, `holds`, `modelled`, `laws`: they are the words of the state that the list leads to, which obeys the protocol's laws.
 /// - `keeper`, `shown`: the keeper's log is its whole part of the list, and its view is of that state.
 /// - `gone`: an entry that the keeper freed by that log has no slot, no holder, and no live word.
+#[tactic(auto, using(crate::proofs::laws::Freed::ended_runs))]
 pub fn ended_run()
     ensures ended { EndedRuns }
 {}

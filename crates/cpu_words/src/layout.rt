@@ -68,6 +68,7 @@ pub(crate) fn words_of(settings: Settings) -> usize
 }
 
 /// The place of a CPU's section word.
+#[tactic(auto, using(crate::proofs::shown::Placing::below_size))]
 pub(crate) fn section_place(words: &Words, cpu: u8) -> usize
     requires cpu { cpu < words.now.settings.cpus }
     ensures place { result ≡ index words.now.settings (section_of cpu) }
@@ -88,6 +89,7 @@ pub(crate) fn passive_place(words: &Words, cpu: u8, slot: u8) -> usize
 }
 
 /// The place of a CPU's count word for a slot.
+#[tactic(auto, using(crate::proofs::shown::Placing::below_size))]
 pub(crate) fn count_place(words: &Words, cpu: u8, slot: u8) -> usize
     requires word { (cpu < words.now.settings.cpus) × (slot < words.now.settings.slots) }
     ensures place { result ≡ index words.now.settings (count_of cpu slot) }
@@ -139,6 +141,7 @@ pub(crate) fn total_place(slot: u8) -> usize
 /// - `one_place`: two different words are at different places.
 /// - `first_words_free`: none is among the first sixteen.
 /// - `all_below`: each is a word of the table.
+#[tactic(auto, using(crate::proofs::shown::Placing::lines_apart, crate::proofs::shown::Placing::one_place, crate::proofs::shown::Placing::first_words_free, crate::proofs::shown::Placing::below_size))]
 pub fn layout_law()
     ensures lines_apart { LinesApart }
     ensures one_place { OnePlace }

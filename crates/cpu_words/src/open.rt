@@ -36,6 +36,7 @@ impl Words {
     }
 
     /// The same for any settings that the library is proved for.
+    #[tactic(auto, using(crate::proofs::seats::Seating::opens))]
     pub fn opening(
         alloc: Global,
         settings: Settings,
@@ -59,6 +60,7 @@ impl Words {
 }
 
 /// The words at the start: all 0 but the totals. They lie on the heap: with many CPUs and slots they are too many for the stack.
+#[tactic(auto, using(protocol::proofs::Cells::get_or_all))]
 fn opening_words(alloc: Global, settings: Settings) -> Result<Vec<u64>, AllocError>
     ensures { IfOk result (λ words. AreOpening settings words.items) }
 {

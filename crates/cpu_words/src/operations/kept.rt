@@ -39,6 +39,7 @@ impl<S: KeepingSlot> Join<Logged> for Kept<S> {
 }
 
 /// Joins the reference into the keeper's seat, for the slot `slot`.
+#[tactic(auto, using(crate::proofs::by_keeper::Keeping::keeps_seats))]
 pub(crate) fn join<S: KeepingSlot>(
     words: &Words,
     keeper: &mut KeeperSeat,

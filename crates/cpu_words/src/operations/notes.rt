@@ -57,6 +57,7 @@ impl Join<Logged> for KeeperNote {
 }
 
 /// Lays a note beside a CPU's view, in place of the one before. This is no event of the core.
+#[tactic(auto, using(crate::proofs::seats::Notes::cpu_joins))]
 pub(crate) fn lay(words: &Words, seat: &mut CpuSeat, note: NoteSeat)
     requires table { (seat.old.table ≡ words.now.table) × (note.table ≡ words.now.table) }
     ensures table { seat.new.table ≡ seat.old.table }
@@ -73,6 +74,7 @@ pub(crate) fn lay(words: &Words, seat: &mut CpuSeat, note: NoteSeat)
 }
 
 /// The same beside the keeper's view.
+#[tactic(auto, using(crate::proofs::seats::Notes::keeper_joins))]
 pub(crate) fn lay_by_keeper(words: &Words, keeper: &mut KeeperSeat, note: NoteSeat)
     requires table { (keeper.old.table ≡ words.now.table) × (note.table ≡ words.now.table) }
     ensures table { keeper.new.table ≡ keeper.old.table }

@@ -112,6 +112,7 @@ pub fn join_keeper(words: &Words, keeper: &mut KeeperSeat, reference: ReferenceS
 /// less, and the interface's slot is vacant and keeps nothing. The keeper hears that the entry, which its log has as detached from the slot, has
 /// gone from there (`freed`).
 /// Condition: the slot is drained, its entry is an interface, and the driver that it keeps is in `driver_slot`.
+#[tactic(auto, using(crate::proofs::by_keeper::Vacating::kept_sub_change, crate::proofs::logs::Known::freed_by))]
 pub fn kept_sub(words: &Words, keeper: &mut KeeperSeat, slot: u8, driver_slot: u8)
     requires table { keeper.old.table ≡ words.now.table }
     requires place { driver_slot < words.now.settings.slots }

@@ -84,6 +84,7 @@ pub fn split_back(words: &Words, seat: &mut CpuSeat, cpu: u8) -> ReferenceSeat
 }
 
 /// A local reference is taken into the hand of CPU `cpu`, to be given up. Condition: the seat is that CPU's, and idle.
+#[tactic(auto, using(crate::proofs::by_cpu::Hands::seat_joins))]
 pub fn join_ref(words: &Words, seat: &mut CpuSeat, cpu: u8, reference: ReferenceSeat)
     requires table { (seat.old.table ≡ words.now.table) × (reference.table ≡ words.now.table) }
     requires cpu { seat.old.view.id ≡ cpu }

@@ -19,6 +19,7 @@ use crate::seat::{CpuSeat, KeeperSeat, MayDrop, NoteSeat};
 
 /// CPU `cpu` tells what it has seen: the note has its pass, and what it has heard of the keeper's log, and names the CPU as its teller, with
 /// how many events it has made, this one among them. Condition: the seat is that CPU's, and idle.
+#[tactic(auto, using(crate::proofs::seats::Notes::cpu_splits))]
 pub fn tell(words: &Words, seat: &mut CpuSeat, cpu: u8) -> NoteSeat
     requires table { seat.old.table ≡ words.now.table }
     requires cpu { seat.old.view.id ≡ cpu }
@@ -40,6 +41,7 @@ pub fn tell(words: &Words, seat: &mut CpuSeat, cpu: u8) -> NoteSeat
 }
 
 /// The keeper tells what it has seen: the note has the whole history, and all that the keeper did, this with it. Condition: the keeper is at rest.
+#[tactic(auto, using(crate::proofs::seats::Notes::keeper_splits, crate::proofs::seats::Notes::keeper_splits_by))]
 pub fn tell_keeper(words: &Words, keeper: &mut KeeperSeat) -> NoteSeat
     requires table { keeper.old.table ≡ words.now.table }
     requires may { keeper.old.view.due ≡ Rest }
@@ -64,6 +66,7 @@ pub fn tell_keeper(words: &Words, keeper: &mut KeeperSeat) -> NoteSeat
 /// on to all that the note tells of it. The note is laid beside the seat's view, and one load of the CPU's section word is the event. The
 /// CPU's log has it with the note's teller.
 /// Condition: the seat is that CPU's, and idle.
+#[tactic(auto, using(crate::proofs::seats::Notes::cpu_heard, crate::proofs::seats::Notes::heard_event, crate::proofs::seats::Notes::laid_idle, crate::proofs::logs::Known::shown_with_note))]
 pub fn hear(words: &Words, seat: &mut CpuSeat, cpu: u8, note: NoteSeat)
     requires table { (seat.old.table ≡ words.now.table) × (note.table ≡ words.now.table) }
     requires cpu { (cpu < words.now.settings.cpus) × (seat.old.view.id ≡ cpu) }
@@ -85,6 +88,7 @@ pub fn hear(words: &Words, seat: &mut CpuSeat, cpu: u8, note: NoteSeat)
 /// long as the log says. The note is laid beside the seat's view, and one load of the head is the event. The keeper's log has it with the
 /// note's teller: whoever hears that log knows how far the teller had come by then.
 /// Condition: the keeper is at rest.
+#[tactic(auto, using(crate::proofs::seats::Notes::keeper_heard))]
 pub fn hear_keeper(words: &Words, keeper: &mut KeeperSeat, note: NoteSeat)
     requires table { (keeper.old.table ≡ words.now.table) × (note.table ≡ words.now.table) }
     requires may { keeper.old.view.due ≡ Rest }

@@ -32,6 +32,7 @@ pub fn recall(words: &Words, seat: &mut CpuSeat, cpu: u8, slot: u8) -> u64
 
 /// CPU `cpu` loads the head of the list. Returns it: 0, or the slot of the newest entry that is live now, plus 1. Its pass is the whole history.
 /// Condition: the seat is that CPU's, and no search is under way.
+#[tactic(auto, using(crate::proofs::by_cpu::Recalling::recall_head_may))]
 pub fn recall_head(words: &Words, seat: &mut CpuSeat, cpu: u8) -> u64
     requires table { seat.old.table ≡ words.now.table }
     requires cpu { (cpu < words.now.settings.cpus) × (seat.old.view.id ≡ cpu) }

@@ -19,6 +19,7 @@ use std::marker::Brand;
 
 /// CPU `cpu` begins a search for a kind and a name, and loads the head of the list: a slot plus 1, or 0 where no entry has them.
 /// Condition: the seat is that CPU's, idle and inside.
+#[tactic(auto, using(crate::proofs::by_cpu::Searching::seek_may))]
 pub fn seek(words: &Words, seat: &mut CpuSeat, cpu: u8, kind: Kind, name: Name) -> u64
     requires table { seat.old.table ≡ words.now.table }
     requires cpu { (cpu < words.now.settings.cpus) × (seat.old.view.id ≡ cpu) }

@@ -13,6 +13,7 @@ use crate::seat::{CpuSeat, KeeperSeat, MayDrop};
 
 /// The lowest-numbered CPU without a seat gets its seat, split from the keeper's.
 /// Condition: the keeper is at rest, and has given out fewer seats than the table has CPUs.
+#[tactic(auto, using(crate::proofs::seats::Seating::seat_splits))]
 pub fn seat(words: &Words, keeper: &mut KeeperSeat) -> CpuSeat
     requires table { keeper.old.table ≡ words.now.table }
     requires may { MaySeat keeper.old.view }

@@ -19,6 +19,7 @@ use std::marker::Brand;
 /// Makes the slot vacant, and hears. Vacate touches no word; the keeper hears by a load of the head. It tells that the entry, detached from
 /// the slot by the keeper's log, has gone from there (`freed`): by the law `running_headline` nothing holds it, now or later.
 /// Condition: the keeper is at rest, and the slot is retired and drained, and keeps nothing.
+#[tactic(auto, using(crate::proofs::by_keeper::Vacating::vacating_may, crate::proofs::logs::Known::freed_by))]
 pub fn vacate(words: &Words, keeper: &mut KeeperSeat, slot: u8)
     requires table { keeper.old.table ≡ words.now.table }
     requires may { MayVacate keeper.old.view slot }

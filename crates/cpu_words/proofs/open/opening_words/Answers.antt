@@ -1,18 +1,10 @@
 -- `opening_words`: that each turn of its loop keeps the invariants.
-use Rattle.std.proofs.Common.{◌≡◌, ◌∙◌, ◌<◌, ℕ, List, ap, arith, sym, get_or, get_or-set_other, get_or-set_same, length, length-set, replicate, set, ⊎_elim}
+use Rattle.std.proofs.Common.{◌≡◌, ◌∙◌, ◌<◌, ℕ, ap, arith, sym, get_or, get_or-set_other, get_or-set_same, length-set, set, ⊎_elim}
 use Rattle.std.proofs.lemmas.Bool.{cases_eq}
-use Rattle.std.proofs.lemmas.List.{length-replicate}
-use Rattle.protocol.proofs.Cells.{get_or_all}
 use Rattle.registry_values.specs.Common.{bias}
 use Rattle.cpu_words.specs.Common.{index, total_of, words_of}
 use Rattle.cpu_words.proofs.shown.Placing.{below_size}
 use Rattle.cpu_words.proofs.open.opening_words.Goals as goal
-
-pub loop-t-init : goal.loop-t-init
-loop-t-init c =
-    let size : ℕ = words_of c.args.settings in
-    let zeros : c.in_ok-words.words.items ≡ replicate size 0 = c.in_ok-words.ensures.items_if_clones_equal (λ y same. same) ∙ ap (λ (n : ℕ). replicate n 0) c.words_of.ensures in
-    (ap length zeros ∙ length-replicate {A = ℕ} size 0, (λ i lt other. ap (λ (words : List ℕ). get_or words i 0) zeros ∙ get_or_all {X = ℕ} size 0 i), (λ t lt. absurd (omega (arith, lt))))
 
 pub loop-t-preserved : goal.loop-t-preserved
 loop-t-preserved c =

@@ -1,20 +1,9 @@
 -- `join`: its clause `event`; what `join_seat` requires.
-use Rattle.std.proofs.Common.{rules, arith, ap, ℕ}
+use Rattle.std.proofs.Common.{ap, ℕ}
 use Rattle.atomic_table.specs.Table.{Me}
 use Rattle.cpu_words.specs.Common.{KeeperView, ReferenceView, Logged, Seated}
-use Rattle.cpu_words.proofs.by_keeper.Keeping.{keeps_seats, keep_by}
+use Rattle.cpu_words.proofs.by_keeper.Keeping.{keep_by}
 use Rattle.cpu_words.proofs.operations.kept.join.Goals as goal
-
-pub join_seat-requires : goal.join_seat-requires
-join_seat-requires g c = (
-  search rules,
-  search rules,
-  search rules,
-  let w = c.words.invariant.1 in omega arith,
-  keeps_seats _ _ _ _ _ g.S.KeepingSlot.slot _ c.args.keeper.now.view c.args.reference.view c.requires.slot (ap (λ (m : Me ℕ Logged). m.0) c.keeper.invariant)
-      (ap (λ (s : Seated KeeperView). s.view) c.keeper.view_is)
-      (ap (λ (m : Me ℕ Logged). m.0) c.reference.invariant) (ap (λ (s : Seated ReferenceView). s.view) c.reference.view_is) c.requires.may,
-)
 
 pub returns-clause-event : goal.returns-clause-event
 returns-clause-event g c =

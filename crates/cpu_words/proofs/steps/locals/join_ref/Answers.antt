@@ -1,19 +1,9 @@
 -- `join_ref`: its clause `event`; what `join_seat` requires.
-use Rattle.std.proofs.Common.{rules, arith, ap, ℕ}
+use Rattle.std.proofs.Common.{ap, ℕ}
 use Rattle.atomic_table.specs.Table.{Me}
 use Rattle.cpu_words.specs.Common.{CpuView, ReferenceView, Logged, Seated}
-use Rattle.cpu_words.proofs.by_cpu.Hands.{seat_joins, seat_joins_by}
+use Rattle.cpu_words.proofs.by_cpu.Hands.{seat_joins_by}
 use Rattle.cpu_words.proofs.steps.locals.join_ref.Goals as goal
-
-pub join_seat-requires : goal.join_seat-requires
-join_seat-requires c = (
-  search rules,
-  search rules,
-  search rules,
-  let w = c.words.invariant.1 in omega arith,
-  seat_joins _ _ _ _ _ c.args.seat.now.view (ap (λ (m : Me ℕ Logged). m.0) c.seat.invariant) (ap (λ (s : Seated CpuView). s.view) c.seat.view_is)
-      (ap (λ (m : Me ℕ Logged). m.0) c.reference.invariant) c.requires.may,
-)
 
 pub returns-clause-event : goal.returns-clause-event
 returns-clause-event c =

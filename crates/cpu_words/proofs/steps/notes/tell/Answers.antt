@@ -1,16 +1,9 @@
 -- `tell`: its clause `event`; what `split_seat` requires.
-use Rattle.std.proofs.Common.{rules, arith, ap, ℕ}
+use Rattle.std.proofs.Common.{ap, ℕ}
 use Rattle.atomic_table.specs.Table.{Me}
 use Rattle.cpu_words.specs.Common.{CpuView, Logged, Seated}
-use Rattle.cpu_words.proofs.seats.Notes.{cpu_splits, cpu_splits_by}
+use Rattle.cpu_words.proofs.seats.Notes.{cpu_splits_by}
 use Rattle.cpu_words.proofs.steps.notes.tell.Goals as goal
-
-pub split_seat-requires : goal.split_seat-requires
-split_seat-requires c = (
-  search rules,
-  let w = c.words.invariant.1 in omega arith,
-  cpu_splits _ _ _ c.args.seat.now.view _ (ap (λ (m : Me ℕ Logged). m.0) c.seat.invariant) (ap (λ (s : Seated CpuView). s.view) c.seat.view_is) c.requires.cpu c.requires.may,
-)
 
 pub returns-clause-event : goal.returns-clause-event
 returns-clause-event c = cpu_splits_by c.seat.inside.token.me.0.view _ c.args.seat.now.view _ (ap (λ (s : Seated CpuView). s.view) c.seat.view_is)

@@ -4,9 +4,3 @@ use Rattle.cpu_words.proofs.steps.recalls.recall.Goals as goal
 
 pub load-requires-clause-may : goal.load-requires-clause-may
 load-requires-clause-may c = rw c.live_place.ensures.place (recall_may _ _ _ _ c.requires.cpu.1 c.requires.may)
-
-pub returns-clause-change : goal.returns-clause-change
-returns-clause-change c = c.load.ensures.told.1.0
-
-pub returns-clause-whole : goal.returns-clause-whole
-returns-clause-whole c = c.load.ensures.told.1.1

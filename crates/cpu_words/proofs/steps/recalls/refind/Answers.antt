@@ -4,12 +4,3 @@ use Rattle.cpu_words.proofs.steps.recalls.refind.Goals as goal
 
 pub load_either-requires-clause-may : goal.load_either-requires-clause-may
 load_either-requires-clause-may c = rw c.live_place.ensures.place (refind_may _ _ _ _ _ c.requires.cpu.1 c.requires.may)
-
-pub returns-clause-found : goal.returns-clause-found
-returns-clause-found c = c.load_either.ensures.told.0
-
-pub returns-clause-other : goal.returns-clause-other
-returns-clause-other c = c.load_either.ensures.told.1
-
-pub returns-clause-whole : goal.returns-clause-whole
-returns-clause-whole c = c.load_either.ensures.told.2

@@ -1,16 +1,9 @@
 -- `seat`: its clause `event`; what `split_seat` requires.
-use Rattle.std.proofs.Common.{rules, arith, ap, ℕ}
+use Rattle.std.proofs.Common.{ap, ℕ}
 use Rattle.atomic_table.specs.Table.{Me}
 use Rattle.cpu_words.specs.Common.{KeeperView, Logged, Seated}
-use Rattle.cpu_words.proofs.seats.Seating.{seat_splits, seat_splits_by}
+use Rattle.cpu_words.proofs.seats.Seating.{seat_splits_by}
 use Rattle.cpu_words.proofs.steps.seats.seat.Goals as goal
-
-pub split_seat-requires : goal.split_seat-requires
-split_seat-requires c = (
-  search rules,
-  let w = c.words.invariant.1 in omega arith,
-  seat_splits _ _ _ c.args.keeper.now.view (ap (λ (m : Me ℕ Logged). m.0) c.keeper.invariant) (ap (λ (s : Seated KeeperView). s.view) c.keeper.view_is) c.requires.may,
-)
 
 pub returns-clause-event : goal.returns-clause-event
 returns-clause-event c = seat_splits_by c.keeper.inside.token.me.0.view _ _ c.args.keeper.now.view (ap (λ (s : Seated KeeperView). s.view) c.keeper.view_is)

@@ -4,9 +4,3 @@ use Rattle.cpu_words.proofs.steps.tries.end_try.Goals as goal
 
 pub load_either-requires-clause-may : goal.load_either-requires-clause-may
 load_either-requires-clause-may c = rw c.live_place.ensures.place (end_try_may _ _ _ _ _ c.requires.cpu.1 c.requires.may)
-
-pub returns-clause-confirmed : goal.returns-clause-confirmed
-returns-clause-confirmed c = c.load_either.ensures.told.0
-
-pub returns-clause-late : goal.returns-clause-late
-returns-clause-late c = c.load_either.ensures.told.1
