@@ -41,7 +41,7 @@ $(shell $(TOP)netbsd/named.sh)
 
 # What the bench is made of: for explorer/install.mk, which installs it, and for its Makefile, which tests it.
 # A shadow stack knows nothing of a switch from stack to stack, so nothing says that the bench may run with one.
-BENCH_STRICT = -std=gnu11 -D_GNU_SOURCE $(filter-out -Wpedantic,$(WARNINGS)) -fcf-protection=none
+BENCH_STRICT = -std=gnu11 -D_GNU_SOURCE -DKUPALDIZ_IN_BENCH $(filter-out -Wpedantic,$(WARNINGS)) -fcf-protection=none
 
 # The layer's sources that the bench has something else for.
 BENCH_INSTEAD = lock softint_thread module_hook

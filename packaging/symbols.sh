@@ -39,12 +39,12 @@ shown_in_nodes() {
 
 # What a shared library shows, without its versions' own names, and without the layer's CPUs, which one name ends with.
 shared() {
-    ${NM:-nm} -D --defined-only "$1" | awk '$2 != "A" { sub(/(_on_[0-9]+)?(@.*)?$/, "", $3); print $3 }' | sort
+    ${NM:-nm} -D --defined-only "$1" | awk '$2 != "A" { sub(/(_on_(bench_)?[0-9]+)?(@.*)?$/, "", $3); print $3 }' | sort
 }
 
 # What other objects see of a static library.
 static() {
-    ${NM:-nm} -g --defined-only "$1" 2>/dev/null | awk 'NF == 3 { sub(/_on_[0-9]+$/, "", $3); print $3 }' | sort
+    ${NM:-nm} -g --defined-only "$1" 2>/dev/null | awk 'NF == 3 { sub(/_on_(bench_)?[0-9]+$/, "", $3); print $3 }' | sort
 }
 
 # same WHAT NAMES OTHERS: two lists of names, as texts.

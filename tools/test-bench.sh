@@ -68,16 +68,20 @@ static void go(void *arg) { (void)arg; bench_point(); }
 static void begin(void) { bench_thread("one", go, NULL); }
 int main(void) { return bench_explore(begin, NULL); }
 C
-    gcc "$@" -DKUPALDIZ_BENCH -Inetbsd/include -I$folder -Icrates/registry_c/include -o "$room/plain" "$room/plain.c" "$out/plain/libbench.a" \
-        out/libregistry.a -pthread && "$room/plain" 2>&1
+    { gcc "$@" -Inetbsd/include -I$folder -Icrates/registry_c/include -o "$room/plain" "$room/plain.c" "$out/plain/libbench.a" out/libregistry.a -pthread &&
+        "$room/plain"; } 2>&1
+}
+
+refuses_other_file() {
+    ! plain_program -O1 >"$log.said" && grep 'undefined reference to .kupaldiz_registry_for_.*_on_7' "$log.said"
 }
 
 names_unseen_file() {
-    plain_program -O1 | grep -xF "bench: plain accesses weren't seen in plain.c: compiled without -fsanitize=thread"
+    plain_program -DKUPALDIZ_BENCH -O1 | grep -xF "bench: plain accesses weren't seen in plain.c: compiled without -fsanitize=thread"
 }
 
 refuses_linked_sanitizer() {
-    plain_program -fsanitize=thread >"$log.said"
+    plain_program -DKUPALDIZ_BENCH -fsanitize=thread >"$log.said"
     [ $? -eq 2 ] && grep -F "the program is linked with -fsanitize=thread" "$log.said"
 }
 
@@ -113,6 +117,7 @@ if command -v clang >/dev/null; then
     check "the bench is built by clang, no warning, and counts" with_clang
 fi
 check "another processor is refused at compile time" is_for_one_processor
+check "a file without -DKUPALDIZ_BENCH is refused by the linker" refuses_other_file
 check "a file without -fsanitize=thread is named" names_unseen_file
 check "a program that is linked with it is refused" refuses_linked_sanitizer
 check "a picture" is_picture

@@ -23,6 +23,9 @@
 
 #include "../bench.h"
 
+/* The explorer's name of the build: the files of the tests refer to it. */
+const char KUPALDIZ_NAMED(REGISTRY_BUILT_FOR, KUPALDIZ_CPUS) = 0;
+
 /* A thread that was made. */
 struct made {
 	void (*body)(void *);

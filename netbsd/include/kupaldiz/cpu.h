@@ -7,21 +7,9 @@
 #ifndef KUPALDIZ_NETBSD_CPU_H
 #define KUPALDIZ_NETBSD_CPU_H
 
-#include "registry_limits.h"
 #include "sys_types.h"
 
 __BEGIN_DECLS
-
-/* How many CPUs there are, numbered from 0. A build of the layer may have up to 63, by -D. */
-#ifndef KUPALDIZ_CPUS
-#define KUPALDIZ_CPUS	7
-#endif
-
-/* A symbol with the limits of the build and its CPUs in its name. Each file that has this header refers to it: for others it neither links nor starts. */
-#define KUPALDIZ_NAMED_BY(limits, cpus)	kupaldiz_##limits##_on_##cpus
-#define KUPALDIZ_NAMED(limits, cpus)	KUPALDIZ_NAMED_BY(limits, cpus)
-extern const char KUPALDIZ_NAMED(REGISTRY_BUILT_FOR, KUPALDIZ_CPUS);
-static const char *const kupaldiz_built_for __attribute__((used)) = &KUPALDIZ_NAMED(REGISTRY_BUILT_FOR, KUPALDIZ_CPUS);
 
 /* A CPU, as far as it is looked into. */
 struct cpu_info {

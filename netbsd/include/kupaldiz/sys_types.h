@@ -1,5 +1,5 @@
 /*
- * sys_types.h - what all headers of the layer use: the place of a call, priority levels, and where a test bench may look in
+ * sys_types.h - what all headers of the layer use: the number of CPUs, the place of a call, priority levels, and where a test bench may look in
  *
  * Each call that can stop or wait is also a macro of its own name, which records file and line for the lines on standard error. Code that needs
  * the plain functions defines KUPALDIZ_WITHOUT_PLACES before it includes anything of the layer.
@@ -14,8 +14,25 @@
 #include <string.h>
 
 #include "names.h"
+#include "registry_limits.h"
 
 __BEGIN_DECLS
+
+/* How many CPUs there are, numbered from 0. A build of the layer may have up to 63, by -D. */
+#ifndef KUPALDIZ_CPUS
+#define KUPALDIZ_CPUS	7
+#endif
+
+/* A symbol with the limits of the build and its CPUs in its name. Each file that has this header refers to it: for others it neither links nor starts. The
+ * explorer's has another name: a file without -DKUPALDIZ_BENCH doesn't link with it. */
+#if defined(KUPALDIZ_BENCH) || defined(KUPALDIZ_IN_BENCH)
+#define KUPALDIZ_NAMED_BY(limits, cpus)	kupaldiz_##limits##_on_bench_##cpus
+#else
+#define KUPALDIZ_NAMED_BY(limits, cpus)	kupaldiz_##limits##_on_##cpus
+#endif
+#define KUPALDIZ_NAMED(limits, cpus)	KUPALDIZ_NAMED_BY(limits, cpus)
+extern const char KUPALDIZ_NAMED(REGISTRY_BUILT_FOR, KUPALDIZ_CPUS);
+static const char *const kupaldiz_built_for __attribute__((used)) = &KUPALDIZ_NAMED(REGISTRY_BUILT_FOR, KUPALDIZ_CPUS);
 
 #define KUPALDIZ_TEXT_OF(line)	#line
 #define KUPALDIZ_TEXT(line)	KUPALDIZ_TEXT_OF(line)
