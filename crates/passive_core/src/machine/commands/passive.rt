@@ -84,6 +84,7 @@ impl Core {
     ///
     /// Refused, in this order, and nothing has changed: `WrongCpu` if the reference names another CPU; `NotHeld` if this CPU holds no
     /// passive reference to that number.
+    #[tactic(auto, using(crate::proofs::Making::seated_and))]
     pub fn read(&mut self, c: u8, psref: CorePsref) -> Result<Record, Refusal>
         requires known { c < self.old.settings.cpus }
         requires rest { at_rest self.old.due ≡ true }
@@ -157,6 +158,7 @@ impl Core {
     }
 
     /// Seats all CPUs, before the first event of a command. Those that might act before are idle then.
+    #[tactic(auto, using(crate::proofs::Passives::may_still, crate::proofs::Entering::acting_idle))]
     pub(crate) fn begin(&mut self)
         requires { at_rest self.old.due ≡ true }
         ensures seated { self.new ≡ all_seated self.old }

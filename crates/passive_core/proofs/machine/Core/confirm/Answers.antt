@@ -1,18 +1,11 @@
 -- `Core::confirm`: what `may_confirm` and `live_at` require; the invariant of `self`.
-use Rattle.std.proofs.Common.{length, refl, sym, ap, subst, ◌∙◌}
-use Rattle.protocol.specs.Common.{State, Holds, hand_at, live_at, may_confirm}
+use Rattle.std.proofs.Common.{length, refl, sym, ap, ◌∙◌}
+use Rattle.protocol.specs.Common.{State, hand_at, live_at, may_confirm}
 use Rattle.registry_values.specs.Common.{slot_at}
 use Rattle.passive_core.specs.Common.{state_shown}
 use Rattle.passive_core.specs.Types.{Confirm, Word}
-use Rattle.protocol.proofs.keeps.CountKeeps.{trying_tells}
 use Rattle.protocol.proofs.keeps.Keeping.{step_holds}
 use Rattle.passive_core.proofs.machine.Core.confirm.Goals as goal
-
-pub may_confirm-requires : goal.may_confirm-requires
-may_confirm-requires c = (trying_tells c.args.self.now c.args.c c.args.t c.args.number (subst Holds c.self.view_is c.self.invariant) c.requires).0
-
-pub live_at-word-requires : goal.live_at-word-requires
-live_at-word-requires c = (trying_tells c.args.self.now c.args.c c.args.t c.args.number (subst Holds c.self.view_is c.self.invariant) c.requires).1
 
 pub invariant_of-self : goal.invariant_of-self
 invariant_of-self c =

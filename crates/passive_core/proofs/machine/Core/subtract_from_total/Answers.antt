@@ -1,17 +1,10 @@
 -- `Core::subtract_from_total`: the invariant of `self`; that nothing overflows.
-use Rattle.std.proofs.Common.{◌≡◌, true, refl, sym, ap, ◌∙◌, arith, nat_eq, eq-eqb}
+use Rattle.std.proofs.Common.{◌≡◌, true, refl, sym, ap, ◌∙◌, nat_eq, eq-eqb}
 use Rattle.protocol.specs.Common.{State, total_at}
 use Rattle.passive_core.specs.Common.{state_shown}
 use Rattle.passive_core.specs.Types.{TotalSub, Done}
 use Rattle.protocol.proofs.keeps.Keeping.{step_holds}
 use Rattle.passive_core.proofs.machine.Core.subtract_from_total.Goals as goal
-use Rattle.protocol.proofs.counts.Bounds.{subtracting_range}
-
-pub overflow_sub-total : goal.overflow_sub-total
-overflow_sub-total c =
-    let due = ap (λ (x : State). x.due) c.self.view_is ∙ c.requires in
-    let total = c.total_at-total.ensures ∙ ap (λ (x : State). total_at x.totals c.args.t) (sym c.self.view_is) in
-    omega (arith, subtracting_range (state_shown c.self.inside) c.args.t c.self.invariant due, total)
 
 pub invariant_of-self : goal.invariant_of-self
 invariant_of-self c =
