@@ -99,6 +99,7 @@ impl KeeperRows {
 impl Keeper {
     /// The keeper of a new seat: all slots are vacant, and there was no change.
     /// Conditions: the seat is as `Words::new` gave it for these settings, and the rows were made for them.
+    #[tactic(auto, using(crate::proofs::Rows::first_states))]
     pub fn of_seat(seat: KeeperSeat, settings: Settings, rows: KeeperRows) -> Keeper
         requires fit { IsTrue (are_fit settings) }
         requires new { seat.view ≡ keeper_with settings settings.cpus }

@@ -15,6 +15,7 @@ pub(crate) struct At {
 }
 
 /// The link that leads to the live entry with the greatest number below `number`: its slot plus 1, or 0 where there is none.
+#[tactic(auto, using(crate::proofs::Leading::newest_to, crate::proofs::Leading::newest_leads))]
 pub(crate) fn link_below(rows: &[KeptSlot], slots: u8, number: u64) -> u64
     requires { length rows.now ≡ slots }
     ensures { LeadsBelow (states_of rows.now) number result }
@@ -27,6 +28,7 @@ pub(crate) fn link_below(rows: &[KeptSlot], slots: u8, number: u64) -> u64
 }
 
 /// The slot of the live entry with the least number above `number`.
+#[tactic(auto, using(crate::proofs::Leading::oldest_to, crate::proofs::Leading::oldest_before))]
 pub(crate) fn slot_above(rows: &[KeptSlot], slots: u8, number: u64) -> Option<u8>
     requires { length rows.now ≡ slots }
     ensures before { IsBefore (states_of rows.now) number result }

@@ -116,6 +116,7 @@ impl PlainCpu {
 
     /// How many enters are open: 0 outside, at most `MOST_DEPTH`. `own` is what every CPU keeps of itself: some state shows its view, and there its open
     /// section may hold the entry that it found last, which has its slot.
+    #[tactic(auto, using(crate::proofs::Agreeing::holds_found))]
     pub fn depth(&self) -> u8
         ensures value { result ≡ self.now.cpu.depth }
         ensures own { HoldsFound self.now.cpu.view }

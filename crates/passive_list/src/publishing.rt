@@ -47,6 +47,7 @@ pub fn publish(words: &Words, keeper: &mut Keeper, slot: u8, rec: Record) -> Ent
 /// Publishes the entry by the keeper's seat alone, as `publish` does, when the rows say already what is in each slot: for calls that have
 /// made another step with the seat.
 /// Condition: that of `publish`, of the seat and the rows; the entry's number is how many changes there are then.
+#[tactic(auto, using(protocol::proofs::Cells::slot_here, crate::proofs::Attached::may_publish, crate::proofs::Attached::published_is, crate::proofs::Attached::leads_on, crate::proofs::Attached::rows_live, crate::proofs::Attached::live_rows))]
 pub(crate) fn publish_entry(words: &Words, seat: &mut KeeperSeat, rows: &[KeptSlot], entry: &Entry)
     requires table { seat.old.table ≡ words.now.table }
     requires may { MayAttach words.now.settings seat.old.view rows.now entry.now }
@@ -63,6 +64,7 @@ pub(crate) fn publish_entry(words: &Words, seat: &mut KeeperSeat, rows: &[KeptSl
 }
 
 /// Stores all words of the entry's slot: its record, its counts and its link.
+#[tactic(auto, using(crate::proofs::Preparing::row_may, crate::proofs::Preparing::row_settings, crate::proofs::Preparing::sized_after, crate::proofs::Preparing::counts_may, crate::proofs::Preparing::prepared_from))]
 fn prepare(words: &Words, seat: &mut KeeperSeat, entry: &Entry, cpus: u8, link: u64)
     requires table { seat.old.table ≡ words.now.table }
     requires may { MayWrite seat.old.view entry.now.slot }

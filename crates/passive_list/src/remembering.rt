@@ -36,6 +36,7 @@ pub fn recall_on(words: &Words, cpu: &mut PlainCpu, slot: u8, number: u64) -> bo
 /// where this CPU's pass is the whole of it.
 /// Condition: the words are the CPU's table's.
 #[inline(always)]
+#[tactic(auto, using(crate::proofs::ByMemory::head_few, crate::proofs::ByMemory::recalled_head_on))]
 pub fn recall_head_on(words: &Words, cpu: &mut PlainCpu) -> u64
     requires words { AreWordsOf words.now cpu.old.words.table cpu.old.words.settings }
     ensures recalled { HasRecalledHeadOn cpu.old.cpu cpu.new.cpu result }
@@ -73,6 +74,7 @@ pub fn refind_on(words: &Words, cpu: &mut PlainCpu, kind: Kind, name: Name, seen
 /// An entry that was attached before the call began, as far as the CPU knows, is found unless it is detached meanwhile (`stays`).
 /// Conditions: the words are the CPU's table's; it is outside, and has a section left (`may_begin_on`).
 #[inline(always)]
+#[tactic(auto, using(crate::proofs::ByMemory::still_outside))]
 pub fn find_by_memory(words: &Words, cpu: &mut PlainCpu, kind: Kind, name: Name) -> Option<Seen>
     requires words { AreWordsOf words.now cpu.old.words.table cpu.old.words.settings }
     requires outside { cpu.old.cpu.depth ≡ 0 }
@@ -137,6 +139,7 @@ pub fn remembered(cpu: &PlainCpu, kind: Kind, name: Name) -> Option<Seen>
 
 /// Whether an entry that the CPU has seen is live.
 #[inline(always)]
+#[tactic(auto, using(crate::proofs::ByMemory::recalls_seen))]
 fn recall_seen(words: &Words, cpu: &mut PlainCpu, kind: Kind, name: Name, seen: Seen) -> bool
     requires words { AreWordsOf words.now cpu.old.words.table cpu.old.words.settings }
     requires seen { HasSeen cpu.old (key_with kind name) seen }
@@ -265,6 +268,7 @@ pub fn find_inside_on(words: &Words, cpu: &mut PlainCpu, kind: Kind, name: Name)
 
 /// Whether an entry that the CPU has seen is live: it is the last found one then.
 #[inline(always)]
+#[tactic(auto, using(crate::proofs::ByMemory::refinds_seen))]
 fn refind_seen(words: &Words, cpu: &mut PlainCpu, kind: Kind, name: Name, seen: Seen) -> bool
     requires words { AreWordsOf words.now cpu.old.words.table cpu.old.words.settings }
     requires inside { cpu.old.cpu.view.begin ≢ None }

@@ -38,6 +38,7 @@ pub fn retire(words: &Words, keeper: &mut Keeper, slot: u8) -> Entry
 }
 
 /// Takes the snapshots of all CPUs, CPU 0 first, into the slot's marks. All other marks stay.
+#[tactic(auto, using(crate::proofs::Marks::none_written, crate::proofs::Marks::none_taken, crate::proofs::Marks::taking_first))]
 fn snapshots(words: &Words, seat: &mut KeeperSeat, slot: u8, cpus: u8, marks: &mut [Mark])
     requires table { seat.old.table ≡ words.now.table }
     requires due { seat.old.view.due ≡ Snapshots slot 0 }

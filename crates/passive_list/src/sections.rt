@@ -44,6 +44,7 @@ pub fn may_begin_on(words: &Words, cpu: &PlainCpu) -> bool
 }
 
 /// Whether this CPU may begin one section more.
+#[tactic(auto, using(crate::proofs::Agreeing::may_begin_is))]
 fn may_begin(words: &Words, cpu: &PlainCpu) -> bool
     requires words { AreWordsOf words.now cpu.now.words.table cpu.now.words.settings }
     ensures { result ≡ may_begin cpu.now.cpu.view }

@@ -12,6 +12,7 @@ use registry_values::{Mark, Settings, are_clear, are_collected, have_passed};
 
 impl Keeper {
     /// What the table was made for. `own` is what every keeper keeps of itself: it is at rest, some state shows its view, and the settings are fit.
+    #[tactic(auto, using(crate::proofs::Rows::has_rows))]
     pub fn settings(&self) -> Settings
         ensures value { result ≡ self.now.words.settings }
         ensures own { (rows : List KeptSlot) × HasRows self.now rows }
@@ -20,6 +21,7 @@ impl Keeper {
     }
 
     /// What it has of each slot, from 0: it agrees with what its seat knows.
+    #[tactic(auto, using(crate::proofs::Rows::has_rows))]
     pub fn rows(&self) -> &[KeptSlot]
         ensures { HasRows self.now result.now }
     {

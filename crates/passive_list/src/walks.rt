@@ -53,6 +53,7 @@ impl WritesEntry for AsItIs {
 /// 3. Each of them keeps its slot until this section ends.
 ///
 /// With n entries in the row there are 6 n + 1 loads (`log` of `HasWalked`).
+#[tactic(auto, using(crate::proofs::GoingOver::all_written, crate::proofs::GoingOver::walked_by, crate::proofs::Sharing::shared, crate::proofs::Sharing::sharing))]
 pub fn walk<D: Domain>(words: &Words, cpu: &mut Cpu<D>, row: &mut [Entry]) -> usize
     requires words { AreWordsOf words.now D.table D.settings }
     requires inside { cpu.old.view.begin ≢ None }
@@ -118,6 +119,7 @@ fn write_at<W: WritesEntry>(row: &mut [W::Place], place: usize, entry: Entry)
 }
 
 /// Loads all words of the entry in a slot.
+#[tactic(auto, using(crate::proofs::Walking::may_load, crate::proofs::Walking::four_loaded, crate::proofs::Walking::five_loaded))]
 fn go_by(words: &Words, seat: &mut CpuSeat, cpu: u8, slot: usize) -> Entry
     requires table { seat.old.table ≡ words.now.table }
     requires cpu { (cpu < words.now.settings.cpus) × (seat.old.view.id ≡ cpu) }

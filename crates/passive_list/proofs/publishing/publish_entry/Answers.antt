@@ -1,10 +1,8 @@
 -- `publish_entry`: its clauses `change`, `log` and `attached`; what `prepare`, `publish` and `show` require.
-use Rattle.std.proofs.Common.{◌++◌, ◌∙◌, ℕ, List, refl, sym, ap, subst, arith}
-use Rattle.passive_list.specs.Types.{Entry, Settings, Slot, LogItem, Publish, Show, Live, Done, KeeperView, Keeper}
-use Rattle.registry_values.specs.Common.{slot_at}
-use Rattle.protocol.proofs.Cells.{slot_here}
-use Rattle.cpu_words.specs.Common.{MayPublish, Makes, did, keeper_after_live}
-use Rattle.passive_list.specs.Common.{logged_stores, states_of, keeper_after_publish}
+use Rattle.std.proofs.Common.{◌++◌, ◌∙◌, sym, ap, subst, arith}
+use Rattle.passive_list.specs.Types.{Settings, Publish, Show, Done, KeeperView, Keeper}
+use Rattle.cpu_words.specs.Common.{MayPublish, Makes, keeper_after_live}
+use Rattle.passive_list.specs.Common.{states_of, keeper_after_publish}
 use Rattle.passive_list.proofs.Attached.{attached_as, keeping_more, may_publish, published_is, leads_on, leads_within, rows_live, live_rows}
 use Rattle.passive_list.proofs.publishing.publish_entry.Goals as goal
 
@@ -28,26 +26,6 @@ publish-requires-clause-may c =
       subst (λ (x : KeeperView). MayPublish x e.slot e) (sym c.prepare.ensures.prepared)
           (may_publish c.args.words.now.settings c.args.seat.now.view c.args.rows.now e c.link_below-link.result c.requires.may c.link_below-link.ensures),
     )
-
-pub show-requires-clause-place : goal.show-requires-clause-place
-show-requires-clause-place c = c.requires.may.slot
-
-pub show-requires-clause-may : goal.show-requires-clause-may
-show-requires-clause-may c =
-    let k = c.args.seat.now.view in
-    let e = c.args.entry.now in
-    let v = c.link_below-link.result in
-    let asked = c.requires.may in
-    let may = may_publish c.args.words.now.settings k c.args.rows.now e v asked c.link_below-link.ensures in
-    let is = published_is k c.prepare.new.seat.view c.publish.new.keeper.view e v c.prepare.ensures.prepared c.publish.ensures.change may in
-    let lt = asked.slot in
-    let size = asked.at.sized.slots in
-    record {
-      rest = ap (λ (x : KeeperView). x.due) is ∙ asked.at.rest;
-      entry = e;
-      live = ap (λ (x : KeeperView). slot_at x.slots e.slot) is ∙ slot_here k.slots e.slot (Live e) (omega (arith, lt, size));
-      number = refl;
-    }
 
 pub returns-clause-change : goal.returns-clause-change
 returns-clause-change c =
@@ -74,20 +52,3 @@ returns-clause-attached c d keeps =
     let first = attached_as c.args.seat.now.view c.prepare.new.seat.view e c.link_below-link.result d c.publish.new.keeper.log c.prepare.ensures.prepared
     c.requires.may.number (λ is. c.publish.ensures.attached d is) keeps in
     keeping_more e.slot e.number d c.publish.new.keeper.log c.show.new.keeper.log (_, sym c.show.ensures.step.log) first
-
-pub returns-clause-log : goal.returns-clause-log
-returns-clause-log c =
-    let a = c.args.words.now.settings in
-    let k = c.args.seat.now.view in
-    let rows = c.args.rows.now in
-    let e = c.args.entry.now in
-    let v = c.link_below-link.result in
-    let asked = c.requires.may in
-    let cpus = c.settings-settings.ensures ∙ sym asked.at.settings in
-    let stored = c.prepare.ensures.log ∙ ap (λ (z : Settings). logged_stores z.cpus e v c.args.seat.now.log) cpus in
-    let published = c.publish.ensures.step.log ∙ ap (λ (log : List LogItem). log ++ did (Publish e.slot) Done) stored in
-    record {
-      link = v;
-      leads = leads_on (states_of rows) k.slots e.number v (rows_live a k rows asked.agree) (live_rows a k rows asked.at asked.agree) c.link_below-link.ensures;
-      log = c.show.ensures.step.log ∙ ap (λ (log : List LogItem). log ++ did (Show e.slot) Done) published;
-    }

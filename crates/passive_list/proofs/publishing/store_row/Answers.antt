@@ -1,7 +1,5 @@
--- `store_row`: its clauses `row` and `log`.
-use Rattle.std.proofs.Common.{◌≡◌, ◌++◌, ℕ, List, ap, ◌∙◌}
-use Rattle.passive_list.specs.Types.{LogItem, StoreSlot, Done}
-use Rattle.cpu_words.specs.Common.{did}
+-- `store_row`: its clause `row`.
+use Rattle.std.proofs.Common.{◌≡◌, ◌++◌, ◌∙◌}
 use Rattle.protocol.specs.Common.{row_at, with_word}
 use Rattle.registry_values.specs.Common.{kind_word}
 use Rattle.passive_list.proofs.Preparing.{row_next}
@@ -24,13 +22,3 @@ returns-clause-row c =
     let s3 = row_next k l2 l3 t 2 e.rec.name.high r2 s2 (rw (← c.words-high.ensures.high) c.store_record-3.ensures.change) in
     let s4 = row_next k l3 l4 t 3 e.rec.name.low r3 s3 (rw (← c.words-high.ensures.low) c.store_record-4.ensures.change) in
     row_next k l4 c.store_record-5.new.keeper.view t 4 e.rec.value r4 s4 c.store_record-5.ensures.change
-
-pub returns-clause-log : goal.returns-clause-log
-returns-clause-log c =
-    let t = c.args.entry.now.slot in
-    let also : (k w : ℕ) → List LogItem → List LogItem = λ k w log. log ++ did (StoreSlot t k w) Done in
-    let s1 = c.store_record.ensures.step.log in
-    let s2 = c.store_record-2.ensures.step.log ∙ ap (λ (w : ℕ). also 1 w c.store_record.new.keeper.log) c.kind_word.ensures ∙ ap (also 1 _) s1 in
-    let s3 = c.store_record-3.ensures.step.log ∙ ap (λ (w : ℕ). also 2 w c.store_record-2.new.keeper.log) c.words-high.ensures.high ∙ ap (also 2 _) s2 in
-    let s4 = c.store_record-4.ensures.step.log ∙ ap (λ (w : ℕ). also 3 w c.store_record-3.new.keeper.log) c.words-high.ensures.low ∙ ap (also 3 _) s3 in
-    c.store_record-5.ensures.step.log ∙ ap (also 4 c.args.entry.now.rec.value) s4

@@ -1,14 +1,8 @@
 -- What the load told is the answer; else what was found anew.
 use Rattle.std.proofs.Common.{◌∙◌}
 use Rattle.cpu_words.specs.Common.{key_with}
-use Rattle.passive_list.proofs.ByMemory.{anew_after, by_load, still_outside}
+use Rattle.passive_list.proofs.ByMemory.{anew_after, by_load}
 use Rattle.passive_list.proofs.remembering.find_by_memory.Goals as goal
-
-pub find_anew-requires-clause-outside : goal.find_anew-requires-clause-outside
-find_anew-requires-clause-outside c = (still_outside (key_with c.args.kind c.args.name) _ _ c.in_default.ensures.found).0 ∙ c.requires.outside
-
-pub find_anew-requires-clause-room : goal.find_anew-requires-clause-room
-find_anew-requires-clause-room c = (still_outside (key_with c.args.kind c.args.name) _ _ c.in_default.ensures.found).1 ∙ c.requires.room
 
 pub returns-in-Some-clause-found : goal.returns-in-Some-clause-found
 returns-in-Some-clause-found c = (by_load (key_with c.args.kind c.args.name) _ _ c.in-Some.seen c.in-Some.ensures.found).0

@@ -1,22 +1,10 @@
 -- `snapshots`: that each turn of its loop keeps the invariants; that an index is in range; its clause `taken`.
-use Rattle.std.proofs.Common.{◌≡◌, ◌+◌, ◌*◌, ℕ, suc, replicate, set, refl, sym, ◌∙◌, subst, arith}
-use Rattle.registry_values.specs.Common.{no_mark}
+use Rattle.std.proofs.Common.{◌≡◌, ◌+◌, ◌*◌, ℕ, suc, set, sym, ◌∙◌, subst, arith}
 use Rattle.protocol.specs.Common.{snapshot_mark}
-use Rattle.passive_list.specs.Types.{MOST_CPUS}
 use Rattle.passive_list.specs.Common.{AreWritten, LogsSnapshots}
 use Rattle.cpu_words.proofs.seats.Seating.{step_is_shown}
-use Rattle.passive_list.proofs.Marks.{none_written, one_written, none_taken, one_taken, taking_first, taking_next}
+use Rattle.passive_list.proofs.Marks.{one_written, one_taken, taking_next}
 use Rattle.passive_list.proofs.retiring.snapshots.Goals as goal
-
-pub loop-c-init : goal.loop-c-init
-loop-c-init c =
-    let r = c.requires in
-    let row = replicate MOST_CPUS no_mark in (
-      r.table,
-      (row, taking_first c.args.seat.now.view c.args.slot c.args.cpus r.fresh r.due r.fit.1, none_taken, none_written (c.args.slot * c.args.cpus) row c.args.marks.now),
-      r.is_shown,
-      refl,
-    )
 
 pub loop-c-preserved : goal.loop-c-preserved
 loop-c-preserved c =

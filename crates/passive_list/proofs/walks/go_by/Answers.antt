@@ -1,13 +1,9 @@
 -- The words of a slot, one after the other.
 use Rattle.std.proofs.Common.{refl}
-use Rattle.passive_list.specs.Types.{Word}
 use Rattle.passive_list.specs.Common.{nobody}
 use Rattle.passive_list.proofs.GoingOver.{compared, may_load_value, gone_by}
-use Rattle.passive_list.proofs.Walking.{at_kind, at_high, at_low, may_load, four_loaded, five_loaded}
+use Rattle.passive_list.proofs.Walking.{at_kind, at_high, at_low, may_load}
 use Rattle.passive_list.proofs.walks.go_by.Goals as goal
-
-pub load_searched-number-requires-clause-may : goal.load_searched-number-requires-clause-may
-load_searched-number-requires-clause-may c = may_load _ nobody _ _ 0 _ c.requires.may.under_way (refl, refl)
 
 pub load_searched-kind-requires-clause-may : goal.load_searched-kind-requires-clause-may
 load_searched-kind-requires-clause-may c = may_load _ nobody _ _ 1 _ (at_kind _ _ nobody _ _ _ c.requires.may.under_way c.load_searched-number.ensures.change) (refl, refl)
@@ -32,8 +28,3 @@ returns-clause-change c = λ from at tells.
     c.args.slot c.load_searched-number.result c.load_searched-kind.result c.load_searched-high.result c.load_searched-low.result
     c.load_searched-number.ensures.change c.load_searched-kind.ensures.change c.load_searched-high.ensures.change c.load_searched-low.ensures.change at tells in
     gone_by _ _ _ from c.args.slot _ _ _ _ _ _ _ had c.load_compared-value.ensures.value c.load_compared-value.ensures.same c.kind_of.ensures c.of_words.ensures
-
-pub returns-clause-log : goal.returns-clause-log
-returns-clause-log c =
-    five_loaded c.args.cpu (Word c.load_compared-value.result) _ _ _ (four_loaded c.args.cpu _ _ _ _ _ _ _ _ _
-    c.load_searched-number.ensures.step.log c.load_searched-kind.ensures.step.log c.load_searched-high.ensures.step.log c.load_searched-low.ensures.step.log) c.load_compared-value.ensures.step.log

@@ -3,9 +3,9 @@ use Rattle.std.proofs.Common.{List, sym, ap, subst, arith, ◌∙◌, length}
 use Rattle.passive_list.specs.Types.{KeeperView, Mark}
 use Rattle.cpu_words.specs.Common.{IsShown, keeper_with}
 use Rattle.cpu_words.proofs.seats.Seating.{seated_is_shown}
-use Rattle.passive_list.specs.Common.{KeptSlot, IsAtRest, MarksAgree, RowsAgree, states_of}
+use Rattle.passive_list.specs.Common.{KeptSlot, IsAtRest, MarksAgree, RowsAgree}
 use Rattle.passive_list.proofs.Marks.{new_marks}
-use Rattle.passive_list.proofs.Rows.{first_states, new_at_rest, new_rows}
+use Rattle.passive_list.proofs.Rows.{new_at_rest, new_rows}
 use Rattle.passive_list.proofs.keeper.Keeper.of_seat.Goals as goal
 
 pub invariant_of-result : goal.invariant_of-result
@@ -21,9 +21,3 @@ invariant_of-result c =
       subst (λ (k : KeeperView). MarksAgree a k c.args.rows.marks.items) (sym c.requires.new)
           (subst (λ (ms : List Mark). MarksAgree a (keeper_with a a.cpus) ms) (sym c.requires.rows.marks) (new_marks a)),
     )
-
-pub returns-clause-keeper : goal.returns-clause-keeper
-returns-clause-keeper c =
-    let a = c.args.settings in
-    let slots = ap states_of c.requires.rows.slots ∙ first_states a.slots in
-    λ i. record { view = c.requires.new i; slots = slots i; log = c.args.seat.log }
