@@ -113,6 +113,7 @@ pub fn release_at(words: &Words, cpu: &mut PlainCpu, hint: u8, number: u64) -> b
 
 /// Adds one reference to an entry that this CPU found last or refers to, unless it has as many as it may.
 #[inline(always)]
+#[tactic(auto, using(crate::proofs::Changing::within))]
 fn add(words: &Words, cpu: &mut PlainCpu, slot: u8, number: u64) -> Result<Psref, Refusal>
     requires words { AreWordsOf words.now cpu.old.words.table cpu.old.words.settings }
     requires known { MayRefer cpu.old.cpu.view slot number }

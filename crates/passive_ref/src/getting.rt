@@ -123,6 +123,7 @@ fn get_seen(words: &Words, cpu: &mut PlainCpu, kind: Kind, name: Name, seen: See
 
 /// Counts up, loads the slot's live word, and counts down again if it isn't `number`.
 #[inline(always)]
+#[tactic(auto, using(cpu_words::proofs::seats::Seating::step_is_shown, crate::proofs::Gets::late_id, crate::proofs::Gets::may_end, crate::proofs::Gets::may_take_back, crate::proofs::Gets::tried_id))]
 fn try_on_seat(words: &Words, seat: &mut CpuSeat, cpu: u8, slot: u8, number: u64) -> bool
     requires table { seat.old.table ≡ words.now.table }
     requires cpu { (cpu < words.now.settings.cpus) × (seat.old.view.id ≡ cpu) }

@@ -54,6 +54,7 @@ fn slot_by(cpu: &PlainCpu, hint: u8, number: u64) -> Option<u8>
 
 /// Whether there is a place of that slot, and it counts for that number.
 #[inline(always)]
+#[tactic(auto, using(passive_list::proofs::Agreeing::place_is, crate::proofs::Changing::held_at))]
 pub(crate) fn counts_at(cpu: &PlainCpu, slot: u8, number: u64) -> bool
     ensures { IsTrue result → IsHeldAt cpu.now.cpu.view slot number }
 {

@@ -63,6 +63,7 @@ fn load_record(words: &Words, cpu: &mut PlainCpu, slot: u8, number: u64) -> Reco
 }
 
 /// Loads one word of that record.
+#[tactic(auto, using(crate::proofs::Changing::within))]
 fn load_word(words: &Words, cpu: &mut PlainCpu, slot: u8, number: u64, k: u8) -> u64
     requires words { AreWordsOf words.now cpu.old.words.table cpu.old.words.settings }
     requires held { IsHeldAt cpu.old.cpu.view slot number }

@@ -5,13 +5,8 @@ use Rattle.cpu_words.specs.Common.{references_to}
 use Rattle.cpu_words.proofs.seats.Seating.{step_is_shown}
 use Rattle.passive_list.proofs.Agreeing.{own_agrees}
 use Rattle.passive_ref.specs.Psrefs.{MayRefer}
-use Rattle.passive_ref.proofs.Changing.{added_agrees, within}
+use Rattle.passive_ref.proofs.Changing.{added_agrees}
 use Rattle.passive_ref.proofs.acquiring.add.Goals as goal
-
-pub passive_add-requires-clause-place : goal.passive_add-requires-clause-place
-passive_add-requires-clause-place c =
-    let known = subst (λ (o : OnPlainCpu). MayRefer o.cpu.view c.args.slot c.args.number) (sym c.cpu.view_is) c.requires.known in
-    within _ _ _ _ known.entry c.cpu.invariant.is_shown (ap (λ (o : OnPlainCpu). o.words.settings) c.cpu.view_is ∙ sym c.requires.words.1) known.at known.known
 
 pub invariant_of-cpu : goal.invariant_of-cpu
 invariant_of-cpu c =
