@@ -9,14 +9,6 @@ use Rattle.local_count.specs.References.{net_by}
 use Rattle.local_count.proofs.References.{same_agrees, stored_agrees, released_agrees, come_back}
 use Rattle.local_count.proofs.counting.try_release_on.Goals as goal
 
-pub count_down-word-requires-clause-place : goal.count_down-word-requires-clause-place
-count_down-word-requires-clause-place c =
-    let slot : c.reference.inside.slot < c.args.cpu.now.words.settings.slots =
-    omega (arith, c.requires.reference.1, c.reference.invariant.slot, ap (λ (o : OnPlainRef). o.reference.entry.slot) c.reference.view_is) in (
-      subst (λ (z : Settings). c.cpu.inside.id < z.cpus) (ap (λ (o : OnPlainCpu). o.words.settings) c.cpu.view_is ∙ sym c.requires.words.1) c.cpu.invariant.few,
-      subst (λ (z : Settings). c.reference.inside.slot < z.slots) (sym c.requires.words.1) slot,
-    )
-
 pub invariant_of-cpu : goal.invariant_of-cpu
 invariant_of-cpu c =
     let back = come_back _ _ _ _ _ _ _ c.cpu.invariant.idle.hand c.join_ref.ensures.change (c.count_down-word.ensures.collected c.if-word-count.true).1 c.split_back-seat.ensures.change in
