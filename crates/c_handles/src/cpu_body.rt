@@ -113,6 +113,7 @@ impl CpuBody {
     }
 
     /// The same, as an exact answer.
+    #[tactic(auto, using(crate::proofs::Inside::inside_is))]
     pub fn is_inside(&self) -> bool
         ensures { result ≡ is_some self.now.cpu.view.begin }
     {

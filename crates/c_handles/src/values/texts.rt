@@ -55,6 +55,7 @@ fn parse_given(
 }
 
 /// So many bytes, in the first places. Conditions: there are so many, and not too many.
+#[tactic(auto, using(crate::proofs::Written::all_read))]
 fn read_bytes(bytes: &mut GivenBytes, length: usize) -> [u8; 15]
     requires there { IsThere bytes.old.bytes length }
     requires few { length ≤ 15 }
@@ -149,6 +150,7 @@ fn tell(answer: u32, text: &mut TextPlace, room: usize) -> usize
 }
 
 /// Writes the words and a zero, cut to the room.
+#[tactic(auto, using(crate::proofs::Written::none_copied, crate::proofs::Written::not_written, crate::proofs::Written::written))]
 fn write_text(words: &[u8], text: &mut [u8])
     ensures { IsWritten words.now text.old text.new }
 {

@@ -27,6 +27,7 @@ pub fn is_begun(wait: &CWait) -> bool
 }
 
 /// Who was seen, to C: 1 for each that was.
+#[tactic(auto, using(crate::proofs::Written::map_by_place))]
 pub fn seen_out(seen: &[bool; MOST_CPUS]) -> [u64; MOST_CPUS]
     ensures { result ≡ map flag_of seen.now }
 {

@@ -1,8 +1,0 @@
-use Rattle.std.proofs.Common.{subst}
-use Rattle.cpu_words.specs.Common.{key_with}
-use Rattle.passive_list.specs.Common.{FindsInside, OnPlainCpu}
-use Rattle.c_handles.proofs.cpu_body.CpuBody.find.Goals as goal
-
-pub returns-clause-found : goal.returns-clause-found
-returns-clause-found c =
-    subst (λ (o : OnPlainCpu). FindsInside (key_with c.args.kind c.args.name) o.cpu c.find_inside_on.new.cpu.cpu c.find_inside_on.result) c.self.view_is c.find_inside_on.ensures.found
