@@ -30,6 +30,7 @@ HEAD = "| Event | What it does | Definition | Step | What its contract cites | L
 # What `step` uses for every event.
 SHARED = {"guard", "with_some", "some_outcome"}
 IMPORT = re.compile(r"use Rattle\.cpu_words\.((?:specs|proofs)\.[\w.]+)\.\{([^}]*)\}")
+NAMED = re.compile(r"crate::(proofs(?:::\w+)+)::(\w+)")
 LEMMAS = ("proofs.by_", "proofs.seats.")
 LIST = ROOT / "crates/passive_list/src"
 FUNCTION = re.compile(r"(?:pub\(crate\) )?fn (\w+)")
@@ -95,11 +96,18 @@ def cited(step):
             if re.search(rf"\b{name}\b", text) and path.stem not in ("Steps", "Rule", "Types") and "declared" not in path.parts]
 
 
+def named(function):
+    """The lemmas that the attribute of a function names, each with its file."""
+    above = "\n".join(function.path.read_text().split("\n")[:function.first]).rpartition("\n\n")[2]
+    return [(name, WORDS / (module.replace("::", "/") + ".antt")) for module, name in NAMED.findall(above)]
+
+
 def step_lemma(step):
-    """The lemma that the proof of the step cites first, or the proof of the operation that the step calls."""
+    """The lemma that the attribute or else the proof of the step names first, or the proof of the operation that the step calls."""
     own = WORDS / "proofs/steps" / step.function.path.stem / step.function.name
     called = [WORDS / "proofs/operations" / name for name in re.findall(r"\b(\w+)::", step.function.text)]
-    return [link(*it) for folder in (own, *called) for path in sorted(folder.rglob("*.antt")) for it in imported(path, LEMMAS)][:1]
+    proved = [it for folder in (own, *called) for path in sorted(folder.rglob("*.antt")) for it in imported(path, LEMMAS)]
+    return [link(*it) for it in named(step.function) + proved][:1]
 
 
 def operation(path, line):
