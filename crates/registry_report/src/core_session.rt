@@ -182,6 +182,7 @@ impl Session for CoreSession {
         Ok(self.core.number(id))
     }
 
+    #[tactic(auto, using(crate::proofs::calls::Done::peek_leaves))]
     fn peek(&mut self, label: Label) -> Result<Reading, Hitch> {
         let id = self.local(label)?;
         let number = self.core.number(id);
@@ -220,6 +221,7 @@ impl Session for CoreSession {
         as_answer(answer)
     }
 
+    #[tactic(auto, using(crate::proofs::calls::Done::seen, crate::proofs::shows::Counted::audit_answers))]
     fn audit(&mut self) -> Result<Vec<Balance>, Hitch> {
         Ok(self.core.audit()?)
     }

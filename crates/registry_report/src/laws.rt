@@ -8,6 +8,7 @@ ghost use Rattle.registry_report.specs.Report.{EndIsExact, LeastIsLeast, LookupI
 ///   without a section.
 /// - `lookups`, `ends`: what the report computes of the history is what the history says.
 /// - `least`: the first-fit slot, and the first obstacle of a destroy, are the lowest-numbered.
+#[tactic(auto, using(crate::proofs::Lookups::lookup_is, crate::proofs::sound::Commands::report_runs))]
 pub fn report_laws()
     ensures modelled { ReportIsModelRun }
     ensures lookups { LookupIsExact }

@@ -45,6 +45,7 @@ fn session_for(alloc: Global, settings: Settings) -> Result<CoreSession, RunFaul
 ///
 /// Where the session shows a registry, the texts are the report from there; over any session each text is one
 /// that its command may print.
+#[tactic(auto, using(crate::proofs::Written::all_of_it, crate::proofs::Written::flushed, crate::proofs::Written::on_err))]
 pub fn run_on<S: Session, W: Write>(
     alloc: Global,
     session: &mut S,
