@@ -131,6 +131,7 @@ fn look_at_passive(words: &Words, keeper: &mut Keeper, slot: u8) -> Option<u8>
 }
 
 /// Whether the CPU is clear, by an earlier look or by this one.
+#[tactic(auto, using(crate::proofs::Worked::sees_passive, crate::proofs::Worked::looked_none, crate::proofs::Worked::all_passed))]
 fn clears(words: &Words, keeper: &mut Keeper, slot: u8, cpu: u8) -> bool
     requires words { AreWordsOf words.now keeper.old.words.table keeper.old.words.settings }
     requires works { MayWork words.now.settings keeper.old.keeper slot }
@@ -163,6 +164,7 @@ fn collect_all(words: &Words, keeper: &mut Keeper, slot: u8)
 }
 
 /// Collects the count word of the CPU, if that isn't done yet.
+#[tactic(auto, using(crate::proofs::Worked::worked_none, crate::proofs::Worked::collection_marks, crate::proofs::Worked::all_passed, crate::proofs::Worked::all_clear))]
 fn collect_one(words: &Words, keeper: &mut Keeper, slot: u8, cpu: u8)
     requires words { AreWordsOf words.now keeper.old.words.table keeper.old.words.settings }
     requires works { MayWork words.now.settings keeper.old.keeper slot }
@@ -180,6 +182,7 @@ fn collect_one(words: &Words, keeper: &mut Keeper, slot: u8, cpu: u8)
 }
 
 /// Frees the slot, whose count words are all collected, where no local reference to its entry is held.
+#[tactic(auto, using(passive_list::proofs::Rows::keeper_is, crate::proofs::Worked::all_passed, crate::proofs::Worked::all_clear, crate::proofs::Worked::all_collected, crate::proofs::Worked::is_drained, crate::proofs::Worked::settled_held, crate::proofs::Worked::settled_free))]
 fn settle(words: &Words, keeper: &mut Keeper, slot: u8) -> Stage
     requires words { AreWordsOf words.now keeper.old.words.table keeper.old.words.settings }
     requires works { MayWork words.now.settings keeper.old.keeper slot }

@@ -85,6 +85,7 @@ pub fn attach_iface_in(
 /// Detaches the live entry with the kind and the name, and returns it. Lookups that begin from now on don't find it, and the caller's CPU
 /// has seen its change. It is retired: `advance_in` works on it. It takes no memory.
 /// Refused, in this order, and nothing has changed then: `Inside` if the CPU is inside a section; `NotFound` if no live entry has both.
+#[tactic(auto, using(registry_values::proofs::Answers::handed_on, crate::proofs::Attached::inside_is, crate::proofs::Attached::place_is, crate::proofs::Attached::refused_rightly))]
 pub fn detach_in(
     words: &Words,
     keeper: &mut Keeper,

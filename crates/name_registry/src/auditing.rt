@@ -26,6 +26,7 @@ use std::alloc::{AllocError, Global};
 ///
 /// - `MissingCpu` if the slice isn't CPU 0, 1, .. of this registry in this order; nothing has changed then;
 /// - `NoMemory`, but not if there is no such entry.
+#[tactic(auto, using(crate::proofs::Audits::sums_met, crate::proofs::Gathered::tallies_learned))]
 pub fn audit_in<D: Domain>(
     alloc: Global,
     words: &Words,
@@ -209,6 +210,7 @@ fn net_place(places: &[NumberedCount], t: u8) -> NumberedCount
 }
 
 /// Whether the keeper has collected the CPU's count word for the entry in the slot `t`.
+#[tactic(auto, using(passive_list::proofs::Rows::retired_in, crate::proofs::Audits::none_past))]
 fn is_collected(keeper: &Keeper, t: u8, cpu: u8) -> bool
     ensures { result ≡ is_collected keeper.now.keeper t cpu }
 {

@@ -28,6 +28,7 @@ impl<D: Domain> Registry<D> {
     /// - `Inside`: the CPU is inside a section; nothing has changed then;
     /// - `NotRetired`: no slot has the retired entry `number`, also if another caller freed it between two turns;
     /// - `StillHeld`, with the obstacle of the last turn. What turns noted and collected stays.
+    #[tactic(auto, using(crate::proofs::Attached::inside_is, crate::proofs::Destroyed::destroyed_small, crate::proofs::Destroyed::destroys_inside, crate::proofs::Destroyed::destroys_outside, crate::proofs::Waited::learns_none))]
     pub fn destroy<R: Wait>(
         &self,
         rt: &R,
@@ -67,6 +68,7 @@ trait AdvancesUnderInterlock<D: Domain> {
 
 /// Makes at most so many turns, and none after one that met no obstacle. Between two it lets another thread run, which may be a reader in
 /// the middle of its section, without a processor.
+#[tactic(auto, using(registry_values::proofs::Answers::handed_on, crate::proofs::Destroyed::ends_unretired))]
 fn destroy_in_turns<D: Domain, I: AdvancesUnderInterlock<D>, R: Wait>(
     rt: &R,
     interlock: &mut I,

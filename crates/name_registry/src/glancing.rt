@@ -15,6 +15,7 @@ use registry_values::{MOST_CPUS, MOST_SLOTS, first_unseen, is_out, is_retired_as
 
 /// Begins a wait until each section that is open now has ended: the section word of each CPU, and the number of each retired entry, slot by
 /// slot. It takes no memory. The waiting is by `glance_at_all`, and its end by `pass_all`.
+#[tactic(auto, using(crate::proofs::Passed::made_hold))]
 pub fn begin(
     words: &Words,
     keeper: &mut Keeper,
@@ -59,6 +60,7 @@ fn retired_numbers(keeper: &Keeper) -> [Option<u64>; MOST_SLOTS]
 
 /// One turn of such a wait: a glance at each CPU that wasn't seen out of the section of its snapshot yet. Returns the lowest-numbered CPU
 /// that still wasn't seen. It takes no memory.
+#[tactic(auto, using(crate::proofs::Passed::made_hold))]
 pub fn glance_at_all(
     words: &Words,
     keeper: &mut Keeper,

@@ -52,6 +52,7 @@ impl<D: Domain> Interlock<D> {
     }
 
     /// `attach_iface_in`, counted to the CPU.
+    #[tactic(auto, using(crate::proofs::Noted::iface_may, passive_list::proofs::Sharing::shared))]
     pub(crate) fn attach_iface(
         &mut self,
         words: &Words,
@@ -82,6 +83,7 @@ impl<D: Domain> Interlock<D> {
     }
 
     /// `detach_in`, counted to the CPU.
+    #[tactic(auto, using(crate::proofs::Counted::detach_numbered, crate::proofs::Counted::few_changes, crate::proofs::Counted::one_made, crate::proofs::Counted::detached, crate::proofs::Noted::detach_may, passive_list::proofs::Sharing::shared, passive_list::proofs::Sharing::sharing))]
     pub(crate) fn detach(
         &mut self,
         words: &Words,

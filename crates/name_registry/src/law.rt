@@ -31,6 +31,7 @@ pub fn free_interlock(keeper: &Keeper) -> u64
 /// 3. if they are all CPUs, that is the number of local references held to the entry.
 ///
 /// The result says nothing.
+#[tactic(auto, using(crate::proofs::Tallies::exact_law))]
 pub fn exact_audit<D: Domain>(keeper: &Keeper, cpus: &[Cpu<D>]) -> u64
     ensures law { ExactAudit keeper.now.words.settings keeper.now.keeper cpus.now }
 {

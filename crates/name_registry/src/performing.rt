@@ -29,6 +29,7 @@ impl<D: Domain> Registry<D> {
     ///
     /// - `Inside`: the CPU is inside a section; nothing has changed then;
     /// - `Waiting`, with the lowest-numbered CPU that wasn't seen out of its section; no mark has changed then.
+    #[tactic(auto, using(crate::proofs::Attached::inside_is, crate::proofs::Passed::performs_inside, crate::proofs::Waited::learns_none))]
     pub fn perform<R: Wait>(&self, rt: &R, cpu: &mut Cpu<D>, turns: u32) -> Result<(), Refusal>
         requires { 1 ≤ turns }
         ensures done { IfOk result (λ _. is_inside cpu.old ≡ false) }
@@ -133,6 +134,7 @@ impl<'a, D: Domain> UnderInterlock<D> for Locked<'a, D> {
 
     ghost passes = { SomePassed D.settings };
 
+    #[tactic(auto, using(crate::proofs::Counted::begun, passive_list::proofs::Sharing::shared, passive_list::proofs::Sharing::sharing))]
     fn begin<R: Wait>(
         &mut self,
         rt: &R,
@@ -145,6 +147,7 @@ impl<'a, D: Domain> UnderInterlock<D> for Locked<'a, D> {
         )
     }
 
+    #[tactic(auto, using(crate::proofs::Counted::glanced, passive_list::proofs::Sharing::shared, passive_list::proofs::Sharing::sharing))]
     fn glance<R: Wait>(
         &mut self,
         rt: &R,

@@ -120,6 +120,7 @@ impl<D: Domain> Registry<D> {
     ///
     /// - `MissingCpu` if the slice isn't CPU 0, 1, .. of this registry in this order; the CPUs haven't changed then;
     /// - `NoMemory`.
+    #[tactic(auto, using(crate::proofs::Gathered::know_the_same))]
     pub fn audit<R: Wait>(
         &self,
         rt: &R,

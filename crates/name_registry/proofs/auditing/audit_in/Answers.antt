@@ -4,18 +4,13 @@ use Rattle.name_registry.specs.Types.{Settings}
 use Rattle.registry_values.proofs.Fit.{ranges}
 use Rattle.cpu_words.specs.Common.{Named}
 use Rattle.name_registry.specs.Common.{AreAllCpus, tallies_met}
-use Rattle.name_registry.proofs.Audits.{counts_met, places_met, sums_met}
+use Rattle.name_registry.proofs.Audits.{counts_met, places_met}
 use Rattle.name_registry.proofs.Tallies.{audit_known, audit_right, known_keeper}
 use Rattle.name_registry.proofs.Gathered.{audit_in_log, listened_none, tallies_learned}
 use Rattle.name_registry.proofs.auditing.audit_in.Goals as goal
 
 pub returns-in-Ok-clause-places : goal.returns-in-Ok-clause-places
 returns-in-Ok-clause-places g c = places_met c.args.keeper.now.keeper c.args.cpus.now c.args.keeper.now.words.settings.slots c.in-Ok.list.items
-    (c.in-Ok.ensures.value ∙ tallies_learned _ _ _ _ c.gather.new.keeper.words.settings.slots c.gather.ensures.keeper c.gather.ensures.cpus
-    ∙ ap (λ (w : Named). tallies_met c.args.keeper.now.keeper c.args.cpus.now w.settings.slots) c.gather.ensures.words)
-
-pub returns-in-Ok-clause-sums : goal.returns-in-Ok-clause-sums
-returns-in-Ok-clause-sums g c = sums_met c.args.keeper.now.keeper c.args.cpus.now c.args.keeper.now.words.settings.slots c.in-Ok.list.items
     (c.in-Ok.ensures.value ∙ tallies_learned _ _ _ _ c.gather.new.keeper.words.settings.slots c.gather.ensures.keeper c.gather.ensures.cpus
     ∙ ap (λ (w : Named). tallies_met c.args.keeper.now.keeper c.args.cpus.now w.settings.slots) c.gather.ensures.words)
 

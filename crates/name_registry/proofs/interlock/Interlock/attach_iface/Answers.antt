@@ -1,23 +1,14 @@
--- `Interlock::attach_iface`: its clauses `may`, `ok`, `made`, `keeping` and `refused`.
-use Rattle.std.proofs.Common.{◌≡◌, Ok, Err, ap, sym, subst}
+-- `Interlock::attach_iface`: its clauses `ok`, `made` and `refused`.
+use Rattle.std.proofs.Common.{◌≡◌, Ok, Err, ap, subst}
 use Rattle.name_registry.specs.Types.{Attach, ReferenceView}
-use Rattle.cpu_words.specs.Common.{IsAttachedKeeping}
 use Rattle.passive_list.specs.Common.{OnCpu, OnPlainCpu, OnPlainRef}
 use Rattle.passive_list.proofs.Rows.{keeper_is}
 use Rattle.registry_values.specs.Common.{is_iface}
 use Rattle.name_registry.specs.Common.{HasAttachedIfaceFor, attach_iface_answer, IsAttachRefusal, is_inside}
 use Rattle.name_registry.proofs.Counted.{attach_counted, iface_numbered, few_changes, one_made, iface_attached}
-use Rattle.name_registry.proofs.Noted.{iface_may, iface_owned, iface_refused}
+use Rattle.name_registry.proofs.Noted.{iface_owned, iface_refused}
 use Rattle.passive_list.proofs.Sharing.{shared, sharing}
 use Rattle.name_registry.proofs.interlock.Interlock.attach_iface.Goals as goal
-
-pub returns-in-Ok-clause-may : goal.returns-in-Ok-clause-may
-returns-in-Ok-clause-may g c =
-    let own = shared c.cpu.inside.share.amount _ _ _ c.deref_mut.ensures.value c.cpu.view_is in
-    let k = c.args.self.now.keeper in
-    let e = c.in-Ok.entry in
-    iface_may k.words.settings k.keeper c.args.cpu.now c.args.rec c.args.reference (Ok e)
-    (subst (λ (p : OnCpu × ReferenceView). attach_iface_answer k.words.settings k.keeper p.0 c.args.rec p.1 ≡ Ok e) (λ i. (own i, c.reference.view_is i)) c.in-Ok.ensures.answer)
 
 pub returns-in-Ok-clause-ok : goal.returns-in-Ok-clause-ok
 returns-in-Ok-clause-ok g c =
@@ -44,11 +35,6 @@ returns-in-Ok-clause-made g c =
     (iface_attached c.cpu.inside.share.amount _ _ _ _ _ _ c.in-Ok.ensures.ok) in
     let few = (few_changes _ _ _ _ c.settings-settings.ensures.own.1.agree).0 in
     one_made _ c.args.cpu.now y c.count_attach.new.cpu (Attach e) (iface_numbered k.words.settings k.keeper c.args.cpu.now c.args.rec c.args.reference e few is) has.cpu c.count_attach.ensures.cpu
-
-pub returns-in-Ok-clause-keeping : goal.returns-in-Ok-clause-keeping
-returns-in-Ok-clause-keeping g c =
-    let e = c.in-Ok.entry in
-    subst (λ (p : OnCpu × ReferenceView). IsAttachedKeeping e.slot e.number p.1.entry.number p.0.known_log) (λ i. (sym c.count_attach.ensures.cpu i, c.reference.view_is i)) c.in-Ok.ensures.ok.keeping
 
 pub returns-in-Err-clause-refused : goal.returns-in-Err-clause-refused
 returns-in-Err-clause-refused g c =

@@ -1,19 +1,12 @@
--- `Registry::perform`: its clauses `made`, `learned`, `done`, `refused` and `waited`.
+-- `Registry::perform`: its clauses `done`, `refused`, `waited`, `made` and `learned`.
 use Rattle.std.proofs.Common.{◌≡◌, ◌∙◌, false, Result, IfErr, sym, subst}
 use Rattle.name_registry.specs.Types.{Refusal}
 use Rattle.name_registry.specs.Common.{IsPerformRefusal, is_inside}
 use Rattle.name_registry.proofs.Attached.{inside_is}
 use Rattle.name_registry.proofs.Noted.{waited_outside, waiting_refused}
-use Rattle.name_registry.proofs.Passed.{performs_inside, performs_outside, told_small}
-use Rattle.name_registry.proofs.Waited.{learns_none, learns_performed, waited_ok}
+use Rattle.name_registry.proofs.Passed.{performs_outside, told_small}
+use Rattle.name_registry.proofs.Waited.{learns_performed, waited_ok}
 use Rattle.name_registry.proofs.registry.Registry.perform.Goals as goal
-
-pub returns-then-inside-clause-made : goal.returns-then-inside-clause-made
-returns-then-inside-clause-made g c =
-    performs_inside g.D.Domain.settings c.args.turns (is_inside c.args.cpu.now) c.args.cpu.now (sym (inside_is _ _ c.inside.ensures) ∙ c.if-inside.true)
-
-pub returns-then-inside-clause-learned : goal.returns-then-inside-clause-learned
-returns-then-inside-clause-learned g c = learns_none c.args.cpu.now
 
 pub returns-clause-done : goal.returns-clause-done
 returns-clause-done g c = waited_outside (is_inside c.args.cpu.now) c.waiting_for.result (sym (inside_is _ _ c.inside.ensures) ∙ c.if-inside.false)
