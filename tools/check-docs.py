@@ -22,6 +22,7 @@ FOREIGN = {
         synchronize_srcu""",
     "liburcu": "cds_list_add_rcu cds_list_del_rcu cds_list_for_each_entry_rcu defer_destroy urcu_ref",
     "ck": "ck_epoch_section_2",
+    "arc-swap": "load_full",
     "crossbeam": "Collector register",
     "Debian": "libck",
     "Rust": "HashMap RwLock",
