@@ -11,4 +11,4 @@ pub use Rattle.passive_core.specs.References.{count_refusal, free_added, is_coun
 pub use Rattle.passive_core.specs.References.{with_total_less, IsOneLess, IsOneMore, IsRecordOf, passive_of, psref_copy, psref_to_found, refusal_of, with_one_less, with_one_more}
 pub use Rattle.passive_core.specs.Commands.{IsQuiet, all_seated, may_act, after_enter_command, after_exit_command, enter_answer, with_depth, after_find, load_at, next_load, state_shown}
 pub use Rattle.passive_core.specs.Making.{AdvanceMakes, FindMakes, IsCollectionFor, IsFreeingOf, IsLookFor, IsPassiveLookFor, IsSeat, IsWaiting, IsWork, Makes, MakesOnly, count_stores_from}
-pub use Rattle.passive_core.specs.Making.{detach_events, linking_events, prepare_events, record_loads, record_stores, seats_and, seats_from, snapshots_from}
+pub use Rattle.passive_core.specs.Making.{detach_events, linking_events, prepare_events, record_stores, seats_and, seats_from, snapshots_from}

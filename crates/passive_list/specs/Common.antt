@@ -10,7 +10,7 @@ pub use Rattle.passive_list.specs.Draining.{AreHeld, HasAttachedKeeping, HasColl
 pub use Rattle.passive_list.specs.Walks.{AreStoodOn, GoesOnAt, HasGoneByFrom, HasGoneByOne, HasGoneOver, IsGoingOver, IsLiveSince, MayGoBy, view_at_link, HasWalked, IsWritten, WasLive}
 pub use Rattle.passive_list.specs.Keepers.{AreSized, HasRows, IsAtRest, IsOurKeeper, MarksAgree, OnKeeper, OnPlainKeeper, RowAgrees, RowsAgree, no_row, on_keeper, row_at, state_of, states_of}
 pub use Rattle.passive_list.specs.Keepers.{total_or_bias, GoesOnBy, HasOwnLog}
-pub use Rattle.passive_list.specs.Publishing.{link_to, newer_of, older_of, place_of, HasAttached, HasEntry, LogsAttach, MayAttach, logged_counts, logged_stores, keeper_after_publish}
+pub use Rattle.passive_list.specs.Publishing.{link_to, newer_of, older_of, place_of, HasAttached, HasEntry, LogsAttach, MayAttach, logged_counts, keeper_after_publish}
 pub use Rattle.passive_list.specs.Publishing.{keeper_after_stores, with_counts, with_row, AreFresh, AreSnapshots, AreWritten, HasDetached, LogsDetach, LogsSnapshots, with_snapshots}
 pub use Rattle.passive_list.specs.Lookups.{HasFound, HasFoundFromOutside, GoesOnByLoads, GoesOnBySoMany, HasGoneOverBy, HasSearchedFor, HasWalkedBy, IsLoad, IsWalkLoad, SearchesOnce, nobody}
 pub use Rattle.passive_list.specs.Lookups.{HasLookedUp, HasMissed, HasTaken, HasVisited, HasVisitedFrom, IsAtLink, IsOn, IsUnderWay, after_visit, cpu_with_search_at, entry_seen, search_at}
