@@ -76,6 +76,10 @@ static void test_mutexes(void)
 	mutex_spin_exit(&spin);
 	EXPECT(!kpreempt_disabled());
 	test_levels_in_spin_locks();
+	kmutex_t *counted = mutex_obj_alloc(MUTEX_DEFAULT, IPL_NONE);
+	mutex_obj_hold(counted);
+	EXPECT(!mutex_obj_free(counted));
+	EXPECT(mutex_obj_free(counted));
 }
 
 /* Both words are the same to whoever reads, and are changed by one alone. */
