@@ -4,6 +4,8 @@
  *
  * The linker leads what the layer asks the C library for here (--wrap). Each case runs in a child. The last line counts the cases.
  */
+#include <sys/workqueue.h>
+
 #include "stops.h"
 #include "wraps.h"
 
@@ -95,12 +97,16 @@ static void require_no_memory(void)
 }
 STOPS("panic: memory was told to be out, at PLACE", require_no_memory(); panic("memory was told to be out"))
 
+static void do_no_work(struct work *work, void *arg) { (void)work; (void)arg; }
+
 static void require_no_threads(void)
 {
 	lwp_t *made = NULL;
+	struct workqueue *queue = NULL;
 	open_without(THREADS);
 	EXPECT(kthread_create(PRI_NONE, 0, NULL, nothing, NULL, NULL, "worker") == EAGAIN);
 	EXPECT(kthread_create(PRI_NONE, KTHREAD_MUSTJOIN, NULL, nothing, NULL, &made, "worker") == EAGAIN && made == NULL);
+	EXPECT(workqueue_create(&queue, "queue", do_no_work, NULL, PRI_NONE, IPL_NONE, WQ_MPSAFE) == ENOMEM && queue == NULL);
 	lacks = CALLOC;
 	EXPECT(softint_establish(SOFTINT_NET, nothing, NULL) == NULL);
 	lacks = NOTHING_LACKS;
