@@ -423,6 +423,7 @@ static struct work first_work, second_work;
 
 WORK(work_long, sleep_for(20000000))
 WORK(work_raised, splsoftnet())
+WORK(work_locked, mutex_enter(&softlock))
 WORK(destroy_own_queue, workqueue_destroy(queue))
 
 /* The queue's thread does the first work for long, or as a function says. */
@@ -444,6 +445,7 @@ STOPS("workqueue_destroy: a work is enqueued, at PLACE",
     enqueue(work_long); workqueue_enqueue(queue, &second_work, NULL); workqueue_destroy(queue))
 STOPS("workqueue_destroy: in a function of the queue, at PLACE", enqueue(destroy_own_queue); sleep_for(20000000))
 STOPS("workqueue: the function returned at a raised level", enqueue(work_raised); sleep_for(20000000))
+STOPS("workqueue: the function returned with a lock", enqueue(work_locked); sleep_for(20000000))
 
 MODULE_HOOK(no_hook, void, (void *));
 struct no_hook_t no_hook;
