@@ -25,6 +25,7 @@ import tempfile
 import time
 from concurrent.futures import ThreadPoolExecutor
 
+from edits import GATE, edits_of
 from kit import below, kit, over_libraries
 from limits import LIMITS
 from parts import GIGABYTE, LAST_LINE, ROOT, ended, free_memory, guard, minutes, say, started, stop_running
@@ -177,7 +178,7 @@ def run_all(command, room, edits, proofs):
     began = subprocess.run(["tools/proof-record.py", "begin", LIMITS], cwd=ROOT, stdout=subprocess.PIPE, check=True).stdout
 
     def proved(crate):
-        if has_many and (ROOT / "crates" / crate / "edits/gate.edits").is_file():
+        if has_many and edits_of(crate, GATE):
             edits.submit(try_edits, crate, last)
 
     line, status = beside([*on(most), *command] if has_many else command, proved, lambda: proving.append(proofs.submit(prove, room, began)))

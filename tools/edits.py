@@ -6,12 +6,12 @@ import sys
 
 ROOT = pathlib.Path(__file__).resolve().parent.parent
 GATE, BY_HAND, TESTS = KINDS = ("gate", "by-hand", "tests")
-HEAD = re.compile(r"edit: (\w+)\n")
+HEAD = re.compile(rf"({'|'.join(KINDS)}): (\w+) in (\S+)\n((?:# .*\n)*)")
 Change = collections.namedtuple("Change", "path old new")
 
 
 class Edit(collections.namedtuple("Edit", "crate kind name text")):
-    """An edit; `text` is its lines below its name."""
+    """An edit; `text` is its reason, the first file that it changes, and its other lines."""
 
     def __str__(self):
         return f"{self.crate}/{self.name}"
@@ -29,25 +29,26 @@ class Edit(collections.namedtuple("Edit", "crate kind name text")):
 CRATES = sorted(it.name for it in (ROOT / "crates").iterdir() if it.is_dir())
 
 
-def file_of(crate, kind):
-    return ROOT / "crates" / crate / "edits" / f"{kind}.edits"
+def file_of(crate):
+    return ROOT / "crates" / crate / "wrong.edits"
 
 
 def edits_of(crate, kind, name=""):
     """The edits of a kind of a crate, in the file's order; or the one that is named."""
-    path = file_of(crate, kind)
+    path = file_of(crate)
     blocks = re.split(r"\n{2,}", path.read_text().strip("\n")) if path.is_file() else []
-    if not all(map(HEAD.match, blocks)):
-        sys.exit(f"{path.relative_to(ROOT)}: a block without its line edit: NAME")
-    found = [Edit(crate, kind, HEAD.match(it)[1], HEAD.sub("", it, count=1) + "\n") for it in blocks]
-    return [it for it in found if name in ("", it.name)]
+    heads = [HEAD.match(it) for it in blocks]
+    if not all(heads):
+        sys.exit(f"{path.relative_to(ROOT)}: a block without its line KIND: NAME in FILE")
+    found = (Edit(crate, head[1], head[2], f"{head[4]}file: {head[3]}\n{it[head.end():]}\n") for it, head in zip(blocks, heads))
+    return [it for it in found if it.kind == kind and name in ("", it.name)]
 
 
 def chosen(kind, words):
     """The edits of a kind that the words name, or all."""
-    for word in words or sorted(it.parent.parent.name for it in ROOT.glob(f"crates/*/edits/{kind}.edits")):
+    for word in words or [it for it in CRATES if edits_of(it, kind)]:
         crate, _, name = word.partition("/")
-        yield from edits_of(crate, kind, name) or sys.exit(f"no edit {word} in {kind}.edits")
+        yield from edits_of(crate, kind, name) or sys.exit(f"no edit {word} of the kind {kind}")
 
 
 def changes(edit, tree=ROOT):

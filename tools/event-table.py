@@ -134,7 +134,7 @@ def edits_of(step, tried):
     own += [edit for edit, path, line in tried if path.parent == WORDS / "src/operations" and (operation(path, line) or "?") in text]
     above = [edit for edit, path, line in tried if path.parent == LIST and any(
         it.first <= line <= it.last and re.search(rf"\b{body.name}\(", it.text) for it in functions_of(path))]
-    return [link(it.name, file_of(it.crate, it.kind)) + (" *" if it.kind == BY_HAND else "") for it in dict.fromkeys(own or above)]
+    return [link(it.name, file_of(it.crate)) + (" *" if it.kind == BY_HAND else "") for it in dict.fromkeys(own or above)]
 
 
 def quoted(names):

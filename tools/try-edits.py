@@ -1,9 +1,9 @@
 #!/usr/bin/env -S python3 -B
 """Tries wrong bodies: the prover, or a test, must refuse each. docs/RECIPES.md says what they are, and what each word that is said of them means.
 
-    tools/try-edits.py gate   [--anew] [CRATE | CRATE/EDIT]..    those of gate.edits, which the gate tries
-    tools/try-edits.py prover [--anew] [CRATE | CRATE/EDIT]..    those of by-hand.edits; on the whole crate where the changed functions refused nothing
-    tools/try-edits.py tests           [CRATE | CRATE/EDIT]..    those of tests.edits, by the tests of CRATE
+    tools/try-edits.py gate   [--anew] [CRATE | CRATE/EDIT]..    those that the gate tries
+    tools/try-edits.py prover [--anew] [CRATE | CRATE/EDIT]..    those of the kind by-hand; on the whole crate where the changed functions refused nothing
+    tools/try-edits.py tests           [CRATE | CRATE/EDIT]..    those of the kind tests, by the tests of CRATE
     tools/try-edits.py without         [CRATE]..                 lists the public functions of which no edit changes the body, nor that of a function
                                                                  of their crate that they call
 

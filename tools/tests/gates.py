@@ -67,7 +67,7 @@ BESIDE = {
     "crates/low/src/lib.rt": "low\n",
     "crates/low/specs/Lib.antt": "contract\n",
     "crates/low/proofs/Lib.antt": "proof\n",
-    "crates/low/edits/gate.edits": "edit: one\n",
+    "crates/low/wrong.edits": "gate: one in src/lib.rt\nold: low\nnew: high\n",
     "crates/low/out/rlib/low.rlib/format": "low\n",
     "crates/registry_c/src/lib.rt": "face\n",
     "crates/registry_c/specs/Lib.antt": "\n",
@@ -129,7 +129,7 @@ def archive():
         *of("tools/archive-beside.py", ("a log without the sources that the proof began with", "6 passed, 1 failed", "            said.write(began)\n", ""),
             *(ON_ALL if len(os.sched_getaffinity(0)) >= 4 else ())),
     )
-    case("archive-beside", ["archive-beside.py", "kit.py", "limits.py", "parts.py"], BESIDE, ["./beside"], faults)
+    case("archive-beside", ["archive-beside.py", "edits.py", "kit.py", "limits.py", "parts.py"], BESIDE, ["./beside"], faults)
 
 
 archive()

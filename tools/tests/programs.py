@@ -110,7 +110,7 @@ case("table of the drivers", [], TABLED, ["./compare"], [
 ])
 
 SOURCE = "crates/one/src/lib.rt"
-EDITS, TESTED = "crates/one/edits/gate.edits", "crates/one/edits/tests.edits"
+EDITS = "crates/one/wrong.edits"
 # It lays out no file of a crate, except one that has a blank at the end of a line; and it refuses to compile what says y.
 RT = """#!/bin/sh
 case $1 in
@@ -122,17 +122,17 @@ esac
 exit 0
 """
 
-LOOKED = {"crates.txt": "one: std\n", SOURCE: "x + 1\n", EDITS: "edit: more\n# It adds nothing.\nfile: src/lib.rt\nold: x + 1\nnew: x\n",
-          TESTED: f"edit: less\n# It takes one.\nfile: {SOURCE}\nold: x + 1\nnew: x - 1\n", "bin/rt": RT,
+LOOKED = {"crates.txt": "one: std\n", SOURCE: "x + 1\n", EDITS: "gate: more in src/lib.rt\n# It adds nothing.\nold: x + 1\nnew: x\n\n"
+          f"tests: less in {SOURCE}\n# It takes one.\nold: x + 1\nnew: x - 1\n", "bin/rt": RT,
           "look": "#!/bin/sh\nPATH=$PWD/bin:$PATH exec tools/before-gate.py \"$@\"\n"}
 case("before-gate", ["before-gate.py", "parts.py", "edits.py"], LOOKED, ["./look"], [
     Fault("a file that isn't laid out", "one: formatted src/lib.rt", ((SOURCE, "x + 1", "x + 1 "),)),
     Fault("a file that can't be read", "one: src/lib.rt: it does not parse", ((SOURCE, "x + 1", "x + 1?"),)),
-    Fault("an edit whose look is killed", "one/more: status 1: ['rt: killed']", ((EDITS, "new: x", "new: x + 3"),), ["./look", "compile", "one"]),
-    Fault("an edit that doesn't fit", "one/more: stands 0 times in crates/one/src/lib.rt", ((EDITS, "old: x + 1", "old: x + 2"),)),
-    Fault("an edit that doesn't compile", "one/more: src/lib.rt:1:1: error: there is no y", ((EDITS, "new: x", "new: y"),), ["./look", "compile", "one"]),
+    Fault("an edit whose look is killed", "one/more: status 1: ['rt: killed']", ((EDITS, "new: x\n", "new: x + 3\n"),), ["./look", "compile", "one"]),
+    Fault("an edit that doesn't fit", "one/more: stands 0 times in crates/one/src/lib.rt", ((EDITS, "old: x + 1\nnew: x\n", "old: x + 2\nnew: x\n"),)),
+    Fault("an edit that doesn't compile", "one/more: src/lib.rt:1:1: error: there is no y", ((EDITS, "new: x\n", "new: y\n"),), ["./look", "compile", "one"]),
     Fault("an edit without a reason", "one/more: it has no reason", ((EDITS, "# It adds nothing.\n", ""),)),
-    Fault("two edits of one name", "one: two edits are called more", ((TESTED, "edit: less", "edit: more"),)),
+    Fault("two edits of one name", "one: two edits are called more", ((EDITS, "tests: less", "tests: more"),)),
 ])
 
 if PROVED.is_file():

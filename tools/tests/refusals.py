@@ -82,25 +82,21 @@ case $1 in
 esac
 """
 LOW = "crates/low/out/rlib/low.rlib/format"
-EDITS = "crates/one/edits/gate.edits"
-GATE = """edit: same
+EDITS = "crates/one/wrong.edits"
+GATE = """gate: same in src/lib.rt
 # It adds nothing.
-file: src/lib.rt
 old:     x + 1
 new:     x
 
-edit: two
-file: src/lib.rt
+gate: two in src/lib.rt
 old:     x + 1
 new:     x + 2
 
-edit: less
-file: src/lib.rt
+gate: less in src/lib.rt
 old:     x - 1
 new:     x - 2
 
-edit: up
-file: src/lib.rt
+gate: up in src/lib.rt
 old:         x + 7
 new:         x
 """
@@ -115,23 +111,23 @@ TREE = {
     "try": f'#!/bin/sh\nexport XDG_CACHE_HOME=$PWD/kept PATH=$PWD/bin:$PATH TOP=$PWD LOW=$PWD/{LOW}\nexec tools/try-edits.py gate "$@"\n',
 }
 
-HAND = "crates/one/edits/by-hand.edits"
-TESTED = "crates/one/edits/tests.edits"
 BESIDE_GATE = {
     **TREE,
-    HAND: """edit: nothing
+    EDITS: """by-hand: nothing in src/lib.rt
 # It adds nothing.
-file: src/lib.rt
 old:     x + 1
 new:     0
 
-edit: heading
+by-hand: heading in src/lib.rt
 # It is of no function.
-file: src/lib.rt
 old: //! One more.
 new: //! None.
+
+tests: twice in crates/one/src/lib.rt
+# It doubles.
+old:     x + 1
+new:     x + x
 """,
-    TESTED: "edit: twice\n# It doubles.\nfile: crates/one/src/lib.rt\nold:     x + 1\nnew:     x + x\n",
     "try": TREE["try"].replace("try-edits.py gate", "try-edits.py"),
 }
 
@@ -172,8 +168,8 @@ case("try-edits of the gate", TOOLS, TREE, ["./try"], [
     over_holes("a hole that isn't ours", "depends on a hole in `Rattle.one.proofs.other.Proof.other_spec`"),
     Fault("a hole that is told of no file", "what its edits change isn't proved as it stands", (("kit/bin/rattle", "holes=1", "holes=2"),)),
     Fault("a function that no edit changes, proved again", "what its edits change isn't proved as it stands", (("tools/edit_checks.py", '["loop {}"]', '["let most = 1;"]'),)),
-    Fault("an edit without its name", "gate.edits: a block without its line edit: NAME", ((EDITS, "edit: same\n", ""),)),
-    Fault("no edits", "0 passed, 1 failed", ((EDITS, "file:", None),)),
+    Fault("an edit without its name", "wrong.edits: a block without its line KIND: NAME in FILE", ((EDITS, "gate: same in", "gate: in"),)),
+    Fault("no edits", "0 passed, 1 failed", ((EDITS, "gate:", None),)),
     after_a_run("a refusal over another library", "NOT REFUSED", f"echo strong >{LOW}"),
     after_a_run("a refusal by another kit", "NOT REFUSED", "printf '#!/bin/sh\\necho only=1\\n' >kit/bin/rattle; echo other >kit/KIT-ID"),
     after_a_run("a refusal of a tree that was changed meanwhile", "NOT REFUSED", "rm crates/one/specs/More.antt", "printf '#!/bin/sh\\necho only=1\\n' >kit/bin/rattle",
@@ -182,13 +178,13 @@ case("try-edits of the gate", TOOLS, TREE, ["./try"], [
     after_a_run("a refusal of an edit that is no longer applied", "NOT REFUSED", "sed -i 's/path.write_text(text.replace(old, new))/pass/' tools/edits.py"),
 ])
 case("try-edits", TOOLS, BESIDE_GATE, ["./try", "prover"], [
-    *of(HAND, ("a wrong body by hand that is proved", f"one/nothing: {WHOLE}", "new:     0", "new:     x + 1 - 0"),
+    *of(EDITS, ("a wrong body by hand that is proved", f"one/nothing: {WHOLE}", "new:     0", "new:     x + 1 - 0"),
         ("a wrong heading that the crate is proved under", f"one/heading: {WHOLE}", "new: //! None", "new: //! One more than")),
     after_a_run("a refusal by hand over another library", WHOLE, f"echo strong >{LOW}", kind="prover"),
 ])
 case("try-edits by tests", TOOLS, BESIDE_GATE, ["./try", "tests"], [
-    *of(TESTED, ("a wrong body that no test refuses", "NOT REFUSED: all tests pass", "new:     x + x", "new:     x + 1 + 0"),
-        ("an edit for the tests that doesn't fit", "stands 0 times in", "old:     x + 1", "old:     y")),
+    *of(EDITS, ("a wrong body that no test refuses", "NOT REFUSED: all tests pass", "new:     x + x", "new:     x + 1 + 0"),
+        ("an edit for the tests that doesn't fit", "stands 0 times in", "old:     x + 1\nnew:     x + x", "old:     y\nnew:     x + x")),
     *of("bin/rt", ("a run of the tests that is cut off", "NOT TRIED: no test failed: run=no-answer", "test more FAILED", "run=no-answer")),
 ])
 

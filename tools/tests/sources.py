@@ -75,11 +75,11 @@ case("check-imports", ["check-imports.py", "parts.py"], IMPORTS, ["tools/check-i
     *of("crates/one/specs/Common.antt", ("nothing that passes names on", "0 passed, 1 failed", "pub use Rattle.one", None)),
 ])
 
-EDITS = "crates/cpu_words/edits/gate.edits"
+EDITS = "crates/cpu_words/wrong.edits"
 MADE, KEEPING = "crates/protocol/proofs/Made.antt", "crates/protocol/proofs/keeps/Keeping.antt"
 TABLED = ("crates/protocol/src/event.rt", "crates/protocol/specs/Events.antt", MADE, KEEPING, "crates/passive_core/src/machine/run.rt", "docs/MODEL.md",
-          "crates/passive_list/src/*.rt", "crates/passive_list/edits/*.edits", "crates/cpu_words/src/steps/*.rt", "crates/cpu_words/src/operations/*.rt",
-          "crates/cpu_words/proofs/steps/**/*.antt", "crates/cpu_words/proofs/operations/**/*.antt", "crates/cpu_words/edits/*.edits")
+          "crates/passive_list/src/*.rt", "crates/passive_list/wrong.edits", "crates/cpu_words/src/steps/*.rt", "crates/cpu_words/src/operations/*.rt",
+          "crates/cpu_words/proofs/steps/**/*.antt", "crates/cpu_words/proofs/operations/**/*.antt", EDITS)
 
 PAGE = "not as tools/event-table.py make writes it"
 EVENT, DEFINITION = "crates/protocol/src/event.rt", "crates/protocol/specs/Events.antt"
@@ -88,8 +88,8 @@ VACATES = "old:     keeper.rows[slot as usize].state = SlotState::Vacant;"
 TABLES = ["event-table.py", "contracts.py", "parts.py", "edits.py"]
 case("event-table", TABLES, real(*TABLED), ["tools/event-table.py", "check"], [
     *of(EVENT, ("an event without a step", "Wink: no step makes it", BEGINS, f"    /// It winks.\n    Wink(u8),\n{BEGINS}")),
-    *of(EDITS, ("an edit that is gone", PAGE, "edit: enter_adds_two", "edit: enter_adds_three")),
-    *of("crates/passive_list/edits/gate.edits", ("a step without an edit", "no edit", VACATES, "old: gone")),
+    *of(EDITS, ("an edit that is gone", PAGE, "gate: enter_adds_two", "gate: enter_adds_three")),
+    *of("crates/passive_list/wrong.edits", ("a step without an edit", "no edit", VACATES, "old: gone")),
     *of(DEFINITION, ("an event without a definition", "no definition", "guard (may_enter s c) (some_outcome (after_enter s c) Done)", "None")),
     *of(MADE, ("an event of which nothing says what it is", "no second lemma", "Made s (Enter c)", "Made s (Exit c)")),
     *of("crates/passive_core/src/machine/run.rt", ("an event that the machine doesn't make", "no method", "self.step_enter(c)", "enter(c)")),
