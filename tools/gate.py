@@ -1,5 +1,6 @@
 #!/usr/bin/env -S python3 -B
-"""The merge gate: the README's test command. docs/CONTRIBUTING.md says what each part does and what it may take.
+"""The merge gate: the README's test command, which .ci/run starts. Each part below has a name and a command; that command's file says at its head what
+it does. tools/parts.py has the bounds on what the whole may take. docs/CONTRIBUTING.md says how to run one part, and how to read a failure.
 
 The groups come one after the other, the parts of a group beside each other. The last line, 'N passed, M failed', counts all of it; the status is 0
 where nothing failed.

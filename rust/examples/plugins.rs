@@ -1,4 +1,5 @@
-//! Plug-ins with hot unload: workers call a codec, which is replaced again and again meanwhile. Each old one comes back after its last call.
+//! Plug-ins that are replaced while they are in use: workers call a codec, and each old one comes back after its last call. No library is loaded or
+//! unloaded here: the codecs are values of this program.
 
 use kupaldiz::{Cpu, Name, Patience, Refusal, Registry, Retired, Settings};
 use std::error::Error;

@@ -126,10 +126,13 @@
 //!
 //! # What is proved
 //!
-//! The protocol, the shared words and the calls of registry.h are proved, in Rattle: no entry is freed while a section that may have found it, or a
-//! reference, holds it. The proof assumes a caller that keeps the rules of registry.h. A few small calls in C aren't proved; registry.h marks them.
-//! This crate uses eight of those: the text of an error, the library's version and limits, the comparison of the limits, the two acquires of an entry that is
-//! given, and the two replacements.
+//! The calls of registry.h are proved, in Rattle, except some in C, which registry.h marks. Proved
+//! of every list of steps of the protocol: no entry is freed while a section that may have found
+//! it, or a reference, holds it. That a program in mid-run is in a state that such a list leads to
+//! is assumed (docs/GUARANTEES.md of the repository). So is a caller that keeps the rules of
+//! registry.h. This crate uses eight of the calls in C, which are tested, not proved: the text of
+//! an error, the library's version and limits, the comparison of the limits, the two acquires of an
+//! entry that is given, and the two replacements.
 //!
 //! This crate isn't proved: it is tested. Some 100 blocks are `unsafe`, half of them in `section.rs`, `shared.rs` and `changes.rs`: for the calls and the texts
 //! that they return; for the way from an entry to the `T`, and to a part of it; and where its own types move what they hold. Each says what makes it sound. A
