@@ -6,7 +6,8 @@
  * psref_target_destroy waits for those that are held.
  *
  * What differs from the page:
- * - A class's level changes nothing: a soft interrupt runs at the end of a call, never within one (kupaldiz_softint(3)).
+ * - A class's level changes nothing: a thread has its CPU during a call with a reference, so no soft interrupt of that CPU runs within the call.
+ *   It may run at its end, and between two calls (kupaldiz_softint(3)).
  * - psref_acquire searches a list of at most 32 entries (a registry of the layer's) for its target. It notes the reference in a table
  *   of its CPU, where psref_release and psref_copy look it up. In the kernel a reference lies in a list of its CPU, and nothing is looked up.
  * - psref_target_destroy looks at the words of all CPUs, as pserialize_perform does; no CPU runs anything for it.
