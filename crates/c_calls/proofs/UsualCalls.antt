@@ -11,7 +11,7 @@ use Rattle.registry_values.specs.Common.{kind_word, Answers}
 use Rattle.cpu_words.specs.Common.{key_with, references_to}
 use Rattle.passive_list.specs.Common.{OnCpu, OnPlainCpu, HasFoundInside, HasFoundKept, FindsInsideBy, AnswersEnter, entry_seen}
 use Rattle.passive_list.proofs.ByMemory.{anew_after, by_load}
-use Rattle.passive_ref.specs.Psrefs.{HasGotByMemory, HasOneLess, IsAcquired, OnPsref, why_not_acquired, why_unusable}
+use Rattle.passive_ref.specs.{HasGotByMemory, HasOneLess, IsAcquired, OnPsref, why_not_acquired, why_unusable}
 use Rattle.c_handles.specs.declared.values.plain.TheConstants.{DONE}
 use Rattle.c_handles.specs.declared.values.plain.CEntry.{CEntry}
 use Rattle.c_handles.specs.declared.values.plain.CName.{CName}
@@ -121,9 +121,6 @@ got kind k m name a b n old new seeks had = record {
       subst (λ (i : CName). GetsByMemory kind may.k i a b n old new) names (subst (λ (j : Kind). GetsByMemory kind j m a b n old new) kinds had);
   by_calls = λ not. absurd (not (record { m = m; named = seeks.1; k = k; is_kind = seeks.0; outside = seeks.2; room = seeks.3 }));
 }
-
-pub got_by_calls : (kind : ℕ) (name : Option CName) (a b : OnPlainCpu) (n : ℕ) (old new : Option CEntry) → Seeks kind name a None → GetsInSection kind name a b n old new → Gets kind name a b n old new
-got_by_calls kind name a b n old new not had = record { by_memory = λ may. absurd (not may); by_calls = λ _. had }
 
 -- what a call returns, with the place and the name
 pub answered : (P : ℕ → Option CEntry → Type 0) (n : ℕ) (p : EntryPlace) (g : GivenName) (x : EntryAnswer) (r : NamedAnswer) → x ≡ record { number = n; place = p }

@@ -4,7 +4,7 @@ use Rattle.c_calls.specs.Types.{Entry, Kind, Refusal, Inside, NotFound, Key, See
 use Rattle.registry_values.specs.Common.{Answers, number_of_refusal}
 use Rattle.cpu_words.specs.Common.{key_with, references_to}
 use Rattle.passive_list.specs.Common.{OnPlainCpu, HasFoundInside, AnswersEnter, HasExitedOn, OnPlainKeeper, FindsWhatStays, HasFoundAnew, HasFoundByMemory, HasRecalledByMemory, may_begin, entry_seen, HasWalked, IsWritten}
-use Rattle.passive_ref.specs.Psrefs.{HasOneLess, IsAcquired, IsCopied, IsReadAs, OnPsref, why_not_acquired, why_not_copied, why_unusable, HasGotByMemory}
+use Rattle.passive_ref.specs.{HasOneLess, IsAcquired, IsCopied, IsReadAs, OnPsref, why_not_acquired, why_not_copied, why_unusable, HasGotByMemory}
 use Rattle.c_handles.specs.declared.values.plain.TheConstants.{DONE, OUTSIDE, EMPTY_HANDLE, BAD_KIND, NULL, NO_ROOM}
 use Rattle.c_handles.specs.declared.values.plain.CEntry.{CEntry}
 use Rattle.c_handles.specs.declared.values.plain.CName.{CName}

@@ -4,7 +4,7 @@ use Rattle.c_calls.specs.Types.{Entry, Iface, Name, Refusal, NoMemory, Reference
 use Rattle.registry_values.specs.Common.{is_retired_as, slot_at, number_of_refusal}
 use Rattle.protocol.specs.Common.{mark_at}
 use Rattle.passive_list.specs.Common.{OnKeeper, OnPlainCpu, HasGivenUp, OnPlainKeeper}
-use Rattle.local_count.specs.References.{HasAcquired, HasComeBack, HasReleased, why_not_acquired_local}
+use Rattle.local_count.specs.{HasAcquired, HasComeBack, HasReleased, why_not_acquired_local}
 use Rattle.c_handles.specs.declared.values.plain.TheConstants.{DONE, EMPTY_HANDLE, FULL_HANDLE, BAD_NAME, COLLECTED, NOT_COLLECTED, NULL}
 use Rattle.c_handles.specs.declared.values.plain.CEntry.{CEntry}
 use Rattle.c_handles.specs.declared.values.plain.CName.{CName}

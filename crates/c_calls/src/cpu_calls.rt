@@ -65,6 +65,7 @@ fn find_inside(cpu: &mut CpuBody, kind: Kind, name: CName, found: &mut EntryPlac
 
 /// Writes a lookup's answer, and returns its number.
 #[inline(always)]
+#[tactic(auto, using(crate::proofs::UsualCalls::told, crate::proofs::UsualCalls::writes))]
 pub fn put_seen(answer: Option<Seen>, kind: Kind, name: CName, found: &mut EntryPlace) -> u32
     ensures place { found.new.at ≡ found.old.at }
     ensures written { WritesFound (entry_seen (key_with kind (name_in name)) answer) result found.old.value found.new.value }
@@ -173,6 +174,7 @@ pub fn read(cpu: &mut CpuBody, number: u64, entry: &mut EntryPlace) -> u32
 
 /// Releases a passive reference.
 #[inline(always)]
+#[tactic(auto, using(crate::proofs::UsualCalls::released_kept))]
 pub fn release(cpu: &mut CpuBody, number: u64) -> u32
     ensures { Releases number cpu.old cpu.new result }
 {

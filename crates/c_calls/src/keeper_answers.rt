@@ -119,6 +119,7 @@ pub fn advance(keeper: &mut KeeperBody, number: u64, met: &mut StagePlace) -> u3
 }
 
 /// One turn of destroying it. The CPU hears what the keeper did.
+#[tactic(auto, using(crate::proofs::Turned::destroyed_by))]
 pub fn destroy(keeper: &mut KeeperBody, cpu: &mut CpuBody, number: u64, met: &mut StagePlace) -> u32
     requires { cpu.old.words ≡ keeper.old.words }
     ensures place { met.new.at ≡ met.old.at }

@@ -73,6 +73,7 @@ pub fn detach(
 }
 
 /// One turn of the work on a retired entry.
+#[tactic(auto, using(crate::proofs::Turned::advances_by))]
 pub fn advance(keeper: &mut KeeperBody, number: u64) -> Result<Stage, Refusal>
     ensures { Advances number keeper.old keeper.new result }
 {
@@ -80,6 +81,7 @@ pub fn advance(keeper: &mut KeeperBody, number: u64) -> Result<Stage, Refusal>
 }
 
 /// The same with a CPU, which hears what the keeper did. Condition: it is of its table.
+#[tactic(auto, using(crate::proofs::Turned::advances_for_by))]
 pub fn advance_for(
     keeper: &mut KeeperBody,
     cpu: &mut CpuBody,

@@ -5,7 +5,6 @@ pub mod audit;
 mod cpu_calls;
 mod keeper_answers;
 pub mod keeper_calls;
-mod law;
 mod local_calls;
 mod local_keeper;
 pub mod opening;
@@ -17,4 +16,4 @@ mod usual_calls;
 pub mod waiting;
 pub mod walks;
 
-pub use law::waits_law;
+pub use waiting::waits_law;

@@ -41,6 +41,7 @@ fn spend(keeper: &mut KeeperBody, local: LocalBody) -> (u32, Option<LocalBody>)
 }
 
 /// Whether the entry with this number is retired in the slot, and the count of some CPU was collected for it.
+#[tactic(auto, using(passive_list::proofs::Rows::retired_in, crate::proofs::Collected::none_below, crate::proofs::Collected::retired_of, crate::proofs::Collected::some_now, crate::proofs::Collected::some_stays))]
 fn are_collected(keeper: &Keeper, slot: u8, number: u64) -> bool
     requires { slot < MOST_SLOTS }
     ensures { result ≡ are_collected_for keeper.now.keeper slot number keeper.now.words.settings.cpus }
@@ -79,6 +80,7 @@ pub fn attach_iface_named(
 }
 
 /// Attaches an interface.
+#[tactic(auto, using(crate::proofs::Handles::no_name, crate::proofs::Handles::one_name))]
 fn attach_iface(
     keeper: &mut KeeperBody,
     cpu: &mut CpuBody,

@@ -77,6 +77,7 @@ fn open_given(
 }
 
 /// Opens a registry with these settings.
+#[tactic(auto, using(crate::proofs::Handles::count_bodies, crate::proofs::Opened::bad_settings, crate::proofs::Opened::came_to_open, crate::proofs::Opened::full_handle, crate::proofs::Opened::missing_cpu))]
 fn open_by(
     alloc: Global,
     settings: &CSettings,

@@ -38,6 +38,7 @@ pub fn look_up(
 
 /// What `registry_look_up` does outside, where it may begin a section: it recalls the entry, and looks up anew if that tells nothing.
 #[inline(always)]
+#[tactic(auto, using(passive_list::proofs::ByMemory::still_outside, crate::proofs::UsualCalls::answered, crate::proofs::UsualCalls::looked_anew, crate::proofs::UsualCalls::recalled_at_once))]
 fn look_by_memory(
     cpu: &mut CpuBody,
     kind: Kind,
@@ -108,6 +109,7 @@ pub fn get(cpu: &mut CpuHandle, kind: u64, mut name: GivenName, found: EntryPlac
 
 /// What `registry_get` does outside, where it may begin a section: one try, and if that gets none, a lookup, and one try more where it finds one.
 #[inline(always)]
+#[tactic(auto, using(passive_ref::proofs::Gets::none_got, crate::proofs::UsualCalls::answered, crate::proofs::UsualCalls::got_nothing, crate::proofs::UsualCalls::tries_done, crate::proofs::UsualCalls::tries_vain))]
 fn get_by_memory(
     cpu: &mut CpuBody,
     kind: Kind,

@@ -52,6 +52,7 @@ pub fn look_anew(cpu: &mut CpuBody, kind: Kind, name: CName, found: &mut EntryPl
 }
 
 /// Looks an entry up by an enter, a find and an exit.
+#[tactic(auto, using(crate::proofs::UsualCalls::between, crate::proofs::UsualCalls::found_same, crate::proofs::UsualCalls::unentered))]
 pub fn look_up(cpu: &mut CpuBody, kind: u64, name: Option<CName>, found: &mut EntryPlace) -> u32
     ensures place { found.new.at ≡ found.old.at }
     ensures call { LooksUpInSection kind name cpu.old cpu.new result found.old.value found.new.value }
@@ -93,6 +94,7 @@ pub fn get_anew(cpu: &mut CpuBody, kind: Kind, name: CName, found: &mut EntryPla
 }
 
 /// Acquires a passive reference to the entry that the CPU remembers, else in a section of the call's own.
+#[tactic(auto, using(crate::proofs::UsualCalls::got_nothing, crate::proofs::UsualCalls::tries_done, crate::proofs::UsualCalls::tries_vain))]
 fn get_found(cpu: &mut CpuBody, kind: Kind, name: CName, found: &mut EntryPlace) -> u32
     ensures place { found.new.at ≡ found.old.at }
     ensures call { (word : ℕ) → kind_in word ≡ Some kind → GetsFound word kind name cpu.old cpu.new result found.old.value found.new.value }
@@ -104,6 +106,7 @@ fn get_found(cpu: &mut CpuBody, kind: Kind, name: CName, found: &mut EntryPlace)
 }
 
 /// `get` of a kind and a name that there are.
+#[tactic(auto, using(crate::proofs::UsualCalls::of_word))]
 fn get_in_section(cpu: &mut CpuBody, kind: Kind, name: CName, found: &mut EntryPlace) -> u32
     ensures place { found.new.at ≡ found.old.at }
     ensures call { (word : ℕ) → kind_in word ≡ Some kind → GetsInSection word (Some name) cpu.old cpu.new result found.old.value found.new.value }
@@ -112,6 +115,7 @@ fn get_in_section(cpu: &mut CpuBody, kind: Kind, name: CName, found: &mut EntryP
 }
 
 /// Looks an entry up and acquires a passive reference to it, by an enter, a find, an acquire and an exit.
+#[tactic(auto, using(crate::proofs::UsualCalls::acquired_same, crate::proofs::UsualCalls::between))]
 pub fn get(cpu: &mut CpuBody, kind: u64, name: Option<CName>, found: &mut EntryPlace) -> u32
     ensures place { found.new.at ≡ found.old.at }
     ensures call { GetsInSection kind name cpu.old cpu.new result found.old.value found.new.value }
@@ -127,6 +131,7 @@ pub fn get(cpu: &mut CpuBody, kind: u64, name: Option<CName>, found: &mut EntryP
 
 /// Enters a section and looks an entry up in it: done leaves the CPU inside, and a refusal as deep as it was.
 #[inline(always)]
+#[tactic(auto, using(crate::proofs::UsualCalls::entered_and_found, crate::proofs::UsualCalls::exited))]
 pub fn enter_find(cpu: &mut CpuBody, kind: u64, name: Option<CName>, found: &mut EntryPlace) -> u32
     ensures place { found.new.at ≡ found.old.at }
     ensures call { EntersAndFinds kind name cpu.old cpu.new result found.old.value found.new.value }
@@ -144,6 +149,7 @@ pub fn enter_find(cpu: &mut CpuBody, kind: u64, name: Option<CName>, found: &mut
 }
 
 /// Enters a section, or the open one once more: done leaves the CPU inside.
+#[tactic(auto, using(crate::proofs::UsualCalls::begin_of, crate::proofs::UsualCalls::entered_inside))]
 fn enter_inside(cpu: &mut CpuBody) -> u32
     ensures call { Enters cpu.old cpu.new result }
     ensures inside { result ≡ DONE → cpu.new.cpu.view.begin ≢ None }

@@ -7,7 +7,7 @@ ghost use Rattle.cpu_words.specs.Common.{AreWordsOf};
 ghost use Rattle.passive_list.specs.Common.{HasHeardOn, HasOwnLog, cpu_after_tell, has_heard};
 ghost use Rattle.name_registry.specs.Common.{HasGlanced, HasPassedAll, Hold, KeepsWords, PassesBelow, SnapshotsBelow, keeper_after_hear, keeper_after_tell, looking};
 ghost use Rattle.c_handles.specs.values.Texts.{flag_of, is_set, none_or_number, number_or_none};
-ghost use Rattle.c_calls.specs.KeeperCalls.{Begins, Turns};
+ghost use Rattle.c_calls.specs.KeeperCalls.{Begins, Turns, WaitsEnd, WaitsStayBegun};
 
 use c_handles::values::wait::{BEGUN, CWait, none_or_number, number_or_none, seen_in, seen_out};
 use c_handles::{CpuBody, KeeperBody};
@@ -44,6 +44,7 @@ fn write_retired(keeper: &Keeper, retired: &mut [u64; MOST_SLOTS])
 
 /// Takes a snapshot of each CPU, in one hold of the keeper: it hears first what the CPU knows, and at the end the CPU hears what it did. So
 /// does `begin` of `name_registry`, which returns its rows.
+#[tactic(auto, using(name_registry::proofs::Passed::made_hold))]
 fn take_snapshots(
     words: &Words,
     keeper: &mut Keeper,
@@ -105,6 +106,7 @@ fn show_cpu(words: &Words, keeper: &mut Keeper, cpu: &mut PlainCpu)
 /// One turn of a wait. Returns the lowest-numbered CPU that wasn't seen out of its section, if any. The keeper and the CPU tell each other
 /// what they know, as in the beginning, and once more as what was retired passes.
 /// Condition: both are of one registry.
+#[tactic(auto, using(crate::proofs::Turned::finishes_passed, crate::proofs::Turned::finishes_waiting, crate::proofs::Turned::turns_by))]
 pub fn turn_body(body: &mut KeeperBody, cpu: &mut CpuBody, wait: &mut CWait) -> Option<u8>
     requires same { cpu.old.words ≡ body.old.words }
     ensures { Turns body.old cpu.old body.new cpu.new result wait.old wait.new }
@@ -157,3 +159,23 @@ fn pass_entries(words: &Words, keeper: &mut Keeper, retired: &[u64; MOST_SLOTS])
         }
     }
 }
+
+/// Theorem, no effect at run time: what a wait from C means, whatever happens to the registry meanwhile.
+///
+/// Hypotheses:
+///
+/// - `registry_perform_begin` began the wait, and turns of `registry_perform_turn` got it exactly as the call before had left it;
+/// - each turn got a CPU that knows all that the CPU of the call before knew;
+/// - the last turn returned `REGISTRY_DONE`.
+///
+/// Conclusions, in what that turn's CPU knows:
+///
+/// 1. each section that was open as `registry_perform_begin` was called has ended;
+/// 2. each entry that had been detached by then has passed on each CPU, unless its slot was reused.
+///
+/// That is the Ok of `Registry::perform`. A wait that was begun stays so: no turn of it is refused for that.
+#[tactic(auto, using(crate::proofs::Waits::waits_end, crate::proofs::Waits::waits_stay_begun))]
+pub fn waits_law()
+    ensures ended { WaitsEnd }
+    ensures begun { WaitsStayBegun }
+{}

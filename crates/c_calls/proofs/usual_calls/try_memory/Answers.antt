@@ -4,7 +4,7 @@ use Rattle.c_calls.specs.Types.{Name, Seen}
 use Rattle.cpu_words.specs.Common.{key_with}
 use Rattle.passive_list.specs.Common.{OnPlainCpu}
 use Rattle.c_handles.specs.values.Texts.{name_in}
-use Rattle.passive_ref.specs.Psrefs.{OnPsref, HasGotByMemory}
+use Rattle.passive_ref.specs.{OnPsref, HasGotByMemory}
 use Rattle.c_calls.proofs.usual_calls.try_memory.Goals as goal
 
 pub returns-in_default-clause-call : goal.returns-in_default-clause-call
