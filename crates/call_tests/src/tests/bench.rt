@@ -2,17 +2,23 @@
 
 ghost use Rattle.name_registry.specs.Common.{IsBlankOf};
 
-use super::answers::{Answer, done, entry};
+use super::answers::{Answer, Wanted, done, entry, record};
 use super::readers::{Held, Reader, by_reader};
-use super::records::{Wanted, record};
+use super::registry_rows::walked_and_changed;
+use super::remembered::{beside_by_memory, follow, full_by_memory};
+use super::sizes::{counted, destroyed_meanwhile};
+use super::turns::{Row, together};
+use super::walks::{beside, full};
 use cpu_words::Domain;
 use name_registry::{Blank, Registry};
 use passive_list::Cpu;
 use registry_values::{Refusal, Settings, USUAL_SECTIONS};
 use std::alloc::Global;
+use std::marker::Brand;
 use std::process::Abort;
 use std::sync::Wait;
 use std::test::Fail;
+use std::thread::Threads;
 
 /// The words of a registry of three CPUs with so many slots and room for so many changes, before it is named.
 pub(crate) fn blank(alloc: Global, slots: u8, change_limit: u64) -> Result<Blank, Refusal> {
@@ -25,6 +31,53 @@ pub(crate) fn blank(alloc: Global, slots: u8, change_limit: u64) -> Result<Blank
         count_limit: 100,
     };
     Blank::new(alloc, settings)
+}
+
+/// A test on a registry of its own.
+#[derive(Clone, Copy)]
+pub(crate) enum Test<'a> {
+    WalkedAndChanged,
+    Full,
+    Beside,
+    Follow(&'a [(Step, Answer)]),
+    FullByMemory,
+    BesideByMemory(Reader),
+    Counted,
+    DestroyedMeanwhile,
+    Together(&'a Row),
+}
+
+/// Runs the test on the registry that is made of the blank.
+pub(crate) fn on_bench<R: Threads + Wait + Abort + Sync>(
+    rt: &R,
+    alloc: Global,
+    blank: Blank,
+    test: Test,
+) -> Result<(), Fail> {
+    on_named::<Brand, R>(rt, alloc, blank, test)
+}
+
+/// The same, where D names the registry.
+fn on_named<D: Domain + Send + Sync, R: Threads + Wait + Abort + Sync>(
+    rt: &R,
+    alloc: Global,
+    blank: Blank,
+    test: Test,
+) -> Result<(), Fail>
+    requires { IsBlankOf blank D.table D.settings D.name D.parts }
+{
+    let bench = Bench::<D>::open(alloc, blank)?;
+    match test {
+        Test::WalkedAndChanged => walked_and_changed(rt, alloc, bench),
+        Test::Full => full(rt, bench),
+        Test::Beside => beside(rt, bench),
+        Test::Follow(steps) => follow(rt, bench, steps),
+        Test::FullByMemory => full_by_memory(rt, bench),
+        Test::BesideByMemory(call) => beside_by_memory(rt, bench, call),
+        Test::Counted => counted(rt, alloc, bench),
+        Test::DestroyedMeanwhile => destroyed_meanwhile(rt, bench),
+        Test::Together(row) => together(rt, bench, row),
+    }
 }
 
 /// What the CPU with this number does: it calls the registry, or steps on the words.

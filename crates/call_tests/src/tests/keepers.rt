@@ -6,8 +6,7 @@ ghost use Rattle.registry_values.specs.Common.{is_key, key_of_record, is_taken};
 ghost use Rattle.cpu_words.specs.Common.{AreWordsOf};
 ghost use Rattle.name_registry.specs.Common.{is_live_row};
 
-use super::answers::{Answer, at};
-use super::records::{Wanted, record};
+use super::answers::{Answer, Wanted, at, record};
 use cpu_words::Words;
 use passive_list::{Keeper, KeptSlot, SlotState, look, publish, retire};
 use passive_ref::look_passive;

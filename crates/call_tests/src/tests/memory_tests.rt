@@ -6,13 +6,12 @@
 ghost use Rattle.name_registry.specs.Common.{IsBlankOf};
 
 use super::answers::Answer::{self, At, Done};
-use super::answers::{Line, line_of};
+use super::answers::{Line, VGA, WM, line_of};
 use super::bench::Call::{Attach, Uncount};
 use super::bench::Step::{self, By, Reads};
 use super::bench::{Bench, blank};
 use super::readers::Held;
 use super::readers::Reader::{Count, Enter, Exit, Find};
-use super::records::{VGA, WM};
 use cpu_words::Domain;
 use name_registry::Blank;
 use registry_values::{Balance, Refusal};

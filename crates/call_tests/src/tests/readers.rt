@@ -2,8 +2,7 @@
 
 ghost use Rattle.cpu_words.specs.Common.{AreWordsOf};
 
-use super::answers::{Answer, at, done};
-use super::records::{WM, Wanted, record};
+use super::answers::{Answer, WM, Wanted, at, done, record};
 use cpu_words::{Domain, Words};
 use local_count::{LocalRef, acquire_local};
 use passive_list::{

@@ -3,14 +3,14 @@
 ghost use Rattle.name_registry.specs.Common.{IsBlankOf};
 
 use super::answers::Answer::{self, At, Done, Is, Names, Refused};
+use super::answers::{DRIVER_WM1, VGA, WM, record};
 use super::bench::Call::{Attach, Detach};
 use super::bench::Step::{self, By, Reads};
-use super::bench::{Bench, blank};
+use super::bench::{Bench, Test, blank, on_bench};
 use super::readers::Held;
 use super::readers::Reader::{
     Acquire, Copy, Enter, Exit, Find, Holds, Read, Reference, Release, Walk,
 };
-use super::records::{DRIVER_WM1, VGA, WM, record};
 use cpu_words::Domain;
 use name_registry::{Blank, Registry};
 use passive_list::Cpu;
@@ -50,18 +50,16 @@ const CHANGES: u64 = 204_000;
 
 #[test]
 fn registry_rows(rt: HostRuntime) -> Result<(), Fail> {
-    walked_and_changed::<Brand, _>(&rt, rt.alloc(), blank(rt.alloc(), 4, CHANGES)?)
+    let blank = blank(rt.alloc(), 4, CHANGES)?;
+    on_bench(&rt, rt.alloc(), blank, Test::WalkedAndChanged)
 }
 
 /// An audit that is given CPU 0 alone; the walks; and changes until the history is full.
-fn walked_and_changed<D: Domain, R: Wait + Abort>(
+pub(crate) fn walked_and_changed<D: Domain, R: Wait + Abort>(
     rt: &R,
     alloc: Global,
-    blank: Blank,
-) -> Result<(), Fail>
-    requires { IsBlankOf blank D.table D.settings D.name D.parts }
-{
-    let mut bench = Bench::<D>::open(alloc, blank)?;
+    mut bench: Bench<D>,
+) -> Result<(), Fail> {
     assert!(rt; 1 <= bench.cpus.len());
     let missing = bench.registry.audit(rt, alloc, &mut bench.cpus[..1]);
     assert!(rt; matches!(missing, Err(Refusal::MissingCpu)));

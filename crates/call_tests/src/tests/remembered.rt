@@ -1,24 +1,22 @@
 //! Lookups and gets by memory: worked rows, thirty-two entries, and an entry that comes and goes meanwhile.
 
 ghost use Rattle.cpu_words.specs.Common.{AreWordsOf};
-ghost use Rattle.name_registry.specs.Common.{IsBlankOf};
 
 use super::answers::Answer::{self, At, Done, Is, Names, Nothing, Number, Refused};
+use super::answers::{DRIVER_WM0, VGA, WM, WM0, Wanted, record};
 use super::bench::Call::{self, Attach, Destroy, Detach};
 use super::bench::Step::{self, By, Reads};
-use super::bench::{Bench, blank};
+use super::bench::{Bench, Test, blank, on_bench};
 use super::readers::Reader::{
     Acquire, Ended, Enter, Exit, Find, FindInside, Get, LookUp, Read, Recall, Reference, Release,
 };
 use super::readers::{Held, Reader, by_reader, looked_up};
-use super::records::{DRIVER_WM0, VGA, WM, WM0, Wanted, record};
 use super::walks::{change_until, filled, nth};
 use cpu_words::{Domain, Words};
-use name_registry::{Blank, Registry};
+use name_registry::Registry;
 use passive_list::Cpu;
 use registry_values::{Kind, Refusal, USUAL_CHANGES};
 use std::alloc::Global;
-use std::marker::Brand;
 use std::process::Abort;
 use std::sync::Wait;
 use std::sync::atomic::{AtomicBool, Ordering};
@@ -199,32 +197,39 @@ fn rows_by_memory(rt: HostRuntime) -> Result<(), Fail> {
 }
 
 /// Runs the row on a registry of its own.
-fn run<R: Wait + Abort>(rt: &R, alloc: Global, steps: &[(Step, Answer)]) -> Result<(), Fail> {
-    follow::<Brand, _>(rt, alloc, blank(alloc, 4, 1000)?, steps)
-}
-
-fn follow<D: Domain, R: Wait + Abort>(
+fn run<R: Threads + Wait + Abort + Sync>(
     rt: &R,
     alloc: Global,
-    blank: Blank,
     steps: &[(Step, Answer)],
-) -> Result<(), Fail>
-    requires { IsBlankOf blank D.table D.settings D.name D.parts }
-{
-    Bench::<D>::open(alloc, blank)?.run(rt, "lookups by memory", steps);
+) -> Result<(), Fail> {
+    on_bench(rt, alloc, blank(alloc, 4, 1000)?, Test::Follow(steps))
+}
+
+pub(crate) fn follow<D: Domain, R: Wait + Abort>(
+    rt: &R,
+    mut bench: Bench<D>,
+    steps: &[(Step, Answer)],
+) -> Result<(), Fail> {
+    bench.run(rt, "lookups by memory", steps);
     Ok(())
 }
 
 #[test]
 fn thirty_two_entries(rt: HostRuntime) -> Result<(), Fail> {
-    full::<Brand, _>(&rt, rt.alloc(), blank(rt.alloc(), SLOTS, 1000)?)
+    on_bench(
+        &rt,
+        rt.alloc(),
+        blank(rt.alloc(), SLOTS, 1000)?,
+        Test::FullByMemory,
+    )
 }
 
 /// Each of thirty-two entries is found in a section once, and is remembered then beside all others.
-fn full<D: Domain, R: Wait + Abort>(rt: &R, alloc: Global, blank: Blank) -> Result<(), Fail>
-    requires { IsBlankOf blank D.table D.settings D.name D.parts }
-{
-    let (registry, mut cpu) = filled::<D, _>(rt, alloc, blank)?;
+pub(crate) fn full_by_memory<D: Domain, R: Wait + Abort>(
+    rt: &R,
+    bench: Bench<D>,
+) -> Result<(), Fail> {
+    let (registry, mut cpu) = filled(rt, bench)?;
     look_each_up(rt, registry.words(), &mut cpu);
     look_each_up(rt, registry.words(), &mut cpu);
     Ok(())
@@ -255,20 +260,17 @@ fn meanwhile<R: Threads + Wait + Abort + Sync>(
     alloc: Global,
     call: Reader,
 ) -> Result<(), Fail> {
-    beside::<Brand, _>(rt, alloc, blank(alloc, SLOTS, USUAL_CHANGES)?, call)
+    let blank = blank(alloc, SLOTS, USUAL_CHANGES)?;
+    on_bench(rt, alloc, blank, Test::BesideByMemory(call))
 }
 
 /// The driver wm stays. The other thread attaches the driver vga and takes it out again, until this one has met it without a section, and has missed it
 /// since.
-fn beside<D: Domain + Send, R: Threads + Wait + Abort + Sync>(
+pub(crate) fn beside_by_memory<D: Domain + Send, R: Threads + Wait + Abort + Sync>(
     rt: &R,
-    alloc: Global,
-    blank: Blank,
+    mut bench: Bench<D>,
     call: Reader,
-) -> Result<(), Fail>
-    requires { IsBlankOf blank D.table D.settings D.name D.parts }
-{
-    let mut bench = Bench::<D>::open(alloc, blank)?;
+) -> Result<(), Fail> {
     let stays = [
         (By(0, Attach(WM)), At(1, 0)),
         (Reads(0, LookUp(WM)), At(1, 0)),

@@ -1,24 +1,21 @@
 //! Sizes that no row has: references by the ten thousand, and very many turns of a wait.
 
 ghost use Rattle.cpu_words.specs.Common.{AreWordsOf};
-ghost use Rattle.name_registry.specs.Common.{IsBlankOf};
 ghost use Rattle.std.specs.Thread.{IsSync};
 
 use super::answers::Answer::{self, At, Come, Done, Number, Refused};
-use super::answers::{Line, come, line_of};
+use super::answers::{Line, WM, come, line_of};
 use super::bench::Call::{Attach, Destroy, Detach, Uncount};
 use super::bench::Step::{self, By, Reads};
-use super::bench::{Bench, by_cpu};
+use super::bench::{Bench, Test, by_cpu, on_bench};
 use super::readers::Reader::{Acquire, Count, Enter, Exit, Find, Forget};
 use super::readers::{Held, by_reader};
-use super::records::WM;
 use cpu_words::{Domain, Words};
 use name_registry::{Blank, Registry};
 use passive_list::Cpu;
 use passive_ref::{Psref, release};
 use registry_values::{Refusal, Settings, Stage};
 use std::alloc::Global;
-use std::marker::Brand;
 use std::process::Abort;
 use std::sync::Wait;
 use std::sync::atomic::{AtomicBool, Ordering};
@@ -73,14 +70,15 @@ const OUTSIDE: &[(Step, Answer)] = &[(Reads(2, Exit), Done)];
 
 #[test]
 fn many_references(rt: HostRuntime) -> Result<(), Fail> {
-    counted::<Brand, _>(&rt, rt.alloc(), largest(rt.alloc())?)
+    on_bench(&rt, rt.alloc(), largest(rt.alloc())?, Test::Counted)
 }
 
 /// Local references by the ten thousand, as many passive ones, which stay held, and then some hundred local ones at once.
-fn counted<D: Domain, R: Wait + Abort>(rt: &R, alloc: Global, blank: Blank) -> Result<(), Fail>
-    requires { IsBlankOf blank D.table D.settings D.name D.parts }
-{
-    let mut bench = Bench::<D>::open(alloc, blank)?;
+pub(crate) fn counted<D: Domain, R: Wait + Abort>(
+    rt: &R,
+    alloc: Global,
+    mut bench: Bench<D>,
+) -> Result<(), Fail> {
     bench.run(rt, "found", FOUND);
     for _ in 0..IN_SUM {
         bench.run(rt, "passed on", PASSED_ON);
@@ -184,25 +182,19 @@ fn is_released<D: Domain>(words: &Words, cpu: &mut Cpu<D>) -> bool
 
 #[test]
 fn a_wait_goes_on(rt: HostRuntime) -> Result<(), Fail> {
-    go_on(&rt, rt.alloc())
-}
-
-/// On a registry of its own: what the destroy answers.
-fn go_on<R: Threads + Wait + Abort + Sync>(rt: &R, alloc: Global) -> Result<(), Fail> {
-    let answer = destroyed_meanwhile::<Brand, _>(rt, alloc, largest(alloc)?)?;
-    assert!(rt; answer == Number(0));
-    Ok(())
+    on_bench(
+        &rt,
+        rt.alloc(),
+        largest(rt.alloc())?,
+        Test::DestroyedMeanwhile,
+    )
 }
 
 /// CPU 0 waits for a reference without an end, while another thread takes the lock very often, and only then releases it.
-fn destroyed_meanwhile<D: Domain + Send + Sync, R: Threads + Wait + Abort + Sync>(
+pub(crate) fn destroyed_meanwhile<D: Domain + Send + Sync, R: Threads + Wait + Abort + Sync>(
     rt: &R,
-    alloc: Global,
-    blank: Blank,
-) -> Result<Answer, Fail>
-    requires { IsBlankOf blank D.table D.settings D.name D.parts }
-{
-    let mut bench = Bench::<D>::open(alloc, blank)?;
+    mut bench: Bench<D>,
+) -> Result<(), Fail> {
     bench.run(rt, "a driver", &[(By(0, Attach(WM)), At(1, 0))]);
     let (registry, first, second, _third) = bench.apart()?;
     let registry = &registry;
@@ -216,7 +208,8 @@ fn destroyed_meanwhile<D: Domain + Send + Sync, R: Threads + Wait + Abort + Sync
             requires { IsSync R.row }
         { count_and_release(rt, registry, second, counted) },
     );
-    Ok(answer)
+    assert!(rt; answer == Number(0));
+    Ok(())
 }
 
 /// Once the flag is set, the CPU detaches the driver, and destroys it in as many turns as it takes.

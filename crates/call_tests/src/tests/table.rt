@@ -8,22 +8,26 @@ ghost use Rattle.registry_values.specs.declared.limits.TheConstants.{MOST_CPUS};
 use super::answers::Answer;
 use super::keepers::{Writer, by_keeper};
 use super::readers::{Held, Reader, by_reader};
+use super::threads::{one_lookup, one_reference, told_twice};
+use super::word_rows::{Row, follow};
 use cpu_words::{CpuSeat, Domain, KeeperSeat, Words};
 use passive_list::{Cpu, CpuRows, Keeper, KeeperRows};
 use registry_values::{MOST_CPUS, Settings};
 use std::alloc::Global;
+use std::marker::Brand;
 use std::process::Abort;
 use std::sync::ledger;
 use std::test::Fail;
+use std::thread::Threads;
 
 /// A new table, before it is named.
 #[derive(Drop)]
-pub(crate) struct Table {
-    pub(crate) words: Words,
-    pub(crate) keeper: KeeperSeat,
-    pub(crate) first: CpuSeat,
-    pub(crate) second: CpuSeat,
-    pub(crate) changes: ledger::Blank,
+struct Table {
+    words: Words,
+    keeper: KeeperSeat,
+    first: CpuSeat,
+    second: CpuSeat,
+    changes: ledger::Blank,
     ghost fit: { IsTrue (are_fit words.settings) },
     ghost sizes: { (words.settings.cpus ≡ 2) × (words.settings.slots ≡ 2) },
     ghost with_keeper: { (keeper.table ≡ words.table) × (keeper.view ≡ keeper_with words.settings words.settings.cpus) },
@@ -33,7 +37,7 @@ pub(crate) struct Table {
 }
 
 /// A table in which each CPU may begin so many sections, and have two passive references and one local reference to an entry.
-pub(crate) fn opened(alloc: Global, section_limit: u64) -> Result<Table, Fail> {
+fn opened(alloc: Global, section_limit: u64) -> Result<Table, Fail> {
     let settings = Settings {
         cpus: 2,
         slots: 2,
@@ -66,8 +70,46 @@ pub(crate) struct Seats<D: Domain> {
     ghost kept: { AreWordsOf keeper.words D.table D.settings },
 }
 
+/// A test on a table of its own.
+#[derive(Clone, Copy)]
+pub(crate) enum Test<'a> {
+    OneLookup,
+    ToldTwice,
+    OneReference,
+    Follow(&'a Row),
+}
+
+/// Runs the test on a table in which each CPU may begin so many sections.
+pub(crate) fn on_table<R: Threads + Abort + Sync>(
+    rt: &R,
+    alloc: Global,
+    section_limit: u64,
+    test: Test,
+) -> Result<(), Fail> {
+    on_named::<Brand, R>(rt, alloc, opened(alloc, section_limit)?, test)
+}
+
+/// The same, where D names the table.
+fn on_named<D: Domain + Send, R: Threads + Abort + Sync>(
+    rt: &R,
+    alloc: Global,
+    table: Table,
+    test: Test,
+) -> Result<(), Fail>
+    requires words { AreWordsOf table.words D.table D.settings }
+    requires ledger { (table.changes.name ≡ D.name) × (D.parts ≡ MOST_CPUS) }
+{
+    let seats = Seats::<D>::of(alloc, table)?;
+    match test {
+        Test::OneLookup => one_lookup(rt, seats),
+        Test::ToldTwice => told_twice(rt, seats),
+        Test::OneReference => one_reference(rt, seats),
+        Test::Follow(row) => follow(rt, seats, row),
+    }
+}
+
 impl<D: Domain> Seats<D> {
-    pub(crate) fn of(alloc: Global, table: Table) -> Result<Seats<D>, Fail>
+    fn of(alloc: Global, table: Table) -> Result<Seats<D>, Fail>
         requires words { AreWordsOf table.words D.table D.settings }
         requires ledger { (table.changes.name ≡ D.name) × (D.parts ≡ MOST_CPUS) }
     {

@@ -5,15 +5,15 @@ ghost use Rattle.registry_values.specs.Common.{is_key};
 ghost use Rattle.registry_values.specs.declared.limits.TheConstants.{MOST_CPUS};
 ghost use Rattle.cpu_words.specs.Common.{AreWordsOf};
 
+use super::answers::{WM, record};
 use super::keepers::{looked, passive_look, published, retired};
-use super::records::{WM, record};
-use super::table::{Seats, Table, opened};
+use super::table::{Seats, Test, on_table};
 use cpu_words::{Domain, Words};
 use local_count::{LocalRef, acquire_local, collect, collected, total, try_release};
 use passive_list::{Cpu, Keeper, Note, SlotState, enter, exit, find, hear, tell, tell_keeper};
 use registry_values::{Kind, Name, Record, Refusal, USUAL_SECTIONS};
 use std::alloc::Global;
-use std::marker::{Brand, PhantomData};
+use std::marker::PhantomData;
 use std::process::Abort;
 use std::sync::atomic::{AtomicBool, Ordering};
 use std::test::*;
@@ -34,23 +34,19 @@ fn number_found<D: Domain>(words: &Words, cpu: &mut Cpu<D>, name: &Name) -> Opti
 
 #[test]
 fn a_lookup_finds_what_another_thread_publishes(rt: HostRuntime) -> Result<(), Fail> {
-    one_lookup::<Brand, _>(&rt, rt.alloc(), opened(rt.alloc(), USUAL_SECTIONS)?)
+    on_table(&rt, rt.alloc(), USUAL_SECTIONS, Test::OneLookup)
 }
 
-fn one_lookup<D: Domain + Send, R: Threads + Abort + Sync>(
+pub(crate) fn one_lookup<D: Domain + Send, R: Threads + Abort + Sync>(
     rt: &R,
-    alloc: Global,
-    table: Table,
-) -> Result<(), Fail>
-    requires words { AreWordsOf table.words D.table D.settings }
-    requires ledger { (table.changes.name ≡ D.name) × (D.parts ≡ MOST_CPUS) }
-{
+    seats: Seats<D>,
+) -> Result<(), Fail> {
     let Seats {
         words,
         keeper,
         first,
         ..
-    } = Seats::<D>::of(alloc, table)?;
+    } = seats;
     let driver = record(rt, WM);
     let (words, missed) = (&words, &AtomicBool::new(false));
     let (found, published) = join(
@@ -133,24 +129,20 @@ fn was_set(flag: &AtomicBool) -> bool {
 
 #[test]
 fn a_note_tells_another_thread_what_was_published(rt: HostRuntime) -> Result<(), Fail> {
-    told_twice::<Brand, _>(&rt, rt.alloc(), opened(rt.alloc(), USUAL_SECTIONS)?)
+    on_table(&rt, rt.alloc(), USUAL_SECTIONS, Test::ToldTwice)
 }
 
 /// Both sections begin before the driver is published. One CPU hears of it from the keeper, the other from that CPU.
-fn told_twice<D: Domain + Send, R: Threads + Abort + Sync>(
+pub(crate) fn told_twice<D: Domain + Send, R: Threads + Abort + Sync>(
     rt: &R,
-    alloc: Global,
-    table: Table,
-) -> Result<(), Fail>
-    requires words { AreWordsOf table.words D.table D.settings }
-    requires ledger { (table.changes.name ≡ D.name) × (D.parts ≡ MOST_CPUS) }
-{
+    seats: Seats<D>,
+) -> Result<(), Fail> {
     let Seats {
         words,
         keeper,
         mut first,
         mut second,
-    } = Seats::<D>::of(alloc, table)?;
+    } = seats;
     let driver = record(rt, WM);
     let words = &words;
     enter_both(words, &mut first, &mut second)?;
@@ -224,24 +216,20 @@ fn find_once_told<D: Domain>(
 
 #[test]
 fn a_reference_is_released_on_another_thread(rt: HostRuntime) -> Result<(), Fail> {
-    one_reference::<Brand, _>(&rt, rt.alloc(), opened(rt.alloc(), 1)?)
+    on_table(&rt, rt.alloc(), 1, Test::OneReference)
 }
 
 /// CPU 0 acquires the reference, and another thread reads and releases it on CPU 1. Then nobody holds the entry.
-fn one_reference<D: Domain + Send, R: Threads + Abort + Sync>(
+pub(crate) fn one_reference<D: Domain + Send, R: Threads + Abort + Sync>(
     rt: &R,
-    alloc: Global,
-    table: Table,
-) -> Result<(), Fail>
-    requires words { AreWordsOf table.words D.table D.settings }
-    requires ledger { (table.changes.name ≡ D.name) × (D.parts ≡ MOST_CPUS) }
-{
+    seats: Seats<D>,
+) -> Result<(), Fail> {
     let Seats {
         words,
         mut keeper,
         mut first,
         second,
-    } = Seats::<D>::of(alloc, table)?;
+    } = seats;
     let driver = record(rt, WM);
     let words = &words;
     published(rt, words, &mut keeper, driver);

@@ -1,22 +1,19 @@
 //! Calls in several turns, or made again and again, while another thread leaves its section and begins another one in the middle of them.
 
-ghost use Rattle.name_registry.specs.Common.{IsBlankOf};
 ghost use Rattle.std.specs.Thread.{IsSync};
 
 use super::answers::Answer::{self, At, Come, Done, Nothing, Number, Refused};
-use super::answers::come;
+use super::answers::{DRIVER_WM1, VGA, WM, come};
 use super::bench::Call::{self, Attach, Destroy, Detach, Perform};
 use super::bench::Step::{self, By, Reads};
-use super::bench::{Bench, blank, by_cpu};
+use super::bench::{Bench, Test, blank, by_cpu, on_bench};
 use super::readers::Held;
 use super::readers::Reader::Enter;
-use super::records::{DRIVER_WM1, VGA, WM};
 use cpu_words::Domain;
-use name_registry::{Blank, Registry};
+use name_registry::Registry;
 use passive_list::{Cpu, enter, exit};
 use registry_values::{Refusal, Stage};
 use std::alloc::Global;
-use std::marker::Brand;
 use std::process::Abort;
 use std::sync::Wait;
 use std::sync::atomic::{AtomicBool, Ordering};
@@ -58,7 +55,7 @@ enum Other {
 }
 
 /// What two threads do with a registry of their own.
-struct Row {
+pub(crate) struct Row {
     name: &'static str,
     slots: u8,
     /// What comes before.
@@ -164,19 +161,16 @@ fn run_rows<R: Threads + Wait + Abort + Sync>(
 
 /// Runs the row on a registry of its own.
 fn run<R: Threads + Wait + Abort + Sync>(rt: &R, alloc: Global, row: &Row) -> Result<(), Fail> {
-    together::<Brand, _>(rt, alloc, blank(alloc, row.slots, 1000)?, row)
+    let blank = blank(alloc, row.slots, 1000)?;
+    on_bench(rt, alloc, blank, Test::Together(row))
 }
 
 /// CPU 0 and the other thread do what the row says at the same time.
-fn together<D: Domain + Send + Sync, R: Threads + Wait + Abort + Sync>(
+pub(crate) fn together<D: Domain + Send + Sync, R: Threads + Wait + Abort + Sync>(
     rt: &R,
-    alloc: Global,
-    blank: Blank,
+    mut bench: Bench<D>,
     row: &Row,
-) -> Result<(), Fail>
-    requires { IsBlankOf blank D.table D.settings D.name D.parts }
-{
-    let mut bench = Bench::<D>::open(alloc, blank)?;
+) -> Result<(), Fail> {
     bench.run(rt, row.name, row.steps);
     let (registry, cpu, second, third) = bench.apart()?;
     let (registry, first, other) = (&registry, row.first, row.other);

@@ -3,20 +3,17 @@
 ghost use Rattle.std.specs.Prelude.{IsTrue};
 ghost use Rattle.registry_values.specs.Common.{is_key};
 ghost use Rattle.cpu_words.specs.Common.{AreWordsOf};
-ghost use Rattle.name_registry.specs.Common.{IsBlankOf};
 
 use super::answers::Answer::At;
+use super::answers::{VGA, WM, record};
 use super::bench::Call::Attach;
 use super::bench::Step::By;
-use super::bench::{Bench, blank};
+use super::bench::{Bench, Test, blank, on_bench};
 use super::readers::walked;
-use super::records::{VGA, WM, record};
 use cpu_words::{Domain, Words};
-use name_registry::{Blank, Registry};
+use name_registry::Registry;
 use passive_list::{Cpu, enter, exit};
 use registry_values::{Entry, Kind, Name, Record, USUAL_CHANGES, USUAL_SLOTS};
-use std::alloc::Global;
-use std::marker::Brand;
 use std::process::Abort;
 use std::sync::Wait;
 use std::sync::atomic::{AtomicBool, Ordering};
@@ -44,13 +41,11 @@ pub(crate) fn nth<R: Abort>(rt: &R, n: u8) -> Record
 
 #[test]
 fn thirty_two_slots(rt: HostRuntime) -> Result<(), Fail> {
-    full::<Brand, _>(&rt, rt.alloc(), blank(rt.alloc(), SLOTS, 1000)?)
+    on_bench(&rt, rt.alloc(), blank(rt.alloc(), SLOTS, 1000)?, Test::Full)
 }
 
-fn full<D: Domain, R: Wait + Abort>(rt: &R, alloc: Global, blank: Blank) -> Result<(), Fail>
-    requires { IsBlankOf blank D.table D.settings D.name D.parts }
-{
-    let (registry, mut cpu) = filled::<D, _>(rt, alloc, blank)?;
+pub(crate) fn full<D: Domain, R: Wait + Abort>(rt: &R, bench: Bench<D>) -> Result<(), Fail> {
+    let (registry, mut cpu) = filled(rt, bench)?;
     let (count, row) = walked_inside(rt, registry.words(), &mut cpu);
     assert_eq!(rt; count, USUAL_SLOTS);
     for (entry, n) in row.iter().zip((0..SLOTS).rev()) {
@@ -62,12 +57,9 @@ fn full<D: Domain, R: Wait + Abort>(rt: &R, alloc: Global, blank: Blank) -> Resu
 /// A registry with thirty-two drivers, which CPU 1 has attached, and CPU 0.
 pub(crate) fn filled<D: Domain, R: Wait + Abort>(
     rt: &R,
-    alloc: Global,
-    blank: Blank,
-) -> Result<(Registry<D>, Cpu<D>), Fail>
-    requires { IsBlankOf blank D.table D.settings D.name D.parts }
-{
-    let (registry, first, mut second, _third) = Bench::<D>::open(alloc, blank)?.apart()?;
+    bench: Bench<D>,
+) -> Result<(Registry<D>, Cpu<D>), Fail> {
+    let (registry, first, mut second, _third) = bench.apart()?;
     fill(rt, &registry, &mut second)?;
     Ok((registry, first))
 }
@@ -102,18 +94,15 @@ fn walked_inside<D: Domain, R: Abort>(
 
 #[test]
 fn another_thread_attaches_and_detaches(rt: HostRuntime) -> Result<(), Fail> {
-    beside::<Brand, _>(&rt, rt.alloc(), blank(rt.alloc(), SLOTS, USUAL_CHANGES)?)
+    let blank = blank(rt.alloc(), SLOTS, USUAL_CHANGES)?;
+    on_bench(&rt, rt.alloc(), blank, Test::Beside)
 }
 
 /// The driver wm stays. The other thread attaches the driver vga and takes it out again, until this one has met it and has missed it since.
-fn beside<D: Domain + Send, R: Threads + Wait + Abort + Sync>(
+pub(crate) fn beside<D: Domain + Send, R: Threads + Wait + Abort + Sync>(
     rt: &R,
-    alloc: Global,
-    blank: Blank,
-) -> Result<(), Fail>
-    requires { IsBlankOf blank D.table D.settings D.name D.parts }
-{
-    let mut bench = Bench::<D>::open(alloc, blank)?;
+    mut bench: Bench<D>,
+) -> Result<(), Fail> {
     bench.run(rt, "a driver that stays", &[(By(0, Attach(WM)), At(1, 0))]);
     let (registry, first, second, _third) = bench.apart()?;
     let registry = &registry;

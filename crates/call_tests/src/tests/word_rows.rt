@@ -1,27 +1,23 @@
-//! Rows of calls on the bare words, each on a table of its own: sections and passive references, up to what the looks answer.
-
-ghost use Rattle.std.specs.Prelude.{◌≡◌};
-ghost use Rattle.registry_values.specs.declared.limits.TheConstants.{MOST_CPUS};
-ghost use Rattle.cpu_words.specs.Common.{AreWordsOf};
+//! Calls on the bare words: a new table's seats; and rows, each on a table of its own, of sections and passive references, up to what the looks answer.
 
 use super::answers::Answer::{self, At, Done, Is, Looks, Names, Number, Refused};
+use super::answers::DRIVER_WM0;
 use super::keepers::Writer::{Look, LookPassive, Publish, Retire};
 use super::readers::Held;
 use super::readers::Reader::{
     Acquire, Copy, Ended, Enter, Exit, Find, Forget, Get, Holds, Read, Reference, Release,
 };
-use super::records::DRIVER_WM0;
 use super::table::Step::{self, First, Keeper, Second};
-use super::table::{Seats, Table, opened};
-use cpu_words::Domain;
-use registry_values::Refusal;
+use super::table::{Seats, Test, on_table};
+use cpu_words::{Domain, Words};
+use registry_values::{Refusal, Settings};
 use std::alloc::Global;
-use std::marker::Brand;
 use std::process::Abort;
 use std::test::*;
+use std::thread::Threads;
 
 /// Calls on a table of its own.
-struct Row {
+pub(crate) struct Row {
     name: &'static str,
     /// The calls, each with its answer.
     steps: &'static [(Step, Answer)],
@@ -169,17 +165,37 @@ fn word_rows(rt: HostRuntime) -> Result<(), Fail> {
 }
 
 /// Runs the row on a table of its own.
-fn run<R: Abort>(rt: &R, alloc: Global, row: &Row) -> Result<(), Fail> {
-    follow::<Brand, _>(rt, alloc, opened(alloc, 10)?, row)
+fn run<R: Threads + Abort + Sync>(rt: &R, alloc: Global, row: &Row) -> Result<(), Fail> {
+    on_table(rt, alloc, 10, Test::Follow(row))
 }
 
-fn follow<D: Domain, R: Abort>(rt: &R, alloc: Global, table: Table, row: &Row) -> Result<(), Fail>
-    requires words { AreWordsOf table.words D.table D.settings }
-    requires ledger { (table.changes.name ≡ D.name) × (D.parts ≡ MOST_CPUS) }
-{
-    let mut seats = Seats::<D>::of(alloc, table)?;
+pub(crate) fn follow<D: Domain, R: Abort>(
+    rt: &R,
+    mut seats: Seats<D>,
+    row: &Row,
+) -> Result<(), Fail> {
     let mut refs = Held::nothing();
     seats.follow(rt, &mut refs, row.name, row.steps);
     refs.end(rt);
+    Ok(())
+}
+
+const LEAST: Settings = Settings {
+    cpus: 1,
+    slots: 1,
+    change_limit: 1,
+    section_limit: 1,
+    passive_limit: 1,
+    count_limit: 1,
+};
+
+#[test]
+fn new_has_a_seat_for_each_cpu(rt: HostRuntime) -> Result<(), Fail> {
+    for cpus in [1, 3, 8] {
+        let (_, _, seats) = Words::new(rt.alloc(), Settings { cpus, ..LEAST })?;
+        assert_eq!(rt; seats.len(), usize::from(cpus));
+    }
+    let refused = Words::new(rt.alloc(), Settings { cpus: 0, ..LEAST }).err();
+    assert_eq!(rt; refused, Some(Refusal::BadSettings));
     Ok(())
 }
