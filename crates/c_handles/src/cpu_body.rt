@@ -5,7 +5,7 @@ ghost use Rattle.registry_values.specs.Common.{Answers};
 ghost use Rattle.cpu_words.specs.Common.{AreWordsOf, key_with, references_to};
 ghost use mathlib.Core.List.{IsPrefix};
 ghost use Rattle.passive_list.specs.Common.{FindsInside, FindsWhatStays, HasFoundAnew, HasFoundByMemory, HasHeardOn, HasRecalledByMemory, WasShown, has_heard, has_told, entry_seen, AnswersEnter, HasExitedOn, may_begin};
-ghost use Rattle.passive_ref.specs.Psrefs.{HasGotByMemory, GivesBack, HasOneLess, IsAcquired, IsCopied, IsReadAs, why_not_acquired, why_not_copied, why_unusable};
+ghost use Rattle.passive_ref.specs.{HasGotByMemory, GivesBack, HasOneLess, IsAcquired, IsCopied, IsReadAs, why_not_acquired, why_not_copied, why_unusable};
 
 use crate::acquired::LastAcquired;
 use crate::heap::Spare;

@@ -6,7 +6,7 @@ ghost use Rattle.cpu_words.specs.Called.{CpuHearsLater, EndsOpenSections, Keeper
 ghost use Rattle.cpu_words.specs.Waiting.{WaitingEnds, OrderedInTime};
 ghost use Rattle.cpu_words.specs.Fresh.{HeadsAreNewest, LookupsAreFresh, RecallsAreLive, RefindsAreLive, WholeInTheList};
 
-/// The main theorem, no effect at run time: what holds in every table under the rule (`LoggedRuled`); see GUARANTEES.md.
+/// The running headline, no effect at run time: what holds in every table under the rule (`LoggedRuled`); see GUARANTEES.md.
 ///
 /// - `run`: some list of events leads to what the words and views show, and obeys the protocol's laws.
 /// - `held`: an entry that anything holds has its slot.

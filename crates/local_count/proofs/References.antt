@@ -19,7 +19,7 @@ use Rattle.passive_list.specs.Common.{Memory, no_place, place_at, NetAgree, IsOu
 use Rattle.passive_list.specs.declared.place.Found.{Found}
 use Rattle.passive_list.specs.declared.place.NumberedCount.{NumberedCount}
 use Rattle.passive_list.proofs.Agreeing.{IsFoundAs, found_as, found_none}
-use Rattle.local_count.specs.References.{net_by, why_not_acquired_local}
+use Rattle.local_count.specs.{net_by, why_not_acquired_local}
 
 -- the place of a slot says a number's net count, where it is for that number
 pub place_here : (x : CpuView) (l : List NumberedCount) (t n : ℕ) → NetAgree x l → 0 < n → (place_at l t).number ≡ n → IsPlaceCount x t n (place_at l t).count

@@ -1,7 +1,7 @@
 //! Acquiring and releasing a local reference by a CPU's own count (localcount(9)).
 
 ghost use Rattle.std.specs.Prelude.{◌≡◌, ◌<◌, IfOk, IsTrue, IfErr};
-ghost use Rattle.local_count.specs.References.{net_by, AnswersAcquireLocal, why_not_acquired_local, HasReleased, HasComeBack};
+ghost use Rattle.local_count.specs.{net_by, AnswersAcquireLocal, why_not_acquired_local, HasReleased, HasComeBack};
 ghost use Rattle.registry_values.specs.Common.{are_fit};
 ghost use Rattle.cpu_words.specs.Common.{AreWordsOf};
 

@@ -21,7 +21,7 @@ use Rattle.cpu_words.specs.Common.{number_at}
 use Rattle.cpu_words.proofs.by_keeper.KeeperSteps.{seen_by_keeper}
 use Rattle.passive_list.specs.Common.{Memory, NetAgree, OnCpu, place_at, IsOurKeeper, OnKeeper, OnPlainKeeper, on_keeper, row_at, states_of, total_or_bias}
 use Rattle.passive_list.proofs.Rows.{live_in, retired_in, none_at_rest, total_near}
-use Rattle.local_count.specs.References.{net_by}
+use Rattle.local_count.specs.{net_by}
 use Rattle.local_count.proofs.References.{place_count}
 use Rattle.name_registry.specs.Common.{AreAllCpus, Listed, Occupies, each_at, each_below, is_collected, local_met, locals_met, net_met, net_of, place_of, places_below, tallies_met, tally_met}
 

@@ -1,9 +1,9 @@
 -- A reference that the keeper gave up, for a caller that hears of it.
 use Rattle.std.proofs.Common.{◌≡◌, ◌∙◌, ℕ, ◌+◌, ◌<◌, ◌≤◌, Bool, cond, inr, List, [], ◌∷◌, ◌++◌, eq-eqb, None, refl, sym, ap, subst, append-nil, append_assoc, arith}
 use mathlib.Core.List.{IsPrefix}
-use Rattle.name_registry.specs.Types.{Done, Entry, JoinKeeper, KeeperView, LogItem, ReferenceView, Tell, TotalSub}
+use Rattle.name_registry.specs.Types.{Done, Entry, JoinKeeper, LogItem, ReferenceView, Tell, TotalSub}
 use Rattle.cpu_words.specs.Common.{did, given_after, given_by, given_up, log_item}
-use Rattle.local_count.specs.References.{HasComeBack}
+use Rattle.local_count.specs.{HasComeBack}
 use Rattle.passive_list.specs.Common.{OnCpu, OnKeeper, HasGivenUp, HasHeardOn, cpu_after_tell, has_heard}
 use Rattle.name_registry.specs.Common.{HasGivenUpFor, HasLearned, IsLetGoAndHeard, KnowsGivenUp, gives_up, hears_cpu, keeper_after_hear, keeper_after_tell, tells_and_hears}
 use Rattle.name_registry.proofs.Noted.{by_meeting, heard_told, met, learned}
@@ -70,9 +70,6 @@ knows_given a x v b y has =
 
 pub learns_given : (a : OnKeeper) (x : OnCpu) (v : ReferenceView) (b : OnKeeper) (y : OnCpu) → HasGivenUpFor a x v b y → HasLearned x y
 learns_given a x v b y has = learned has.end.view.history x y has.hears (by_meeting x y has.cpu_log)
-
-pub given_same : (a : OnKeeper) (x : OnCpu) (v : ReferenceView) (b : OnKeeper) (y : OnCpu) → HasGivenUpFor a x v b y → b.view.history ≡ a.view.history
-given_same a x v b y has = ap (λ (k : OnKeeper). k.view.history) has.is ∙ ap (λ (k : KeeperView). k.history) has.given.view
 
 -- the reference came back, and then the keeper gave it up
 pub let_go_heard : (x m y : OnCpu) (v w : ReferenceView) → HasComeBack x v m w → HasLearned m y → y.made ≡ m.made → y.log ≡ m.log ++ tells_and_hears m → KnowsGivenUp w.entry m y

@@ -6,7 +6,7 @@ use Rattle.registry_values.specs.Common.{IsObstacle, is_available, is_live_as}
 use Rattle.protocol.specs.Common.{IsAttached, EndsAt}
 use Rattle.cpu_words.specs.Common.{has_heard_from, heard_from, keeper_with_note, did, log_item, given_up}
 use Rattle.passive_list.specs.Common.{OnCpu, OnPlainCpu, OnKeeper, OnPlainKeeper, GoesOnBy, as_teller, has_heard, has_told, HasGivenUp, HasHeardOn}
-use Rattle.local_count.specs.References.{HasReleased, HasComeBack}
+use Rattle.local_count.specs.{HasReleased, HasComeBack}
 
 -- A call that changes the registry: the keeper hears what the caller's CPU has seen, and then the CPU hears the whole history.
 

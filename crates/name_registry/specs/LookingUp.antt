@@ -2,7 +2,7 @@
 use Rattle.std.specs.Prelude.{◌≡◌, ◌≢◌, ◌⊎◌, Option, Some, None, Result, Ok, Err, IsTrue}
 use Rattle.name_registry.specs.Types.{Entry, Key, Refusal, NotFound}
 use Rattle.passive_list.specs.Common.{AnswersEnter, FindsWhatStays, HasExitedOn, HasFoundInside, HasFoundRemembered, OnCpu, may_begin}
-use Rattle.passive_ref.specs.Psrefs.{IsAcquired, OnPsref, why_not_acquired, HasGotRemembered}
+use Rattle.passive_ref.specs.{IsAcquired, OnPsref, why_not_acquired, HasGotRemembered}
 
 -- the result of a lookup that found so
 abbrev pub found_or : Option Entry → Result Entry Refusal

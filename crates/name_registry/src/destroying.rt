@@ -7,8 +7,7 @@ ghost use Rattle.name_registry.specs.Locking.{IsDestroyRefusal, IsStageOf, Keeps
 
 use crate::advancing::advance_in;
 use crate::exchange::{hear_cpu, show_cpu};
-use crate::locked::Locked;
-use crate::registry::Registry;
+use crate::registry::{Locked, Registry};
 use cpu_words::{Domain, Words};
 use passive_list::{Cpu, Keeper, PlainCpu};
 use registry_values::{Refusal, Stage, destroyed};

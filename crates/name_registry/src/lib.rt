@@ -19,7 +19,6 @@ mod first_fit;
 mod glancing;
 mod interlock;
 mod law;
-mod locked;
 mod looking_up;
 mod performing;
 mod registry;

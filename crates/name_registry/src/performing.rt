@@ -5,8 +5,7 @@ ghost use Rattle.name_registry.specs.Locking.{IsPerformRefusal, is_inside, HasLe
 ghost use Rattle.name_registry.specs.Performing.{HasSeenAllOut, Performs, PerformsOutside, WaitsFor, none_seen};
 
 use crate::glancing::{begin, glance_at_all, pass_all};
-use crate::locked::Locked;
-use crate::registry::Registry;
+use crate::registry::{Locked, Registry};
 use cpu_words::Domain;
 use passive_list::Cpu;
 use registry_values::{MOST_CPUS, MOST_SLOTS, Refusal, waiting_for};

@@ -129,12 +129,6 @@ left_pass key a b answer had outside =
     let one : had.last.depth ≡ 1 = omega (arith, depth, outside) in
     ap (λ (v : CpuView). v.pass) (had.exits.ended one)
 
--- the pass only grows
-pub found_longer : (key : Key) (a b : OnCpu) (answer : Option Entry) → HasFoundFromOutside key a b answer → a.depth ≡ 0 → IsPrefix a.view.pass b.view.pass
-found_longer key a b answer had outside =
-    let entered = (had.enters.begun outside).0 in
-    subst (IsPrefix a.view.pass) (sym (left_pass key a b answer had outside)) (prefix_trans a.view.pass had.first.view.pass had.last.view.pass entered had.finds.pass)
-
 -- the entry that was found is in the pass
 pub found_attached : (key : Key) (a b : OnCpu) (answer : Option Entry) (e : Entry) → HasFoundFromOutside key a b answer → a.depth ≡ 0 → answer ≡ Some e → IsAttached b.view.pass e
 found_attached key a b answer e had outside is = subst (λ h. IsAttached h e) (sym (left_pass key a b answer had outside)) (had.finds.seen e is)
@@ -350,13 +344,6 @@ section_absent key n a b had outside seen =
     })
 
 -- A lookup anew
-
--- the entry whose number a slot's live word is
-pub newest_there : (t n : ℕ) (c d : OnCpu) → HasRecalledOn t n c d true → n ≢ 0 → HasNumbered d.view.pass n
-newest_there t n c d recalled some =
-    let word : recalled.word ≡ n = eqb-true recalled.word n (sym recalled.found) in
-    let e = recalled.live.one (λ zero. some (sym word ∙ zero)) in
-    record { entry = e.0; attached = e.1.attached; number = e.3 ∙ word }
 
 pub nothing : (o : Option Seen) → is_some o ≡ false → o ≡ None
 nothing None is = refl

@@ -1,9 +1,9 @@
 -- What a row that is remembered tells, what stays remembered, and what is remembered from then on.
 use Rattle.passive_list.specs.Common.{Memory, HasCleared, HasForgotten, HasNumbered, IsOfRow, IsRow, IsTrueMiss, KeepsOthers, Missed, Recalls, RecallsAt, Remembers, Seen, WasAbsent, IsCount, entry_of, hint_of, hinted, is_for, keeps, memo_at, memo_of, miss_at, miss_of, missed_as, no_hint, no_memo, no_memory, no_miss, with_miss, with_seen}
 use Rattle.std.specs.Prelude.{slice_index_or}
-use Rattle.std.proofs.Common.{◌≡◌, ◌≢◌, ◌⊎◌, ⊎_elim, inl, inr, ℕ, ◌+◌, ◌*◌, ◌/◌, ◌%◌, ◌^◌, ◌<◌, ◌≤◌, ◌==◌, ◌&&◌, if◌then◌else◌, min, not, Bool, true, false, List, length, replicate, set, get_or-set_same, get_or-set_other, Some, None, refl, sym, ap, ◌∙◌, subst, arith, length-append}
-use Rattle.std.proofs.lemmas.Bool.{cases_eq, cases_lt, eqb-true, false≢true}
-use Rattle.std.proofs.lemmas.List.{get_or_past, length-replicate, length-set, set_past}
+use Rattle.std.proofs.Common.{◌≡◌, ◌≢◌, ◌⊎◌, ⊎_elim, inl, inr, ℕ, ◌+◌, ◌*◌, ◌/◌, ◌%◌, ◌^◌, ◌<◌, ◌≤◌, ◌==◌, if◌then◌else◌, min, Bool, true, false, List, length, replicate, set, get_or-set_same, get_or-set_other, Some, None, refl, sym, ap, ◌∙◌, subst, arith, length-append}
+use Rattle.std.proofs.lemmas.Bool.{cases_eq, cases_lt, eqb-true}
+use Rattle.std.proofs.lemmas.List.{length-replicate, length-set, set_past}
 use Rattle.std.proofs.lemmas.Nat.{mul-lt}
 use Rattle.std.proofs.Math.Nat.{mul-lt-mul_of_pos_right}
 use mathlib.Core.List.{IsPrefix}
@@ -60,25 +60,10 @@ stays z h g m longer had = record {
   absent = λ i some. absent_longer h g _ _ longer (had.absent i some);
 }
 
--- the entry of a row
-pub row_attached : (z : ℕ) (h : List Change) (m : Memory) (key : Key) (s : Seen) → Remembers z h m → IsOfRow m.rows key s → (s.slot < z) × IsAttached h (entry_with key s.slot s.number s.value)
-row_attached z h m key s had row =
-    let e = had.each s.slot (λ none. row.some (ap (λ (m : Memo). m.number) (sym row.is) ∙ none)) in
-    (e.0, subst (λ (m : Memo). IsAttached h (entry_of s.slot m)) row.is e.1)
-
--- what is recalled is a row's
-pub recalled_row : (m : Memory) (key : Key) (s : Seen) → Recalls m key (Some s) → IsOfRow m.rows key s
-recalled_row m key s (inl had) = had.2.1
-recalled_row m key s (inr had) = had.1.1
-
 -- Places of hints
 
 count_of : (n m : ℕ) → n ≡ m → IsCount m → IsCount n
 count_of n m is few = subst IsCount (sym is) few
-
--- the product doesn't wrap
-pub half_fits : (x c : ℕ) → x < 2 ^ 64 → IsCount c → x / HALF * c < 2 ^ 64
-half_fits x c lt few = mul-lt (x / HALF) c (2 ^ 32) (2 ^ 32) (omega (arith, lt)) few.1
 
 pub hint_within : (x c : ℕ) → x < 2 ^ 64 → IsCount c → x / HALF * c / HALF < c
 hint_within x c lt few =
@@ -294,9 +279,6 @@ others_kept m n key had other o apart any recalls =
 
 -- One miss more
 
-pub misses_stay : (m n : Memory) (key : Key) → HasForgotten key m n → n.missed ≡ m.missed
-misses_stay m n key had = ap (λ (x : Memory). x.missed) had.2.is ∙ ap (λ (x : Memory). x.missed) had.1.is
-
 pub misses_more : (z : ℕ) (h : List Change) (m : Memory) (key : Key) (n : ℕ) → Remembers z h m → WasAbsent h key n → Remembers z h (with_miss m key n)
 misses_more z h m key n had was =
     record { size = had.size; hints = had.hints; each = had.each; absent = kept (keeps m.missed.places key last) }
@@ -331,10 +313,3 @@ true_miss h m key are = by_case (is_for key (miss_at m.places (hinted m.hints ke
     by_case : (b : Bool) → IsTrueMiss h (if b then miss_at m.places (hinted m.hints key.name).last else miss_at m.places (hinted m.hints key.name).older)
     by_case true = are (hinted m.hints key.name).last
     by_case false = are (hinted m.hints key.name).older
-
--- where a miss is kept, there is a place
-pub keeps_within : (places : List Miss) (key : Key) (t : ℕ) → keeps places key t ≡ true → t < length places
-keeps_within places key t is = ⊎_elim (λ (few : t < length places). few) (λ (past : length places ≤ t). absurd (past_none past)) (cases_lt t (length places))
-  where
-    past_none : length places ≤ t → ⊥
-    past_none past = let none : miss_at places t ≡ no_miss = get_or_past places t no_miss past in false≢true (sym (ap (λ (x : Miss). not (x.number == 0) && is_for key x) none) ∙ is)

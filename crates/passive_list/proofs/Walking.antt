@@ -143,13 +143,6 @@ stands_later p h from t e pre le stands = record {
   unended = unended_later p h e.number from pre le stands.unended;
 }
 
-pub live_later : (p h : List Change) (k : ℕ) (e : Entry) → IsPrefix p h → k ≤ length p → IsLiveAt p k e → IsLiveAt h k e
-live_later p h k e pre le live = record {
-  attached = attached_prefix p h e pre live.attached;
-  begun = live.begun;
-  unended = unended_later p h e.number k pre le live.unended;
-}
-
 -- live at a later point of a longer pass, so at an earlier one of the pass
 pub live_before : (p h : List Change) (j k : ℕ) (e : Entry) → IsPrefix p h → e.number ≤ j → j ≤ length p → j ≤ k → IsLiveAt h k e → IsLiveAt p j e
 live_before p h j k e pre begun within le live = record {
@@ -157,18 +150,6 @@ live_before p h j k e pre begun within le live = record {
   begun = begun;
   unended = λ i ends. omega (arith, le, live.unended i (ends_later p h e.number i pre ends));
 }
-
-pub was_live_later : (p h : List Change) (low from : ℕ) (e : Entry) → IsPrefix p h → low ≤ from → WasLive p from (length p) e → WasLive h low (length h) e
-was_live_later p h low from e pre le was = record {
-  point = was.point;
-  from_on = omega (arith, le, was.from_on);
-  up_to = omega (arith, was.up_to, prefix_length p h pre);
-  live = live_later p h was.point e pre was.up_to was.live;
-}
-
--- on an entry that is live at the end of the pass, and at some point since, a search may stand
-pub live_stands : (h : List Change) (from k : ℕ) (e : Entry) → from ≤ k → k ≤ length h → IsLiveAt h k e → StandsOn h from (length h) e.slot e
-live_stands h from k e low high live = record { attached = live.attached; at = refl; begun = omega (arith, live.begun, high); unended = λ p ends. omega (arith, low, live.unended p ends) }
 
 -- an entry on which a search may stand was live at some point since the search began
 pub stood_was_live : (h : List Change) (from t : ℕ) (e : Entry) → IsLegal h → from ≤ length h → StandsOn h from (length h) t e → WasLive h from (length h) e

@@ -19,7 +19,7 @@ use Rattle.passive_list.specs.Common.{no_place, place_at, PassiveAgree, Memory, 
 use Rattle.passive_list.specs.declared.place.NumberedCount.{NumberedCount}
 use Rattle.passive_list.specs.declared.place.Found.{Found}
 use Rattle.passive_list.proofs.Agreeing.{slot_within, net_same, IsFoundAs}
-use Rattle.passive_ref.specs.Psrefs.{IsHeldAt, counts_for, OnPsref, IsAdded, IsNew, IsAcquired, why_full, why_not_acquired, HasLoaded, has_loaded}
+use Rattle.passive_ref.specs.{IsHeldAt, counts_for, OnPsref, IsAdded, IsNew, IsAcquired, why_full, why_not_acquired, HasLoaded, has_loaded}
 
 -- What a CPU's places say of its references: where the entry of a number is, and how many references are to it.
 

@@ -1,13 +1,13 @@
 -- A get by memory: where it may try, what it has then, how the data agree, and that a share of a ledger changes nothing of it.
-use Rattle.std.proofs.Common.{◌≡◌, ◌⊎◌, ℕ, Option, Some, None, inl, inr, ap, ◌≢◌, ⊎_elim, ◌+◌, ◌<◌, ◌≤◌, Bool, IfSome, if◌then◌else◌, List, ◌∷◌, ◌++◌, length, set, refl, sym, ◌∙◌, subst, arith}
+use Rattle.std.proofs.Common.{◌≡◌, ◌⊎◌, ℕ, Option, Some, None, inl, inr, ap, ◌≢◌, ⊎_elim, ◌+◌, ◌<◌, Bool, IfSome, if◌then◌else◌, List, ◌∷◌, ◌++◌, length, set, refl, sym, ◌∙◌, subst, arith}
 use Rattle.std.proofs.lemmas.Bool.{cases_eq, eq-eqb, ne_eqb}
 use Rattle.std.specs.List.{Contains}
 use mathlib.Core.List.{IsPrefix}
 use Rattle.atomic_table.specs.Seated.{TableId}
-use Rattle.passive_list.specs.Types.{Entry, Key, Settings, Event, Try, Confirm, TakeBack, Recall, Word, CpuView, LogItem}
+use Rattle.passive_list.specs.Types.{Entry, Key, Settings, Try, Confirm, TakeBack, Recall, Word, CpuView, LogItem}
 use Rattle.protocol.specs.Common.{IsAttached, IsLiveAt, IsLookup, entry_with}
 use Rattle.protocol.proofs.History.{one_entry}
-use Rattle.cpu_words.specs.Common.{Named, references_to, with_hand, did, IsAloneAt, IsAt, IsIdle, IsShownCpu, HasSeenMore, HasTried, HasConfirmed, HasTakenBack, MayEndTry, MayTakeBack, MayTry, event_by}
+use Rattle.cpu_words.specs.Common.{Named, references_to, with_hand, did, IsAt, IsIdle, IsShownCpu, HasSeenMore, HasTried, HasConfirmed, HasTakenBack, MayEndTry, MayTakeBack, MayTry, event_by}
 use Rattle.cpu_words.specs.declared.view.InHand.{InHand}
 use Rattle.cpu_words.specs.declared.view.InHand.TheVariants.{Empty as NoEntry, Trying as TryingEntry}
 use Rattle.cpu_words.proofs.shown.Seeing.{attached_prefix}
@@ -18,7 +18,7 @@ use Rattle.passive_list.specs.declared.place.NumberedCount.{NumberedCount}
 use Rattle.passive_list.proofs.Sharing.{sharing}
 use Rattle.passive_list.proofs.Memories.{stays}
 use Rattle.passive_list.proofs.Agreeing.{net_same, noted_agrees, own_agrees, passive_longer}
-use Rattle.passive_ref.specs.Psrefs.{OnPsref, entry_got, GetsBy, HasGivenUp, HasGotByMemory, HasGotOn, HasGotRemembered, IsFullAt, IsGot, counted_for, EndsInVain, EndsWell, HasSeen, IsTakenAs, IsVain}
+use Rattle.passive_ref.specs.{OnPsref, entry_got, GetsBy, HasGivenUp, HasGotByMemory, HasGotOn, HasGotRemembered, IsGot, counted_for, EndsInVain, EndsWell, HasSeen, IsTakenAs, IsVain}
 use Rattle.passive_ref.proofs.Changing.{added_passive, uncounted_here}
 
 -- A CPU that has a share of a ledger, and the CPU without it: what is told of a get by the one is told of the other. And what a get without a reference leaves.
@@ -257,10 +257,6 @@ got_answer key s o b (Some p) seen got =
     let there : IsAttached b.view.pass e = attached_prefix o.cpu.view.pass b.view.pass e got.pass seen.attached in
     let same : got.entry ≡ e = one_entry b.view.pass got.entry e got.live.attached there got.at.number in
     (subst (IsLiveAt b.view.pass (length b.view.pass)) same got.live, refl)
-
--- as many as the CPU may have
-pub full_at : (x : CpuView) (ps : List NumberedCount) (t : ℕ) → PassiveAgree x ps → x.settings.passive_limit ≤ (place_at ps t).count → IsFullAt x t
-full_at x ps t agree full = ((place_at ps t).number, subst (λ (n : ℕ). x.settings.passive_limit ≤ n) (agree.counts t) full, agree.placed t)
 
 -- By the CPU that names its own table: o is it before, with the view x and the log l0
 

@@ -3,7 +3,7 @@
 ghost use Rattle.std.specs.Prelude.{◌≡◌, ◌<◌, IfErr, IsTrue, false};
 ghost use Rattle.registry_values.specs.Common.{Answers};
 ghost use Rattle.cpu_words.specs.Common.{AreWordsOf, references_to};
-ghost use Rattle.passive_ref.specs.Psrefs.{MayRefer, IsHeldAt, IsAcquired, IsCopied, IsAdded, HasOneLess, GivesBack, why_full, why_unusable, why_not_acquired, why_not_copied};
+ghost use Rattle.passive_ref.specs.{MayRefer, IsHeldAt, IsAcquired, IsCopied, IsAdded, HasOneLess, GivesBack, why_full, why_unusable, why_not_acquired, why_not_copied};
 
 use crate::holding::{count_of, counts_at, usable_slot};
 use crate::psref::Psref;

@@ -6,7 +6,7 @@ ghost use Rattle.std.specs.Prelude.{◌≡◌, ◌<◌, IfSome, Some, length};
 ghost use Rattle.protocol.specs.Common.{IsLookup, entry_with};
 ghost use Rattle.cpu_words.specs.Common.{AreWordsOf, IsShownCpu, MayTry, key_with};
 ghost use Rattle.passive_list.specs.Common.{HasSeen as HasSeenOf};
-ghost use Rattle.passive_ref.specs.Psrefs.{counted_for, entry_got, HasGotByMemory, HasGotOn, HasGotRemembered, HasSeen, HasTriedOnSeat};
+ghost use Rattle.passive_ref.specs.{counted_for, entry_got, HasGotByMemory, HasGotOn, HasGotRemembered, HasSeen, HasTriedOnSeat};
 
 use crate::psref::Psref;
 use cpu_words::{CpuSeat, Domain, Words, steps};

@@ -3,7 +3,7 @@
 ghost use Rattle.std.specs.Prelude.{◌≡◌, ◌↔◌, ◌<◌, IsTrue, IfSome, position, length, None};
 ghost use Rattle.cpu_words.specs.Common.{references_to};
 ghost use Rattle.registry_values.specs.Common.{Answers};
-ghost use Rattle.passive_ref.specs.Psrefs.{IsHeldAt, MayRefer, counts_for, why_unusable};
+ghost use Rattle.passive_ref.specs.{IsHeldAt, MayRefer, counts_for, why_unusable};
 
 use crate::psref::Psref;
 use cpu_words::Domain;

@@ -16,7 +16,7 @@ pub struct Psref {
 }
 
 impl Model for Psref {
-    ghost use Rattle.passive_ref.specs.Psrefs.{OnPsref};
+    ghost use Rattle.passive_ref.specs.{OnPsref};
 
     ghost Value = { OnPsref };
 

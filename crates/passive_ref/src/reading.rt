@@ -4,7 +4,7 @@ ghost use Rattle.std.specs.Prelude.{◌≡◌, ◌<◌, ◌++◌, IfErr};
 ghost use Rattle.registry_values.specs.Common.{Answers};
 ghost use Rattle.passive_list.specs.Types.{LoadRecord, Passive, Word};
 ghost use Rattle.cpu_words.specs.Common.{AreWordsOf, did, IsWordOf};
-ghost use Rattle.passive_ref.specs.Psrefs.{IsHeldAt, IsRead, IsReadAs, why_unusable};
+ghost use Rattle.passive_ref.specs.{IsHeldAt, IsRead, IsReadAs, why_unusable};
 
 use crate::holding::usable_slot;
 use crate::psref::Psref;

@@ -4,7 +4,6 @@
 
 mod changes;
 mod failure;
-mod gate;
 mod history;
 mod loops;
 mod measure;

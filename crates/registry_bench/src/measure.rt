@@ -4,7 +4,6 @@ ghost use Rattle.std.specs.Prelude.{◌≡◌};
 ghost use Rattle.name_registry.specs.Common.{IsBlankOf};
 
 use crate::failure::Failure;
-use crate::gate::Gate;
 use crate::loops::{leave, make, prepare};
 use crate::opening::{attach_all, settings_for};
 use crate::plan::{Operation, RunPlan};
@@ -16,6 +15,8 @@ use std::alloc::Global;
 use std::marker::Brand;
 use std::rt::Clock;
 use std::sync::Wait;
+use std::sync::atomic::AtomicU64;
+use std::sync::atomic::Ordering::SeqCst;
 use std::thread::Threads;
 use std::time::Instant;
 use std::{io, thread};
@@ -136,4 +137,35 @@ fn together(all: Vec<io::Result<Measured>>) -> Result<Measured, Failure> {
         });
     }
     sum.ok_or(Failure::Refused(Refusal::BadSettings))
+}
+
+/// How often a thread yields at most while it waits for the others.
+const PATIENCE: u32 = 1_000_000;
+
+/// So many threads are awaited, and so many have come.
+#[derive(Drop)]
+pub struct Gate {
+    come: AtomicU64,
+    threads: u64,
+}
+
+impl Gate {
+    /// A closed gate for so many threads.
+    pub fn new(threads: u64) -> Gate {
+        Gate {
+            come: AtomicU64::new(0),
+            threads,
+        }
+    }
+
+    /// Waits until all threads have come; not for ever, since where no thread can be made they come one by one.
+    pub fn pass(&self) {
+        self.come.fetch_add(1, SeqCst);
+        for _ in 0..PATIENCE {
+            if self.come.load(SeqCst) >= self.threads {
+                return;
+            }
+            thread::yield_now();
+        }
+    }
 }

@@ -5,8 +5,8 @@ ghost use Rattle.registry_values.specs.Common.{is_key};
 ghost use Rattle.name_registry.specs.Common.{IsBlankOf};
 
 use crate::failure::Failure;
-use crate::gate::Gate;
 use crate::loops::leave;
+use crate::measure::Gate;
 use crate::opening::{attach_all, driver, settings_for};
 use crate::parts::Parts;
 use crate::plan::WaitPlan;

@@ -1,7 +1,7 @@
 //! Whether two engines do the same on a script, and on the scripts of many seeds.
 
 ghost use Rattle.std.specs.Prelude.{◌≡◌, IfOk, IfSome, IsTrue, Option, None, Some, false, is_some};
-ghost use Rattle.registry_compare.specs.Comparing.{AgreeOn, DifferBelow, Agree, Differ};
+ghost use Rattle.registry_compare.specs.{AgreeOn, DifferBelow, Agree, Differ};
 
 use super::engines::{Outcome, Runs};
 use super::tally::Tally;

@@ -1,7 +1,7 @@
 //! The shortest of a script on which two engines differ.
 
 ghost use Rattle.std.specs.Prelude.{◌<◌, IfOk, IfSome, length};
-ghost use Rattle.registry_compare.specs.Comparing.{WereApart};
+ghost use Rattle.registry_compare.specs.{WereApart};
 
 use super::comparing::agreed;
 use super::engines::Runs;

@@ -1,7 +1,7 @@
 //! Two engines, and what each does on a script.
 
 ghost use Rattle.std.specs.Prelude.{◌≡◌, ◌↔◌, IsTrue};
-ghost use Rattle.registry_compare.specs.Comparing.{IsPossibleRun};
+ghost use Rattle.registry_compare.specs.{IsPossibleRun};
 
 use registry_script::{Engine, RunFault, run};
 use std::alloc::Global;

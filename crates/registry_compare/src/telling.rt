@@ -2,7 +2,7 @@
 
 ghost use Rattle.std.specs.Prelude.{◌≡◌, IfOk};
 ghost use Rattle.std.specs.Process.{exit_status};
-ghost use Rattle.registry_compare.specs.Comparing.{Says, WereApart, status_of};
+ghost use Rattle.registry_compare.specs.{Says, WereApart, status_of};
 
 use super::comparing::{Scripts, SeedRange, first_difference};
 use super::cutting::shortest;

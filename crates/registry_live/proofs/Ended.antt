@@ -16,11 +16,11 @@ use Rattle.cpu_words.specs.Common.{did, references_to, given_up, number_at}
 use Rattle.cpu_words.proofs.by_keeper.Totals.{one_more_at}
 use Rattle.cpu_words.proofs.logs.Totalled.{given_more}
 use Rattle.passive_list.specs.Common.{OnCpu}
-use Rattle.passive_ref.specs.Psrefs.{GivesBack, HasOneLess, OnPsref}
+use Rattle.passive_ref.specs.{GivesBack, HasOneLess, OnPsref}
 use Rattle.name_registry.specs.Common.{AreAllCpus, IsLetGoAndHeard, KnowsGivenUp}
 use Rattle.name_registry.proofs.Audits.{cpu_at}
 use Rattle.name_registry.proofs.Worked.{prefix_on}
-use Rattle.registry_live.specs.Sessions.{AllOnlyRelease, IsRelease, OnlyReleases, LetGo, LetsGo, HoldTheSame, StayInside, inside_of, EndedOnFirst, HaveEnded, is_local_to, locals_to}
+use Rattle.registry_live.specs.{AllOnlyRelease, IsRelease, OnlyReleases, LetGo, LetsGo, HoldTheSame, StayInside, inside_of, EndedOnFirst, HaveEnded, is_local_to, locals_to}
 use Rattle.registry_live.proofs.Labelled.{goes_on_same, same_here, same_on, stays_inside}
 use Rattle.registry_live.proofs.LiveCpus.{let_go_stays, on_one}
 

@@ -16,9 +16,9 @@ use Rattle.cpu_words.specs.Common.{references_to, without}
 use Rattle.cpu_words.proofs.shown.ReferenceLists.{one_less, others_stay, to_cons}
 use Rattle.passive_list.specs.Common.{OnCpu}
 use Rattle.name_registry.specs.Common.{AreAllCpus, HaveLearned}
-use Rattle.passive_ref.specs.Psrefs.{GivesBack, HasOneLess, IsAcquired, IsNew, OnPsref, why_unusable}
+use Rattle.passive_ref.specs.{GivesBack, HasOneLess, IsAcquired, IsNew, OnPsref, why_unusable}
 use Rattle.registry_report.specs.declared.hitch.Hitch.{Hitch}
-use Rattle.registry_live.specs.Sessions.{Decides, Has, hitch_of, unless_free, unless_taken, HaveReleased, HoldTheSame, Lent, StayInside, inside_of, is_label_to, labels_to, references_at, unlabelled}
+use Rattle.registry_live.specs.{Decides, Has, hitch_of, unless_free, unless_taken, HaveReleased, HoldTheSame, Lent, StayInside, inside_of, is_label_to, labels_to, references_at, unlabelled}
 
 -- from the CPUs xs and the places ps to ys and qs: each CPU holds what it held beside what labels name
 abbrev pub Keeps : List OnCpu → List (Option OnPsref) → List OnCpu → List (Option OnPsref) → Type 0

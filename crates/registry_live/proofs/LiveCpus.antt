@@ -9,10 +9,10 @@ use Rattle.atomic_table.proofs.Lists.{at_index, at_set}
 use Rattle.name_registry.specs.Types.{Settings, Entry, Kind, Record, Name, Refusal, CpuView, ReferenceView}
 use Rattle.cpu_words.specs.Common.{new_cpu}
 use Rattle.passive_list.specs.Common.{OnCpu, no_memory, AnswersEnter, HasEnteredOn}
-use Rattle.passive_ref.specs.Psrefs.{GivesBack, HasOneLess, OnPsref, why_unusable}
+use Rattle.passive_ref.specs.{GivesBack, HasOneLess, OnPsref, why_unusable}
 use Rattle.name_registry.specs.Common.{AreAllCpus, AreNewCpus, IsAttachRefusal, IsDetachRefusedTo, HasLearned, HasSeenAttach, HasSeenDetach, IsLetGoAndHeard}
 use Rattle.name_registry.proofs.Audits.{cpu_at}
-use Rattle.registry_live.specs.Sessions.{IsGivenBack, OnOne}
+use Rattle.registry_live.specs.{IsGivenBack, OnOne}
 
 -- The CPUs of a registry that was just opened are all of them.
 

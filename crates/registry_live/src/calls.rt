@@ -2,13 +2,13 @@
 
 ghost use Rattle.std.specs.Prelude.{◌≡◌, ◌≢◌, ◌↔◌, ◌<◌, IfErr, IfOk, IsTrue, None, Some, false, is_some, true};
 ghost use Rattle.cpu_words.specs.Common.{AreWordsOf, key_with, references_to};
-ghost use Rattle.local_count.specs.References.{HasAcquired, why_not_acquired_local};
+ghost use Rattle.local_count.specs.{HasAcquired, why_not_acquired_local};
 ghost use Rattle.name_registry.specs.Common.{HasLearned, HasSeenAttach, IsLetGo};
 ghost use Rattle.registry_values.specs.Common.{is_key, is_iface};
 ghost use Rattle.name_registry.specs.Types.{Record};
 ghost use Rattle.passive_list.specs.Common.{HasFound, HasExitedOn};
-ghost use Rattle.passive_ref.specs.Psrefs.{HasOneLess, IsAcquired, IsCopied, IsRead, why_not_acquired, why_not_copied, why_unusable};
-ghost use Rattle.registry_live.specs.Sessions.{Decides, Has, IsPlugHitch, hitch_of, unless_free, unless_taken, why_outside};
+ghost use Rattle.passive_ref.specs.{HasOneLess, IsAcquired, IsCopied, IsRead, why_not_acquired, why_not_copied, why_unusable};
+ghost use Rattle.registry_live.specs.{Decides, Has, IsPlugHitch, hitch_of, unless_free, unless_taken, why_outside};
 
 use cpu_words::{Domain, Words};
 use local_count::{LocalRef, acquire_local};

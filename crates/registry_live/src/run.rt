@@ -3,7 +3,7 @@
 ghost use Rattle.std.specs.Prelude.{◌≡◌, IfErr, OnErr, OnOk};
 ghost use Rattle.name_registry.specs.Common.{AreAllCpus, IsBlankOf};
 ghost use Rattle.registry_report.specs.Common.{WritesFront, WritesRun, IsWhileRunning};
-ghost use Rattle.registry_live.specs.Sessions.{HoldTheSame};
+ghost use Rattle.registry_live.specs.{HoldTheSame};
 
 use crate::session::LiveSession;
 use cpu_words::Domain;

@@ -3,7 +3,7 @@
 ghost use Rattle.std.specs.Prelude.{◌≡◌, ◌<◌, ◌∷◌, [], IfSome, List, None, replicate};
 ghost use Rattle.passive_list.specs.Common.{OnCpu};
 ghost use Rattle.name_registry.specs.Common.{AreAllCpus};
-ghost use Rattle.registry_live.specs.Sessions.{IsGivenBack, LetGo, LetsGo, EndedOnFirst, HaveReleased, AllOnlyRelease};
+ghost use Rattle.registry_live.specs.{IsGivenBack, LetGo, LetsGo, EndedOnFirst, HaveReleased, AllOnlyRelease};
 
 use crate::calls::{
     copied, count_one, fill, holds, leave, let_go, look_up, peek_at, plug_in, read_by, refer,
@@ -177,7 +177,7 @@ fn release_passive<D: Domain>(registry: &Registry<D>, cpus: &mut [Cpu<D>], place
 }
 
 impl<'a, D: Domain, R: Wait> Session for LiveSession<'a, D, R> {
-    ghost use Rattle.registry_live.specs.Sessions.{DestroysBy, OnOne, PerformsBy, Lent, unlabelled};
+    ghost use Rattle.registry_live.specs.{DestroysBy, OnOne, PerformsBy, Lent, unlabelled};
 
     // which slice of CPUs the session has, and what each CPU holds that no label names
     ghost Kept = { Lent };

@@ -12,10 +12,8 @@ mod laws;
 mod lines;
 mod run;
 mod session;
-mod write;
 
 pub use hitch::{Hitch, as_answer};
 pub use laws::report_laws;
-pub use run::{run_core, run_on};
+pub use run::{run_core, run_on, write_text};
 pub use session::{Reading, Session};
-pub use write::write_text;

@@ -13,7 +13,6 @@ ghost use Rattle.registry_report.specs.Session.{without_labels};
 use crate::carry::carry_out;
 use crate::core_session::CoreSession;
 use crate::session::Session;
-use crate::write::write_text;
 use passive_core::Core;
 use registry_language::{Command, RunFault, Script};
 use registry_values::Settings;
@@ -82,6 +81,22 @@ fn run_commands<S: Session, W: Write>(
     for command in commands {
         let text = carry_out(alloc, session, *command)?;
         write_text(writer, text.as_bytes())?;
+    }
+    Ok(())
+}
+
+/// Writes all of the text. An interrupted write is a fault too, and so is one that takes no bytes.
+pub fn write_text<W: Write>(writer: &mut W, text: &[u8]) -> Result<(), RunFault>
+    ensures ok { OnOk result (Appends (W.contents writer.old) (W.contents writer.new) text.now) }
+    ensures err { OnErr result (AppendsPrefix (W.contents writer.old) (W.contents writer.new) text.now) }
+    ensures fault { IfErr result (λ fault. fault ≡ RunFault.Write) }
+{
+    let mut rest = text;
+    while !rest.is_empty() {
+        match writer.write(rest) {
+            Ok(0) | Err(_) => return Err(RunFault::Write),
+            Ok(n) => rest = &rest[n..],
+        }
     }
     Ok(())
 }

@@ -4,10 +4,10 @@ use Rattle.std.specs.Io.KnownBytes.{Appends}
 use Rattle.registry_language.specs.declared.fault.RunFault.{RunFault}
 use Rattle.registry_language.specs.declared.fault.RunFault.TheVariants as run
 use Rattle.registry_report.specs.Common.{AppendsPrefix}
-use Rattle.registry_storm.specs.Storms.{IsSumOf}
+use Rattle.registry_storm.specs.{IsSumOf}
 use Rattle.registry_storm.specs.declared.sum.StormSum.{StormSum}
 use Rattle.registry_run.specs.declared.task.StormSize.{StormSize}
-use Rattle.registry_run.specs.Program.{Stormed, storm_text}
+use Rattle.registry_run.specs.{Stormed, storm_text}
 
 module _ {X : Type 0} (made : X → StormSize → Result StormSum RunFault → X → Type 0) where
   -- the five lines of a sum were written, or a front of them

@@ -3,8 +3,8 @@
 ghost use Rattle.std.specs.Prelude.{◌≡◌, IfErr, IfOk, string_bytes};
 ghost use denote.Param.Send.{IsSync};
 ghost use Rattle.registry_language.specs.declared.fault.RunFault.TheVariants as fault;
-ghost use Rattle.registry_storm.specs.Storms.{IsOfStorm, IsSumOf};
-ghost use Rattle.registry_run.specs.Program.{Did, IsPossible, IsStorm, Stormed, count_lines, storm_text};
+ghost use Rattle.registry_storm.specs.{IsOfStorm, IsSumOf};
+ghost use Rattle.registry_run.specs.{Did, IsPossible, IsStorm, Stormed, count_lines, storm_text};
 
 use crate::task::{StormSize, Task};
 use registry_script::{OpenGate, RunFault, StormSum, run, storm, write_text};

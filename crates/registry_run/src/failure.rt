@@ -4,7 +4,7 @@ ghost use Rattle.std.specs.Prelude.{◌≡◌, ◌≢◌};
 ghost use Rattle.std.specs.IoError.{error_kind};
 ghost use Rattle.std.specs.Process.{exit_status};
 ghost use Rattle.registry_language.specs.declared.fault.RunFault.TheVariants as fault;
-ghost use Rattle.registry_run.specs.Program.{status_after, status_of};
+ghost use Rattle.registry_run.specs.{status_after, status_of};
 
 use registry_script::RunFault;
 use std::io;

@@ -8,7 +8,7 @@ mod task;
 mod tests;
 
 ghost use Rattle.std.specs.Prelude.{IfOk};
-ghost use Rattle.registry_run.specs.Program.{IsPossible};
+ghost use Rattle.registry_run.specs.{IsPossible};
 
 use doing::{OurStorms, carry_out};
 use failure::{Failure, exit_code};

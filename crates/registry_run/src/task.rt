@@ -2,7 +2,7 @@
 
 ghost use Rattle.std.specs.Prelude.{◌≡◌, IfSome, map, string_bytes};
 ghost use Rattle.registry_language.specs.Words.{number_of};
-ghost use Rattle.registry_run.specs.Program.{task_of, engine_named, storm_asked, within_one_to, IsPossible};
+ghost use Rattle.registry_run.specs.{task_of, engine_named, storm_asked, within_one_to, IsPossible};
 
 use registry_script::{Engine, parse_number};
 use registry_values::USUAL_CPUS;

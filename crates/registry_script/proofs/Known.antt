@@ -7,7 +7,7 @@ use Rattle.registry_language.specs.declared.fault.RunFault.{RunFault}
 use Rattle.registry_language.specs.declared.fault.RunFault.TheVariants as run
 use Rattle.registry_language.specs.declared.fault.Cause.TheVariants.{TooLong}
 use Rattle.registry_language.specs.Grammar.{program_of_bytes}
-use Rattle.registry_script.specs.Ran.{Ran, RanOn, WasRead}
+use Rattle.registry_script.specs.{Ran, RanOn, WasRead}
 
 too_long : (text : List ℕ) → 65536 < length text → program_of_bytes text ≡ Err (record { line = 1; cause = TooLong })
 unfolding program_of_bytes

@@ -1,7 +1,7 @@
 //! From the bytes that are read to the bytes that are written.
 
 ghost use Rattle.std.specs.Prelude.{◌≡◌, IfOk, IfErr, IfSome};
-ghost use Rattle.registry_script.specs.Ran.{Ran, RanOn, WasRead, IsWhileReading};
+ghost use Rattle.registry_script.specs.{Ran, RanOn, WasRead, IsWhileReading};
 
 use registry_language::{ParseFault, RunFault, parse_script};
 use registry_live::run_live;

@@ -2,7 +2,7 @@
 
 ghost use Rattle.std.specs.Prelude.{◌≡◌, ◌<◌, vec_len};
 ghost use Rattle.registry_values.specs.declared.limits.TheConstants.{MOST_CPUS};
-ghost use Rattle.registry_storm.specs.Storms.{GoesOn};
+ghost use Rattle.registry_storm.specs.{GoesOn};
 
 use crate::sum::Counts;
 use cpu_words::Domain;

@@ -2,10 +2,10 @@
 //! over, and none is judged instead.
 
 ghost use Rattle.std.specs.Prelude.{◌≡◌, IsSome, IsTrue, Some, None, Ok};
-ghost use Rattle.passive_ref.specs.Psrefs.{why_unusable};
-ghost use Rattle.registry_storm.specs.Storms.{driver_entry, driver_record, IsAttachOf, IsIfaceOf, IsJudged, IsTurnOf};
+ghost use Rattle.passive_ref.specs.{why_unusable};
+ghost use Rattle.registry_storm.specs.{driver_entry, driver_record, IsAttachOf, IsIfaceOf, IsJudged, IsTurnOf};
 
-use crate::judging::{is_attach, is_destroyed, is_detached, is_turn};
+use crate::closing::{is_attach, is_destroyed, is_detached, is_turn};
 use crate::plan::Plan;
 use crate::sum::Counts;
 use cpu_words::Domain;

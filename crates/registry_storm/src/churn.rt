@@ -1,7 +1,7 @@
 //! What CPU 0 does beside the other workers: it attaches and detaches an interface, and frees what it has detached.
 
 ghost use Rattle.std.specs.Prelude.{◌<◌};
-ghost use Rattle.registry_storm.specs.Storms.{GoesOn};
+ghost use Rattle.registry_storm.specs.{GoesOn};
 
 use crate::calls::{
     acquire_counted, advance, attach_iface, begin, destroy, detach, end, find_driver,

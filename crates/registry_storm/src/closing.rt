@@ -1,19 +1,19 @@
-//! The end of a storm: what is left of it is taken away on CPU 0, and each answer is judged.
+//! The end of a storm: what is left of it is taken away on CPU 0. And whether an answer is right, of what was asked and answered alone: what is asked
+//! about the driver and the interface found is in `Plan`.
 
-ghost use Rattle.std.specs.Prelude.{◌≡◌, IfErr, IfOk};
+ghost use Rattle.std.specs.Prelude.{◌≡◌, IfErr, IfOk, ◌↔◌, IsTrue, Ok};
 ghost use Rattle.name_registry.specs.Common.{AreAllCpus, IsAuditBy};
-ghost use Rattle.registry_storm.specs.Storms.{GoesOn, IsDriverAlone, IsHeld, IsJudged, held_first};
+ghost use Rattle.registry_storm.specs.{GoesOn, IsDriverAlone, IsHeld, IsJudged, held_first, IsAttachOf, IsTurnOf};
 
 use crate::calls::detach;
 use crate::churn::{Churn, destroy_one};
-use crate::judging::is_driver_alone;
 use crate::plan::Plan;
 use crate::sum::Counts;
 use cpu_words::Domain;
 use name_registry::Registry;
 use passive_list::Cpu;
 use registry_language::RunFault;
-use registry_values::{Balance, Refusal};
+use registry_values::{Balance, Entry, Refusal, Stage};
 use std::alloc::Global;
 use std::sync::Wait;
 
@@ -80,4 +80,50 @@ pub fn close_driver<D: Domain, R: Wait>(
 {
     detach(rt, registry, cpu, plan.driver_entry(), counts).ok();
     destroy_one(rt, registry, cpu, 1, 0, counts);
+}
+
+/// Whether an attach of the interface was answered as it may be: it is attached, or no slot is vacant.
+pub fn is_attach(answer: Result<Entry, Refusal>) -> bool
+    ensures { IsTrue result ↔ IsAttachOf answer }
+{
+    match answer {
+        Ok(_) => true,
+        Err(refusal) => refusal == Refusal::NoSlot,
+    }
+}
+
+/// Whether a detach answered this entry.
+pub fn is_detached(answer: Result<Entry, Refusal>, entry: Entry) -> bool
+    ensures { IsTrue result ↔ (answer ≡ Ok entry) }
+{
+    answer == Ok(entry)
+}
+
+/// Whether a turn of the work on the interface that was retired in the slot was answered as it may be. Nobody refers to it, so it waits for
+/// sections alone.
+pub fn is_turn(answer: Result<Stage, Refusal>, slot: u8) -> bool
+    ensures { IsTrue result ↔ IsTurnOf slot answer }
+{
+    match answer {
+        Ok(Stage::Grace(_)) => true,
+        Ok(Stage::Freed(freed)) => freed == slot,
+        Ok(Stage::Passive(_) | Stage::Local(_)) | Err(_) => false,
+    }
+}
+
+/// Whether a destroy freed this slot.
+pub fn is_destroyed(answer: Result<u8, Refusal>, slot: u8) -> bool
+    ensures { IsTrue result ↔ (answer ≡ Ok slot) }
+{
+    answer == Ok(slot)
+}
+
+/// Whether an audit told of the driver, and of nothing else.
+pub fn is_driver_alone(balances: &[Balance]) -> bool
+    ensures { IsTrue result ↔ IsDriverAlone balances.now }
+{
+    match balances {
+        [balance] => balance.number == 1,
+        _ => false,
+    }
 }

@@ -10,14 +10,12 @@ mod baskets;
 mod calls;
 mod churn;
 mod closing;
-mod gate;
-mod judging;
 mod plan;
 mod storms;
 mod sum;
 mod worker;
 mod workers;
 
-pub use gate::{Gate, OpenGate};
 pub use storms::{StormRun, storm, storm_run};
 pub use sum::{StormDeeds, StormSum};
+pub use worker::{Gate, OpenGate};

@@ -3,7 +3,7 @@
 ghost use Rattle.std.specs.Prelude.{◌≡◌, ◌↔◌, ◌≤◌, IsTrue, [], ◌∷◌, Some, Ok};
 ghost use Rattle.registry_values.specs.declared.limits.TheConstants.{USUAL_CPUS};
 ghost use Rattle.registry_values.specs.Common.{is_key, name_of_bytes};
-ghost use Rattle.registry_storm.specs.Storms.{driver_entry, driver_record, iface_record, IsIfaceOf, settings_of};
+ghost use Rattle.registry_storm.specs.{driver_entry, driver_record, iface_record, IsIfaceOf, settings_of};
 
 use registry_values::{
     Entry, Kind, Name, Record, Refusal, Settings, USUAL_CHANGES, USUAL_COUNT, USUAL_SECTIONS,

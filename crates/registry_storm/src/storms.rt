@@ -2,15 +2,14 @@
 
 ghost use Rattle.std.specs.Prelude.{◌≡◌, ◌+◌, ◌*◌, ◌≤◌, IfOk, IfErr, length, vec_len};
 ghost use Rattle.name_registry.specs.Common.{AreNewCpus, IsBlankOf};
-ghost use Rattle.registry_storm.specs.Storms.{IsOfStorm, IsSumOf, settings_of};
+ghost use Rattle.registry_storm.specs.{IsOfStorm, IsSumOf, settings_of};
 
 use crate::baskets::Baskets;
 use crate::calls::attach_driver;
 use crate::closing::{close_driver, close_ifaces, held_of_driver};
-use crate::gate::Gate;
 use crate::plan::{DRIVER_VALUE, Plan, settings_of};
 use crate::sum::{Counts, StormDeeds, StormSum};
-use crate::worker::{Done, Shared};
+use crate::worker::{Done, Gate, Shared};
 use crate::workers::work_all;
 use cpu_words::Domain;
 use name_registry::{Blank, Registry};

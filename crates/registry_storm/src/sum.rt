@@ -1,7 +1,7 @@
 //! What a storm counts.
 
 ghost use Rattle.std.specs.Prelude.{◌≡◌, ◌+◌, ◌<◌, ◌≤◌, ◌^◌, IsTrue};
-ghost use Rattle.registry_storm.specs.Storms.{IsJudged, AreAdded, AreDeedsAdded, IsAdded};
+ghost use Rattle.registry_storm.specs.{IsJudged, AreAdded, AreDeedsAdded, IsAdded};
 
 /// What all workers of a storm did together.
 #[derive(Clone, Copy, Debug, PartialEq, Eq)]

@@ -1,7 +1,7 @@
 //! A worker: its turns on its own CPU.
 
 ghost use Rattle.std.specs.Prelude.{◌≡◌, ◌≢◌, ◌+◌, ◌*◌, ◌<◌, ◌≤◌, ◌^◌, None};
-ghost use Rattle.registry_storm.specs.Storms.{GoesOn};
+ghost use Rattle.registry_storm.specs.{GoesOn};
 
 use crate::baskets::{Baskets, Laid, give_back};
 use crate::calls::{
@@ -9,7 +9,6 @@ use crate::calls::{
     read_passive, release_passive,
 };
 use crate::churn::Churn;
-use crate::gate::Gate;
 use crate::plan::Plan;
 use crate::sum::{Counts, count};
 use cpu_words::Domain;
@@ -18,6 +17,21 @@ use name_registry::Registry;
 use passive_list::Cpu;
 use passive_ref::Psref;
 use std::sync::Wait;
+
+/// A gate that each worker of a storm passes once a turn, inside its section.
+pub trait Gate {
+    /// Passes the gate: `cpu` is the worker's CPU, from 0, and `turn` its turn, from 0. The worker stays inside its section until this
+    /// returns.
+    fn pass(&self, cpu: u8, turn: u32);
+}
+
+/// A gate that holds nobody.
+#[derive(Clone, Copy, Debug, PartialEq, Eq)]
+pub struct OpenGate;
+
+impl Gate for OpenGate {
+    fn pass(&self, _cpu: u8, _turn: u32) {}
+}
 
 /// What workers share: the registry, the baskets, what is to be done, and the gate.
 #[derive(Drop)]

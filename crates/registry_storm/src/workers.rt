@@ -2,11 +2,10 @@
 
 ghost use Rattle.std.specs.Prelude.{◌≡◌, ◌+◌, ◌*◌, ◌<◌, ◌≤◌, IfOk, IfErr, length, vec_len, All};
 ghost use denote.Param.Send.{IsSync};
-ghost use Rattle.registry_storm.specs.Storms.{IsOfStorm};
+ghost use Rattle.registry_storm.specs.{IsOfStorm};
 
-use crate::gate::Gate;
 use crate::sum::Counts;
-use crate::worker::{Done, Shared};
+use crate::worker::{Done, Gate, Shared};
 use cpu_words::Domain;
 use passive_list::Cpu;
 use registry_language::RunFault;

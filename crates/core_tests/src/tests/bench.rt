@@ -5,6 +5,7 @@
 ghost use Rattle.std.specs.Prelude.{IsTrue};
 ghost use Rattle.registry_values.specs.Common.{is_lawful};
 
+use super::data::{ATTACH_WM, USUAL};
 use super::give::give;
 use passive_core::{Core, CorePsref, Event, Kind, Mark, Name, Record, Refusal, Settings, Stage};
 use std::process::Abort;
@@ -108,4 +109,24 @@ pub(super) fn run(rt: &impl Abort, core: &mut Core, name: &str, lines: &[Line]) 
     for (k, (c, ask, answer)) in lines.iter().enumerate() {
         assert!(rt; give(rt, core, *c, *ask) == *answer, "{name}, line {k}");
     }
+}
+
+/// A core whose CPU 0 has attached the driver wm, and which has made these events since.
+pub(super) fn core_after(rt: &(impl Abort + AllocGlobal), events: &[Event]) -> Result<Core, Fail> {
+    let mut core = Core::new(rt.alloc(), USUAL)?;
+    run(rt, &mut core, "one driver", &[ATTACH_WM]);
+    for event in events {
+        assert!(rt; core.step(*event).is_ok(), "an event that is allowed");
+    }
+    Ok(core)
+}
+
+/// Whether two such cores are the same after these events, and after those.
+pub(super) fn same_after(
+    rt: &(impl Abort + AllocGlobal),
+    these: &[Event],
+    those: &[Event],
+) -> Result<bool, Fail> {
+    let core = core_after(rt, these)?;
+    Ok(core.is_same(&core_after(rt, those)?))
 }

@@ -9,5 +9,4 @@ mod give;
 mod memory_tests;
 mod recall_rows;
 mod try_rows;
-mod twins;
 mod values;

@@ -1,8 +1,7 @@
 //! Worked rows of a slot's live word: the keeper's `Show` and `Hide`, and a CPU's `Recall`. No command makes them.
 
-use super::bench::{Ask, Line, Row, Told, run_rows};
+use super::bench::{Ask, Line, Row, Told, run_rows, same_after};
 use super::data::{A, ATTACH_WM, ENTER, EXIT, FIND_WM, USUAL, VGA, WM};
-use super::twins::same_after;
 use passive_core::{Event, Stage};
 use std::test::Fail;
 

@@ -1,9 +1,8 @@
 //! Worked rows of the three events of a passive reference without a section: `Try`, `Confirm` and `TakeBack`. No command makes them.
 
-use super::bench::{Ask, Line, Row, Told, run_rows};
+use super::bench::{Ask, Line, Row, Told, core_after, run_rows, same_after};
 use super::data::{A, ATTACH_WM, ENTER, EXIT, USUAL, VGA, WM};
 use super::recall_rows::{DETACH_WM, FREED, RECALL, SHOW};
-use super::twins::{core_after, same_after};
 use passive_core::{Counted, Event, Refusal, Reply, Settings, Stage, run_events};
 use std::process::Abort;
 use std::test::Fail;

@@ -11,7 +11,6 @@ mod faults;
 mod full_registry;
 mod memory_tests;
 mod rows;
-mod storm_deeds;
 mod storms;
 mod streams;
 

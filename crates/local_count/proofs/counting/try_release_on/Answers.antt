@@ -5,7 +5,7 @@ use Rattle.passive_list.specs.Types.{Settings}
 use Rattle.passive_list.specs.declared.place.NumberedCount.{NumberedCount}
 use Rattle.passive_list.specs.Common.{OnPlainCpu, OnPlainRef}
 use Rattle.passive_list.proofs.Agreeing.{own_agrees, place_is}
-use Rattle.local_count.specs.References.{net_by}
+use Rattle.local_count.specs.{net_by}
 use Rattle.local_count.proofs.References.{same_agrees, stored_agrees, released_agrees, come_back}
 use Rattle.local_count.proofs.counting.try_release_on.Goals as goal
 

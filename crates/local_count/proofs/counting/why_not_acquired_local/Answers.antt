@@ -5,7 +5,7 @@ use Rattle.registry_values.specs.Common.{why_uncounted, bias}
 use Rattle.passive_list.specs.declared.place.NumberedCount.{NumberedCount}
 use Rattle.passive_list.specs.Common.{OnPlainCpu}
 use Rattle.passive_list.proofs.Agreeing.{found_as, found_none, place_is}
-use Rattle.local_count.specs.References.{net_by, why_not_acquired_local}
+use Rattle.local_count.specs.{net_by, why_not_acquired_local}
 use Rattle.local_count.proofs.References.{nothing_found, why_by_place}
 use Rattle.local_count.proofs.counting.why_not_acquired_local.Goals as goal
 

@@ -4,7 +4,7 @@ use Rattle.std.proofs.lemmas.Int.{ints}
 use Rattle.registry_values.proofs.Fit.{ranges}
 use Rattle.name_registry.specs.Types.{NumberedCount}
 use Rattle.passive_list.specs.Common.{OnPlainCpu, place_at}
-use Rattle.local_count.specs.References.{net_by}
+use Rattle.local_count.specs.{net_by}
 use Rattle.local_count.proofs.References.{net_most}
 use Rattle.name_registry.specs.Common.{net_met}
 use Rattle.name_registry.proofs.Audits.{local_is, net_is}

@@ -4,7 +4,7 @@ use Rattle.passive_list.specs.Common.{OnPlainCpu}
 use Rattle.cpu_words.specs.Common.{references_to}
 use Rattle.cpu_words.proofs.seats.Seating.{step_is_shown}
 use Rattle.passive_list.proofs.Agreeing.{own_agrees}
-use Rattle.passive_ref.specs.Psrefs.{MayRefer}
+use Rattle.passive_ref.specs.{MayRefer}
 use Rattle.passive_ref.proofs.Changing.{added_agrees}
 use Rattle.passive_ref.proofs.acquiring.add.Goals as goal
 

@@ -2,7 +2,7 @@
 use Rattle.std.proofs.Common.{◌∙◌, ◌-◌, ap, arith, inr, set, subst, sym}
 use Rattle.passive_list.specs.declared.place.NumberedCount.{NumberedCount}
 use Rattle.passive_list.specs.Common.{IsOurCpu, OnPlainCpu}
-use Rattle.passive_ref.specs.Psrefs.{IsHeldAt}
+use Rattle.passive_ref.specs.{IsHeldAt}
 use Rattle.cpu_words.proofs.seats.Seating.{step_is_shown}
 use Rattle.passive_list.proofs.Agreeing.{own_agrees, place_is}
 use Rattle.passive_ref.proofs.Changing.{less_agrees, held_counts, within}

@@ -4,7 +4,7 @@ use Rattle.passive_list.specs.Types.{Settings}
 use Rattle.passive_list.specs.declared.place.NumberedCount.{NumberedCount}
 use Rattle.passive_list.specs.Common.{OnPlainCpu}
 use Rattle.passive_list.proofs.Agreeing.{place_is}
-use Rattle.passive_ref.specs.Psrefs.{HasSeen, HasTriedOnSeat, counted_for}
+use Rattle.passive_ref.specs.{HasSeen, HasTriedOnSeat, counted_for}
 use Rattle.passive_ref.proofs.Gets.{given_on, got_on, may_try, taken_agrees, vain_agrees}
 use Rattle.passive_ref.proofs.getting.get_on.Goals as goal
 

@@ -3,7 +3,7 @@ use Rattle.std.proofs.Common.{subst}
 use Rattle.cpu_words.specs.Common.{key_with}
 use Rattle.passive_list.specs.Common.{OnCpu}
 use Rattle.passive_list.proofs.Sharing.{shared, sharing}
-use Rattle.passive_ref.specs.Psrefs.{HasGotByMemory}
+use Rattle.passive_ref.specs.{HasGotByMemory}
 use Rattle.passive_ref.proofs.Gets.{got_by_memory}
 use Rattle.passive_ref.proofs.getting.get_remembered.Goals as goal
 

@@ -3,7 +3,7 @@ use Rattle.std.proofs.Common.{refl, sym, subst}
 use Rattle.protocol.specs.Common.{entry_with}
 use Rattle.cpu_words.specs.Common.{key_with}
 use Rattle.passive_list.specs.Common.{HasSeen as HasSeenOf, OnPlainCpu}
-use Rattle.passive_ref.specs.Psrefs.{HasSeen}
+use Rattle.passive_ref.specs.{HasSeen}
 use Rattle.passive_ref.proofs.Gets.{got_answer}
 use Rattle.passive_ref.proofs.getting.get_seen.Goals as goal
 

@@ -4,7 +4,7 @@ use Rattle.passive_list.specs.declared.place.NumberedCount.{NumberedCount}
 use Rattle.passive_list.specs.Common.{OnPlainCpu}
 use Rattle.passive_list.proofs.Agreeing.{place_is}
 use Rattle.cpu_words.specs.Common.{references_to}
-use Rattle.passive_ref.specs.Psrefs.{MayRefer}
+use Rattle.passive_ref.specs.{MayRefer}
 use Rattle.passive_ref.proofs.Changing.{known_attached, uncounted_here}
 use Rattle.passive_ref.proofs.holding.count_of.Goals as goal
 

@@ -2,7 +2,7 @@
 use Rattle.std.proofs.Common.{◌≡◌, ◌∙◌, ap, sym, subst}
 use Rattle.std.specs.Prelude.{position}
 use Rattle.passive_list.specs.Common.{OnPlainCpu}
-use Rattle.passive_ref.specs.Psrefs.{IsHeldAt, counts_for}
+use Rattle.passive_ref.specs.{IsHeldAt, counts_for}
 use Rattle.cpu_words.specs.Common.{references_to}
 use Rattle.passive_ref.proofs.Changing.{held_here, none_here}
 use Rattle.passive_ref.proofs.holding.slot_of.Goals as goal

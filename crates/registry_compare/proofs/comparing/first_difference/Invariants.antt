@@ -1,5 +1,5 @@
 -- On each script so far the engines came to the same.
-use Rattle.registry_compare.specs.Comparing.{AgreeOn}
+use Rattle.registry_compare.specs.{AgreeOn}
 use Rattle.registry_compare.proofs.comparing.first_difference.Given as goal
 
 abbrev pub invariant-loop-n : goal.invariant-loop-n

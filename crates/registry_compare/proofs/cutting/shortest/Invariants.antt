@@ -1,6 +1,6 @@
 -- What is kept so far is a script on which the engines were seen apart. Each round leaves out a byte at least, or halves the count.
 use Rattle.std.proofs.Common.{◌+◌, length}
-use Rattle.registry_compare.specs.Comparing.{WereApart}
+use Rattle.registry_compare.specs.{WereApart}
 use Rattle.registry_compare.proofs.cutting.shortest.Given as goal
 
 abbrev pub invariant-loop-kept : goal.invariant-loop-kept

@@ -1,6 +1,6 @@
 -- `run_live_on`: its clause `references`.
 use Rattle.std.proofs.Common.{ap, ◌∙◌, rules}
-use Rattle.registry_live.specs.Sessions.{Lent, unlabelled}
+use Rattle.registry_live.specs.{Lent, unlabelled}
 use Rattle.registry_live.proofs.Labelled.{given_back}
 use Rattle.registry_live.proofs.run.run_live_on.Goals as goal
 

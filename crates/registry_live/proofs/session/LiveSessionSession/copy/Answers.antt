@@ -1,6 +1,6 @@
 -- `LiveSessionSession::copy`: its clause `kept`; the invariant of `self`.
 use Rattle.std.proofs.Common.{◌≡◌, ◌<◌, length, get_or, set, subst, sym, Option, None, refl, rules, arith}
-use Rattle.passive_ref.specs.Psrefs.{OnPsref, why_not_copied, why_unusable}
+use Rattle.passive_ref.specs.{OnPsref, why_not_copied, why_unusable}
 use Rattle.passive_list.specs.Common.{OnCpu}
 use Rattle.registry_live.proofs.LiveCpus.{all_with}
 use Rattle.registry_live.proofs.Labelled.{Keeps, copied_free, lent, named_id, takes_label}

@@ -1,6 +1,6 @@
 -- `LiveSessionSession::destroy`: its clauses `kept` and `made`; the invariant of `self`.
 use Rattle.registry_live.proofs.LiveCpus.{all_with, learned_stays, on_one}
-use Rattle.registry_live.specs.Sessions.{DestroysBy}
+use Rattle.registry_live.specs.{DestroysBy}
 use Rattle.std.proofs.Common.{get_or, refl}
 use Rattle.registry_live.proofs.Labelled.{goes_on, lent}
 use Rattle.registry_live.proofs.session.LiveSessionSession.destroy.Goals as goal

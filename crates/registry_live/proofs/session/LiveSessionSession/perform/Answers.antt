@@ -1,6 +1,6 @@
 -- `LiveSessionSession::perform`: its clauses `kept` and `made`; the invariant of `self`.
 use Rattle.registry_live.proofs.LiveCpus.{all_with, learned_stays, on_one}
-use Rattle.registry_live.specs.Sessions.{PerformsBy}
+use Rattle.registry_live.specs.{PerformsBy}
 use Rattle.std.proofs.Common.{get_or, refl}
 use Rattle.registry_live.proofs.Labelled.{goes_on, lent}
 use Rattle.registry_live.proofs.session.LiveSessionSession.perform.Goals as goal

@@ -1,4 +1,4 @@
-use Rattle.registry_storm.specs.Storms.{GoesOn}
+use Rattle.registry_storm.specs.{GoesOn}
 use Rattle.registry_storm.proofs.baskets.Baskets.empty.Given as goal
 
 -- from before the first place on

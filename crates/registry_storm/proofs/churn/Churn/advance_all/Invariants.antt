@@ -1,4 +1,4 @@
-use Rattle.registry_storm.specs.Storms.{GoesOn}
+use Rattle.registry_storm.specs.{GoesOn}
 use Rattle.registry_storm.proofs.churn.Churn.advance_all.Given as goal
 
 -- no lookup is counted, and no wrong answer is taken back

@@ -1,6 +1,6 @@
 use Rattle.std.proofs.Common.{length}
 use Rattle.registry_report.specs.Common.{Written}
-use Rattle.registry_report.proofs.write.write_text.Given as goal
+use Rattle.registry_report.proofs.run.write_text.Given as goal
 
 abbrev pub invariant-loop-rest : goal.invariant-loop-rest
 invariant-loop-rest g l = Written (g.W.Write.contents l.fn.writer) (g.W.Write.contents l.writer) l.fn.text l.rest

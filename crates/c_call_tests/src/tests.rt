@@ -1,10 +1,13 @@
-//! Waits and destroys from C. The contracts of `waiting` say what holds if the last turn of a wait tells no CPU; here it tells none.
+//! Tests of the bodies of C's calls: waits and destroys, whose contracts (`waiting`) say what holds if the last turn of a wait tells no CPU, and here it
+//! tells none; and a local reference.
 
 ghost use Rattle.std.specs.Prelude.{◌≡◌, IsTrue};
 ghost use Rattle.registry_values.specs.Common.{is_key};
 
+use crate::holding::hold;
 use crate::waiting::{hand_over, leave, leave_alone, opened, waited};
 use c_calls::keeper_calls::{advance_for, attach, detach};
+use c_handles::values::plain::{DONE, NOT_COLLECTED};
 use c_handles::{CpuBody, KeeperBody};
 use registry_values::{Kind, Name, Record, Refusal, Stage};
 use std::process::Abort;
@@ -90,4 +93,20 @@ pub(super) fn driver<R: Abort>(rt: &R) -> Record
         },
         Err(fault) => panic!(rt; "{fault}"),
     }
+}
+
+#[test]
+fn a_reference_that_was_not_collected_is_released(rt: HostRuntime) -> Result<(), Fail> {
+    let mut all = opened(rt.alloc())?;
+    let rec = driver(&rt);
+    attach(&mut all.keeper, &mut all.first, rec)?;
+    all.second.enter()?;
+    assert!(rt; all.second.inside());
+    let found = all.second.find(rec.kind, rec.name);
+    assert!(rt; found.is_some());
+    let keeper = Box::new(rt.alloc(), all.keeper)?;
+    let cpu = Box::new(rt.alloc(), all.second)?;
+    let returned = hold(rt.alloc(), keeper, cpu);
+    assert_eq!(rt; returned, [DONE, DONE, NOT_COLLECTED, DONE]);
+    Ok(())
 }

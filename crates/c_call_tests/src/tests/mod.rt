@@ -1,4 +1,0 @@
-//! Tests of the bodies of C's calls.
-
-mod holding;
-mod waits;
