@@ -173,6 +173,8 @@ COPIED = ("Makefile", "c", "netbsd", "explorer", "rust", "packaging", "out", "be
 C_FLAGS = "STRICT=-std=c11 -D_POSIX_C_SOURCE=200809L -w"
 # Without what a debugger needs the same code is the same object, wherever its lines are.
 BARE = "CFLAGS=-O2 -g0"
+# What builds and tests are told; the layer's drivers run as often as in the gate.
+SET = {"CARGO_BUILD_JOBS": "1", "BENCH_RUNS": "40"}
 # What a program may write and take at most. Those with sanitizers reserve more memory than there is.
 MOST_BYTES = 1 << 32
 # A build takes at most so many seconds. On a wrong body a test may take --least and so many times what it took without it.
@@ -292,7 +294,7 @@ class Trial:
 
     def run(self, words, seconds=LONGEST, memory=None):
         """Runs a command, and ends it with all that it started; its status, or None where the time was over, and what it said last."""
-        environment = {it: text for it, text in os.environ.items() if it not in ("CARGO_TARGET_DIR", "REGISTRY_LIB_DIR")} | {"CARGO_BUILD_JOBS": "1"}
+        environment = {it: text for it, text in os.environ.items() if it not in ("CARGO_TARGET_DIR", "REGISTRY_LIB_DIR")} | SET
         limits = ["prlimit", "--core=0", f"--fsize={MOST_BYTES}", *([f"--data={memory}"] if memory else [])]
         with tempfile.TemporaryFile() as said:
             with started([*limits, *words], cwd=self.folder, env=environment, stdout=said, stderr=said) as process:
