@@ -130,9 +130,9 @@
 //! of every list of steps of the protocol: no entry is freed while a section that may have found
 //! it, or a reference, holds it. That a program in mid-run is in a state that such a list leads to
 //! is assumed (docs/GUARANTEES.md of the repository). So is a caller that keeps the rules of
-//! registry.h. This crate uses eight of the calls in C, which are tested, not proved: the text of
-//! an error, the library's version and limits, the comparison of the limits, the two acquires of an
-//! entry that is given, and the two replacements.
+//! registry.h. This crate uses the comparison of the limits and seven of the calls in C, which are
+//! tested, not proved: the text of an error, the library's version and limits, the two acquires of
+//! an entry that is given, and the two replacements.
 //!
 //! This crate isn't proved: it is tested. Some 100 blocks are `unsafe`, half of them in `section.rs`, `shared.rs` and `changes.rs`: for the calls and the texts
 //! that they return; for the way from an entry to the `T`, and to a part of it; and where its own types move what they hold. Each says what makes it sound. A
