@@ -45,7 +45,7 @@ def looks(tree):
         for edit in edits:
             before, misfit = apply(edit, tree)
             restore(before)
-            yield edit, misfit or ("" if edit.has_reason else "it has no reason, a line # below its name")
+            yield edit, misfit or ("" if edit.reason else "it has no reason behind its file")
         names = collections.Counter(it.name for it in edits)
         yield crate, "; ".join(f"two edits are called {name}" for name, count in names.items() if count > 1)
 

@@ -7,8 +7,9 @@
 
 `write` makes NNNN.txt and, by the program's engine `core`, NNNN.report; it says which answers they met, and which they never did. `run` gives each
 script to a program on its standard input, and compares what it prints with the report. `test` writes scripts, compares the reports with those of another
-registry, tools/other_registry.py, and then once more with each of its faults, which some script must find. The last line of both is 'N passed,
-M failed'. The program is crates/registry_run/out/registry_run where it stands, else the same sources, compiled by `rt try` without a proof.
+registry, tools/other_registry.py, and then once more with each of its faults, which some script must find. It also has both engines, `core` and `live`,
+run these scripts, and if the program is built larger ones, and some with a byte changed, which most often is a fault of the script. The last line of both
+is 'N passed, M failed'. The program is crates/registry_run/out/registry_run where it stands, else the same sources, compiled by `rt try` without a proof.
 """
 import argparse
 import collections
@@ -55,17 +56,19 @@ KINDS = ("driver", "iface")
 
 
 class Writer:
-    """Writes one script of these commands. One in eight nests a section too deep."""
+    """Writes one script of these commands. One in eight nests a section too deep. A large one has as many CPUs and slots as there may be."""
 
-    def __init__(self, rng, verbs):
-        self.rng, self.cpus, self.changes = rng, rng.randint(1, 4), 0
+    def __init__(self, rng, verbs, is_large=False):
+        self.rng, self.changes = rng, 0
+        self.cpus, self.slots = (8, 32) if is_large else (rng.randint(1, 4), rng.randint(2, 6))
+        self.names = ["wm", "wm", "vga", "wm0", "wm0"] + [f"wm{place}" for place in range(40 * is_large)]
         self.verbs, self.allowed = [verb for verb, it in COMMANDS.items() if it.weight and verb in verbs], verbs
 
     def cpu(self):
         return str(self.rng.randrange(self.cpus))
 
     def name(self):
-        return self.rng.choice(("wm", "wm", "vga", "wm0", "wm0"))
+        return self.rng.choice(self.names)
 
     def plugged(self):
         return "wm0"
@@ -102,8 +105,8 @@ class Writer:
 
     def head(self):
         rng = self.rng
-        yield f"domain {self.cpus} {rng.randint(2, 6)}"
-        if "limits" in self.allowed and rng.random() < 0.5:
+        yield f"domain {self.cpus} {self.slots}"
+        if "limits" in self.allowed and self.slots < 32 and rng.random() < 0.5:
             yield f"limits {rng.randint(4, 60)} {rng.randint(2, 40)} {rng.randint(1, 4)} {rng.randint(1, 4)}"
         if "enter" in self.allowed and rng.random() < 0.125:
             yield from [f"enter {self.cpus - 1}"] * 256
@@ -117,11 +120,16 @@ class Writer:
         return "\n".join(text) + "\n"
 
 
+def said_by(engine, scripts):
+    """The status of an engine on each script, its report, and what it says of a fault."""
+    if PROGRAM.exists():
+        return [ran([PROGRAM, engine], it) for it in scripts]
+    return list(said_when_tried(engine, {f"s{place}": it for place, it in enumerate(scripts)}))
+
+
 def reports_of(scripts):
     """What the engine `core` prints of each script."""
-    is_built = PROGRAM.exists()
-    said = (ran([PROGRAM, "core"], it) for it in scripts) if is_built else said_when_tried("core", {f"s{place}": it for place, it in enumerate(scripts)})
-    for place, (status, report, error) in enumerate(said):
+    for place, (status, report, error) in enumerate(said_by("core", scripts)):
         if status != 0:
             sys.exit(f"script {place}: status {status}: {error}")
         yield report
@@ -203,15 +211,35 @@ def is_told(folder, fault=None):
     return any(report_of(path.read_text(), fault) != path.with_suffix(".report").read_text() for path in folder.glob("*.txt"))
 
 
+def with_a_byte_changed(script, rng):
+    """The script with another byte in one place."""
+    place = rng.randrange(len(script))
+    return script[:place] + rng.choice(" \t\n#a9{") + script[place + 1 :]
+
+
+def first_apart(scripts):
+    """The first script on which the engines `core` and `live` print or end otherwise, if any."""
+    said = zip(scripts, said_by("core", scripts), said_by("live", scripts))
+    return next((f"{script}\ncore: {by_core}\nlive: {by_live}" for script, by_core, by_live in said if by_core != by_live), None)
+
+
 def test(_):
     options = argparse.Namespace(seed=1, scripts=150, lines=150)
     with tempfile.TemporaryDirectory() as name:
         folder = pathlib.Path(name)
         _, never, strange = write_kit(folder, options, set(COMMANDS))
+        rng, scripts = random.Random(1), [path.read_text() for path in sorted(folder.glob("*.txt"))]
+        changed = [with_a_byte_changed(it, rng) for it in rng.choices(scripts, k=800)]
+        large = [Writer(rng, set(COMMANDS), is_large=True).script(1500) for _ in range(50)]
+        # Without a built program these would take too long.
+        apart = first_apart(scripts + (changed + large if PROGRAM.exists() else []))
         checks = {"the scripts meet each answer": not never and not strange, "another registry has each report": not is_told(folder)}
+        checks["both engines print the same and end alike"] = not apart
         checks.update((f"a fault is found: {fault}", is_told(folder, fault)) for fault in FAULTS)
     for check, passed in checks.items():
         print(f"{'ok     ' if passed else 'FAILED '} {check}")
+    if apart:
+        print(apart)
     passed = sum(checks.values())
     return ended(passed, len(checks) - passed)
 

@@ -141,7 +141,7 @@ def place_in(path, text):
 
 def named_by(edit):
     """The functions that the edit names."""
-    named = re.search(r"^only: (.+)$", edit.text, re.M)
+    named = re.search(r"^    only: (.+)$", edit.text, re.M)
     return named[1].split() if named else []
 
 

@@ -6,24 +6,20 @@ import sys
 
 ROOT = pathlib.Path(__file__).resolve().parent.parent
 GATE, BY_HAND, TESTS = KINDS = ("gate", "by-hand", "tests")
-HEAD = re.compile(rf"({'|'.join(KINDS)}): (\w+) in (\S+)\n((?:# .*\n)*)")
+BLOCK = re.compile(rf"^({'|'.join(KINDS)}) (\w+) in (\S+):(.*)\n((?:    .*\n)*)", re.M)
 Change = collections.namedtuple("Change", "path old new")
 
 
-class Edit(collections.namedtuple("Edit", "crate kind name text")):
-    """An edit; `text` is its reason, the first file that it changes, and its other lines."""
+class Edit(collections.namedtuple("Edit", "crate kind name file reason text")):
+    """An edit: the first file that it changes, why it is wrong, and its other lines."""
 
     def __str__(self):
         return f"{self.crate}/{self.name}"
 
     @property
-    def has_reason(self):
-        return self.text.startswith("# ")
-
-    @property
     def body(self):
         """What it changes, without its reason."""
-        return re.sub(r"^#.*\n?", "", self.text, flags=re.M)
+        return self.file + re.sub(r"^    #.*\n", "", self.text, flags=re.M)
 
 
 CRATES = sorted(it.name for it in (ROOT / "crates").iterdir() if it.is_dir())
@@ -36,11 +32,10 @@ def file_of(crate):
 def edits_of(crate, kind, name=""):
     """The edits of a kind of a crate, in the file's order; or the one that is named."""
     path = file_of(crate)
-    blocks = re.split(r"\n{2,}", path.read_text().strip("\n")) if path.is_file() else []
-    heads = [HEAD.match(it) for it in blocks]
-    if not all(heads):
-        sys.exit(f"{path.relative_to(ROOT)}: a block without its line KIND: NAME in FILE")
-    found = (Edit(crate, head[1], head[2], f"{head[4]}file: {head[3]}\n{it[head.end():]}\n") for it, head in zip(blocks, heads))
+    text = path.read_text() if path.is_file() else ""
+    if strange := BLOCK.sub("", text).strip():
+        sys.exit(f"{path.relative_to(ROOT)}: neither a line KIND NAME in FILE: REASON nor one below it: {strange.splitlines()[0]}")
+    found = (Edit(crate, *block) for block in BLOCK.findall(text))
     return [it for it in found if it.kind == kind and name in ("", it.name)]
 
 
@@ -53,15 +48,14 @@ def chosen(kind, words):
 
 def changes(edit, tree=ROOT):
     """The changes of an edit, in order. It names its files from the top of the tree if it is for the tests, else from its crate's folder."""
-    base, path, old = tree if edit.kind == TESTS else tree / "crates" / edit.crate, None, None
+    base = tree if edit.kind == TESTS else tree / "crates" / edit.crate
+    path = base / edit.file
     for line in edit.text.splitlines():
-        key, _, text = line.partition(": ")
-        if key == "file":
-            path = base / text
-        elif key == "old":
-            old = text
-        elif key.rstrip(":") == "new":
-            yield Change(path, old, text)
+        old, is_change, new = line.removeprefix("    ").partition(" ==>")
+        if is_change:
+            yield Change(path, old, new.removeprefix(" "))
+        elif old.startswith("file: "):
+            path = base / old.removeprefix("file: ")
 
 
 def places(edit):
@@ -83,7 +77,7 @@ def apply(edit, tree):
         if text.count(old) != 1:
             return before, f"stands {text.count(old)} times in {path.relative_to(tree)}: {old}"
         path.write_text(text.replace(old, new))
-    return before, "" if before else "it changes nothing"
+    return before, "" if any(path.read_text() != text for path, text in before.items()) else "it changes nothing"
 
 
 def restore(before):

@@ -67,7 +67,7 @@ BESIDE = {
     "crates/low/src/lib.rt": "low\n",
     "crates/low/specs/Lib.antt": "contract\n",
     "crates/low/proofs/Lib.antt": "proof\n",
-    "crates/low/wrong.edits": "gate: one in src/lib.rt\nold: low\nnew: high\n",
+    "crates/low/wrong.edits": "gate one in src/lib.rt: It is high.\n    low ==> high\n",
     "crates/low/out/rlib/low.rlib/format": "low\n",
     "crates/registry_c/src/lib.rt": "face\n",
     "crates/registry_c/specs/Lib.antt": "\n",

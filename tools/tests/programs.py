@@ -122,17 +122,18 @@ esac
 exit 0
 """
 
-LOOKED = {"crates.txt": "one: std\n", SOURCE: "x + 1\n", EDITS: "gate: more in src/lib.rt\n# It adds nothing.\nold: x + 1\nnew: x\n\n"
-          f"tests: less in {SOURCE}\n# It takes one.\nold: x + 1\nnew: x - 1\n", "bin/rt": RT,
+LOOKED = {"crates.txt": "one: std\n", SOURCE: "x + 1\n", EDITS: "gate more in src/lib.rt: It adds nothing.\n    x + 1 ==> x\n"
+          f"tests less in {SOURCE}: It takes one.\n    x + 1 ==> x - 1\n", "bin/rt": RT,
           "look": "#!/bin/sh\nPATH=$PWD/bin:$PATH exec tools/before-gate.py \"$@\"\n"}
 case("before-gate", ["before-gate.py", "parts.py", "edits.py"], LOOKED, ["./look"], [
     Fault("a file that isn't laid out", "one: formatted src/lib.rt", ((SOURCE, "x + 1", "x + 1 "),)),
     Fault("a file that can't be read", "one: src/lib.rt: it does not parse", ((SOURCE, "x + 1", "x + 1?"),)),
-    Fault("an edit whose look is killed", "one/more: status 1: ['rt: killed']", ((EDITS, "new: x\n", "new: x + 3\n"),), ["./look", "compile", "one"]),
-    Fault("an edit that doesn't fit", "one/more: stands 0 times in crates/one/src/lib.rt", ((EDITS, "old: x + 1\nnew: x\n", "old: x + 2\nnew: x\n"),)),
-    Fault("an edit that doesn't compile", "one/more: src/lib.rt:1:1: error: there is no y", ((EDITS, "new: x\n", "new: y\n"),), ["./look", "compile", "one"]),
-    Fault("an edit without a reason", "one/more: it has no reason", ((EDITS, "# It adds nothing.\n", ""),)),
-    Fault("two edits of one name", "one: two edits are called more", ((EDITS, "tests: less", "tests: more"),)),
+    Fault("an edit whose look is killed", "one/more: status 1: ['rt: killed']", ((EDITS, "==> x\n", "==> x + 3\n"),), ["./look", "compile", "one"]),
+    Fault("an edit that doesn't fit", "one/more: stands 0 times in crates/one/src/lib.rt", ((EDITS, "x + 1 ==> x\n", "x + 2 ==> x\n"),)),
+    Fault("an edit that changes nothing", "one/more: it changes nothing", ((EDITS, "==> x\n", "==> x + 1\n"),)),
+    Fault("an edit that doesn't compile", "one/more: src/lib.rt:1:1: error: there is no y", ((EDITS, "==> x\n", "==> y\n"),), ["./look", "compile", "one"]),
+    Fault("an edit without a reason", "one/more: it has no reason", ((EDITS, " It adds nothing.", ""),)),
+    Fault("two edits of one name", "one: two edits are called more", ((EDITS, "tests less", "tests more"),)),
 ])
 
 if PROVED.is_file():

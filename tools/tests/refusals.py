@@ -83,22 +83,14 @@ esac
 """
 LOW = "crates/low/out/rlib/low.rlib/format"
 EDITS = "crates/one/wrong.edits"
-GATE = """gate: same in src/lib.rt
-# It adds nothing.
-old:     x + 1
-new:     x
-
-gate: two in src/lib.rt
-old:     x + 1
-new:     x + 2
-
-gate: less in src/lib.rt
-old:     x - 1
-new:     x - 2
-
-gate: up in src/lib.rt
-old:         x + 7
-new:         x
+GATE = """gate same in src/lib.rt: It adds nothing.
+        x + 1 ==>     x
+gate two in src/lib.rt: It adds two.
+        x + 1 ==>     x + 2
+gate less in src/lib.rt: It takes two.
+        x - 1 ==>     x - 2
+gate up in src/lib.rt: It adds nothing.
+            x + 7 ==>         x
 """
 TREE = {
     "crates.txt": "low: std\none: low std\n",
@@ -113,20 +105,12 @@ TREE = {
 
 BESIDE_GATE = {
     **TREE,
-    EDITS: """by-hand: nothing in src/lib.rt
-# It adds nothing.
-old:     x + 1
-new:     0
-
-by-hand: heading in src/lib.rt
-# It is of no function.
-old: //! One more.
-new: //! None.
-
-tests: twice in crates/one/src/lib.rt
-# It doubles.
-old:     x + 1
-new:     x + x
+    EDITS: """by-hand nothing in src/lib.rt: It adds nothing.
+        x + 1 ==>     0
+by-hand heading in src/lib.rt: It is of no function.
+    //! One more. ==> //! None.
+tests twice in crates/one/src/lib.rt: It doubles.
+        x + 1 ==>     x + x
 """,
     "try": TREE["try"].replace("try-edits.py gate", "try-edits.py"),
 }
@@ -148,43 +132,43 @@ def after_a_run(name, said, *lines, kind="", before=":"):
     return Fault(name, said, command=["sh", "-c", "\n".join([before, f"./try {kind} >/dev/null || exit 0", *lines, f"exec ./try {kind}"])])
 
 
-PROVED = ((EDITS, "new:     x\n", "new:     x + 1 + 0\n"),)
+PROVED = ((EDITS, "x + 1 ==>     x\n", "x + 1 ==>     x + 1 + 0\n"),)
 WHOLE = "NOT REFUSED: the whole crate still proved"
 TOOLS = ["try-edits.py", "edit_checks.py", "edits.py", "contracts.py", "kit.py", "parts.py"]
 case("try-edits of the gate", TOOLS, TREE, ["./try"], [
     Fault("a wrong body that is proved", "NOT REFUSED: more still proved", PROVED),
     Fault("a wrong body that was proved before", "NOT REFUSED: more still proved", PROVED, ["sh", "-c", "./try >/dev/null; exec ./try"]),
-    Fault("a right body that is tried beside a wrong one", "NOT REFUSED: less still proved", ((EDITS, "new:     x - 2", "new:     x - 1 - 0"),)),
-    Fault("an edit that doesn't fit", "stands 0 times in", ((EDITS, "old:     x + 1\nnew:     x\n", "old:     y\nnew:     x\n"),)),
-    Fault("an edit of no function", "it changes no function", ((EDITS, "old:     x + 1\nnew:     x\n", "old: //! One more.\nnew: //! None.\n"),)),
+    Fault("a right body that is tried beside a wrong one", "NOT REFUSED: less still proved", ((EDITS, "==>     x - 2", "==>     x - 1 - 0"),)),
+    Fault("an edit that doesn't fit", "stands 0 times in", ((EDITS, "x + 1 ==>     x\n", "y ==>     x\n"),)),
+    Fault("an edit of no function", "it changes no function", ((EDITS, "        x + 1 ==>     x\n", "    //! One more. ==> //! None.\n"),)),
     judges("a body that doesn't compile", "NOT TRIED: src/lib.rt:7:5: error", "echo 'src/lib.rt:7:5: error: no such name'"),
     judges("a check that is killed", "NOT TRIED", "kill -KILL $$"),
     judges("a refusal that no goal tells", "refused, only because no proof was found", "true"),
     judges("a proof that names what is gone", "refused only because", "echo 'note: proofs/Lib.antt:1:1: x has no field y'"),
     Fault("functions that aren't proved as they stand", "what its edits change isn't proved as it stands", (("crates/one/src/lib.rt", "    x + 1", "    1 + x"),
-          (EDITS, "old:     x + 1\nnew:     x\n", "old:     1 + x\nnew:     x\n"), (EDITS, "old:     x + 1\nnew:     x + 2", "old:     1 + x\nnew:     x + 2"))),
+          (EDITS, "x + 1 ==>     x\n", "1 + x ==>     x\n"), (EDITS, "x + 1 ==>     x + 2", "1 + x ==>     x + 2"))),
     judges("a hole that isn't taken as a proof", "NOT TRIED", "echo 'note: src/lib.rt:5:15: not proved'; echo './proofs/most/Proof.antt:3:5: error: no such name'"),
     over_holes("an assumed function that isn't taken as it is", "not proved"),
     over_holes("a hole that isn't ours", "depends on a hole in `Rattle.one.proofs.other.Proof.other_spec`"),
     Fault("a hole that is told of no file", "what its edits change isn't proved as it stands", (("kit/bin/rattle", "holes=1", "holes=2"),)),
     Fault("a function that no edit changes, proved again", "what its edits change isn't proved as it stands", (("tools/edit_checks.py", '["loop {}"]', '["let most = 1;"]'),)),
-    Fault("an edit without its name", "wrong.edits: a block without its line KIND: NAME in FILE", ((EDITS, "gate: same in", "gate: in"),)),
-    Fault("no edits", "0 passed, 1 failed", ((EDITS, "gate:", None),)),
+    Fault("an edit without its name", "wrong.edits: neither a line KIND NAME in FILE: REASON nor one below it", ((EDITS, "gate same in", "gate in"),)),
+    Fault("no edits", "0 passed, 1 failed", ((EDITS, "gate", None),)),
     after_a_run("a refusal over another library", "NOT REFUSED", f"echo strong >{LOW}"),
     after_a_run("a refusal by another kit", "NOT REFUSED", "printf '#!/bin/sh\\necho only=1\\n' >kit/bin/rattle; echo other >kit/KIT-ID"),
     after_a_run("a refusal of a tree that was changed meanwhile", "NOT REFUSED", "rm crates/one/specs/More.antt", "printf '#!/bin/sh\\necho only=1\\n' >kit/bin/rattle",
                 before="mkdir crates/one/specs; sed -i '2i >$TOP/crates/one/specs/More.antt' kit/bin/rattle"),
-    after_a_run("a refusal of another body", "NOT REFUSED", f"sed -i 's/^new:     x$/new:     x + 1 + 0/' {EDITS}"),
-    after_a_run("a refusal of an edit that is no longer applied", "NOT REFUSED", "sed -i 's/path.write_text(text.replace(old, new))/pass/' tools/edits.py"),
+    after_a_run("a refusal of another body", "NOT REFUSED", f"sed -i 's/x + 1 ==>     x$/x + 1 ==>     x + 1 + 0/' {EDITS}"),
+    after_a_run("a refusal of an edit that is no longer applied", "it changes nothing", "sed -i 's/path.write_text(text.replace(old, new))/pass/' tools/edits.py"),
 ])
 case("try-edits", TOOLS, BESIDE_GATE, ["./try", "prover"], [
-    *of(EDITS, ("a wrong body by hand that is proved", f"one/nothing: {WHOLE}", "new:     0", "new:     x + 1 - 0"),
-        ("a wrong heading that the crate is proved under", f"one/heading: {WHOLE}", "new: //! None", "new: //! One more than")),
+    *of(EDITS, ("a wrong body by hand that is proved", f"one/nothing: {WHOLE}", "==>     0", "==>     x + 1 - 0"),
+        ("a wrong heading that the crate is proved under", f"one/heading: {WHOLE}", "==> //! None", "==> //! One more than")),
     after_a_run("a refusal by hand over another library", WHOLE, f"echo strong >{LOW}", kind="prover"),
 ])
 case("try-edits by tests", TOOLS, BESIDE_GATE, ["./try", "tests"], [
-    *of(EDITS, ("a wrong body that no test refuses", "NOT REFUSED: all tests pass", "new:     x + x", "new:     x + 1 + 0"),
-        ("an edit for the tests that doesn't fit", "stands 0 times in", "old:     x + 1\nnew:     x + x", "old:     y\nnew:     x + x")),
+    *of(EDITS, ("a wrong body that no test refuses", "NOT REFUSED: all tests pass", "==>     x + x", "==>     x + 1 + 0"),
+        ("an edit for the tests that doesn't fit", "stands 0 times in", "x + 1 ==>     x + x", "y ==>     x + x")),
     *of("bin/rt", ("a run of the tests that is cut off", "NOT TRIED: no test failed: run=no-answer", "test more FAILED", "run=no-answer")),
 ])
 

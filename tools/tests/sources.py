@@ -84,12 +84,12 @@ TABLED = ("crates/protocol/src/event.rt", "crates/protocol/specs/Events.antt", M
 PAGE = "not as tools/event-table.py make writes it"
 EVENT, DEFINITION = "crates/protocol/src/event.rt", "crates/protocol/specs/Events.antt"
 BEGINS = "    /// The CPU begins a section."
-VACATES = "old:     keeper.rows[slot as usize].state = SlotState::Vacant;"
+VACATES = "    keeper.rows[slot as usize].state = SlotState::Vacant; ==>"
 TABLES = ["event-table.py", "contracts.py", "parts.py", "edits.py"]
 case("event-table", TABLES, real(*TABLED), ["tools/event-table.py", "check"], [
     *of(EVENT, ("an event without a step", "Wink: no step makes it", BEGINS, f"    /// It winks.\n    Wink(u8),\n{BEGINS}")),
-    *of(EDITS, ("an edit that is gone", PAGE, "gate: enter_adds_two", "gate: enter_adds_three")),
-    *of("crates/passive_list/wrong.edits", ("a step without an edit", "no edit", VACATES, "old: gone")),
+    *of(EDITS, ("an edit that is gone", PAGE, "gate enter_adds_two", "gate enter_adds_three")),
+    *of("crates/passive_list/wrong.edits", ("a step without an edit", "no edit", VACATES, "    gone ==>")),
     *of(DEFINITION, ("an event without a definition", "no definition", "guard (may_enter s c) (some_outcome (after_enter s c) Done)", "None")),
     *of(MADE, ("an event of which nothing says what it is", "no second lemma", "Made s (Enter c)", "Made s (Exit c)")),
     *of("crates/passive_core/src/machine/run.rt", ("an event that the machine doesn't make", "no method", "self.step_enter(c)", "enter(c)")),
