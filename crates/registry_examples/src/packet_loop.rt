@@ -15,7 +15,7 @@ use name_registry::{Blank, Registry};
 use passive_list::{Cpu, enter, exit, find};
 use passive_ref::{Psref, acquire, read, release};
 use registry_values::{Entry, Kind, Name, Record, Refusal, Settings};
-use std::alloc::Global;
+use std::alloc::{AllocError, Global};
 use std::marker::Brand;
 use std::sync::Wait;
 use std::sync::atomic::AtomicU64;
@@ -87,7 +87,7 @@ fn run_on<D: Domain + Send + Sync, R: Threads + Wait + Sync>(
     requires table { IsBlankOf blank D.table D.settings D.name D.parts }
 {
     let Ok((registry, mut cpus)) = blank.open::<D>(alloc) else {
-        return Err(Failure::Memory);
+        return Err(Failure::Memory(AllocError));
     };
     let Some(mut cpu) = cpus.pop() else {
         return Err(Failure::Wrong("a registry without CPUs"));

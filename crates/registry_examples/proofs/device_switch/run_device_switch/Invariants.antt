@@ -1,9 +1,0 @@
-use Rattle.registry_examples.proofs.device_switch.run_device_switch.Given as goal
-use Rattle.registry_values.specs.declared.limits.TheConstants.{MOST_CPUS}
-
--- the registry that was just made
-abbrev pub ghosts-run_on-D-Domain : goal.ghosts-run_on-D-Domain
-ghosts-run_on-D-Domain g a = record { table = a.blank.table; settings = a.blank.settings }
-
-abbrev pub ghosts-run_on-D-Ledger : goal.ghosts-run_on-D-Ledger
-ghosts-run_on-D-Ledger g a = record { name = a.blank.changes; parts = MOST_CPUS }
