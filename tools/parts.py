@@ -26,8 +26,6 @@ GIGABYTE = 1 << 30
 LAST_LINE = re.compile(r"^(\d+) passed, (\d+) failed\s*\Z", re.MULTILINE)
 # What `rt try --test` prints; other lines follow it.
 TESTS = re.compile(r"^test result: \w+\. (\d+) passed; (\d+) failed;", re.MULTILINE)
-# No count: the status is the one check.
-STATUS = None
 
 Part = collections.namedtuple("Part", "name command count folder memory", defaults=(LAST_LINE, ROOT, GIGABYTE // 4))
 Ended = collections.namedtuple("Ended", "name passed failed clock processor text")
@@ -90,8 +88,6 @@ def guard():
 
 def judged(part, text, status):
     """How many checks passed and failed, by what the part printed and by its status."""
-    if part.count is STATUS:
-        return int(status == 0), int(status != 0)
     counts = part.count.findall(text)
     passed, failed = map(int, counts[-1]) if counts else (0, 0)
     return passed, failed or int(status != 0 or passed == 0)
