@@ -1,4 +1,4 @@
-/* What all contenders share: what a run is asked for, and how its threads are started and timed. */
+/* What all contenders share: what a run is asked for, how its threads are started and timed, and what is printed. */
 #ifndef BENCH_COMMON_H
 #define BENCH_COMMON_H
 
@@ -62,6 +62,11 @@ struct contender {
     operations *walks;
     operations *passives;
     operations *locals;
+    /* Ours alone: a lookup by two calls, and by one; one that finds nothing; and a reference by one call, with its release. */
+    operations *reads;
+    operations *look_ups;
+    operations *misses;
+    operations *gets;
     /* Replaces the newest entry: takes it out of the list, waits until nobody can have it, and puts it in again. */
     void (*replace)(void);
     /* Waits until all open sections have ended. */
@@ -83,18 +88,19 @@ extern const struct contender mutex;
 extern const struct contender dpdk_qsbr;
 extern const struct contender xenium_epoch;
 
-/* Makes the operations in all threads of the plan at once: each makes some that don't count, and begins when all have. It returns the
-   nanoseconds that one takes its thread: the time from the first thread's first operation to the last thread's last, over the operations of
-   one thread. An operation that went wrong ends the program. */
-double nanoseconds_each(const struct contender *contender, operations *make, const struct plan *plan);
+/* Makes what the words ask for, and prints its nanoseconds on one line. Wrong words or a wrong result end the program.
 
-/* Makes the change so many times, while so many readers enter and leave in threads of their own; the rest of the plan's threads, except
-   this one, sleep. It returns the nanoseconds that one took. A wrong answer to a reader ends the program. */
-double nanoseconds_waited(const struct contender *contender, void (*change)(void), const struct plan *plan, unsigned readers);
+       THREADS ENTRIES OPERATIONS                    each operation of the contender
+       wait CPUS READERS ENTRIES COUNT               a replacement and a wait
+       spread CPUS READERS ENTRIES COUNT             percentiles of single lookups and replacements */
+void run_contender(const struct contender *contender, int count, char **words);
+
+/* Prints what a replacement and a wait take, while so many readers enter and leave in threads of their own; the rest of the plan's threads, except
+   this one, sleep. */
+void print_waits(const struct contender *contender, const struct plan *plan, unsigned readers);
 
 /* Prints percentiles 50, 99 and 99.9 of the nanoseconds of single operations. So many readers look the oldest entry up. Meanwhile the newest
-   one is replaced, as often as the plan says. Each time includes what the clock takes, which is printed too. A wrong answer to a reader ends
-   the program. */
+   one is replaced, as often as the plan says. Each time includes what the clock takes, which is printed too. */
 void print_spread(const struct contender *contender, const struct plan *plan, unsigned readers);
 
 /* Nanoseconds from some point on. */

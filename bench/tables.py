@@ -6,44 +6,39 @@
 A line is NAME, pairs of a word and a number that say what was run, and pairs of a word and a time:
 
     NAME threads T entries E OPERATION NANOSECONDS ..                lookups and references
-    NAME cpus C readers R slots S held H WHAT NANOSECONDS ..         replacements of an entry, and waits
-    NAME cpus C readers R slots S clock N WHAT NANOSECONDS ..        percentiles of single lookups and replacements
+    NAME cpus C readers R entries E WHAT NANOSECONDS ..              replacements of an entry, and waits
+    NAME cpus C readers R entries E clock N WHAT NANOSECONDS ..      percentiles of single lookups and replacements
     NAME changes COUNT CALL NANOSECONDS ..                           the calls behind the interlock
 """
 import html
 import math
 import sys
 
-OURS = "registry_bench"
+OURS = "from-C"
 OPERATIONS = "lookup batch walk passive local read look_up absent get".split()
-# An aim: the operation, what is divided by what, and how much it may be at most. `section` is our lookup in a section.
+# An aim: the operation, what is divided by what, and how much it may be at most. `section` is our lookup in a section, from C.
 AIMS = [line.split() for line in """\
-lookup ours/hand-padded 1.25
-lookup ours/hand-pointed 1.15
-batch ours/hand-padded 1.15
-batch ours/hand-pointed 1.15
-batch ours/urcu-memb 1.25
-walk ours/urcu-memb 2.00
-passive ours/hand-padded 1.15
-local ours/hand-padded 1.25
-lookup from-C/ours 1.30
-lookup from-Rust/ours 1.30
-batch from-C/ours 1.30
-batch from-Rust/ours 1.30
-read from-C/ours 1.30
-read from-Rust/ours 1.30
-look_up ours/from-C 0.60
+lookup from-C/hand-padded 1.25
+lookup from-C/hand-pointed 1.15
+batch from-C/hand-padded 1.15
+batch from-C/hand-pointed 1.15
+batch from-C/urcu-memb 1.25
+walk from-C/urcu-memb 2.00
+passive from-C/hand-padded 1.15
+local from-C/hand-padded 1.25
+lookup from-Rust/from-C 1.30
+batch from-Rust/from-C 1.30
+read from-C/section 1.30
+read from-Rust/section 1.30
 look_up from-C/section 1.15
 look_up from-Rust/section 1.15
-get from-C/ours 1.15
-get from-Rust/ours 1.15
-local from-C/ours 1.50""".splitlines()] + [[it, "ours/before", "1.05"] for it in OPERATIONS]
+get from-Rust/from-C 1.15""".splitlines()] + [[it, "from-C/before", "1.05"] for it in OPERATIONS]
 # Each thread of these contenders writes its own cache lines alone. (Those of hand-packed share theirs on purpose.)
 QUIET = ("hand-padded", "hand-pointed", "hand-kept")
 NOISY = 1.3
 PERCENTILES = "clock read_p50 read_p99 read_p999 replace_p50 replace_p99 replace_p999".split()
 LABELS = {
-    OURS: "here, in a section", "remembered": "here, look_up", "changed": "here, from C", "from-C": "here, look_up, C", "from-Rust": "here, look_up, Rust",
+    "from-C": "here, C", "from-Rust": "here, Rust",
     "urcu-memb": "liburcu (default)", "urcu-mb": "liburcu mb", "urcu-qsbr": "liburcu qsbr", "dpdk-qsbr": "DPDK qsbr", "ck_epoch": "ck_epoch",
     "crossbeam-epoch": "crossbeam-epoch", "arc-swap": "arc-swap", "pthread_rwlock": "reader-writer lock", "pthread_mutex": "mutex",
     "hand-packed": "unpadded words",
@@ -65,7 +60,7 @@ def read(lines):
     best = {}
     for name, *words in map(str.split, lines):
         pairs = list(zip(words[::2], words[1::2]))
-        said = {"threads": 2, "cpus": 4, "changes": 1}[words[0]] - ("clock" in words)
+        said = {"threads": 2, "cpus": 3, "changes": 1}[words[0]]
         run = tuple(it if it.isalpha() else int(it) for pair in pairs[:said] for it in pair)
         times = best.setdefault("changes" if run[0] == "changes" else run, {}).setdefault(name, {})
         for what, time in pairs[said:]:
@@ -85,13 +80,10 @@ class Operations:
         self.best = {(run[1], run[3]): of for run, of in best.items() if run[0] == "threads"}
         self.lists = sorted({entries for _, entries in self.best})
         self.threads = sorted({threads for threads, _ in self.best})
-        for of in self.best.values():
-            # A lookup by one call or by two from outside is beside a lookup of ours.
-            of[OURS].update(read=of[OURS]["lookup"], absent=of[OURS]["lookup"])
 
     def row(self, name, operation):
         """The times of a contender, by threads and then by lists."""
-        of = {"ours": (OURS, operation), "section": (OURS, "lookup")}.get(name, (name, operation))
+        of = (OURS, "lookup") if name == "section" else (name, operation)
         return [self.best[threads, entries].get(of[0], {}).get(of[1]) for threads in self.threads for entries in self.lists]
 
     def heading(self, text, width):
@@ -117,8 +109,8 @@ class Operations:
             if None not in pairs[0]:
                 called = ratio.replace("/", " / ").replace("section", "our lookup in a section")
                 self.aim(f"{operation}: {called}", [one / other for one, other in pairs], float(goal))
-        many = [other / ours for other, ours in zip(self.row("pthread_rwlock", "lookup"), self.row("ours", "lookup"))][-len(self.lists):]
-        self.aim(f"lookup: pthread_rwlock / ours, {self.threads[-1]} threads", many, 8 if self.threads[-1] >= 4 else 3, True)
+        many = [other / ours for other, ours in zip(self.row("pthread_rwlock", "lookup"), self.row(OURS, "lookup"))][-len(self.lists):]
+        self.aim(f"lookup: pthread_rwlock / {OURS}, {self.threads[-1]} threads", many, 8 if self.threads[-1] >= 4 else 3, True)
         self.scaling()
 
     def scaled(self, name, operation):
@@ -129,12 +121,12 @@ class Operations:
     def scaling(self):
         """Where the machine itself is slower with more threads, a ratio of times with more and with fewer says nothing of the program."""
         found = [(name, operation, entries, by) for name in QUIET for operation in OPERATIONS for entries, by in zip(self.lists, self.scaled(name, operation))]
-        noises, most, ours = [it for it in found if it[3] > NOISY], self.threads[-1], self.scaled("ours", "lookup")
+        noises, most, ours = [it for it in found if it[3] > NOISY], self.threads[-1], self.scaled(OURS, "lookup")
         if not noises:
-            self.aim(f"lookup: ours, {most} threads / 1 thread", ours, 1.5)
+            self.aim(f"lookup: {OURS}, {most} threads / 1 thread", ours, 1.5)
             print(f"\nNo hand-written contender takes more than {NOISY:.2f} times as long with {most} threads as with 1.")
             return
-        print(f"lookup: ours, {most} threads / 1 thread: not shown: {', '.join(f'{it:.2f}' for it in ours)}")
+        print(f"lookup: {OURS}, {most} threads / 1 thread: not shown: {', '.join(f'{it:.2f}' for it in ours)}")
         print("\nThe machine was not quiet: THIS RUN SHOWS NOTHING OF SCALING. "
               f"With {most} threads these take so many times as long as with 1, and share nothing:")
         for name, operation, entries, by in noises:
@@ -145,45 +137,33 @@ class Waits:
     """Replacements and waits, by CPUs. A star marks more busy threads than processors."""
 
     def __init__(self, best, processors):
-        self.best = {(run[1], run[3] > 0, run[5], run[7]): of for run, of in best.items() if run[0] == "cpus" and run[-2] == "held"}
-        self.counts = sorted({cpus for cpus, _, slots, held in self.best if (slots, held) == (8, 0)})
+        self.best = {(run[1], run[3] > 0): of for run, of in best.items() if run[0] == "cpus"}
         self.processors = processors
 
-    def table(self, title, busy, rows):
-        """Rows of times by CPUs: of each what it is called, the contender, what is timed, and in which unit."""
-        counts = [it for it in self.counts if (it, busy, 8, 0) in self.best]
-        print(f"\n{title}, {'all others read' if busy else 'no reader'}")
+    def table(self, title, busy, what):
+        """A row of microseconds by CPUs for each contender that does this."""
+        counts = sorted(cpus for cpus, reads in self.best if reads == busy)
+        print(f"\n{title} (microseconds), {'all others read' if busy else 'no reader'}")
         print(f"{'CPUs':<16}" + "".join(f"{f'{it}' + '*' * (busy and it > self.processors):>10}" for it in counts))
-        for called, name, what, unit in rows:
-            times = [self.best[it, busy, 8, 0].get(name, {}).get(what) for it in counts]
+        for name in self.best[counts[0], busy]:
+            times = [self.best[it, busy].get(name, {}).get(what) for it in counts]
             if None not in times:
-                print(f"{called:<16}" + "".join(f"{short(it / unit):>10}" for it in times))
+                print(f"{name:<16}" + "".join(f"{short(it / 1000):>10}" for it in times))
         if busy and counts[-1] > self.processors:
             print(f"* more busy threads than the {self.processors} processors: most of such a time is the scheduler's")
 
     def tables(self):
-        names = list(self.best[self.counts[0], False, 8, 0])
         for what, title in (("replace", "replacement of an entry: detach, destroy, attach"), ("perform", "wait until all open sections have ended")):
             for busy in (False, True):
-                self.table(f"{title} (microseconds)", busy, [(name, name, what, 1000) for name in names])
-        parts = [(it, OURS, it, 1 if it == "turns" else 1000) for it in ("detach", "drain", "turns", "attach")]
-        for busy in (False, True):
-            self.table("the parts of a replacement of ours (microseconds; drain: from the detach until the slot is vacant, in so many turns)", busy, parts)
-        self.growth()
-
-    def growth(self):
-        columns = ("replace", "detach", "turn", "drain", "attach")
-        print("\na replacement of ours without readers, by slots and held references (microseconds; turn: one that meets the references)")
-        print("CPUs   slots  held   " + "".join(f"{it:>10}" for it in columns))
-        others = {cpus for cpus, _, slots, _ in self.best if slots != 8}
-        for (cpus, busy, slots, held), of in sorted(self.best.items()):
-            if cpus in others and not busy:
-                print(f"{cpus:<6} {slots:<6} {held:<6} " + "".join(f"{short(of[OURS].get(it, 0) / 1000):>10}" for it in columns))
+                self.table(title, busy, what)
 
 
 def spread_of(best):
-    """The percentiles of each contender, and what was run."""
-    return next((((run[3], run[5]), of) for run, of in best.items() if run[0] == "cpus" and "held" not in run), ((), {}))
+    """What was run of the percentiles, and those of each contender."""
+    for run, of in best.items():
+        if run[0] == "cpus" and (spread := {name: times for name, times in of.items() if "clock" in times}):
+            return (run[3], run[5]), spread
+    return (), {}
 
 
 def print_spread(run, spread):
@@ -194,7 +174,7 @@ def print_spread(run, spread):
 
 
 def print_changes(found):
-    """Nanoseconds of one call; and for the calls from outside how many times ours it is, at most 1.3."""
+    """Nanoseconds of one call, and how many times as many as from C: at most 1.3."""
     print(f"{'one call':<16}" + "".join(f"{it:>21}" for it in found))
     for call, ours in found[OURS].items():
         ratios = [of[call] / ours for of in found.values()]
@@ -221,9 +201,9 @@ def panel(x, y, title, digits, times):
     for mark in (1, 10, 100, 1000, 10000):
         yield f'<line class="grid" x1="{at(x, mark):.1f}" y1="{top}" x2="{at(x, mark):.1f}" y2="{bottom}"/>'
         yield f'<text class="faint" text-anchor="middle" x="{at(x, mark):.1f}" y="{bottom + 14}">{mark if mark < 10000 else "10,000 ns"}</text>'
-    for place, (name, time) in enumerate(sorted(times, key=lambda it: it[1])):
-        middle, kind = top + ROW * (place + 0.5), "ours" if LABELS[name].startswith("here") else "other"
-        yield text(x + 10, middle + 4, "name" if kind == "ours" else "", LABELS[name])
+    for place, (label, time) in enumerate(sorted(times, key=lambda it: it[1])):
+        middle, kind = top + ROW * (place + 0.5), "ours" if label.startswith("here") else "other"
+        yield text(x + 10, middle + 4, "name" if kind == "ours" else "", label)
         yield f'<line class="base" x1="{x + LEFT}" y1="{middle:.1f}" x2="{at(x, time):.1f}" y2="{middle:.1f}"/>'
         yield f'<circle class="{kind}" cx="{at(x, time):.1f}" cy="{middle:.1f}" r="4.5"/>'
         yield text(at(x, time) + 8, middle + 4, "faint", f"{time:.{digits}f}")
@@ -233,16 +213,16 @@ def chart(operations, spread, title):
     """Above a lookup on a list of 8, on one thread and on four. Below, beside three readers, the time that 99 of 100 lookups keep, and the median of a
     replacement. The panel of four threads is left out if hand-kept, whose threads share no line, takes more than 1.3 times as long there."""
     place = operations.lists.index(8)
-    lookups = [(name, operations.row(name, "lookup")) for name in LABELS if not name.startswith("from")]
-    lookups += [(name, operations.row("ours" if name == "remembered" else name, "look_up")) for name in ("remembered", "from-C", "from-Rust")]
-    lookups = [(name, times[place], times[place - len(operations.lists)]) for name, times in lookups if None not in times]
+    lookups = [(label + ", section" * label.startswith("here"), operations.row(name, "lookup")) for name, label in LABELS.items()]
+    lookups += [(f"{LABELS[name]}, look_up", operations.row(name, "look_up")) for name in (OURS, "from-Rust")]
+    lookups = [(label, times[place], times[place - len(operations.lists)]) for label, times in lookups if None not in times]
+    waits = [(LABELS[name], of["read_p99"], of["replace_p50"]) for name, of in spread.items() if name in LABELS]
     is_quiet = operations.scaled("hand-kept", "lookup")[place] <= NOISY
     panels = [
-        ("a lookup, one thread", 1, [(name, one) for name, one, _ in lookups if name != "hand-packed"]),
-        ("a lookup, each of four threads", 1, [(name, most) for name, _, most in lookups] if is_quiet else []),
-        ("99 of 100 lookups beside changes", 0, [(name, of["read_p99"]) for name, of in spread.items() if name in LABELS]),
-        ("a replacement beside three readers, median", 0,
-         [("changed" if it == "from-C" else it, of["replace_p50"]) for it, of in spread.items() if it in LABELS]),
+        ("a lookup, one thread", 1, [(label, one) for label, one, _ in lookups if label != LABELS["hand-packed"]]),
+        ("a lookup, each of four threads", 1, [(label, most) for label, _, most in lookups] if is_quiet else []),
+        ("99 of 100 lookups beside changes", 0, [(label + ", look_up" * label.startswith("here"), read) for label, read, _ in waits]),
+        ("a replacement beside three readers, median", 0, [(label, replace) for label, _, replace in waits]),
     ]
     upper, lower = (60 + ROW * max(len(times) for *_, times in two) for two in (panels[:2], panels[2:]))
     size = f'width="{2 * WIDTH}" height="{62 + upper + lower}"'

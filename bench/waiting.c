@@ -44,12 +44,14 @@ static void keep(struct times *times, double took)
     times->each[times->made++ % times->room] = (float)took;
 }
 
-/* Each lookup is of the oldest entry, which is never replaced. */
+/* Each lookup is of the oldest entry, which is never replaced; by one call where there is one. */
 static void time_each(struct reader *reader)
 {
+    operations *look_up = reader->contender->look_ups != NULL ? reader->contender->look_ups : reader->contender->lookups;
+
     while (!atomic_load(&over)) {
         double began = now();
-        uint64_t right = reader->contender->lookups(reader->number, 1);
+        uint64_t right = look_up(reader->number, 1);
 
         keep(reader->times, now() - began);
         if (right != 1)
@@ -117,7 +119,8 @@ static double timed(void (*change)(void), uint64_t count)
     return (now() - began) / (double)count;
 }
 
-double nanoseconds_waited(const struct contender *contender, void (*change)(void), const struct plan *plan, unsigned readers)
+/* The nanoseconds that one change takes beside the readers. */
+static double nanoseconds_waited(const struct contender *contender, void (*change)(void), const struct plan *plan, unsigned readers)
 {
     struct reader all[MOST_THREADS];
     double each;
@@ -127,6 +130,13 @@ double nanoseconds_waited(const struct contender *contender, void (*change)(void
     each = timed(change, plan->operations);
     stop(all, plan->threads - 1);
     return each;
+}
+
+void print_waits(const struct contender *contender, const struct plan *plan, unsigned readers)
+{
+    printf("cpus %u readers %u entries %u", plan->threads, readers, plan->entries);
+    printf(" replace %.1f", nanoseconds_waited(contender, contender->replace, plan, readers));
+    printf(" perform %.1f\n", nanoseconds_waited(contender, contender->perform, plan, readers));
 }
 
 static struct times room_for(size_t room)
@@ -208,7 +218,7 @@ void print_spread(const struct contender *contender, const struct plan *plan, un
     timed(contender->replace, plan->operations / WARMING + 1);
     time_changes(contender, plan->operations, &changes);
     stop(all, plan->threads - 1);
-    printf("cpus %u readers %u slots %u clock %.0f", plan->threads, readers, plan->entries, clock_takes());
+    printf("cpus %u readers %u entries %u clock %.0f", plan->threads, readers, plan->entries, clock_takes());
     print_percentiles("read", together(times, readers));
     print_percentiles("replace", changes);
     printf("\n");

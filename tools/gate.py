@@ -7,10 +7,9 @@ where nothing failed.
 """
 import sys
 
-from parts import STATUS, Part, gate
+from parts import Part, gate
 
 PROGRAM = "crates/registry_run/out/registry_run"
-BENCH = "crates/registry_bench/out/registry_bench"
 FACE = "tools/test-face.sh --built"
 
 sys.exit(gate(
@@ -39,8 +38,6 @@ sys.exit(gate(
         Part("the bench", f"{FACE} bench"),
         Part("manual page", f"{FACE} page"),
         Part("program", "tools/test-program.py"),
-        # 1,200,000 changes behind the lock, on a registry of the capacity, beside a plain model: no test that is compiled without a proof comes so far.
-        Part("a history beyond the usual range", f"{BENCH} history 600000", STATUS),
         Part("examples", f"tools/run-examples.py --program {PROGRAM}"),
         Part("conformance kit", "tools/conformance.py test"),
         Part("pictures", "tools/picture.py check"),

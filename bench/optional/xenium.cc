@@ -114,8 +114,4 @@ const struct contender xenium_epoch = {
     .lookups = lookups,
     .batches = batches,
     .walks = walks,
-    .passives = nullptr,
-    .locals = nullptr,
-    .replace = nullptr,
-    .perform = nullptr,
 };

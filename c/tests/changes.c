@@ -1,9 +1,8 @@
 /*
  * changes COUNT [CPUS SLOTS] - what each call behind the interlock takes, through registry.h, on one thread, in a registry of so many: by default 2 and 32
  *
- * The calls and their order are those of `registry_bench changes` (see bench/README.md). A lock of the caller's is taken for each call that takes
- * the keeper, as a program with more threads has to. It prints a line as that program does. With CPUS and SLOTS the line also has a lookup and a walk
- * over all entries that stay, an opening with its closing, and the bytes of heap of the registry.
+ * A lock of the caller's is taken for each call that takes the keeper, as a program with more threads has to. With CPUS and SLOTS the line also has a lookup
+ * and a walk over all entries that stay, an opening with its closing, and the bytes of heap of the registry. bench/README.md has what it printed.
  */
 #include <inttypes.h>
 #include <malloc.h>

@@ -5,7 +5,7 @@
  *
  * `lookup` makes three calls, `read` is the same in two (enter with find, and exit), `look_up` in one, of entries that the CPU remembers, and `absent` of
  * names that no entry has; `batch` is a find in an open section, 32 of them between an enter and an exit; `get` gets a reference in one call, and releases it.
- * The operations, the threads and the time are those of bench/: see bench/README.md. It prints a line as the programs there do.
+ * The operations, the threads and the time are those of bench/: see bench/README.md.
  */
 #include <inttypes.h>
 
@@ -203,64 +203,18 @@ static const struct contender FACE = {
 	.walks = walks,
 	.passives = passives,
 	.locals = locals,
+	.reads = reads,
+	.look_ups = lookups_at_once,
+	.misses = misses,
+	.gets = gets,
 	.replace = replace,
 	.perform = perform,
 };
 
-static void print_operations(const struct plan *plan)
-{
-	printf("threads %u entries %u lookup %.2f", plan->threads, plan->entries, nanoseconds_each(&FACE, FACE.lookups, plan));
-	printf(" batch %.2f", nanoseconds_each(&FACE, FACE.batches, plan));
-	printf(" passive %.2f local %.2f", nanoseconds_each(&FACE, FACE.passives, plan), nanoseconds_each(&FACE, FACE.locals, plan));
-	printf(" read %.2f look_up %.2f", nanoseconds_each(&FACE, reads, plan), nanoseconds_each(&FACE, lookups_at_once, plan));
-	printf(" absent %.2f get %.2f", nanoseconds_each(&FACE, misses, plan), nanoseconds_each(&FACE, gets, plan));
-	printf(" walk %.2f\n", nanoseconds_each(&FACE, FACE.walks, plan));
-}
-
-static void print_waits(const struct plan *plan, unsigned readers)
-{
-	printf("cpus %u readers %u slots %u held 0", plan->threads, readers, plan->entries);
-	printf(" replace %.1f", nanoseconds_waited(&FACE, replace, plan, readers));
-	printf(" perform %.1f\n", nanoseconds_waited(&FACE, perform, plan, readers));
-}
-
-/* The number that the word says; 0 if it isn't one from 1 to `most`. */
-static unsigned long long number(const char *word, unsigned long long most)
-{
-	char *rest;
-	unsigned long long value = strtoull(word, &rest, 10);
-	return *word < '0' || *word > '9' || *rest != '\0' || value > most ? 0 : value;
-}
-
-static int usage(void)
-{
-	fprintf(stderr, "usage: speed THREADS ENTRIES OPERATIONS\n       speed wait|spread CPUS READERS ENTRIES COUNT\n");
-	return 2;
-}
-
 int main(int argc, char **argv)
 {
-	bool waits = argc == 6 && strcmp(argv[1], "wait") == 0, spreads = argc == 6 && strcmp(argv[1], "spread") == 0;
-	if (argc != 4 && !waits && !spreads)
-		return usage();
-	const struct plan plan = {
-	    .threads = (unsigned)number(argv[waits || spreads ? 2 : 1], MOST_THREADS),
-	    .entries = (unsigned)number(argv[argc - 2], MOST_ENTRIES),
-	    .operations = number(argv[argc - 1], 1000000000),
-	};
-	unsigned readers = waits || spreads ? (unsigned)number(argv[3], MOST_THREADS) : 0;
-	if (plan.threads == 0 || plan.entries == 0 || plan.operations == 0 || readers >= plan.threads)
-		return usage();
-	struct contender at_once = FACE;
-	at_once.lookups = lookups_at_once;
-	FACE.open(&plan);
-	if (waits)
-		print_waits(&plan, readers);
-	else if (spreads)
-		print_spread(&at_once, &plan, readers);
-	else
-		print_operations(&plan);
-	for (unsigned i = 0; i < plan.threads; i++)
+	run_contender(&FACE, argc - 1, argv + 1);
+	for (unsigned i = 0; &seats[i].cpu <= changer; i++)
 		DONE(registry_close_cpu(&seats[i].cpu));
 	DONE(registry_close_keeper(&keeper));
 	return 0;

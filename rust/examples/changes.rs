@@ -1,7 +1,6 @@
 //! `changes COUNT`: what each call behind the interlock takes, through this crate, on one thread.
 //!
-//! The calls and their order are those of `registry_bench changes`; `bench/README.md` of the repository says what one is. It prints a line as that
-//! program does.
+//! The calls, their order and the line are those of `c/tests/changes.c` of the repository.
 
 use kupaldiz::{Cpu, Freed, Holder, Kind, LocalRef, Name, Patience, Refusal, Refused, Registry, Settings};
 use std::error::Error;

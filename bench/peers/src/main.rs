@@ -59,7 +59,7 @@ fn run_as<C: Contender>(open: fn(usize) -> C, words: &[&str]) -> Result<String, 
             let entries = number(entries, 1, MOST_ENTRIES)?;
             let count = number(count, 1, MOST_COUNT)? as u64;
             let waited = waits(&open(entries), [cpus, readers], entries, count).ok_or("a wrong answer")?;
-            Ok(format!("cpus {cpus} readers {readers} slots {entries} held 0{waited}"))
+            Ok(format!("cpus {cpus} readers {readers} entries {entries}{waited}"))
         }
         _ => Err(USAGE),
     }
