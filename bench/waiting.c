@@ -162,8 +162,8 @@ static void print_percentiles(const char *what, struct times times)
 
     qsort(times.each, count, sizeof(float), compare);
     if (count > 0)
-        printf(" %s_p50 %.0f %s_p99 %.0f %s_p999 %.0f", what, times.each[count / 2], what, times.each[count / 100 * 99], what,
-            times.each[count / 1000 * 999]);
+        printf(" %s_p50 %.0f %s_p99 %.0f %s_p999 %.0f", what, times.each[count / 2], what, times.each[count * 99 / 100], what,
+            times.each[count * 999 / 1000]);
     free(times.each);
 }
 

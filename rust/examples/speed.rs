@@ -1,9 +1,8 @@
 //! `speed THREADS ENTRIES OPERATIONS`: what a lookup and a pair of acquire and release take, through this crate.
 //!
-//! `lookup` reads what the entry found carries, a number in a block of its own; `batch` does so in an open section, 32 times a section. `plain` is
-//! `lookup` without that number: it reads the entry's. `read` is `lookup` by a guard, which is two calls; `look_up` is `plain` by one call; `get` gets a
-//! reference by one call, reads what the entry carries, and releases it. `local` releases each local reference on the CPU, and `dropped` drops it and has the
-//! CPU release it then. The operations are those of `bench/` of the repository, whose README says what one is. It prints a line as the programs there do.
+//! `lookup` reads what the entry found carries, a number in a block of its own; `batch` does so in an open section, 32 times a section. `read` is `lookup`
+//! by a guard, which is two calls; `look_up` is one call, and reads the entry's number; `get` gets a reference by one call, reads what the entry carries, and
+//! releases it. The operations are those of `bench/` of the repository, whose README says what one is. It prints a line as the programs there do.
 
 use kupaldiz::{Cpu, Found, Kind, LocalRef, Name, PassiveRef, Refusal, Registry, Section, Settings};
 use std::error::Error;
@@ -55,29 +54,15 @@ fn on_found(cpu: &Cpu<u64>, name: &Name, count: u64, operate: impl Fn(&Found<u64
 }
 
 /// Each kind of operation, by its name in the line.
-const KINDS: [(&str, Operations); 10] = [
+const KINDS: [(&str, Operations); 8] = [
     ("lookup", |cpu, names, count| each(names, count, |name, value| Ok(finds(&cpu.enter()?, name, value)))),
     ("batch", batches),
     ("passive", |cpu, names, count| on_found(cpu, &names[0], count, |found| Ok(Found::acquire(found).map(PassiveRef::release)?))),
     ("local", |cpu, names, count| on_found(cpu, &names[0], count, |found| Ok(LocalRef::release(Found::acquire_local(found)?, cpu)?))),
-    ("plain", |cpu, names, count| {
-        each(names, count, |name, value| {
-            let section = cpu.enter()?;
-            let found = section.find(Kind::Driver, name);
-            Ok(found.map_or(false, |found| Found::entry(&found).number == value + 1))
-        })
-    }),
     ("walk", |cpu, names, count| each(names, count, |_, _| Ok(cpu.enter()?.entries().count() == names.len()))),
     ("read", |cpu, names, count| each(names, count, |name, value| Ok(*cpu.read(Kind::Driver, name)? == value))),
     ("look_up", |cpu, names, count| each(names, count, |name, value| Ok(cpu.look_up(Kind::Driver, name)?.number == value + 1))),
     ("get", |cpu, names, count| each(names, count, |name, value| Ok(*cpu.get(Kind::Driver, name)? == value))),
-    ("dropped", |cpu, names, count| {
-        on_found(cpu, &names[0], count, |found| {
-            drop(Found::acquire_local(found)?);
-            cpu.release_dropped();
-            Ok(())
-        })
-    }),
 ];
 
 /// The nanoseconds that an operation takes its thread: the time from the first thread's first to the last thread's last, over the operations
