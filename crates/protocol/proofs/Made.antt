@@ -125,7 +125,14 @@ makes_hand : (s : State) (c : ℕ) (h : Hand) → hand_at s c ≡ h
     × Makes s (Confirm c) (Events.confirm s c h) × Makes s (TakeBack c) (Events.take_back s c h)
 makes_hand s c Empty at = (tt, tt, tt, tt, tt)
 makes_hand s c (Taking n) at = (Splits c n at, tt, tt, tt, tt)
-makes_hand s c (Giving n id) at = (tt, on_value s (CountDown c) (slot_of s.slots n) _ (λ t of. on_either s (CountDown c) (count_at s.counts c t == count_at s.nets c t) _ _ (λ same. CountsDown c n id t at of same) (FindsCollected c n id at)), tt, tt, tt)
+makes_hand s c (Giving n id) at = (
+  tt,
+  on_value s (CountDown c) (slot_of s.slots n) _ (λ t of.
+      on_either s (CountDown c) (count_at s.counts c t == count_at s.nets c t) _ _ (λ same. CountsDown c n id t at of same) (FindsCollected c n id at)),
+  tt,
+  tt,
+  tt,
+)
 makes_hand s c (Back n id) at = (tt, tt, SplitsBack c n id at, tt, tt)
 makes_hand s c (Trying t n) at = (tt, tt, tt, on_test s (Confirm c) _ _ _ (λ may. ConfirmsTry c t n at may), TakesBack c t n at)
 

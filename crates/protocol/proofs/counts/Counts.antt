@@ -1,6 +1,6 @@
 -- Each event keeps the balance of all slots.
 use Rattle.std.proofs.Common.{◌≡◌, ℕ, ◌+◌, ◌-◌, ◌<◌, ◌≤◌, ◌⊎◌, inl, inr, List, [], length, get_or, set, replicate, Option, Some, None, Bool, true, false, IsTrue, cond, nat_lt, ◌==◌, refl, sym, ap, subst, ◌∙◌, arith, sum_by, length-set}
-use Rattle.std.proofs.lemmas.Bool.{cases_eq, cases_lt, cases_Bool, eq-eqb, ne_eqb}
+use Rattle.std.proofs.lemmas.Bool.{cond_both, cases_eq, cases_lt, cases_Bool, eq-eqb, ne_eqb}
 use Rattle.std.proofs.lemmas.List.{get_or-replicate, get_or_past, length-replicate}
 use Rattle.protocol.specs.Types.{Entry, Settings, MOST_CPUS, Slot, Vacant, Live, Retired, Mark}
 use Rattle.protocol.specs.Common.{Hand, Empty, Taking, Giving, Back, LocalPlace, Free, Standing, Lifted, Due, Rest, Snapshots, Adding, Subtracting, State, with_cell, mark_at, count_at, total_at, kept_at, local_at, least_id, with_local, IsIn, AreRows, HasShape, Balances, IsCounting, CountsHold, one_if, standing_of, in_hand, kept_of, subtraction_due_at, addition_due_at, is_adding_at, held_at, greatest_limit}
@@ -172,11 +172,9 @@ module _ {z : Settings} {slots : List Slot} {marks : List (List Mark)} {counts n
   pub snapshot : (c t : ℕ) (m : Mark) → due ≡ Snapshots t c → m.collected ≡ false
       → CountsHold z slots (with_cell marks t c m) counts nets totals hands keeps (cond (nat_lt (c + 1) z.cpus) (Snapshots t (c + 1)) Rest) locals
   snapshot c t m was open_ =
-      snapshots_go_on (one_marked on c t m (open_ ∙ sym (on.fresh c t c was))) t c (cond (nat_lt (c + 1) z.cpus) (Snapshots t (c + 1)) Rest) was (next (nat_lt (c + 1) z.cpus))
-    where
-      next : (b : Bool) → (cond b (Snapshots t (c + 1)) Rest ≡ Rest) ⊎ ((d : ℕ) × (cond b (Snapshots t (c + 1)) Rest ≡ Snapshots t d))
-      next true = inr (c + 1, refl)
-      next false = inl refl
+      snapshots_go_on (one_marked on c t m (open_ ∙ sym (on.fresh c t c was))) t c (cond (nat_lt (c + 1) z.cpus) (Snapshots t (c + 1)) Rest) was
+      (cond_both (nat_lt (c + 1) z.cpus) (Snapshots t (c + 1)) Rest (λ next. (next ≡ Rest) ⊎ ((d : ℕ) × (next ≡ Snapshots t d)))
+      (λ (_ : nat_lt (c + 1) z.cpus ≡ true). inr (c + 1, refl)) (λ (_ : nat_lt (c + 1) z.cpus ≡ false). inl refl))
 
 -- and those that do
 
@@ -284,7 +282,8 @@ module _ {z : Settings} {slots : List Slot} {marks : List (List Mark)} {counts n
       recounted c t (count_at counts c t - 1) (count_at nets c t - 1) e (set hands c Empty) (set locals id Free) lt is counting (omega (arith, was.0)) (omega (arith, far))
       (omega (arith, on.limited c t e is))
       (counted_down (get_or counts t []) _ _ _ _ c (count_at counts c t) (omega (arith, cs.1, lt, fit.cpu_limit)) refl far (moved (on.balance t e is) refl refl (sym changed) refl refl))
-      (λ u f off in_. omega (arith, hand_changed f.number hands c (Giving n id) Empty hl hand, local_changed f.number locals id (Lifted c) Free ll at, none_at n f.number (λ here. off (one u f in_ (sym here)))))
+      (λ u f off in_.
+      omega (arith, hand_changed f.number hands c (Giving n id) Empty hl hand, local_changed f.number locals id (Lifted c) Free ll at, none_at n f.number (λ here. off (one u f in_ (sym here)))))
 
   -- a word is swapped for 0
   pub collect : (c t : ℕ) (e : Entry) → c < z.cpus → due ≡ Rest → slot_at slots t ≡ Retired e → (mark_at marks t c).collected ≡ false

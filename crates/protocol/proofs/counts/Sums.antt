@@ -206,43 +206,24 @@ standing_counts n locals id at = counted (standing_of n) Free locals id (λ free
 pub none_standing : (n : ℕ) (locals : List LocalPlace) → sum_by (standing_of n) locals ≡ 0 → (id : ℕ) → local_at locals id ≡ Standing n → ⊥
 none_standing n locals sum id at = let one = standing_counts n locals id at in omega (arith, one, sum)
 
-pub standing_not : (n : ℕ) (p : LocalPlace) → (p ≡ Standing n → ⊥) → standing_of n p ≡ 0
-standing_not n p off = grind (arith, one_other)
-
 pub no_standing : (n : ℕ) (locals : List LocalPlace) → ((id : ℕ) → local_at locals id ≡ Standing n → ⊥) → sum_by (standing_of n) locals ≡ 0
-no_standing n locals none = uncounted (standing_of n) Free locals (λ id. standing_not n (local_at locals id) (none id))
+no_standing n locals none = uncounted (standing_of n) Free locals (λ id. grind (arith, one_other, none id))
 
 -- Hands
 
-hand_one : (n : ℕ) (h : Hand) → number_of h ≡ Some n → in_hand n h ≡ 1
-hand_one n h named = grind (arith, one_self)
-
-hand_not : (n : ℕ) (h : Hand) → (number_of h ≡ Some n → ⊥) → in_hand n h ≡ 0
-hand_not n h off = grind (arith, one_other)
-
-pub hand_counts : (n : ℕ) (hands : List Hand) (c : ℕ) → number_of (get_or hands c Empty) ≡ Some n → 1 ≤ sum_by (in_hand n) hands
-hand_counts n hands c named = grind (arith, counted, hand_one)
-
 pub none_in_hand : (n : ℕ) (hands : List Hand) → sum_by (in_hand n) hands ≡ 0 → (c : ℕ) → number_of (get_or hands c Empty) ≡ Some n → ⊥
-none_in_hand n hands sum c named = let one = hand_counts n hands c named in omega (arith, one, sum)
+none_in_hand n hands sum c named = grind (arith, counted (in_hand n) Empty hands c, one_self)
 
 pub no_hand : (n : ℕ) (hands : List Hand) → ((c : ℕ) → number_of (get_or hands c Empty) ≡ Some n → ⊥) → sum_by (in_hand n) hands ≡ 0
-no_hand n hands none = uncounted (in_hand n) Empty hands (λ c. hand_not n (get_or hands c Empty) (none c))
+no_hand n hands none = uncounted (in_hand n) Empty hands (λ c. grind (arith, one_other, none c))
 
 -- Kept ones
 
-pub kept_not : (n : ℕ) (k : Option ℕ) → (k ≡ Some n → ⊥) → kept_of n k ≡ 0
-kept_not n k off = grind (arith, one_other)
-
--- a kept driver is held
-pub drivers_stay : (keeps : List (Option ℕ)) (t d : ℕ) → kept_at keeps t ≡ Some d → 1 ≤ sum_by (kept_of d) keeps
-drivers_stay keeps t d at = counted (kept_of d) None keeps t (λ none. let q : ◌≡◌ {A = Option ℕ} (Some d) None = sym at ∙ none in cc) (ap (kept_of d) at ∙ one_self d d refl)
-
 pub none_kept : (n : ℕ) (keeps : List (Option ℕ)) → sum_by (kept_of n) keeps ≡ 0 → (t : ℕ) → kept_at keeps t ≡ Some n → ⊥
-none_kept n keeps sum t at = let one = drivers_stay keeps t n at in omega (arith, one, sum)
+none_kept n keeps sum t at = grind (arith, counted (kept_of n) None keeps t, one_self)
 
 pub no_kept : (n : ℕ) (keeps : List (Option ℕ)) → ((t : ℕ) → kept_at keeps t ≡ Some n → ⊥) → sum_by (kept_of n) keeps ≡ 0
-no_kept n keeps none = uncounted (kept_of n) None keeps (λ t. kept_not n (kept_at keeps t) (none t))
+no_kept n keeps none = uncounted (kept_of n) None keeps (λ t. grind (arith, one_other, none t))
 
 -- All together
 
@@ -267,14 +248,9 @@ pub unoccupied : (cpus : ℕ) (slots : List Slot) (hands : List Hand) (keeps : L
     → ReferencesHold cpus slots hands due locals → DriversKept slots keeps → Unreferred locals hands keeps n
 unoccupied cpus slots hands keeps due locals n off refer kept = grind (arith, hand_occupied)
 
--- a fresh number is held nowhere
-pub fresh_held : (cpus : ℕ) (slots : List Slot) (hands : List Hand) (keeps : List (Option ℕ)) (due : Due) (locals : List LocalPlace) (n t : ℕ) → (Occupies slots n → ⊥) → (due ≡ Subtracting t → ⊥)
-    → ReferencesHold cpus slots hands due locals → DriversKept slots keeps → held_at locals hands keeps due n t ≡ 0
-fresh_held cpus slots hands keeps due locals n t off rest refer kept = nothing_held locals hands keeps due n t rest (unoccupied cpus slots hands keeps due locals n off refer kept)
-
 -- the number that the next publishing gives is held nowhere
 pub published_held : (h : List Change) (cpus : ℕ) (slots : List Slot) (hands : List Hand) (keeps : List (Option ℕ)) (due : Due) (locals : List LocalPlace) (n t : ℕ) → SlotsShow h slots → length h < n
     → due ≡ Rest
     → ReferencesHold cpus slots hands due locals → DriversKept slots keeps → held_at locals hands keeps due n t ≡ 0
 published_held h cpus slots hands keeps due locals n t show above rest refer kept =
-    fresh_held cpus slots hands keeps due locals n t (fresh_unoccupied h slots n show above) (λ is. let q : Rest ≡ Subtracting t = sym rest ∙ is in cc) refer kept
+    nothing_held locals hands keeps due n t (λ is. let q : Rest ≡ Subtracting t = sym rest ∙ is in cc) (unoccupied cpus slots hands keeps due locals n (fresh_unoccupied h slots n show above) refer kept)

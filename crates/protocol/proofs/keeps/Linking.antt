@@ -89,7 +89,9 @@ list_attach h slots head next e legal lt number link show list =
 pub held_attach : (h : List Change) (slots : List Slot) (begins : List (Option ℕ)) (e : Entry) → e.slot < length slots → slot_at slots e.slot ≡ Vacant → e.number ≡ suc (length h)
     → HeldStay h slots begins → HeldStay (after_change h (Attach e)) (set slots e.slot (Live e)) begins
 held_attach h slots begins e lt vacant number held c b f is hold =
-    grind (arith, cases_lt f.number (suc (length h)), held c b f is, hold_was h (Attach e) b f hold, slot_cases slots e.slot (Live e) f.slot lt, at_within (after_change h (Attach e)) f.number (Attach f) hold.attached, one_entry (after_change h (Attach e)) f e, at_new h (Attach e), length-after_change h (Attach e))
+    let placed = slot_cases slots e.slot (Live e) f.slot lt in
+    let top = at_within (after_change h (Attach e)) f.number (Attach f) hold.attached in
+    grind (arith, cases_lt f.number (suc (length h)), held c b f is, hold_was h (Attach e) b f hold, placed, top, one_entry (after_change h (Attach e)) f e, at_new h (Attach e), length-after_change h (Attach e))
 
 -- what is retired after the publishing was so before
 pub retired_before : (slots : List Slot) (e : Entry) (u : ℕ) (f : Entry) → e.slot < length slots → slot_at (set slots e.slot (Live e)) u ≡ Retired f → slot_at slots u ≡ Retired f
@@ -105,16 +107,13 @@ marks_attach h slots marks section begins e lt m = grind (arith, retired_before,
 
 -- An entry is unlinked, in the middle of the list or at its head.
 
-no_attach : (f : Entry) (n : ℕ) → Attach f ≡ Detach n → ⊥
-no_attach f n is = cc
-
 -- an attach is an older one
 pub attached_before : (h : List Change) (n : ℕ) (f : Entry) → IsAttached (after_change h (Detach n)) f → (f.number ≤ length h) × IsAttached h f
-attached_before h n f x = either (at_cases h (Detach n) f.number (Attach f) x) (λ old. (old.old, old.was)) (λ new. absurd (no_attach f n new.is))
+attached_before h n f x = either (at_cases h (Detach n) f.number (Attach f) x) (λ old. (old.old, old.was)) (λ new. absurd (let q : Attach f ≡ Detach n = new.is in cc))
 
 pub legal_detach : (h : List Change) (e : Entry) → IsLegal h → IsLiveAt h (length h) e → IsLegal (after_change h (Detach e.number))
 legal_detach h e legal live = record {
-  numbered = grind (arith, at_cases, no_attach);
+  numbered = grind (arith, at_cases);
   new_key = λ k f g x lg same. grind (arith, at_cases h (Detach e.number) (suc k) (Attach f) x, legal.new_key k f g, live_was h (Detach e.number) k g);
   new_slot = λ k f g x lg same. grind (arith, at_cases h (Detach e.number) (suc k) (Attach f) x, legal.new_slot k f g, live_was h (Detach e.number) k g);
   ends_live = λ k n x. either (at_cases h (Detach e.number) (suc k) (Detach n) x)
@@ -300,7 +299,8 @@ list_unlink_head h slots head next e at show is list =
     let top = link_to h slots e (suc (length h)) head show at is list.first in
     record {
       first = grind (arith, leads_over);
-      links = λ u f live. grind (arith, live_before slots e f u lt live, show.live u f, link_to h slots e f.number (get_or next u 0) show at, list.links u f, top.1 f, leads_past h e f.number (get_or next u 0) le, size);
+      links = λ u f live.
+          grind (arith, live_before slots e f u lt live, show.live u f, link_to h slots e f.number (get_or next u 0) show at, list.links u f, top.1 f, leads_past h e f.number (get_or next u 0) le, size);
     }
 
 -- The list without e: the link of the live entry before it was written.

@@ -1,6 +1,6 @@
 -- The keeper's events on the list keep the invariant: stores to a vacant slot, Publish and Unpublish.
 use Rattle.std.proofs.Common.{Bool, List, None, Option, Some, [], ap, arith, false, get_or, get_or-set_other, get_or-set_same, inl, inr, length, length-set, ltb-true, not, refl, replicate, set, subst, suc, sym, true, ℕ, ◌+◌, ◌<◌, ◌∙◌, ◌≡◌, ◌≢◌, ◌≤◌}
-use Rattle.std.proofs.lemmas.Bool.{and_from, and_parts, cases_eq, eq-eqb, eqb-true, leb-true}
+use Rattle.std.proofs.lemmas.Bool.{and_parts, cases_eq, eq-eqb, eqb-true, leb-true}
 use Rattle.std.proofs.lemmas.List.{set_past}
 use Rattle.std.proofs.lemmas.List.Folds.{list_any_at}
 use Rattle.std.proofs.lemmas.List.Sums.{sum_by-set}
@@ -9,9 +9,9 @@ use Rattle.std.specs.Prelude.{if◌then◌else◌}
 use Rattle.protocol.proofs.History.{found_old, searches_old, sections_old, length-after_change}
 use Rattle.protocol.proofs.keeps.Marking.{marks_detach, snapshots_detach, passive_attach, passive_detach}
 use Rattle.protocol.proofs.keeps.Linking.{held_attach, legal_attach, links_attach, list_attach, marks_attach, rows_attach, slots_attach, before_leads, head_leads, head_leads_on, held_detach, legal_detach, link_to, links_detach, list_unlink_head, list_unlink_mid, rows_detach, slots_detach, within_live, retired_before}
-use Rattle.protocol.specs.Common.{after_link_store, after_publish, after_row_store, after_unpublish, are_unused, entry_of, keeps_rightly, kind_of, may_publish, may_write, with_retired, with_link_past, with_word, words_of, after_change, AreRows, CountsHold, DriversKept, HasShape, Holds, IsIn, Leads, LinksStay, ListShows, ReferencesHold, RowsShow, SnapshotsStand, one_if, at_rest, State, kept_at, no_words, row_at, with_cell, Rest, RecordWords}
-use Rattle.protocol.specs.Types.{MOST_CPUS, Attach, Detach, Entry, Kind, Key, Slot, Live, Retired, Vacant}
-use Rattle.registry_values.specs.Common.{key_of, is_live, is_taken, kind_word, live_count, same_key, same_kind, slot_before, slot_at, bias, no_mark}
+use Rattle.protocol.specs.Common.{after_link_store, after_publish, after_row_store, after_unpublish, are_unused, entry_of, keeps_rightly, may_publish, may_write, with_retired, with_link_past, with_word, words_of, after_change, AreRows, CountsHold, DriversKept, HasShape, Holds, IsIn, Leads, LinksStay, ListShows, ReferencesHold, RowsShow, SnapshotsStand, one_if, at_rest, State, kept_at, no_words, row_at, with_cell, Rest, RecordWords}
+use Rattle.protocol.specs.Types.{MOST_CPUS, Attach, Detach, Entry, Key, Slot, Live, Retired, Vacant}
+use Rattle.registry_values.specs.Common.{key_of, is_live, is_taken, live_count, same_key, slot_before, slot_at, bias, no_mark}
 use Rattle.registry_values.specs.Names.{are_key_words}
 use Rattle.protocol.proofs.Occupied.{not_vacant, is_vacant_tells, at_rest_tells}
 use Rattle.protocol.proofs.Either.{either}
@@ -48,11 +48,8 @@ pub record IsPublishable (s : State) (t : ℕ) (e : Entry) : Type 0 where
 pub may_publish_tells : (s : State) (t : ℕ) (e : Entry) → HasShape s → may_publish s t e ≡ true → IsPublishable s t e
 may_publish_tells s t e shape may = grind (arith, and_parts, may_write_tells, eqb-true, false_from, leb-true)
 
-same_kind_own : (k : Kind) → same_kind k k ≡ true
-same_kind_own k = grind arith
-
 same_key_own : (k : Key) → same_key k k ≡ true
-same_key_own k = grind (arith, and_from, same_kind_own, eq-eqb)
+same_key_own k = grind (arith, eq-eqb)
 
 -- a live entry with the key shows that it is taken
 pub taken_from : (key : Key) (slots : List Slot) (t : ℕ) (f : Entry) → slot_at slots t ≡ Live f → key_of f ≡ key → is_taken key slots ≡ true
@@ -100,15 +97,9 @@ link_store_keeps s t v on may =
     λ u p c b f is ends in_ low. subst (Leads s.history p f.number) (sym (same u f (inr is))) (on.frozen_links u p c b f is ends in_ low) in
     assumption (length-set s.next t v ∙ on.shape.links)
 
-kind_from : (w : ℕ) (k : Kind) → kind_of w ≡ Some k → w ≡ kind_word k
-kind_from w k is = grind (arith, same_Some, none-some)
-
-some_if : {X : Type 0} (b : Bool) (x y : X) → (if b then Some x else None) ≡ Some y → (b ≡ true) × (x ≡ y)
-some_if b x y is = grind (arith, same_Some, none-some)
-
 -- the words of a row are its entry's
 pub entry_shows : (t : ℕ) (r : RecordWords) (e : Entry) → entry_of t r ≡ Some e → (e.slot ≡ t) × (r ≡ words_of e) × (are_key_words e.rec.name.high e.rec.name.low ≡ true)
-entry_shows t r e is = grind (arith, none-some, some_if, kind_from)
+entry_shows t r e is = grind (arith, none-some, same_Some)
 
 -- an entry is published in its own slot
 publish_own : (s : State) (e : Entry) → Holds s → row_at s.rows e.slot ≡ words_of e → are_key_words e.rec.name.high e.rec.name.low ≡ true → may_publish s e.slot e ≡ true

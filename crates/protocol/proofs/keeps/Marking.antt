@@ -14,9 +14,6 @@ use Rattle.protocol.proofs.Either.{either}
 use Rattle.protocol.proofs.History.{one_entry}
 use Rattle.protocol.proofs.counts.Sums.{none_at, one_at}
 
-snapshot_was : (x y : Mark) (w : ℕ) → x ≡ y → x.snapshot ≡ Some w → y.snapshot ≡ Some w
-snapshot_was x y w same is = sym (ap (λ (m : Mark). m.snapshot) same) ∙ is
-
 -- a fresh row of marks
 pub marks_detach : (h : List Change) (slots : List Slot) (marks : List (List Mark)) (section : List ℕ) (begins : List (Option ℕ)) (e : Entry) (n : ℕ) → slot_at slots e.slot ≡ Live e
     → length marks ≡ length slots → SlotsShow h slots
@@ -33,8 +30,8 @@ marks_detach h slots marks section begins e n at size show m =
     record {
       passed = grind (arith, gone_before, end_before);
       changed = λ u p c b w f is ends in_ snap differs. grind (arith, gone_before slots e f u lt is, end_before h slots e f u p show le, m.changed u p c b w f, fresh u c, kept u c);
-      older = grind (arith, gone_before, snapshot_was);
-      left = grind (arith, gone_before, snapshot_was);
+      older = grind (arith, gone_before);
+      left = grind (arith, gone_before);
     }
 
 -- A mark is written that says no more than is so.

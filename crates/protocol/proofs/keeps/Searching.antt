@@ -3,7 +3,7 @@ use Rattle.std.proofs.Common.{◌≡◌, ℕ, zero, suc, ◌+◌, ◌*◌, ◌<�
 use Rattle.std.proofs.lemmas.Option.{same_Some, none-some}
 use Rattle.std.proofs.lemmas.List.{get_or_past}
 use Rattle.std.proofs.lemmas.Bool.{cases_lt, cases_eq, and_parts}
-use Rattle.protocol.specs.Types.{Kind, Entry, Change, Attach, Detach, Key}
+use Rattle.protocol.specs.Types.{Entry, Change, Attach, Detach, Key}
 use Rattle.protocol.specs.Common.{Reply, Done, Word, Found, Missed, Ref, Collected, RecordWords, Loaded, SearchPlace, AtHead, AtNext, AtNumber, AtKind, AtHigh, AtLow, AtValue, Search, EndsAt, MayHold, IsLookup, IsLawful, State, row_at, seen_at, search_at, begin_at, Outcome, after_seeing, with_search_at, with_some, link_at, link_loaded, load_link, load_searched, outcome_of, words_of, SlotWithin, entry_with, loaded_at, loaded_of_name, row_of_place, IsIn, SearchHolds, SearchesHold, FoundHold, StandsOn, AllBelow, PlaceHolds, Holds}
 use Rattle.registry_values.specs.Common.{are_words_of, key_of, slot_at, kind_word}
 use Rattle.protocol.proofs.History.{at_within, one_entry, Ahead, No_more, One_more, step_ahead, all_below_later, found_lawful, missed_lawful, find_exact}
@@ -183,11 +183,8 @@ load_link_steps s c from q (AtNext t) on walk is p =
 load_link_steps s c from q _ on walk is p = tt
 
 -- Words and keys.
-kind_from_word : (a b : Kind) → kind_word a ≡ kind_word b → a ≡ b
-kind_from_word a b is = grind arith
-
 pub key_from_words : (key : Key) (e : Entry) → are_words_of key (kind_word e.rec.kind) e.rec.name.high e.rec.name.low ≡ true → key ≡ key_of e
-key_from_words key e holds = grind (arith, and_parts, kind_from_word, eqb-true)
+key_from_words key e holds = grind (arith, and_parts, eqb-true)
 
 pub key_to_words : (key : Key) → are_words_of key (kind_word key.kind) key.name.high key.name.low ≡ true
 key_to_words key = grind arith
@@ -281,11 +278,8 @@ Sees s c (Some o) = (o.state.history ≡ s.history) × (seen_at o.state c ≡ le
 find_steps : (s : State) (c : ℕ) (q : Search) (n : ℕ) (o : Option Outcome) → Sees s c o → Steps c (length s.history) q n o → FindSteps c q n o
 find_steps s c q n o sees steps = grind (arith, find_exact)
 
-loaded_sees : (s : State) (c : ℕ) (q : Search) (x : ℕ) → Holds s → search_at s c ≡ Some q → Sees s c (link_loaded s c q x)
-loaded_sees s c q x on is = grind (arith, seen_now, searching_within)
-
 followed_sees : (s : State) (c : ℕ) (q : Search) (x : Option ℕ) → Holds s → search_at s c ≡ Some q → Sees s c (with_some x (link_loaded s c q))
-followed_sees s c q x on is = grind (arith, loaded_sees)
+followed_sees s c q x on is = grind (arith, seen_now, searching_within)
 
 outcome_sees : (s : State) (c : ℕ) (q : Search) (o : Option Loaded) → seen_at s c ≡ length s.history → Sees s c (outcome_of s c q o)
 outcome_sees s c q o all = grind arith

@@ -3,8 +3,8 @@ use Rattle.std.proofs.Common.{◌≡◌, ℕ, ◌+◌, ◌-◌, ◌<◌, ◌⊎�
 use Rattle.std.proofs.lemmas.Bool.{and_parts, cases_eq, cases_lt}
 use Rattle.std.proofs.lemmas.Option.{none-some, same_Some}
 use Rattle.protocol.specs.Types.{Entry, Change, Attach, Detach, Slot, Vacant, Live, Retired}
-use Rattle.protocol.specs.Common.{Free, Standing, Due, Rest, after_change, IsLegal, EndsAt, State, row_at, passive_at, kept_at, local_at, may_write, entry_of, may_publish, after_publish, with_retired, with_link_past, after_unpublish, is_driver_slot, may_keep, after_keep, is_drained, after_kept_sub, may_vacate, after_vacate, Holds, IsIn, SlotsShow, held_at, standing_of, in_hand, put, IsUnheld, IsDriverHere, IsModelRun, number_in, passive_in, Hand, trying_at, subtractions_due, locals_of, picture, TakesNone}
-use Rattle.registry_values.specs.Common.{slot_at, slot_of, slot_before}
+use Rattle.protocol.specs.Common.{Free, Standing, Due, Rest, after_change, IsLegal, EndsAt, State, row_at, passive_at, kept_at, local_at, may_write, entry_of, may_publish, after_publish, with_retired, is_driver_slot, may_keep, after_keep, is_drained, after_kept_sub, may_vacate, after_vacate, Holds, IsIn, SlotsShow, held_at, standing_of, in_hand, put, IsUnheld, IsDriverHere, IsModelRun, number_in, passive_in, Hand, trying_at, subtractions_due, locals_of, picture, TakesNone}
+use Rattle.registry_values.specs.Common.{slot_at, slot_of}
 use Rattle.protocol.specs.Model
 use Rattle.protocol.proofs.keeps.Searching.{within_some}
 use Rattle.protocol.proofs.Occupied.{in_other, in_written, not_vacant, live_one, in_within, in_published, in_unpublished, in_vacated, attached_in, slot_has}
@@ -76,7 +76,7 @@ publish_refines s t e on now is ok =
     subst (λ (u : ℕ). Holds (after_publish s u e) → may_publish s u e ≡ true → IsModelRun TakesNone (picture s) (picture (after_publish s u e)))
     (entry_shows t (row_at s.rows t) e is).0 (λ later may. publish_own s e on later may) now ok
 
-retiring_refines : (s : State) (t : ℕ) (e : Entry) → Holds s → s.due ≡ Rest → slot_at s.slots t ≡ Live e → IsLegal (after_change s.history (Detach e.number))
+pub retiring_refines : (s : State) (t : ℕ) (e : Entry) → Holds s → s.due ≡ Rest → slot_at s.slots t ≡ Live e → IsLegal (after_change s.history (Detach e.number))
     → SlotsShow (after_change s.history (Detach e.number)) (set s.slots t (Retired e))
     → IsModelRun TakesNone (picture s) (picture (with_retired s t e))
 retiring_refines s t e on rest at legal later =
@@ -95,14 +95,6 @@ retiring_refines s t e on rest at legal later =
       λ (n : ℕ). ap (λ (w : ℕ). sum_by (standing_of n) s.locals + sum_by (in_hand n) s.hands + w) (waiting_rest s.slots n s.due rest),
       unwritten number_in Vacant s.slots t (Retired e) (ap number_in at),
     ))
-
-unlinked_refines : (s : State) (t : ℕ) (e : Entry) (before : Option ℕ) → Holds s → Holds (with_retired (with_link_past s t before) t e) → s.due ≡ Rest → slot_at s.slots t ≡ Live e
-    → IsModelRun TakesNone (picture s) (picture (with_retired (with_link_past s t before) t e))
-unlinked_refines s t e None on now rest at = retiring_refines s t e on rest at now.legal now.slots
-unlinked_refines s t e (Some p) on now rest at = retiring_refines s t e on rest at now.legal now.slots
-
-pub unpublish_refines : (s : State) (t : ℕ) (e : Entry) → Holds s → Holds (after_unpublish s t e) → s.due ≡ Rest → slot_at s.slots t ≡ Live e → IsModelRun TakesNone (picture s) (picture (after_unpublish s t e))
-unpublish_refines s t e on now rest at = unlinked_refines s t e (slot_before s.slots s.next t) on now rest at
 
 -- Keep
 

@@ -160,14 +160,9 @@ waiting_one slots n t e due at is = ap (subtractions_due slots n) is ∙ ap (λ 
 abbrev with_places : State → List Hand → Due → List LocalPlace → State
 with_places s hands due locals = record s { hands = hands; due = due; locals = locals }
 
--- only local references change, and agree
-locals_alike : (s : State) (hands : List Hand) (due : Due) (locals : List LocalPlace) → ((c t : ℕ) → trying_at hands c t ≡ trying_at s.hands c t)
-    → ((n : ℕ) → locals_of s n ≡ locals_of (with_places s hands due locals) n) → Alike (picture s) (picture (with_places s hands due locals))
-locals_alike s hands due locals tries same = assumption (λ (c : ℕ) (n : ℕ). passive_tries s.passive s.hands hands c (slot_of s.slots n) (tries c))
-
 locals_same : (s : State) (hands : List Hand) (due : Due) (locals : List LocalPlace) → ((c t : ℕ) → trying_at hands c t ≡ trying_at s.hands c t)
     → ((n : ℕ) → locals_of s n ≡ locals_of (with_places s hands due locals) n) → IsModelRun TakesNone (picture s) (picture (with_places s hands due locals))
-locals_same s hands due locals tries same = no_step _ _ (locals_alike s hands due locals tries same)
+locals_same s hands due locals tries same = no_step _ _ (assumption (λ (c : ℕ) (n : ℕ). passive_tries s.passive s.hands hands c (slot_of s.slots n) (tries c)))
 
 -- one reference more
 locals_more : (s : State) (c : ℕ) (e : Entry) (hands : List Hand) (due : Due) (locals : List LocalPlace) → found_at s c ≡ Some e → ((d t : ℕ) → trying_at hands d t ≡ trying_at s.hands d t)

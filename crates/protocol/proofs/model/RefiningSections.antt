@@ -177,11 +177,8 @@ refind_refines s c t n e on at ok =
     (Goes_on _ _ (Goes_on _ _ (seeing_refines s c on lt) seek) (over_step b c q (Some e) (omega (arith, lt, on.shape.found)) is lawful))
 
 -- a search that goes on shows nothing
-going_on_alike : (s : State) (c : ℕ) (q : Search) (place : SearchPlace) → search_at s c ≡ Some q → Alike (picture s) (picture (with_search_at s c q place))
+pub going_on_alike : (s : State) (c : ℕ) (q : Search) (place : SearchPlace) → search_at s c ≡ Some q → Alike (picture s) (picture (with_search_at s c q place))
 going_on_alike s c q place is = assumption (unwritten lookup_of None s.searches c (Some (record { key = q.key; start = q.start; place = place })) (ap lookup_of is))
-
-pub going_on_refines : (s : State) (c : ℕ) (q : Search) (place : SearchPlace) → search_at s c ≡ Some q → IsModelRun TakesNone (picture s) (picture (with_search_at s c q place))
-going_on_refines s c q place is = no_step (picture s) (picture (with_search_at s c q place)) (going_on_alike s c q place is)
 
 -- The loads of a search.
 

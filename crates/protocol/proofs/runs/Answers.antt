@@ -1,5 +1,5 @@
 -- The result of each lookup is lawful, and a search has its start from its Seek on.
-use Rattle.std.proofs.Common.{◌≡◌, ℕ, ◌≤◌, inl, List, [], ◌∷◌, ◌++◌, length, get_or, set, Option, Some, None, refl, sym, ap, ◌∙◌, arith}
+use Rattle.std.proofs.Common.{◌≡◌, ℕ, ◌≤◌, inl, List, [], ◌∷◌, ◌++◌, length, get_or, set, Option, Some, None, refl, sym, ◌∙◌, arith}
 use Rattle.std.proofs.lemmas.Option.{none-some, same_Some}
 use Rattle.protocol.specs.Types.{Entry, Change, Attach, Detach, Key}
 use Rattle.protocol.specs.Common.{Event, Reply, Search, SearchPlace, AtNumber, IsLawful, State, opening, seen_at, search_at, Outcome, step, state_after, Holds, after, after_event, answer_of, IsAnswered, HasBegun, AnswersLawfully, LawfulAnswers}
@@ -8,6 +8,7 @@ use Rattle.protocol.proofs.keeps.SearchKeeps.{IsAnswer, link_answers, record_ans
 use Rattle.protocol.proofs.Made.{Made, Enters, Seeks, LoadsEnd, LoadsSlot, LoadsWord, LoadsLast, Publishes, Unpublishes, Hears, Recalls, RecallsHead, Refinds, ConfirmsTry, made, each_event}
 use Rattle.protocol.proofs.runs.Reuse.{every_run_keeps}
 use Rattle.protocol.proofs.Either.{either}
+use Rattle.std.proofs.lemmas.List.{append-nil}
 
 -- Answers
 
@@ -61,16 +62,12 @@ passes s _ _ _ c on (Refinds j t i e at may) = pass_sees s c j on
 passes s _ _ _ c on (ConfirmsTry j t i at may) = pass_sees s c j on
 passes s _ _ _ c on _ = same_pass s c
 
-append_nil : {X : Type 0} (xs : List X) → xs ++ [] ≡ xs
-append_nil [] = refl
-append_nil (x ∷ xs) = ap (λ zs. x ∷ zs) (append_nil xs)
-
 Grows : List Change → List Change → Type 0
 Grows h k = (more : List Change) × (k ≡ h ++ more)
 
 grown_none : (h : List Change) → Grows h h
 unfolding Grows
-grown_none h = ([], sym (append_nil h))
+grown_none h = ([], sym (append-nil h))
 
 history : (s n : State) (e : Event) (r : Reply) → Made s e n r → Grows s.history n.history
 unfolding Grows
