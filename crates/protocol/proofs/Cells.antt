@@ -1,18 +1,16 @@
 -- Places of rows, of slots, totals and marks after one is written: how rows grow, and which slot has the entry with a number.
-use Rattle.std.proofs.Common.{◌≡◌, ℕ, zero, suc, ◌<◌, ◌⊎◌, inl, inr, List, [], length, get_or, set, replicate, refl, sym, ap, subst, ◌∙◌, get_or-set_same, get_or-set_other, Bool, None, Some, arith, false, true, ◌∷◌, take, ◌||◌}
-use Rattle.std.proofs.lemmas.List.{set_past, get_or_past}
-use Rattle.std.proofs.lemmas.Bool.{cases_lt, cases_eq, eq-eqb, lt-ltb, and_from}
-use Rattle.std.proofs.lemmas.List.Sums.{fails_before_first}
+use Rattle.std.proofs.Common.{◌≡◌, ℕ, zero, suc, ◌<◌, ◌⊎◌, List, [], length, get_or, set, replicate, refl, sym, ap, subst, ◌∙◌, get_or-set_same, get_or-set_other, Bool, None, Some, arith, false, true, ◌∷◌, take, ◌||◌}
+use Rattle.std.proofs.lemmas.List.{set_past}
+use Rattle.std.proofs.lemmas.Bool.{cases_eq, and_from}
 use Rattle.std.proofs.lemmas.Option.{none-some}
-use Rattle.std.specs.List.{position_or_len, list_all, list_any}
-use Rattle.std.specs.Prelude.{if◌then◌else◌, position}
-use Rattle.protocol.specs.Types.{Entry, Slot, Vacant, Change, Live, Retired, Mark}
-use Rattle.registry_values.specs.Common.{slot_at, has_number, slot_of, Grows, are_clear, are_collected, have_passed, is_clear, is_collected, is_passed, no_mark, is_retired}
+use Rattle.std.specs.List.{list_all, list_any}
+use Rattle.std.specs.Prelude.{position}
+use Rattle.protocol.specs.Types.{Entry, Slot, Vacant, Change, Mark}
+use Rattle.registry_values.specs.Common.{slot_at, slot_of, Grows, are_clear, are_collected, have_passed, is_clear, is_collected, is_passed, no_mark, is_retired}
 use Rattle.registry_values.proofs.Fit.{ranges}
 use Rattle.protocol.specs.Common.{cell, with_cell, total_at, IsIn, IsAttached, Occupies, SlotsShow, Rest, Snapshots, AllClear, AllCollected, AllPassed, MarksGrow, SameElsewhere, Holds, at_rest, State, mark_at}
-use Rattle.protocol.proofs.Occupied.{not_vacant, one_in as same_in, place_cases, written_cases, slot_has, at_rest_tells, is_retired_tells}
+use Rattle.protocol.proofs.Occupied.{not_vacant, one_in as same_in, place_cases, written_cases, at_rest_tells, is_retired_tells, position_found, slot_found, slot_its}
 use Rattle.protocol.proofs.Either.{either}
-use Rattle.protocol.proofs.History.{one_entry}
 
 -- it is the place that was written, or another
 pub by_place : (P : ℕ → Type 0) (c j : ℕ) → P c → ((j ≡ c → ⊥) → P j) → P j
@@ -20,9 +18,7 @@ by_place P c j here other = either (cases_eq j c) (λ same. subst P (sym same) h
 
 -- the same of a place in a row
 pub by_cell : (P : ℕ → ℕ → Type 0) (t c u j : ℕ) → P t c → ((u ≡ t → j ≡ c → ⊥) → P u j) → P u j
-by_cell P t c u j here other = either (cases_eq u t)
-    (λ same. either (cases_eq j c) (λ too. subst (λ (k : ℕ). P k j) (sym same) (subst (P t) (sym too) here)) (λ off. other (λ _ is. off is)))
-    (λ off. other (λ is _. off is))
+by_cell P t c u j here other = grind (arith, cases_eq u t, cases_eq j c)
 
 -- the row that was written, and the others
 pub row_here : {X : Type 0} (rows : List (List X)) (t c : ℕ) (x : X) → t < length rows → get_or (with_cell rows t c x) t [] ≡ set (get_or rows t []) c x
@@ -35,48 +31,24 @@ pub cell_here : {X : Type 0} (d : X) (rows : List (List X)) (t c : ℕ) (x : X) 
 cell_here {X} d rows t c x lt cl = ap (λ (r : List X). get_or r c d) (row_here rows t c x lt) ∙ get_or-set_same (get_or rows t []) c x d cl
 
 pub cell_other : {X : Type 0} (d : X) (rows : List (List X)) (t c : ℕ) (x : X) (u j : ℕ) → (u ≡ t → j ≡ c → ⊥) → cell d (with_cell rows t c x) u j ≡ cell d rows u j
-cell_other {X} d rows t c x u j off = either (cases_eq u t)
-    (λ same. either (cases_lt t (length rows))
-    (λ lt.
-    ap (λ (k : ℕ). cell d (with_cell rows t c x) k j) same ∙ (ap (λ (r : List X). get_or r j d) (row_here rows t c x lt)
-    ∙ (get_or-set_other (get_or rows t []) c j x d (off same) ∙ ap (λ (k : ℕ). cell d rows k j) (sym same))))
-    (λ ge. ap (λ (r : List (List X)). cell d r u j) (set_past rows t (set (get_or rows t []) c x) ge)))
-    (λ away. ap (λ (r : List X). get_or r j d) (row_other rows t c x u away))
+cell_other {X} d rows t c x u j off = grind (arith, row_here, get_or-set_other, set_past, row_other, cases_eq u t)
 
 -- what was written, or what stood there
 pub cell_cases : {X : Type 0} (d : X) (rows : List (List X)) (t c : ℕ) (x : X) (u j : ℕ)
     → ((u ≡ t) × (j ≡ c) × (cell d (with_cell rows t c x) u j ≡ x)) ⊎ (cell d (with_cell rows t c x) u j ≡ cell d rows u j)
-cell_cases {X} d rows t c x u j = either (cases_eq u t)
-    (λ same. either (cases_eq j c)
-    (λ too. either (cases_lt t (length rows))
-    (λ lt. either (cases_lt c (length (get_or rows t [])))
-    (λ cl.
-    inl (same, too, ap (λ (k : ℕ). cell d (with_cell rows t c x) k j) same ∙ (ap (λ (k : ℕ). cell d (with_cell rows t c x) t k) too ∙ cell_here d rows t c x lt cl)))
-    (λ ge.
-    inr (ap (λ (k : ℕ). cell d (with_cell rows t c x) k j) same
-    ∙ (ap (λ (r : List X). get_or r j d) (row_here rows t c x lt ∙ set_past (get_or rows t []) c x ge) ∙ ap (λ (k : ℕ). cell d rows k j) (sym same)))))
-    (λ ge. inr (ap (λ (r : List (List X)). cell d r u j) (set_past rows t (set (get_or rows t []) c x) ge))))
-    (λ off. inr (cell_other d rows t c x u j (λ _ is. off is))))
-    (λ off. inr (cell_other d rows t c x u j (λ is _. off is)))
+cell_cases {X} d rows t c x u j = grind (arith, cell_here, row_here, set_past, cell_other, cases_eq u t, cases_eq j c)
 
 -- what holds of a place after a write: of what was written there, and of each place before
 pub place_put : {X : Type 0} (d : X) (xs : List X) (t : ℕ) (x : X) (P : ℕ → X → Type 0) (u : ℕ) → P t x → P u (get_or xs u d) → P u (get_or (set xs t x) u d)
-place_put {X} d xs t x P u here old = either (written_cases d xs t x u)
-    (λ same. subst (P u) (sym same.1) (subst (λ (k : ℕ). P k x) (sym same.0) here))
-    (λ off. subst (P u) (sym off.1) old)
+place_put {X} d xs t x P u here old = grind (arith, written_cases)
 
 -- the same of a place in the list, where the others alone are asked of
 pub place_in : {X : Type 0} (d : X) (xs : List X) (t : ℕ) (x : X) (P : ℕ → X → Type 0) (u : ℕ) → t < length xs → P t x → ((u ≡ t → ⊥) → P u (get_or xs u d)) → P u (get_or (set xs t x) u d)
-place_in {X} d xs t x P u lt here other = either (place_cases d xs t x u lt)
-    (λ same. subst (P u) (sym same.1) (subst (λ (k : ℕ). P k x) (sym same.0) here))
-    (λ off. subst (P u) (sym off.1) (other off.0))
+place_in {X} d xs t x P u lt here other = grind (arith, place_cases)
 
 -- of a place in a row
 pub cell_put : {X : Type 0} (d : X) (rows : List (List X)) (t c : ℕ) (x : X) (P : ℕ → ℕ → X → Type 0) (u j : ℕ) → P t c x → P u j (cell d rows u j) → P u j (cell d (with_cell rows t c x) u j)
-cell_put {X} d rows t c x P u j here old = either (cell_cases d rows t c x u j)
-    (λ same.
-    subst (P u j) (sym same.2) (subst (λ (k : ℕ). P k j x) (sym same.0) (subst (λ (k : ℕ). P t k x) (sym same.1) here)))
-    (λ was. subst (P u j) (sym was) old)
+cell_put {X} d rows t c x P u j here old = grind (arith, cell_cases)
 
 -- a row that was written whole
 pub cell_in_new : {X : Type 0} (d : X) (rows : List (List X)) (t : ℕ) (row : List X) (j : ℕ) → t < length rows → cell d (set rows t row) t j ≡ get_or row j d
@@ -117,9 +89,7 @@ total_other totals t v u off = get_or-set_other totals t u v 0 off
 
 -- where a place passes, one is found
 pub position_passes : {X : Type 0} (p : X → Bool) (xs : List X) (k : ℕ) (d : X) → k < length xs → p (get_or xs k d) ≡ true → (i : ℕ) × (position p xs ≡ Some i)
-position_passes p xs k d lt passes = either (cases_lt (position_or_len p xs) (length xs))
-    (λ in_. (position_or_len p xs, ap (λ (b : Bool). if b then Some (position_or_len p xs) else None) (lt-ltb (position_or_len p xs) (length xs) in_)))
-    (λ out. absurd (let q : ◌≡◌ {A = Bool} true false = sym passes ∙ fails_before_first p xs k d (omega arith) in cc))
+position_passes p xs k d lt passes = position_found p d xs k lt passes
 
 -- and where none is found, no place passes
 pub position_fails : {X : Type 0} (p : X → Bool) (xs : List X) (k : ℕ) (d : X) → position p xs ≡ None → k < length xs → p (get_or xs k d) ≡ true → ⊥
@@ -127,40 +97,17 @@ position_fails p xs k d none lt passes = let i = position_passes p xs k d lt pas
 
 -- an entry in a slot is attached, in that slot
 pub entry_attached : (h : List Change) (slots : List Slot) (e : Entry) (t : ℕ) → SlotsShow h slots → IsIn e (slot_at slots t) → IsAttached h e × (e.slot ≡ t)
-entry_attached h slots e t show is = either is
-    (λ live. let was = show.live t e live in (was.0.attached, was.1))
-    (λ gone. let was = show.retired t e gone in (was.0, was.1))
-
--- two entries in slots with one number are one, in one slot
-pub one_number : (h : List Change) (slots : List Slot) (e f : Entry) (t u : ℕ) → SlotsShow h slots → IsIn e (slot_at slots t) → IsIn f (slot_at slots u) → e.number ≡ f.number → (e ≡ f) × (t ≡ u)
-one_number h slots e f t u show x y same =
-    let a = entry_attached h slots e t show x in
-    let b = entry_attached h slots f u show y in
-    let one : e ≡ f = one_entry h e f a.0 b.0 same in
-    (one, sym a.1 ∙ (ap (λ (g : Entry). g.slot) one ∙ b.1))
-
--- a slot that has an entry is in range
-pub within_in : (slots : List Slot) (e : Entry) (t : ℕ) → IsIn e (slot_at slots t) → t < length slots
-within_in slots e t is = either (cases_lt t (length slots))
-    (λ lt. lt)
-    (λ ge. absurd (either is
-    (λ live. let q : Vacant ≡ Live e = sym (get_or_past slots t Vacant ge) ∙ live in cc)
-    (λ gone. let q : Vacant ≡ Retired e = sym (get_or_past slots t Vacant ge) ∙ gone in cc)))
-
-has_own : (e : Entry) (x : Slot) → IsIn e x → has_number e.number x ≡ true
-has_own e x is = either is (λ live. ap (has_number e.number) live ∙ eq-eqb e.number e.number refl) (λ gone. ap (has_number e.number) gone ∙ eq-eqb e.number e.number refl)
+entry_attached h slots e t show is = grind arith
 
 -- the slot of an entry's number is its own
 pub slot_number : (h : List Change) (slots : List Slot) (e : Entry) (t : ℕ) → SlotsShow h slots → IsIn e (slot_at slots t) → slot_of slots e.number ≡ Some t
 slot_number h slots e t show is =
-    let found = position_passes (has_number e.number) slots t Vacant (within_in slots e t is) (has_own e (slot_at slots t) is) in
-    let there = slot_has slots e.number found.0 found.1 in
-    let one = one_number h slots there.1.0 e found.0 t show there.1.1 is there.1.2 in
-    found.1 ∙ ap (λ (k : ℕ). Some k) one.1
+    let found = slot_found slots e.number (t, e, is, refl) in
+    found.1 ∙ ap Some (slot_its h slots t found.0 e show is found.1)
 
 -- a number that some slot has is found
 pub occupied_slot : (h : List Change) (slots : List Slot) (n : ℕ) → SlotsShow h slots → Occupies slots n → (t : ℕ) × (slot_of slots n ≡ Some t)
-occupied_slot h slots n show o = (o.0, ap (slot_of slots) (sym o.3) ∙ slot_number h slots o.1 o.0 show o.2)
+occupied_slot h slots n show o = slot_found slots n o
 
 -- Rows of marks: how they grow, and what all their marks say together.
 

@@ -1,12 +1,12 @@
 -- The history: what one more change keeps, what a legal history rules out, and that what a walk over links finds is lawful.
 use Rattle.std.proofs.Common.{◌≡◌, ℕ, zero, suc, ◌<◌, ◌≤◌, ◌⊎◌, inl, inr, List, ◌∷◌, [], ◌++◌, length, Option, Some, refl, sym, ap, subst, ◌∙◌, arith, append_assoc, get_or, None}
 use Rattle.std.specs.Prelude.{slice_get}
-use Rattle.std.proofs.lemmas.Option.{same_Some, slice_get_within, none-some}
+use Rattle.std.proofs.lemmas.Option.{slice_get_within, none-some}
 use Rattle.std.proofs.lemmas.Bool.{cases_lt, cases_eq}
 use Rattle.std.proofs.lemmas.List.{append-nil}
-use Rattle.protocol.specs.Types.{Entry, Change, Attach, Detach, Key, Settings, Kind, Iface, Driver, Name}
+use Rattle.protocol.specs.Types.{Entry, Change, Attach, Detach, Key, Settings}
 use Rattle.registry_values.specs.Common.{key_of}
-use Rattle.protocol.specs.Common.{after_change, IsAttached, EndsAt, IsLiveAt, IsLegal, MayHold, Search, SearchPlace, AtHead, AtNext, AtNumber, AtKind, AtHigh, AtLow, AtValue, SectionsShow, SearchHolds, SearchesHold, FoundHold, Leads, To_end, To_entry, StandsOn, AllBelow, PlaceHolds, IsLookup, IsLawful}
+use Rattle.protocol.specs.Common.{after_change, IsAttached, EndsAt, IsLiveAt, IsLegal, MayHold, Search, SearchPlace, AtHead, AtNext, AtNumber, AtKind, AtHigh, AtLow, AtValue, SectionsShow, SearchesHold, FoundHold, Leads, To_end, To_entry, StandsOn, AllBelow, PlaceHolds, IsLookup, IsLawful}
 use Rattle.protocol.specs.History.{change_at}
 use Rattle.protocol.proofs.Either.{either}
 
@@ -54,42 +54,24 @@ at_empty (suc k) x e = none-some x e
 
 pub at_cases : (h : List Change) (c : Change) (k : ℕ) (x : Change) → change_at (after_change h c) k ≡ Some x
     → (record { old : k ≤ length h; was : change_at h k ≡ Some x }) ⊎ (record { new : k ≡ suc (length h); is : x ≡ c })
-at_cases h c k x e = either (cases_lt k (suc (length h)))
-    (λ lt. inl (record { old = omega arith; was = sym (at_old h c k (omega arith)) ∙ e }))
-    (λ ge.
-    let top : k ≤ length (after_change h c) = (at_within (after_change h c) k x e).1 in
-    let same : k ≡ suc (length h) = omega (arith, length-after_change h c) in
-    inr (record { new = same; is = same_Some x c (sym e ∙ ap (change_at (after_change h c)) same ∙ at_new h c) }))
-
--- Two attaches at one position are one.
-same_attach : (e f : Entry) → ◌≡◌ {A = Option Change} (Some (Attach e)) (Some (Attach f)) → e ≡ f
-same_attach e f p = cc
-
-attach-detach : (e : Entry) (n : ℕ) → ◌≡◌ {A = Option Change} (Some (Attach e)) (Some (Detach n)) → ⊥
-attach-detach e n p = cc
+at_cases h c k x e = grind (arith, at_old h c k, at_within (after_change h c) k x e, length-after_change h c, at_new h c, cases_lt k (suc (length h)))
 
 -- the entry with a number is one
 pub one_entry : (h : List Change) (e f : Entry) → IsAttached h e → IsAttached h f → e.number ≡ f.number → e ≡ f
-one_entry h e f a b same = same_attach e f (sym a ∙ (ap (change_at h) same ∙ b))
+one_entry h e f a b same = grind arith
 
 -- an end comes after the attach
 pub ends_after : (h : List Change) → IsLegal h → (n p : ℕ) → EndsAt h n p → n < p
 ends_after h legal n zero x = absurd (omega (arith, (at_within h zero (Detach n) x).0))
-ends_after h legal n (suc p) x =
-    let live = legal.ends_live p n x in
-    omega (arith, live.1.begun, live.2)
+ends_after h legal n (suc p) x = grind arith
 
 -- an entry ends once
 pub not_twice : (h : List Change) → IsLegal h → (n p q : ℕ) → EndsAt h n p → EndsAt h n q → p < q → ⊥
 not_twice h legal n p zero x y lt = omega arith
-not_twice h legal n p (suc q) x y lt =
-    let live = legal.ends_live q n y in
-    omega (arith, live.1.unended p (subst (λ m. EndsAt h m p) (sym live.2) x))
+not_twice h legal n p (suc q) x y lt = grind arith
 
 pub one_end : (h : List Change) → IsLegal h → (n p q : ℕ) → EndsAt h n p → EndsAt h n q → p ≡ q
-one_end h legal n p q x y = either (cases_lt p q)
-    (λ lt. absurd (not_twice h legal n p q x y lt))
-    (λ ge. either (cases_lt q p) (λ lt. absurd (not_twice h legal n q p y x lt)) (λ le. omega arith))
+one_end h legal n p q x y = grind (arith, not_twice, cases_lt p q, cases_lt q p)
 
 -- live after k changes, so live after fewer, from the attach on
 pub live_down : (h : List Change) (k j : ℕ) (e : Entry) → IsLiveAt h k e → e.number ≤ j → j ≤ k → IsLiveAt h j e
@@ -104,11 +86,7 @@ later_same h legal k e f le lf same lt = go f.number refl
 
 -- two live entries with one key are one
 pub one_live : (h : List Change) → IsLegal h → (k : ℕ) (e f : Entry) → IsLiveAt h k e → IsLiveAt h k f → key_of e ≡ key_of f → e ≡ f
-one_live h legal k e f le lf same = either (cases_lt e.number f.number)
-    (λ lt. absurd (later_same h legal k e f le lf same lt))
-    (λ ge. either (cases_lt f.number e.number)
-    (λ lt. absurd (later_same h legal k f e lf le (sym same) lt))
-    (λ le2. one_entry h e f le.attached lf.attached (omega arith)))
+one_live h legal k e f le lf same = grind (arith, later_same h legal k e f le lf same, later_same h legal k f e lf le (sym same), one_entry h e f)
 
 -- just after the end of e none is live with its key
 pub none_at_end : (h : List Change) → IsLegal h → (p : ℕ) (e f : Entry) → IsAttached h e → EndsAt h e.number p → IsLiveAt h p f → key_of f ≡ key_of e → ⊥
@@ -116,14 +94,7 @@ none_at_end h legal zero e f att x lf same = omega (arith, (at_within h zero (De
 none_at_end h legal (suc p) e f att x lf same =
     let live = legal.ends_live p e.number x in
     let is : live.0 ≡ e = one_entry h live.0 e live.1.attached att live.2 in
-    let le : IsLiveAt h p e = subst (IsLiveAt h p) is live.1 in
-    let down : f.number ≤ p = either (cases_lt f.number (suc p))
-    (λ lt. omega arith)
-    (λ ge.
-    let at : f.number ≡ suc p = omega (arith, lf.begun) in
-    absurd (attach-detach f e.number (sym lf.attached ∙ (ap (change_at h) at ∙ x)))) in
-    let one : f ≡ e = one_live h legal p f e (live_down h (suc p) p f lf down (omega arith)) le same in
-    omega (arith, lf.unended (suc p) (subst (λ (g : Entry). EndsAt h g.number (suc p)) (sym one) x))
+    grind (arith, is, live.1, one_live h legal p f e, live_down h (suc p) p f lf, lf.unended (suc p), lf.attached, lf.begun)
 
 -- What one more change keeps.
 pub ends_old : (h : List Change) (c : Change) (n p : ℕ) → EndsAt h n p → EndsAt (after_change h c) n p
@@ -139,11 +110,7 @@ pub attached_was : (h : List Change) (c : Change) (e : Entry) → IsAttached (af
 attached_was h c e a le = sym (at_old h c e.number le) ∙ a
 
 pub live_old : (h : List Change) (c : Change) (k : ℕ) (e : Entry) → k ≤ length h → IsLiveAt h k e → IsLiveAt (after_change h c) k e
-live_old h c k e le live = record {
-  attached = attached_old h c e live.attached;
-  begun = live.begun;
-  unended = λ p x. either (cases_lt k p) (λ lt. lt) (λ ge. live.unended p (ends_was h c e.number p x (omega arith)));
-}
+live_old h c k e le live = grind (arith, attached_old, ends_was)
 
 pub live_was : (h : List Change) (c : Change) (k : ℕ) (e : Entry) → k ≤ length h → IsLiveAt (after_change h c) k e → IsLiveAt h k e
 live_was h c k e le live = record {
@@ -162,18 +129,10 @@ pub hold_was : (h : List Change) (c : Change) (b : ℕ) (e : Entry) → MayHold 
 hold_was h c b e hold le = record { attached = attached_was h c e hold.attached le; unended = λ p x. hold.unended p (ends_old h c e.number p x) }
 
 pub hold_old : (h : List Change) (c : Change) (b : ℕ) (e : Entry) → b ≤ length h → MayHold h b e → MayHold (after_change h c) b e
-hold_old h c b e le hold = record {
-  attached = attached_old h c e hold.attached;
-  unended = λ p x. either (cases_lt (length h) p) (λ lt. omega arith) (λ ge. hold.unended p (ends_was h c e.number p x ge));
-}
+hold_old h c b e le hold = grind (arith, attached_old, ends_was)
 
 pub stands_old : (h : List Change) (c : Change) (from to t : ℕ) (e : Entry) → from ≤ length h → StandsOn h from to t e → StandsOn (after_change h c) from to t e
-stands_old h c from to t e le on = record {
-  attached = attached_old h c e on.attached;
-  at = on.at;
-  begun = on.begun;
-  unended = λ p x. either (cases_lt (length h) p) (λ lt. omega arith) (λ ge. on.unended p (ends_was h c e.number p x ge));
-}
+stands_old h c from to t e le on = grind (arith, attached_old, ends_was)
 
 pub below_old : (h : List Change) (c : Change) (from to : ℕ) (key : Key) (n : ℕ) → from ≤ length h → AllBelow h from to key n → AllBelow (after_change h c) from to key n
 below_old h c from to key n le below = λ f live un same. below f (live_was h c from f le live) (λ p x. un p (ends_old h c f.number p x)) same
@@ -189,20 +148,11 @@ place_old h c from to key (AtValue t n) le p = (p.0, stands_old h c from to t p.
 
 pub sections_old : (z : Settings) (h : List Change) (x : Change) (section : List ℕ) (begins : List (Option ℕ)) (depths seen : List ℕ)
     → SectionsShow z h section begins depths seen → SectionsShow z (after_change h x) section begins depths seen
-sections_old z h x section begins depths seen s = record {
-  outside = s.outside;
-  inside = s.inside;
-  deep = s.deep;
-  begun = s.begun;
-  prefix = λ c. omega (arith, s.prefix c, length-after_change h x);
-  limited = s.limited;
-}
+sections_old z h x section begins depths seen s = grind (arith, length-after_change)
 
 pub searches_old : (z : Settings) (h : List Change) (x : Change) (section : List ℕ) (begins : List (Option ℕ)) (depths seen : List ℕ) (searches : List (Option Search))
     → SectionsShow z h section begins depths seen → SearchesHold h begins seen searches → SearchesHold (after_change h x) begins seen searches
-searches_old z h x section begins depths seen searches s hold c q is =
-    let was : SearchHolds h (get_or begins c None) (get_or seen c 0) q = hold c q is in
-    record { begun = was.begun; started = was.started; stands = place_old h x q.start (get_or seen c 0) q.key q.place (omega (arith, was.started, s.prefix c)) was.stands }
+searches_old z h x section begins depths seen searches s hold c q is = grind (arith, place_old)
 
 pub found_old : (z : Settings) (h : List Change) (x : Change) (section : List ℕ) (begins : List (Option ℕ)) (depths seen : List ℕ) (found : List (Option Entry))
     → SectionsShow z h section begins depths seen → FoundHold h begins found → FoundHold (after_change h x) begins found
@@ -225,11 +175,7 @@ abbrev pub Unended : List Change → ℕ → ℕ → Type 0
 Unended h n k = (p : ℕ) → EndsAt h n p → k < p
 
 ends_here : (h : List Change) (n k : ℕ) (x : Option Change) → change_at h k ≡ x → EndsAt h n k ⊎ (EndsAt h n k → ⊥)
-ends_here h n k None e = inr (λ (y : EndsAt h n k). let z : ◌≡◌ {A = Option Change} None (Some (Detach n)) = sym e ∙ y in cc)
-ends_here h n k (Some (Attach f)) e = inr (λ (y : EndsAt h n k). let z : ◌≡◌ {A = Option Change} (Some (Attach f)) (Some (Detach n)) = sym e ∙ y in cc)
-ends_here h n k (Some (Detach m)) e = either (cases_eq m n)
-    (λ same. inl (e ∙ ap (λ (j : ℕ). Some (Detach j)) same))
-    (λ other. inr (λ (y : EndsAt h n k). let z : ◌≡◌ {A = Option Change} (Some (Detach m)) (Some (Detach n)) = sym e ∙ y in other cc))
+ends_here h n k x e = grind arith
 
 pub end_by : (h : List Change) (n k : ℕ) → Ended h n k ⊎ Unended h n k
 end_by h n zero = inr (λ p x. (at_within h p (Detach n) x).0)
@@ -237,28 +183,11 @@ end_by h n (suc k) = either (end_by h n k)
     (λ e. inl (e.0, omega (arith, e.1), e.2))
     (λ u. either (ends_here h n (suc k) (change_at h (suc k)) refl)
     (λ y. inl (suc k, omega arith, y))
-    (λ no. inr (λ (p : ℕ) (x : EndsAt h n p). either (cases_eq p (suc k))
-    (λ same. absurd (no (subst (EndsAt h n) same x)))
-    (λ other. let above : k < p = u p x in omega arith))))
-
-cases_kind : (k l : Kind) → (k ≡ l) ⊎ (k ≡ l → ⊥)
-cases_kind Iface Iface = inl refl
-cases_kind Iface Driver = inr (λ (e : Iface ≡ Driver). cc)
-cases_kind Driver Iface = inr (λ (e : Driver ≡ Iface). cc)
-cases_kind Driver Driver = inl refl
-
-cases_name : (k l : Name) → (k ≡ l) ⊎ (k ≡ l → ⊥)
-cases_name k l = either (cases_eq k.high l.high)
-    (λ b. either (cases_eq k.low l.low) (λ c. inl (λ i. record { high = b i; low = c i })) (λ c. inr (λ (e : k ≡ l). c (ap (λ (m : Name). m.low) e))))
-    (λ b. inr (λ (e : k ≡ l). b (ap (λ (m : Name). m.high) e)))
+    (λ no. inr (λ (p : ℕ) (x : EndsAt h n p). grind (arith, cases_eq p (suc k), u p x, no))))
 
 -- two keys are one, or they aren't
 pub cases_key : (k l : Key) → (k ≡ l) ⊎ (k ≡ l → ⊥)
-cases_key k l = either (cases_kind k.kind l.kind)
-    (λ a. either (cases_name k.name l.name)
-    (λ b. inl (λ i. record { kind = a i; name = b i }))
-    (λ b. inr (λ (e : k ≡ l). b (ap (λ (m : Key). m.name) e))))
-    (λ a. inr (λ (e : k ≡ l). a (ap (λ (m : Key). m.kind) e)))
+cases_key k l = grind (arith, cases_eq k.name.high l.name.high, cases_eq k.name.low l.name.low)
 
 -- an entry with the key is live after k changes, or none is, among the first m positions
 abbrev pub Looked : List Change → ℕ → Key → ℕ → Type 0
@@ -267,10 +196,8 @@ Looked h k key m = ((e : Entry) × IsLiveAt h k e × (key_of e ≡ key)) ⊎ ((e
 -- the entry attached at m is live after k changes and has the key, or it isn't so
 looked_at : (h : List Change) → IsLegal h → (k : ℕ) (key : Key) (m : ℕ) (x : Option Change) → change_at h m ≡ x
     → ((e : Entry) × IsLiveAt h k e × (key_of e ≡ key)) ⊎ ((e : Entry) → IsLiveAt h k e → e.number ≡ m → key_of e ≡ key → ⊥)
-looked_at h legal k key m None is = inr (λ (f : Entry) (live : IsLiveAt h k f) (at : f.number ≡ m) (same : key_of f ≡ key).
-    let z : ◌≡◌ {A = Option Change} None (Some (Attach f)) = sym is ∙ (ap (change_at h) (sym at) ∙ live.attached) in cc)
-looked_at h legal k key m (Some (Detach n)) is = inr (λ (f : Entry) (live : IsLiveAt h k f) (at : f.number ≡ m) (same : key_of f ≡ key).
-    let z : ◌≡◌ {A = Option Change} (Some (Detach n)) (Some (Attach f)) = sym is ∙ (ap (change_at h) (sym at) ∙ live.attached) in cc)
+looked_at h legal k key m None is = grind arith
+looked_at h legal k key m (Some (Detach n)) is = grind arith
 looked_at h legal k key m (Some (Attach e)) is =
     let number : e.number ≡ m = legal.numbered m e is in
     let att : IsAttached h e = ap (change_at h) number ∙ is in
@@ -292,25 +219,13 @@ look_by h legal k key (suc m) = either (look_by h legal k key m)
     (λ found. inl found)
     (λ none. either (looked_at h legal k key (suc m) (change_at h (suc m)) refl)
     (λ found. inl found)
-    (λ here. inr (λ (e : Entry) (live : IsLiveAt h k e) (le : e.number ≤ suc m) (same : key_of e ≡ key). either (cases_eq e.number (suc m))
-    (λ at. here e live at same)
-    (λ off. none e live (omega arith) same))))
+    (λ here. inr (λ (e : Entry) (live : IsLiveAt h k e) (le : e.number ≤ suc m) (same : key_of e ≡ key). grind (arith, cases_eq e.number (suc m), here e live, none e live))))
 
 -- The entry that a search found is a lawful answer.
 pub found_lawful : (h : List Change) → IsLegal h → (from to t : ℕ) (e : Entry) (key : Key) → from ≤ to → StandsOn h from to t e → key_of e ≡ key → IsLawful h from to key (Some e)
 found_lawful h legal from to t e key le on same = either (cases_lt e.number (suc from))
-    (λ lt. record {
-      point = from;
-      from_on = omega arith;
-      up_to = le;
-      answered = (record { attached = on.attached; begun = omega arith; unended = on.unended }, same);
-    })
-    (λ ge. record {
-      point = e.number;
-      from_on = omega arith;
-      up_to = on.begun;
-      answered = (record { attached = on.attached; begun = omega arith; unended = λ p x. ends_after h legal e.number p x }, same);
-    })
+    (λ lt. record { point = from; from_on = omega arith; up_to = le; answered = grind arith })
+    (λ ge. record { point = e.number; from_on = omega arith; up_to = on.begun; answered = grind (arith, ends_after h legal e.number) })
 
 -- That a search came to the end is a lawful answer.
 pub missed_lawful : (h : List Change) → IsLegal h → (from to : ℕ) (key : Key) → from ≤ to → AllBelow h from to key 0 → IsLawful h from to key None
@@ -332,9 +247,7 @@ missed_lawful h legal from to key le below = either (look_by h legal from key fr
 
 -- a result that was right at one point only
 pub find_exact : (h : List Change) (k : ℕ) (key : Key) (answer : Option Entry) → IsLawful h k k key answer → IsLookup h k key answer
-find_exact h k key answer lawful =
-    let at : lawful.point ≡ k = omega (arith, lawful.from_on, lawful.up_to) in
-    subst (λ (j : ℕ). IsLookup h j key answer) at lawful.answered
+find_exact h k key answer lawful = grind arith
 
 pub step_ahead : (h : List Change) (from k to n : ℕ) (key : Key) (x : ℕ) → from ≤ k → k ≤ to → AllBelow h from to key n → Leads h k n x → Ahead h from to key n x
 step_ahead h from k to n key zero lo hi below (To_end none) =

@@ -1,6 +1,6 @@
 -- What each event is that is made: where it was allowed, and the state and the reply that it led to, without a test left.
 -- One line of a proof by these cases serves all events that it is true of by what they leave alone.
-use Rattle.std.proofs.Common.{◌≡◌, ℕ, List, zero, suc, ◌+◌, ◌-◌, ◌==◌, ◌&&◌, nat_lt, Bool, true, false, if◌then◌else◌, Option, Some, None, refl, ap, ◌∙◌, subst, eqb-true}
+use Rattle.std.proofs.Common.{◌≡◌, ℕ, List, zero, suc, ◌+◌, ◌-◌, ◌==◌, ◌&&◌, nat_lt, Bool, true, if◌then◌else◌, Option, Some, None, refl, ap, ◌∙◌, subst, eqb-true, arith}
 use Rattle.protocol.specs.Types.{Kind, Entry, Name, Slot, Live}
 use Rattle.protocol.specs.Common.{Event, Seat, Enter, Exit, Seek, LoadLink, LoadRecord, StoreSlot, StoreNext, Publish, Unpublish, Tell, Hear, Snapshot, Look, PassiveAdd, PassiveSub, PassiveLook}
 use Rattle.protocol.specs.Common.{CountAdd, SplitRef, JoinRef, CountDown, SplitBack, Collect, TotalAdd, JoinKeeper, TotalSub, Keep, KeptSub, Vacate, Show, Hide, Recall, RecallHead, Refind, Try, Confirm, TakeBack, RecordOf, Reply, Done, Word, Found, Missed, Ref, Collected}
@@ -77,16 +77,13 @@ Makes s e None = Unit {0}
 Makes s e (Some o) = Made s e o.state o.reply
 
 on_test : (s : State) (e : Event) (b : Bool) (t : State) (r : Reply) → (b ≡ true → Made s e t r) → Makes s e (guard b (some_outcome t r))
-on_test s e true t r made = made refl
-on_test s e false t r made = tt
+on_test s e b t r made = grind arith
 
 on_value : {X : Type 0} (s : State) (e : Event) (x : Option X) (f : X → Option Outcome) → ((y : X) → x ≡ Some y → Makes s e (f y)) → Makes s e (with_some x f)
-on_value s e None f made = tt
-on_value s e (Some y) f made = made y refl
+on_value s e x f made = grind arith
 
 on_either : (s : State) (e : Event) (b : Bool) (o p : Option Outcome) → (b ≡ true → Makes s e o) → Makes s e p → Makes s e (if b then o else p)
-on_either s e true o p first second = first refl
-on_either s e false o p first second = second
+on_either s e b o p first second = grind arith
 
 makes_link : (s : State) (c : ℕ) (q : Search) (x : Option ℕ) → search_at s c ≡ Some q → Events.link_at s q.place ≡ x → Makes s (LoadLink c) (with_some x (Events.link_loaded s c q))
 makes_link s c q None at of = tt
@@ -112,46 +109,38 @@ makes_unlinked : (s : State) (t : ℕ) (e : Entry) (p : Option ℕ) → slot_at 
 makes_unlinked s t e None at rest is = Unpublishes t _ s.next e at rest (ap (Events.with_link_past s t) is)
 makes_unlinked s t e (Some p) at rest is = Unpublishes t s.head _ e at rest (ap (Events.with_link_past s t) is)
 
-makes_at_slot : (s : State) (t : ℕ) (x : Slot) → slot_at s.slots t ≡ x → Makes s (Unpublish t) (Events.unpublish s t x)
-makes_at_slot s t (Live e) at = on_test s (Unpublish t) _ _ _ (λ rest. makes_unlinked s t e (slot_before s.slots s.next t) at rest refl)
-makes_at_slot s t _ at = tt
+-- by what the slot t has
+makes_slot : (s : State) (t : ℕ) (x : Slot) → slot_at s.slots t ≡ x
+    → Makes s (Unpublish t) (Events.unpublish s t x) × Makes s (Show t) (Events.show s t x) × ((c n : ℕ) → Makes s (Refind c t n) (Events.refind s c t n x))
+makes_slot s t (Live e) at = (
+  on_test s (Unpublish t) _ _ _ (λ rest. makes_unlinked s t e (slot_before s.slots s.next t) at rest refl),
+  on_test s (Show t) _ _ _ (λ rest. Shows t e.number),
+  λ c n. on_test s (Refind c t n) _ _ _ (λ may. Refinds c t n e at may),
+)
+makes_slot s t _ at = (tt, tt, λ c n. tt)
 
-makes_shown : (s : State) (t : ℕ) (x : Slot) → Makes s (Show t) (Events.show s t x)
-makes_shown s t (Live e) = on_test s (Show t) _ _ _ (λ rest. Shows t e.number)
-makes_shown s t _ = tt
+-- by what is in the hand of c
+makes_hand : (s : State) (c : ℕ) (h : Hand) → hand_at s c ≡ h
+    → Makes s (SplitRef c) (Events.split_ref s c h) × Makes s (CountDown c) (Events.count_down s c h) × Makes s (SplitBack c) (Events.split_back s c h)
+    × Makes s (Confirm c) (Events.confirm s c h) × Makes s (TakeBack c) (Events.take_back s c h)
+makes_hand s c Empty at = (tt, tt, tt, tt, tt)
+makes_hand s c (Taking n) at = (Splits c n at, tt, tt, tt, tt)
+makes_hand s c (Giving n id) at = (
+  tt,
+  on_value s (CountDown c) (slot_of s.slots n) _ (λ t of.
+      on_either s (CountDown c) (count_at s.counts c t == count_at s.nets c t) _ _ (λ same. CountsDown c n id t at of same) (FindsCollected c n id at)),
+  tt,
+  tt,
+  tt,
+)
+makes_hand s c (Back n id) at = (tt, tt, SplitsBack c n id at, tt, tt)
+makes_hand s c (Trying t n) at = (tt, tt, tt, on_test s (Confirm c) _ _ _ (λ may. ConfirmsTry c t n at may), TakesBack c t n at)
 
-makes_refound : (s : State) (c t n : ℕ) (x : Slot) → slot_at s.slots t ≡ x → Makes s (Refind c t n) (Events.refind s c t n x)
-makes_refound s c t n (Live e) at = on_test s (Refind c t n) _ _ _ (λ may. Refinds c t n e at may)
-makes_refound s c t n _ at = tt
-
-makes_split : (s : State) (c : ℕ) (h : Hand) → hand_at s c ≡ h → Makes s (SplitRef c) (Events.split_ref s c h)
-makes_split s c (Taking n) at = Splits c n at
-makes_split s c _ at = tt
-
-makes_down : (s : State) (c : ℕ) (h : Hand) → hand_at s c ≡ h → Makes s (CountDown c) (Events.count_down s c h)
-makes_down s c (Giving n id) at = on_value s (CountDown c) (slot_of s.slots n) _
-    (λ t of. on_either s (CountDown c) (count_at s.counts c t == count_at s.nets c t) _ _ (λ same. CountsDown c n id t at of same) (FindsCollected c n id at))
-makes_down s c _ at = tt
-
-makes_back : (s : State) (c : ℕ) (h : Hand) → hand_at s c ≡ h → Makes s (SplitBack c) (Events.split_back s c h)
-makes_back s c (Back n id) at = SplitsBack c n id at
-makes_back s c _ at = tt
-
-makes_confirmed : (s : State) (c : ℕ) (h : Hand) → hand_at s c ≡ h → Makes s (Confirm c) (Events.confirm s c h)
-makes_confirmed s c (Trying t n) at = on_test s (Confirm c) _ _ _ (λ may. ConfirmsTry c t n at may)
-makes_confirmed s c _ at = tt
-
-makes_taken_back : (s : State) (c : ℕ) (h : Hand) → hand_at s c ≡ h → Makes s (TakeBack c) (Events.take_back s c h)
-makes_taken_back s c (Trying t n) at = TakesBack c t n at
-makes_taken_back s c _ at = tt
-
-makes_added : (s : State) (t : ℕ) (due : Due) → s.due ≡ due → Makes s (TotalAdd t) (Events.total_add s t due)
-makes_added s t (Adding u old) at = on_test s (TotalAdd t) _ _ _ (λ same. AddsTotal t old (at ∙ ap (λ (v : ℕ). Adding v old) (eqb-true u t same)))
-makes_added s t _ at = tt
-
-makes_subtracted : (s : State) (t : ℕ) (due : Due) → s.due ≡ due → Makes s (TotalSub t) (Events.total_sub s t due)
-makes_subtracted s t (Subtracting u) at = on_test s (TotalSub t) _ _ _ (λ same. SubsTotal t (at ∙ ap Subtracting (eqb-true u t same)))
-makes_subtracted s t _ at = tt
+-- by what the keeper must do next
+makes_due : (s : State) (t : ℕ) (due : Due) → s.due ≡ due → Makes s (TotalAdd t) (Events.total_add s t due) × Makes s (TotalSub t) (Events.total_sub s t due)
+makes_due s t (Adding u old) at = (on_test s (TotalAdd t) _ _ _ (λ same. AddsTotal t old (at ∙ ap (λ (v : ℕ). Adding v old) (eqb-true u t same))), tt)
+makes_due s t (Subtracting u) at = (tt, on_test s (TotalSub t) _ _ _ (λ same. SubsTotal t (at ∙ ap Subtracting (eqb-true u t same))))
+makes_due s t _ at = (tt, tt)
 
 makes : (s : State) (e : Event) → Makes s e (step s e)
 makes s (Seat c) = on_test s (Seat c) _ _ _ (λ may. Seats c may)
@@ -164,7 +153,7 @@ makes s (StoreSlot t k v) = on_either s (StoreSlot t k v) (nat_lt k 5) _ _
     (λ low. on_test s (StoreSlot t k v) _ _ _ (λ may. StoresRow t k v may)) (on_test s (StoreSlot t k v) _ _ _ (λ may. StoresCount t k v may))
 makes s (StoreNext t v) = on_test s (StoreNext t v) _ _ _ (λ may. StoresLink t v may)
 makes s (Publish t) = on_value s (Publish t) (Events.entry_of t (row_at s.rows t)) _ (λ e of. on_test s (Publish t) _ _ _ (λ may. Publishes t e of may))
-makes s (Unpublish t) = makes_at_slot s t (slot_at s.slots t) refl
+makes s (Unpublish t) = (makes_slot s t (slot_at s.slots t) refl).0
 makes s (Tell None) = on_test s (Tell None) _ _ _ (λ may. Tells None)
 makes s (Tell (Some c)) = on_test s (Tell (Some c)) _ _ _ (λ may. Tells (Some c))
 makes s (Hear None) = on_test s (Hear None) _ _ _ (λ may. HearsCpu)
@@ -177,27 +166,27 @@ makes s (PassiveAdd c n) = on_value s (PassiveAdd c n) (slot_of s.slots n) _ (λ
 makes s (PassiveSub c n) = on_value s (PassiveSub c n) (slot_of s.slots n) _ (λ t of. on_test s (PassiveSub c n) _ _ _ (λ may. SubsPassive c n t of may))
 makes s (PassiveLook t c) = on_test s (PassiveLook t c) _ _ _ (λ may. LooksPassive t c may)
 makes s (CountAdd c) = on_value s (CountAdd c) (found_at s c) _ (λ e at. on_value s (CountAdd c) (slot_of s.slots e.number) _ (λ t of. on_test s (CountAdd c) _ _ _ (λ may. Counts c t e at of may)))
-makes s (SplitRef c) = makes_split s c (hand_at s c) refl
+makes s (SplitRef c) = (makes_hand s c (hand_at s c) refl).0
 makes s (JoinRef c id) = on_value s (JoinRef c id) (Events.number_standing (local_at s.locals id)) _ (λ n at. on_test s (JoinRef c id) _ _ _ (λ idle. Joins c n id at idle))
-makes s (CountDown c) = makes_down s c (hand_at s c) refl
-makes s (SplitBack c) = makes_back s c (hand_at s c) refl
+makes s (CountDown c) = (makes_hand s c (hand_at s c) refl).1
+makes s (SplitBack c) = (makes_hand s c (hand_at s c) refl).2
 makes s (Collect t c) = on_test s (Collect t c) _ _ _ (λ may. Collects t c may)
-makes s (TotalAdd t) = makes_added s t s.due refl
+makes s (TotalAdd t) = (makes_due s t s.due refl).0
 makes s (JoinKeeper id) = on_value s (JoinKeeper id) (Events.number_standing (local_at s.locals id)) _
     (λ n at. on_value s (JoinKeeper id) (slot_of s.slots n) _ (λ t of. on_test s (JoinKeeper id) _ _ _ (λ may. JoinsKeeper id n t at of may)))
-makes s (TotalSub t) = makes_subtracted s t s.due refl
+makes s (TotalSub t) = (makes_due s t s.due refl).1
 makes s (Keep t id) = on_value s (Keep t id) (Events.number_standing (local_at s.locals id)) _
     (λ n at. on_value s (Keep t id) (slot_of s.slots n) _ (λ u of. on_test s (Keep t id) _ _ _ (λ may. KeepsDriver t id n u at of may)))
 makes s (KeptSub t) = on_value s (KeptSub t) (kept_at s.keeps t) _ (λ d at. on_value s (KeptSub t) (slot_of s.slots d) _ (λ u of. on_test s (KeptSub t) _ _ _ (λ may. SubsKept t d u at of may)))
 makes s (Vacate t) = on_test s (Vacate t) _ _ _ (λ may. Vacates t may)
-makes s (Show t) = makes_shown s t (slot_at s.slots t)
+makes s (Show t) = (makes_slot s t (slot_at s.slots t) refl).1
 makes s (Hide t) = on_test s (Hide t) _ _ _ (λ may. Hides t)
 makes s (Recall c t) = on_test s (Recall c t) _ _ _ (λ may. Recalls c t may)
 makes s (RecallHead c) = on_test s (RecallHead c) _ _ _ (λ may. RecallsHead c may)
-makes s (Refind c t n) = makes_refound s c t n (slot_at s.slots t) refl
+makes s (Refind c t n) = (makes_slot s t (slot_at s.slots t) refl).2 c n
 makes s (Try c t n) = on_test s (Try c t n) _ _ _ (λ may. Tries c t n may)
-makes s (Confirm c) = makes_confirmed s c (hand_at s c) refl
-makes s (TakeBack c) = makes_taken_back s c (hand_at s c) refl
+makes s (Confirm c) = (makes_hand s c (hand_at s c) refl).3
+makes s (TakeBack c) = (makes_hand s c (hand_at s c) refl).4
 
 pub made : (s : State) (e : Event) (o : Outcome) → step s e ≡ Some o → Made s e o.state o.reply
 made s e o is = subst (Makes s e) is (makes s e)

@@ -7,15 +7,13 @@ use Rattle.std.proofs.lemmas.List.Recursion.{is_position_or_len}
 use Rattle.std.proofs.lemmas.Bool.{cases_lt, cases_eq, eqb-true, eq-eqb, cond_below}
 use Rattle.protocol.specs.Types.{Entry, Change, Attach, Slot, Vacant, Live, Retired}
 use Rattle.registry_values.specs.Common.{slot_at, has_number, slot_of, is_vacant, is_retired}
-use Rattle.protocol.specs.Common.{Due, Rest, Snapshots, Adding, Subtracting, IsAttached, at_rest, IsIn, Occupies, SlotsShow}
+use Rattle.protocol.specs.Common.{Due, Rest, IsAttached, at_rest, IsIn, Occupies, SlotsShow}
 use Rattle.protocol.specs.History.{change_at}
 use Rattle.protocol.proofs.Either.{either}
 
 -- a place of a list after one is written
 pub place_cases : {X : Type 0} (d : X) (xs : List X) (t : ℕ) (x : X) (u : ℕ) → t < length xs → ((u ≡ t) × (get_or (set xs t x) u d ≡ x)) ⊎ ((u ≡ t → ⊥) × (get_or (set xs t x) u d ≡ get_or xs u d))
-place_cases {X} d xs t x u lt = either (cases_eq u t)
-    (λ same. inl (same, ap (λ (k : ℕ). get_or (set xs t x) k d) same ∙ get_or-set_same xs t x d lt))
-    (λ off. inr (off, get_or-set_other xs t u x d off))
+place_cases {X} d xs t x u lt = grind (arith, get_or-set_same, get_or-set_other, cases_eq u t)
 
 -- a place that shows more than the default is in the list
 pub place_within : {X : Type 0} (d : X) (xs : List X) (t : ℕ) → (get_or xs t d ≡ d → ⊥) → t < length xs
@@ -24,9 +22,7 @@ place_within {X} d xs t off = either (cases_lt t (length xs)) (λ lt. lt) (λ ge
 -- a write past the end changes nothing, so a written place shows what was written or what it did
 pub written_cases : {X : Type 0} (d : X) (xs : List X) (t : ℕ) (x : X) (u : ℕ)
     → ((u ≡ t) × (get_or (set xs t x) u d ≡ x)) ⊎ (((u ≡ t → ⊥) ⊎ (length xs ≤ t)) × (get_or (set xs t x) u d ≡ get_or xs u d))
-written_cases {X} d xs t x u = either (cases_lt t (length xs))
-    (λ lt. either (place_cases d xs t x u lt) (λ here. inl here) (λ off. inr (inl off.0, off.1)))
-    (λ ge. inr (inr ge, ap (λ (ys : List X). get_or ys u d) (set_past xs t x ge)))
+written_cases {X} d xs t x u = grind (arith, place_cases, set_past)
 
 pub slot_cases : (slots : List Slot) (t : ℕ) (x : Slot) (u : ℕ) → t < length slots → ((u ≡ t) × (slot_at (set slots t x) u ≡ x)) ⊎ ((u ≡ t → ⊥) × (slot_at (set slots t x) u ≡ slot_at slots u))
 slot_cases slots t x u lt = place_cases Vacant slots t x u lt
@@ -57,9 +53,7 @@ one_in f e x at is = either at (λ live. live_one f e x live is) (λ gone. retir
 -- Which numbers stay occupied where one slot is written: those whose entry the new slot still has.
 pub occupies_set : (slots : List Slot) (t : ℕ) (x : Slot) (n : ℕ) → t < length slots → ((f : Entry) → IsIn f (slot_at slots t) → f.number ≡ n → IsIn f x) → Occupies slots n
     → Occupies (set slots t x) n
-occupies_set slots t x n lt stays was = either (cases_eq was.0 t)
-    (λ same. (t, was.1, in_written slots t x was.1 lt (stays was.1 (subst (λ (k : ℕ). IsIn was.1 (slot_at slots k)) same was.2) was.3), was.3))
-    (λ off. (was.0, was.1, in_other slots t x was.1 was.0 off was.2, was.3))
+occupies_set slots t x n lt stays was = (was.0, was.1, grind (arith, slot_cases slots t x was.0, stays was.1), was.3)
 
 pub occupies_publish : (slots : List Slot) (t : ℕ) (x : Slot) (n : ℕ) → t < length slots → slot_at slots t ≡ Vacant → Occupies slots n → Occupies (set slots t x) n
 occupies_publish slots t x n lt vacant was = occupies_set slots t x n lt (λ f is number. absurd (not_vacant f (slot_at slots t) vacant is)) was
@@ -74,20 +68,13 @@ occupies_vacate slots t e n at other was = occupies_set slots t Vacant n (in_wit
 
 -- an entry of the new slots is the published one, or was there
 pub in_published : (slots : List Slot) (t u : ℕ) (e f : Entry) → t < length slots → IsIn f (slot_at (set slots t (Live e)) u) → ((u ≡ t) × (f ≡ e)) ⊎ IsIn f (slot_at slots u)
-in_published slots t u e f lt is = either (slot_cases slots t (Live e) u lt)
-    (λ same. inl (same.0, live_one f e (slot_at (set slots t (Live e)) u) same.1 is))
-    (λ off. inr (subst (IsIn f) off.1 is))
+in_published slots t u e f lt is = grind (arith, slot_cases, live_one)
 
 pub in_unpublished : (slots : List Slot) (t u : ℕ) (e f : Entry) → slot_at slots t ≡ Live e → IsIn f (slot_at (set slots t (Retired e)) u) → IsIn f (slot_at slots u)
-in_unpublished slots t u e f at is = either (slot_cases slots t (Retired e) u (in_within slots t e (inl at)))
-    (λ same.
-    subst (λ (g : Entry). IsIn g (slot_at slots u)) (sym (retired_one f e (slot_at (set slots t (Retired e)) u) same.1 is)) (inl (ap (slot_at slots) same.0 ∙ at)))
-    (λ off. subst (IsIn f) off.1 is)
+in_unpublished slots t u e f at is = grind (arith, slot_cases, in_within slots t e (inl at))
 
 pub in_vacated : (slots : List Slot) (t u : ℕ) (e f : Entry) → slot_at slots t ≡ Retired e → IsIn f (slot_at (set slots t Vacant) u) → (u ≡ t → ⊥) × IsIn f (slot_at slots u)
-in_vacated slots t u e f at is = either (slot_cases slots t Vacant u (in_within slots t e (inr at)))
-    (λ same. absurd (not_vacant f (slot_at (set slots t Vacant) u) same.1 is))
-    (λ off. (off.0, subst (IsIn f) off.1 is))
+in_vacated slots t u e f at is = grind (arith, slot_cases, in_within slots t e (inr at))
 
 -- what a slot of the new list is that was retired and isn't the one written
 pub retired_other : (slots : List Slot) (t u : ℕ) (x : Slot) (e : Entry) → slot_at slots u ≡ Retired e → (u ≡ t → ⊥) → slot_at (set slots t x) u ≡ Retired e
@@ -100,12 +87,7 @@ attached_in h slots t e show is = either is (λ live. let was = show.live t e li
 
 -- two entries with one number are one, in one slot
 pub one_number : (h : List Change) (slots : List Slot) (t u : ℕ) (e f : Entry) → SlotsShow h slots → IsIn e (slot_at slots t) → IsIn f (slot_at slots u) → f.number ≡ e.number → (u ≡ t) × (f ≡ e)
-one_number h slots t u e f show is also same =
-    let a : IsAttached h e × (e.slot ≡ t) = attached_in h slots t e show is in
-    let b : IsAttached h f × (f.slot ≡ u) = attached_in h slots u f show also in
-    let q : Some (Attach f) ≡ Some (Attach e) = sym b.0 ∙ (ap (change_at h) same ∙ a.0) in
-    let one : f ≡ e = cc in
-    (sym b.1 ∙ (ap (λ (g : Entry). g.slot) one ∙ a.1), one)
+one_number h slots t u e f show is also same = grind (arith, attached_in)
 
 number_within : (h : List Change) (k : ℕ) (e : Entry) → change_at h k ≡ Some (Attach e) → k ≤ length h
 unfolding change_at
@@ -114,25 +96,19 @@ number_within h (suc k) e at = slice_get_within h k (Attach e) at
 
 -- no slot has a number above the length of the history
 pub fresh_unoccupied : (h : List Change) (slots : List Slot) (n : ℕ) → SlotsShow h slots → length h < n → Occupies slots n → ⊥
-fresh_unoccupied h slots n show above was =
-    let within = number_within h was.1.number was.1 (attached_in h slots was.0 was.1 show was.2).0 in
-    omega (arith, within, above, was.3)
+fresh_unoccupied h slots n show above was = grind (arith, number_within, attached_in)
 
 -- Which slot a number has.
 
 pub number_in : (n : ℕ) (x : Slot) → has_number n x ≡ true → (e : Entry) × IsIn e x × (e.number ≡ n)
-number_in n Vacant has = absurd (let q : ◌≡◌ {A = Bool} false true = has in cc)
-number_in n (Live e) has = (e, inl refl, eqb-true e.number n has)
-number_in n (Retired e) has = (e, inr refl, eqb-true e.number n has)
+number_in n x has = grind (arith, eqb-true)
 
 pub has_it : (n : ℕ) (e : Entry) (x : Slot) → IsIn e x → e.number ≡ n → has_number n x ≡ true
 has_it n e x is number = either is (λ live. ap (has_number n) live ∙ eq-eqb e.number n number) (λ gone. ap (has_number n) gone ∙ eq-eqb e.number n number)
 
 -- the slot that `slot_of` finds has the entry
 pub slot_has : (slots : List Slot) (n t : ℕ) → slot_of slots n ≡ Some t → (t < length slots) × ((e : Entry) × IsIn e (slot_at slots t) × (e.number ≡ n))
-slot_has slots n t found =
-    let at = position-Some (has_number n) slots t Vacant found in
-    (at.0, number_in n (slot_at slots t) at.1)
+slot_has slots n t found = grind (arith, position-Some, number_in)
 
 pub slot_occupied : (slots : List Slot) (n t : ℕ) → slot_of slots n ≡ Some t → Occupies slots n
 slot_occupied slots n t found =
@@ -169,15 +145,10 @@ slot_its h slots t u e show is found =
 -- What tests of slots tell.
 
 pub is_vacant_tells : (x : Slot) → is_vacant x ≡ true → x ≡ Vacant
-is_vacant_tells Vacant test = refl
-is_vacant_tells _ test = absurd (let q : ◌≡◌ {A = Bool} false true = test in cc)
+is_vacant_tells x test = grind arith
 
 pub is_retired_tells : (x : Slot) → is_retired x ≡ true → (e : Entry) × (x ≡ Retired e)
-is_retired_tells (Retired e) test = (e, refl)
-is_retired_tells _ test = absurd (let q : ◌≡◌ {A = Bool} false true = test in cc)
+is_retired_tells x test = grind arith
 
 pub at_rest_tells : (due : Due) → at_rest due ≡ true → due ≡ Rest
-at_rest_tells Rest test = refl
-at_rest_tells (Snapshots t c) test = absurd (let q : ◌≡◌ {A = Bool} false true = test in cc)
-at_rest_tells (Adding t old) test = absurd (let q : ◌≡◌ {A = Bool} false true = test in cc)
-at_rest_tells (Subtracting t) test = absurd (let q : ◌≡◌ {A = Bool} false true = test in cc)
+at_rest_tells due test = grind arith

@@ -1,115 +1,87 @@
 -- How far count words and totals go, and what the invariant says of the ranges that the code's arithmetic and places need.
-use Rattle.std.proofs.Common.{◌≡◌, ℕ, zero, suc, ◌+◌, ◌*◌, ◌^◌, ◌<◌, ◌≤◌, inr, ⊎_elim, List, [], ◌∷◌, length, get_or, take, Option, Bool, true, refl, ap, subst, ◌∙◌, arith, cond, Some, sym}
+use Rattle.std.proofs.Common.{◌≡◌, ℕ, ◌+◌, ◌*◌, ◌^◌, ◌<◌, ◌≤◌, inr, List, [], length, get_or, take, Option, Bool, true, refl, ap, ◌∙◌, arith, cond, Some, sym}
 use Rattle.std.specs.List.{list_all}
-use Rattle.std.proofs.lemmas.Bool.{cases_lt, and_parts, eqb-true, eq-eqb}
+use Rattle.std.proofs.lemmas.Bool.{cases_lt, eqb-true, eq-eqb}
 use Rattle.protocol.specs.Types.{Entry, Settings, MOST_CPUS, Slot, Retired, Mark}
-use Rattle.registry_values.specs.Common.{bias, no_mark, is_collected, are_collected, slot_at, slot_of}
-use Rattle.protocol.specs.Common.{Hand, LocalPlace, Due, Rest, Adding, Subtracting, mark_at, count_at, total_at, is_bias, IsIn, Balances, IsCounting, CountsHold, held_at, addition_due_at, is_adding_at, greatest_limit, Empty, Giving, Back, Search, State, hand_at, found_at, kept_at, search_at, is_drained, Holds, SlotWithin}
+use Rattle.registry_values.specs.Common.{bias, are_collected, slot_at, slot_of}
+use Rattle.protocol.specs.Common.{Hand, LocalPlace, Due, Rest, Adding, Subtracting, mark_at, count_at, total_at, is_bias, IsIn, IsCounting, CountsHold, held_at, addition_due_at, is_adding_at, greatest_limit, Empty, Giving, Back, Search, State, hand_at, found_at, kept_at, search_at, is_drained, Holds, SlotWithin}
 use Rattle.protocol.proofs.counts.Sums.{total_floor as floor_of, total_ceiling as ceiling_of, word_floor as word_floor_of, all_collected as all_of, one_at, lifted_within}
-use Rattle.protocol.proofs.counts.Counts.{CountsFit, are_words, is_counting}
+use Rattle.protocol.proofs.counts.Counts.{CountsFit, are_words, is_counting, moved}
 use Rattle.protocol.proofs.keeps.CountKeeps.{fit_of, hand_within, held_counting}
 use Rattle.protocol.proofs.keeps.Drivers.{kept_found}
+use Rattle.protocol.proofs.keeps.Marking.{list_all_within}
 use Rattle.protocol.proofs.keeps.MarkKeeps.{is_drained_tells}
+use Rattle.protocol.proofs.Either.{either}
 use Rattle.protocol.proofs.Occupied.{slot_has, in_within}
 use Rattle.protocol.proofs.keeps.References.{giving_holds, back_holds, due_adding, due_subtracting}
 use Rattle.protocol.proofs.keeps.Searching.{search_walks, place_within}
 
--- a word that counts is near the bias
-pub word_floor : {z : Settings} {slots : List Slot} {marks : List (List Mark)} {counts nets : List (List ℕ)} {totals : List ℕ} {hands : List Hand} {keeps : List (Option ℕ)} {due : Due}
-    {locals : List LocalPlace} → CountsHold z slots marks counts nets totals hands keeps due locals → CountsFit z slots marks counts nets totals hands keeps → (c t : ℕ) (e : Entry) → c < z.cpus
-    → IsIn e (slot_at slots t) → IsCounting slots marks c t → bias + held_at locals hands keeps due e.number t ≤ count_at counts c t + MOST_CPUS * greatest_limit
-word_floor {z} {slots} {marks} {counts} {nets} {totals} {hands} {keeps} {due} {locals} on fit c t e lt is counting =
-    let words = are_words on fit t e is in
-    let floor = word_floor_of (get_or counts t []) (total_at totals t) (held_at locals hands keeps due e.number t) (addition_due_at t due) (is_adding_at t due) c words
-    (omega (arith, lt, fit.cpu_limit)) (on.counted c t lt counting).1 (on.balance t e is) in
-    omega (arith, floor)
+module _ {z : Settings} {slots : List Slot} {marks : List (List Mark)} {counts nets : List (List ℕ)} {totals : List ℕ} {hands : List Hand} {keeps : List (Option ℕ)} {due : Due} {locals : List LocalPlace}
+    (on : CountsHold z slots marks counts nets totals hands keeps due locals) where
+  pub total_ceiling : (t : ℕ) (e : Entry) → IsIn e (slot_at slots t) → total_at totals t + addition_due_at t due ≤ bias * (1 + is_adding_at t due) + MOST_CPUS * greatest_limit
+  total_ceiling t e is =
+      let ceiling = ceiling_of _ _ _ (addition_due_at t due) (is_adding_at t due) (on.balance t e is) in omega (arith, ceiling)
 
-pub word_ceiling : {z : Settings} {slots : List Slot} {marks : List (List Mark)} {counts nets : List (List ℕ)} {totals : List ℕ} {hands : List Hand} {keeps : List (Option ℕ)} {due : Due}
-    {locals : List LocalPlace} → CountsHold z slots marks counts nets totals hands keeps due locals → CountsFit z slots marks counts nets totals hands keeps → (c t : ℕ) (e : Entry)
-    → IsIn e (slot_at slots t) → count_at counts c t ≤ bias + greatest_limit
-word_ceiling {z} {slots} {marks} {counts} {nets} {totals} {hands} {keeps} {due} {locals} on fit c t e is = omega (arith, (are_words on fit t e is).1 c)
+  -- once all words are collected, the total says what is held
+  pub all_collected : (t : ℕ) (e : Entry) → due ≡ Rest → slot_at slots t ≡ Retired e → ((c : ℕ) → c < z.cpus → (mark_at marks t c).collected ≡ true)
+      → total_at totals t ≡ bias + held_at locals hands keeps due e.number t
+  all_collected t e rest gone each =
+      all_of (get_or counts t []) (total_at totals t) _ (λ c. either (cases_lt c z.cpus) (λ lt. on.emptied c t e gone (each c lt)) (λ ge. on.beyond c t ge))
+      (moved (on.balance t e (inr gone)) refl refl refl (sym (ap (addition_due_at t) rest)) (sym (ap (is_adding_at t) rest)))
 
--- a total, with what is to be added
-pub total_floor : {z : Settings} {slots : List Slot} {marks : List (List Mark)} {counts nets : List (List ℕ)} {totals : List ℕ} {hands : List Hand} {keeps : List (Option ℕ)} {due : Due}
-    {locals : List LocalPlace} → CountsHold z slots marks counts nets totals hands keeps due locals → CountsFit z slots marks counts nets totals hands keeps → (t : ℕ) (e : Entry)
-    → IsIn e (slot_at slots t) → bias * (1 + is_adding_at t due) + held_at locals hands keeps due e.number t ≤ total_at totals t + addition_due_at t due + MOST_CPUS * greatest_limit
-total_floor {z} {slots} {marks} {counts} {nets} {totals} {hands} {keeps} {due} {locals} on fit t e is =
-    let floor = floor_of (get_or counts t []) (total_at totals t) (held_at locals hands keeps due e.number t) (addition_due_at t due) (is_adding_at t due) (are_words on fit t e is)
-    (on.balance t e is) in
-    omega (arith, floor)
+  -- and is the bias exactly where nothing is
+  pub none_held_at_bias : (t : ℕ) (e : Entry) → due ≡ Rest → slot_at slots t ≡ Retired e → ((c : ℕ) → c < z.cpus → (mark_at marks t c).collected ≡ true) → total_at totals t ≡ bias
+      → held_at locals hands keeps due e.number t ≡ 0
+  none_held_at_bias t e rest gone each is = omega (arith, all_collected t e rest gone each, is)
 
-pub total_ceiling : {z : Settings} {slots : List Slot} {marks : List (List Mark)} {counts nets : List (List ℕ)} {totals : List ℕ} {hands : List Hand} {keeps : List (Option ℕ)} {due : Due}
-    {locals : List LocalPlace} → CountsHold z slots marks counts nets totals hands keeps due locals → (t : ℕ) (e : Entry) → IsIn e (slot_at slots t)
-    → total_at totals t + addition_due_at t due ≤ bias * (1 + is_adding_at t due) + MOST_CPUS * greatest_limit
-total_ceiling {z} {slots} {marks} {counts} {nets} {totals} {hands} {keeps} {due} {locals} on t e is =
-    let ceiling = ceiling_of (get_or counts t []) (total_at totals t) (held_at locals hands keeps due e.number t) (addition_due_at t due) (is_adding_at t due) (on.balance t e is) in
-    omega (arith, ceiling)
+module _ {z : Settings} {slots : List Slot} {marks : List (List Mark)} {counts nets : List (List ℕ)} {totals : List ℕ} {hands : List Hand} {keeps : List (Option ℕ)} {due : Due} {locals : List LocalPlace}
+    (on : CountsHold z slots marks counts nets totals hands keeps due locals) (fit : CountsFit z slots marks counts nets totals hands keeps) where
+  -- a word that counts is near the bias
+  pub word_floor : (c t : ℕ) (e : Entry) → c < z.cpus → IsIn e (slot_at slots t) → IsCounting slots marks c t
+      → bias + held_at locals hands keeps due e.number t ≤ count_at counts c t + MOST_CPUS * greatest_limit
+  word_floor c t e lt is counting =
+      let floor = word_floor_of _ _ _ _ _ c (are_words on fit t e is) (omega (arith, lt, fit.cpu_limit)) (on.counted c t lt counting).1 (on.balance t e is) in omega (arith, floor)
 
--- what is being added is added with nothing lost
-pub adding_fits : {z : Settings} {slots : List Slot} {marks : List (List Mark)} {counts nets : List (List ℕ)} {totals : List ℕ} {hands : List Hand} {keeps : List (Option ℕ)} {due : Due}
-    {locals : List LocalPlace} → CountsHold z slots marks counts nets totals hands keeps due locals → CountsFit z slots marks counts nets totals hands keeps → (t old : ℕ) (e : Entry)
-    → due ≡ Adding t old → IsIn e (slot_at slots t) → (bias ≤ total_at totals t + old) × (total_at totals t + old < 2 ^ 64)
-adding_fits {z} {slots} {marks} {counts} {nets} {totals} {hands} {keeps} {due} {locals} on fit t old e was is =
-    let floor = total_floor on fit t e is in
-    let ceiling = total_ceiling on t e is in
-    let one : is_adding_at t due ≡ 1 = ap (is_adding_at t) was ∙ one_at t t refl in
-    let word : addition_due_at t due ≡ old = ap (addition_due_at t) was ∙ ap (λ (b : Bool). cond b old 0) (eq-eqb t t refl) in
-    (omega (arith, floor, one, word), omega (arith, ceiling, one, word))
+  pub word_ceiling : (c t : ℕ) (e : Entry) → IsIn e (slot_at slots t) → count_at counts c t ≤ bias + greatest_limit
+  word_ceiling c t e is = omega (arith, (are_words on fit t e is).1 c)
 
--- nothing is being added
-pub total_range : {z : Settings} {slots : List Slot} {marks : List (List Mark)} {counts nets : List (List ℕ)} {totals : List ℕ} {hands : List Hand} {keeps : List (Option ℕ)} {due : Due}
-    {locals : List LocalPlace} → CountsHold z slots marks counts nets totals hands keeps due locals → CountsFit z slots marks counts nets totals hands keeps → (t : ℕ) (e : Entry)
-    → addition_due_at t due ≡ 0 → is_adding_at t due ≡ 0 → IsIn e (slot_at slots t)
-    → (bias + held_at locals hands keeps due e.number t ≤ total_at totals t + MOST_CPUS * greatest_limit) × (total_at totals t ≤ bias + MOST_CPUS * greatest_limit)
-total_range {z} {slots} {marks} {counts} {nets} {totals} {hands} {keeps} {due} {locals} on fit t e nothing none is =
-    (omega (arith, total_floor on fit t e is, none, nothing), omega (arith, total_ceiling on t e is, none, nothing))
+  -- a total, with what is to be added
+  pub total_floor : (t : ℕ) (e : Entry) → IsIn e (slot_at slots t)
+      → bias * (1 + is_adding_at t due) + held_at locals hands keeps due e.number t ≤ total_at totals t + addition_due_at t due + MOST_CPUS * greatest_limit
+  total_floor t e is =
+      let floor = floor_of _ _ _ (addition_due_at t due) (is_adding_at t due) (are_words on fit t e is) (on.balance t e is) in omega (arith, floor)
 
-pub total_at_rest : {z : Settings} {slots : List Slot} {marks : List (List Mark)} {counts nets : List (List ℕ)} {totals : List ℕ} {hands : List Hand} {keeps : List (Option ℕ)} {due : Due}
-    {locals : List LocalPlace} → CountsHold z slots marks counts nets totals hands keeps due locals → CountsFit z slots marks counts nets totals hands keeps → (t : ℕ) (e : Entry) → due ≡ Rest
-    → IsIn e (slot_at slots t) → (bias + held_at locals hands keeps due e.number t ≤ total_at totals t + MOST_CPUS * greatest_limit) × (total_at totals t ≤ bias + MOST_CPUS * greatest_limit)
-total_at_rest {z} {slots} {marks} {counts} {nets} {totals} {hands} {keeps} {due} {locals} on fit t e rest is = total_range on fit t e (ap (addition_due_at t) rest) (ap (is_adding_at t) rest) is
+  -- what is being added is added with nothing lost
+  pub adding_fits : (t old : ℕ) (e : Entry) → due ≡ Adding t old → IsIn e (slot_at slots t) → (bias ≤ total_at totals t + old) × (total_at totals t + old < 2 ^ 64)
+  adding_fits t old e was is =
+      let floor = total_floor t e is in
+      let ceiling = total_ceiling on t e is in
+      let one : is_adding_at t due ≡ 1 = ap (is_adding_at t) was ∙ one_at t t refl in
+      let word : addition_due_at t due ≡ old = ap (addition_due_at t) was ∙ ap (λ (b : Bool). cond b old 0) (eq-eqb t t refl) in
+      (omega (arith, floor, one, word), omega (arith, ceiling, one, word))
 
--- a total is above 0 before a reference is subtracted
-pub total_at_subtraction : {z : Settings} {slots : List Slot} {marks : List (List Mark)} {counts nets : List (List ℕ)} {totals : List ℕ} {hands : List Hand} {keeps : List (Option ℕ)} {due : Due}
-    {locals : List LocalPlace} → CountsHold z slots marks counts nets totals hands keeps due locals → CountsFit z slots marks counts nets totals hands keeps → (t u : ℕ) (e : Entry)
-    → due ≡ Subtracting u → IsIn e (slot_at slots t) → (0 < total_at totals t) × (total_at totals t ≤ bias + MOST_CPUS * greatest_limit)
-total_at_subtraction {z} {slots} {marks} {counts} {nets} {totals} {hands} {keeps} {due} {locals} on fit t u e was is =
-    let range = total_range on fit t e (ap (addition_due_at t) was) (ap (is_adding_at t) was) is in (omega (arith, range.0), range.1)
+  -- nothing is being added
+  pub total_range : (t : ℕ) (e : Entry) → addition_due_at t due ≡ 0 → is_adding_at t due ≡ 0 → IsIn e (slot_at slots t)
+      → (bias + held_at locals hands keeps due e.number t ≤ total_at totals t + MOST_CPUS * greatest_limit) × (total_at totals t ≤ bias + MOST_CPUS * greatest_limit)
+  total_range t e nothing none is =
+      (omega (arith, total_floor t e is, none, nothing), omega (arith, total_ceiling on t e is, none, nothing))
 
--- once all words are collected, the total says what is held
-pub all_collected : {z : Settings} {slots : List Slot} {marks : List (List Mark)} {counts nets : List (List ℕ)} {totals : List ℕ} {hands : List Hand} {keeps : List (Option ℕ)} {due : Due}
-    {locals : List LocalPlace} → CountsHold z slots marks counts nets totals hands keeps due locals → (t : ℕ) (e : Entry) → due ≡ Rest → slot_at slots t ≡ Retired e
-    → ((c : ℕ) → c < z.cpus → (mark_at marks t c).collected ≡ true) → total_at totals t ≡ bias + held_at locals hands keeps due e.number t
-all_collected {z} {slots} {marks} {counts} {nets} {totals} {hands} {keeps} {due} {locals} on t e rest gone each =
-    all_of (get_or counts t []) (total_at totals t) (held_at locals hands keeps due e.number t)
-    (λ c. ⊎_elim (λ (lt : c < z.cpus). on.emptied c t e gone (each c lt)) (λ (ge : z.cpus ≤ c). on.beyond c t ge) (cases_lt c z.cpus))
-    (subst (λ (a : ℕ). Balances (get_or counts t []) (total_at totals t) (held_at locals hands keeps due e.number t) a 0) (ap (addition_due_at t) rest)
-    (subst (λ (i : ℕ). Balances (get_or counts t []) (total_at totals t) (held_at locals hands keeps due e.number t) (addition_due_at t due) i) (ap (is_adding_at t) rest) (on.balance t e (inr gone))))
+  pub total_at_rest : (t : ℕ) (e : Entry) → due ≡ Rest → IsIn e (slot_at slots t)
+      → (bias + held_at locals hands keeps due e.number t ≤ total_at totals t + MOST_CPUS * greatest_limit) × (total_at totals t ≤ bias + MOST_CPUS * greatest_limit)
+  total_at_rest t e rest is = total_range t e (ap (addition_due_at t) rest) (ap (is_adding_at t) rest) is
 
--- and is the bias exactly where nothing is
-pub none_held_at_bias : {z : Settings} {slots : List Slot} {marks : List (List Mark)} {counts nets : List (List ℕ)} {totals : List ℕ} {hands : List Hand} {keeps : List (Option ℕ)} {due : Due}
-    {locals : List LocalPlace} → CountsHold z slots marks counts nets totals hands keeps due locals → (t : ℕ) (e : Entry) → due ≡ Rest → slot_at slots t ≡ Retired e
-    → ((c : ℕ) → c < z.cpus → (mark_at marks t c).collected ≡ true) → total_at totals t ≡ bias → held_at locals hands keeps due e.number t ≡ 0
-none_held_at_bias {z} {slots} {marks} {counts} {nets} {totals} {hands} {keeps} {due} {locals} on t e rest gone each is = omega (arith, all_collected on t e rest gone each, is)
+  -- a total is above 0 before a reference is subtracted
+  pub total_at_subtraction : (t u : ℕ) (e : Entry) → due ≡ Subtracting u → IsIn e (slot_at slots t) → (0 < total_at totals t) × (total_at totals t ≤ bias + MOST_CPUS * greatest_limit)
+  total_at_subtraction t u e was is =
+      let range = total_range t e (ap (addition_due_at t) was) (ap (is_adding_at t) was) is in (omega (arith, range.0), range.1)
 
--- what a test of the first places tells of each
-pub all_at : {X : Type 0} (p : X → Bool) (n : ℕ) (row : List X) (d : X) (c : ℕ) → list_all p (take n row) ≡ true → c < n → c < length row → p (get_or row c d) ≡ true
-all_at p n [] d c all lt within = absurd (omega arith)
-all_at p zero (x ∷ row) d c all lt within = absurd (omega arith)
-all_at p (suc n) (x ∷ row) d zero all lt within = (and_parts (p x) (list_all p (take n row)) all).0
-all_at p (suc n) (x ∷ row) d (suc c) all lt within = all_at p n row d c (and_parts (p x) (list_all p (take n row)) all).1 (omega arith) (omega arith)
+module _ {z : Settings} {slots : List Slot} {marks : List (List Mark)} {counts nets : List (List ℕ)} {totals : List ℕ} {hands : List Hand} {keeps : List (Option ℕ)}
+    (fit : CountsFit z slots marks counts nets totals hands keeps) where
+  pub collected_at : (t c : ℕ) → t < length slots → c < z.cpus → are_collected z.cpus (get_or marks t []) ≡ true → (mark_at marks t c).collected ≡ true
+  collected_at t c lt below all = grind (arith, list_all_within)
 
-pub collected_at : {z : Settings} {slots : List Slot} {marks : List (List Mark)} {counts nets : List (List ℕ)} {totals : List ℕ} {hands : List Hand} {keeps : List (Option ℕ)}
-    → CountsFit z slots marks counts nets totals hands keeps → (t c : ℕ) → t < length slots → c < z.cpus → are_collected z.cpus (get_or marks t []) ≡ true → (mark_at marks t c).collected ≡ true
-collected_at {z} {slots} {marks} {counts} {nets} {totals} {hands} {keeps} fit t c lt below all =
-    let tm : t < length marks = omega (arith, lt, fit.slot_length, fit.mark_length) in
-    all_at is_collected z.cpus (get_or marks t []) no_mark c all below (omega (arith, fit.mark_rows t tm, below, fit.cpu_limit))
-
-pub bias_at : {z : Settings} {slots : List Slot} {marks : List (List Mark)} {counts nets : List (List ℕ)} {totals : List ℕ} {hands : List Hand} {keeps : List (Option ℕ)}
-    → CountsFit z slots marks counts nets totals hands keeps → (t c : ℕ) → t < length slots → c < z.cpus → list_all is_bias (take z.cpus (get_or counts t [])) ≡ true → count_at counts c t ≡ bias
-bias_at {z} {slots} {marks} {counts} {nets} {totals} {hands} {keeps} fit t c lt below all =
-    let tc : t < length counts = omega (arith, lt, fit.slot_length, fit.count_length) in
-    eqb-true (count_at counts c t) bias (all_at is_bias z.cpus (get_or counts t []) 0 c all below (omega (arith, fit.count_rows t tc, below, fit.cpu_limit)))
+  pub bias_at : (t c : ℕ) → t < length slots → c < z.cpus → list_all is_bias (take z.cpus (get_or counts t [])) ≡ true → count_at counts c t ≡ bias
+  bias_at t c lt below all = grind (arith, eqb-true, list_all_within)
 
 -- What the invariant says of the ranges that the code's arithmetic and places need, where an event is allowed.
 
@@ -135,9 +107,7 @@ counting_positive s c n id t on hand of same =
 
 -- a word that may be counted up has room
 pub counted_room : (s : State) (c t : ℕ) (e : Entry) → Holds s → found_at s c ≡ Some e → slot_of s.slots e.number ≡ Some t → count_at s.counts c t < 2 ^ 63
-counted_room s c t e on found of =
-    let here = held_counting s c t e on found of in
-    omega (arith, word_ceiling on.balance (fit_of s on) c t e here.0)
+counted_room s c t e on found of = omega (arith, word_ceiling on.balance (fit_of s on) c t e (held_counting s c t e on found of).0)
 
 pub adding_range : (s : State) (t old : ℕ) → Holds s → s.due ≡ Adding t old → (bias ≤ total_at s.totals t + old) × (total_at s.totals t + old < 2 ^ 64)
 adding_range s t old on due =
@@ -147,10 +117,7 @@ adding_range s t old on due =
 pub adding_within : (s : State) (t old : ℕ) → Holds s → s.due ≡ Adding t old → t < s.settings.slots
 adding_within s t old on due =
     let gone = due_adding s.settings.cpus s.slots s.hands s.due s.locals t old due on.references in
-    omega (arith, on.shape.slots, occupied s t gone.0 (inr gone.1))
-  where
-    occupied : (s : State) (t : ℕ) (e : Entry) → IsIn e (slot_at s.slots t) → t < length s.slots
-    occupied s t e is = in_within s.slots t e is
+    omega (arith, on.shape.slots, in_within s.slots t gone.0 (inr gone.1))
 
 pub subtracting_range : (s : State) (t : ℕ) → Holds s → s.due ≡ Subtracting t → (t < s.settings.slots) × (0 < total_at s.totals t)
 subtracting_range s t on due =

@@ -1,12 +1,12 @@
 -- Sums over count words, places of references, hands and kept drivers: what they say of what is held, and what events do to a slot's balance.
-use Rattle.std.proofs.Common.{◌≡◌, ◌≢◌, ℕ, zero, suc, ◌+◌, ◌*◌, ◌<◌, ◌≤◌, ◌⊎◌, List, ◌∷◌, [], ◌++◌, length, get_or, set, Option, Some, None, Bool, true, false, cond, ◌==◌, position, refl, sym, ap, ◌∙◌, arith, sum_by, ◌-◌, get_or-set_same, get_or-set_other, subst}
+use Rattle.std.proofs.Common.{◌≡◌, ◌≢◌, ℕ, zero, suc, ◌+◌, ◌*◌, ◌<◌, ◌≤◌, ◌⊎◌, List, ◌∷◌, [], ◌++◌, length, get_or, set, Option, Some, None, Bool, true, cond, ◌==◌, position, refl, sym, ap, ◌∙◌, arith, sum_by, ◌-◌, get_or-set_same, get_or-set_other}
 use Rattle.std.proofs.lemmas.List.Sums.{sum_by-set, sum_by-cons, sum_by_push, get_or-le-sum_by}
 use Rattle.std.proofs.lemmas.List.Quantifiers.{position-Some}
 use Rattle.std.proofs.lemmas.List.{get_or_past}
 use Rattle.std.proofs.lemmas.Bool.{cases_lt, eq-eqb, ne_eqb, lt-ltb, le-ltb, cases_eq}
 use Rattle.protocol.specs.Types.{MOST_CPUS, Change, Slot}
 use Rattle.registry_values.specs.Common.{bias}
-use Rattle.protocol.specs.Common.{Hand, Empty, LocalPlace, Free, Standing, Lifted, local_at, kept_at, is_free, id_if, least_id, with_local, one_if_used, itself, greatest_limit, one_if, standing_of, in_hand, kept_of, Due, held_at, Balances, Taking, Giving, Back, Trying, Rest, Snapshots, Adding, Subtracting, Occupies, subtraction_due_at, SlotsShow, HandHolds, ReferencesHold, DriversKept}
+use Rattle.protocol.specs.Common.{Hand, Empty, LocalPlace, Free, Standing, Lifted, local_at, kept_at, is_free, id_if, least_id, with_local, one_if_used, itself, greatest_limit, one_if, standing_of, in_hand, kept_of, Due, held_at, Balances, Taking, Giving, Back, Trying, Rest, Subtracting, Occupies, SlotsShow, HandHolds, ReferencesHold, DriversKept}
 use Rattle.protocol.proofs.Either.{either}
 use Rattle.protocol.proofs.Occupied.{place_within, fresh_unoccupied}
 
@@ -19,15 +19,8 @@ used-le-length (suc w ∷ row) = let a = sum_by-cons one_if_used (suc w) row in 
 -- words that are at most the bias and the greatest limit
 pub words-le-used : (row : List ℕ) → ((c : ℕ) → get_or row c 0 ≤ bias + greatest_limit) → sum_by itself row ≤ (bias + greatest_limit) * sum_by one_if_used row
 words-le-used [] most = omega arith
-words-le-used (zero ∷ row) most =
-    let a = sum_by-cons one_if_used 0 row in
-    let b = sum_by-cons itself 0 row in
-    let rest = words-le-used row (λ c. most (suc c)) in omega arith
-words-le-used (suc w ∷ row) most =
-    let a = sum_by-cons one_if_used (suc w) row in
-    let b = sum_by-cons itself (suc w) row in
-    let here : suc w ≤ bias + greatest_limit = most 0 in
-    let rest = words-le-used row (λ c. most (suc c)) in omega arith
+words-le-used (zero ∷ row) most = omega (arith, sum_by-cons one_if_used 0 row, sum_by-cons itself 0 row, words-le-used row (λ c. most (suc c)))
+words-le-used (suc w ∷ row) most = omega (arith, sum_by-cons one_if_used (suc w) row, sum_by-cons itself (suc w) row, most 0, words-le-used row (λ c. most (suc c)))
 
 -- words that are 0 or the bias
 pub words-at-bias : (row : List ℕ) → ((c : ℕ) → (get_or row c 0 ≡ 0) ⊎ (get_or row c 0 ≡ bias)) → sum_by itself row ≡ bias * sum_by one_if_used row
@@ -54,8 +47,7 @@ words-at-zero (w ∷ row) each =
 
 -- a word above 0 is used
 pub is_used : (w : ℕ) → 0 < w → one_if_used w ≡ 1
-is_used zero some = absurd (omega arith)
-is_used (suc w) some = refl
+is_used w some = grind arith
 
 -- one at the same number, and none at another
 pub one_at : (m n : ℕ) → m ≡ n → one_if (m == n) ≡ 1
@@ -77,30 +69,22 @@ lifted_within locals id c at = local_within locals id (Lifted c) at (λ (no : Fr
 -- a place, a hand or what is kept changes
 pub local_changed : (n : ℕ) (locals : List LocalPlace) (id : ℕ) (p q : LocalPlace) → id < length locals → local_at locals id ≡ p
     → sum_by (standing_of n) (set locals id q) + standing_of n p ≡ sum_by (standing_of n) locals + standing_of n q
-local_changed n locals id p q lt at =
-    let was : standing_of n (local_at locals id) ≡ standing_of n p = ap (standing_of n) at in
-    omega (arith, sum_by-set (standing_of n) locals id q Free lt, was)
+local_changed n locals id p q lt at = grind (arith, sum_by-set)
 
 pub hand_changed : (n : ℕ) (hands : List Hand) (c : ℕ) (h k : Hand) → c < length hands → get_or hands c Empty ≡ h
     → sum_by (in_hand n) (set hands c k) + in_hand n h ≡ sum_by (in_hand n) hands + in_hand n k
-hand_changed n hands c h k lt at =
-    let was : in_hand n (get_or hands c Empty) ≡ in_hand n h = ap (in_hand n) at in
-    omega (arith, sum_by-set (in_hand n) hands c k Empty lt, was)
+hand_changed n hands c h k lt at = grind (arith, sum_by-set)
 
 pub kept_changed : (n : ℕ) (keeps : List (Option ℕ)) (t : ℕ) (o k : Option ℕ) → t < length keeps → kept_at keeps t ≡ o
     → sum_by (kept_of n) (set keeps t k) + kept_of n o ≡ sum_by (kept_of n) keeps + kept_of n k
-kept_changed n keeps t o k lt at =
-    let was : kept_of n (kept_at keeps t) ≡ kept_of n o = ap (kept_of n) at in
-    omega (arith, sum_by-set (kept_of n) keeps t k None lt, was)
+kept_changed n keeps t o k lt at = grind (arith, sum_by-set)
 
 -- a new reference takes a free place, or one more
 pub local_added : (n : ℕ) (locals : List LocalPlace) (p : LocalPlace) → sum_by (standing_of n) (with_local locals (least_id locals) p) ≡ sum_by (standing_of n) locals + standing_of n p
 local_added n locals p = added (position is_free locals) refl
   where
     freed : (q : LocalPlace) → is_free q ≡ true → standing_of n q ≡ 0
-    freed Free is = refl
-    freed (Standing m) is = absurd (let q : ◌≡◌ {A = Bool} false true = is in cc)
-    freed (Lifted c) is = refl
+    freed q is = grind arith
 
     added : (o : Option ℕ) → position is_free locals ≡ o → sum_by (standing_of n) (with_local locals (id_if locals o) p) ≡ sum_by (standing_of n) locals + standing_of n p
     added None none = ap (λ (b : Bool). sum_by (standing_of n) (cond b (set locals (length locals) p) (locals ++ p ∷ []))) (le-ltb (length locals) (length locals) (omega arith))
@@ -115,9 +99,7 @@ local_added n locals p = added (position is_free locals) refl
 
 -- what a sum counts at one place
 at_some : {X : Type 0} (f : X → ℕ) (xs : List X) (i : ℕ) (d x : X) → f d ≡ 0 → get_or xs i d ≡ x → 0 < f x → 0 < sum_by f xs
-at_some f xs i d x none at some = either (cases_lt i (length xs))
-    (λ lt. let same : f (get_or xs i d) ≡ f x = ap f at in omega (arith, get_or-le-sum_by f xs i d lt, same, some))
-    (λ ge. let same : f d ≡ f x = ap f (sym (get_or_past xs i d ge) ∙ at) in absurd (omega (arith, same, none, some)))
+at_some f xs i d x none at some = grind (arith, get_or-le-sum_by, get_or_past)
 
 pub held_kept : (locals : List LocalPlace) (hands : List Hand) (keeps : List (Option ℕ)) (due : Due) (n t u : ℕ) → kept_at keeps u ≡ Some n → 0 < held_at locals hands keeps due n t
 held_kept locals hands keeps due n t u at = omega (arith, at_some (kept_of n) keeps u None (Some n) refl at (omega (arith, one_at n n refl)))
@@ -158,30 +140,16 @@ word_floor row total held adding is_adding c words lt some b =
 -- one reference more is counted
 pub counted_up : (row : List ℕ) (total held adding is_adding c w : ℕ) → c < length row → get_or row c 0 ≡ w → 0 < w → Balances row total held adding is_adding
     → Balances (set row c (w + 1)) total (held + 1) adding is_adding
-counted_up row total held adding is_adding c w lt at some b =
-    let sums = sum_by-set itself row c (w + 1) 0 lt in
-    let uses = sum_by-set one_if_used row c (w + 1) 0 lt in
-    let was : one_if_used (get_or row c 0) ≡ 1 = ap one_if_used at ∙ is_used w some in
-    let now = is_used (w + 1) (omega arith) in
-    record { even = omega (arith, sums, uses, was, now, at, b.even); capped = omega (arith, uses, was, now, b.capped) }
+counted_up row total held adding is_adding c w lt at some b = grind (arith, sum_by-set, is_used)
 
 -- one less, at a word that stays above 0
 pub counted_down : (row : List ℕ) (total held adding is_adding c w : ℕ) → c < length row → get_or row c 0 ≡ w → 1 < w → Balances row total (held + 1) adding is_adding
     → Balances (set row c (w - 1)) total held adding is_adding
-counted_down row total held adding is_adding c w lt at some b =
-    let sums = sum_by-set itself row c (w - 1) 0 lt in
-    let uses = sum_by-set one_if_used row c (w - 1) 0 lt in
-    let was : one_if_used (get_or row c 0) ≡ 1 = ap one_if_used at ∙ is_used w (omega arith) in
-    let now = is_used (w - 1) (omega arith) in
-    record { even = omega (arith, sums, uses, was, now, at, b.even); capped = omega (arith, uses, was, now, b.capped) }
+counted_down row total held adding is_adding c w lt at some b = grind (arith, sum_by-set, is_used)
 
 -- a word is swapped for 0
 pub collected : (row : List ℕ) (total held c w : ℕ) → c < length row → get_or row c 0 ≡ w → 0 < w → w ≤ bias + greatest_limit → Balances row total held 0 0 → Balances (set row c 0) total held w 1
-collected row total held c w lt at some most b =
-    let sums = sum_by-set itself row c 0 0 lt in
-    let uses = sum_by-set one_if_used row c 0 0 lt in
-    let was : one_if_used (get_or row c 0) ≡ 1 = ap one_if_used at ∙ is_used w some in
-    record { even = omega (arith, sums, uses, was, at, b.even); capped = omega (arith, uses, was, b.capped) }
+collected row total held c w lt at some most b = grind (arith, sum_by-set, is_used)
 
 -- what was collected is added to the total, without its bias
 pub added : (row : List ℕ) (total held old : ℕ) → AreWords row → Balances row total held old 1 → Balances row (total + old - bias) held 0 0
@@ -223,18 +191,12 @@ one_other m n off = ap one_if (ne_eqb m n off)
 
 -- a place of a list counts in its sum
 counted : {X : Type 0} (f : X → ℕ) (d : X) (xs : List X) (i : ℕ) → (get_or xs i d ≡ d → ⊥) → f (get_or xs i d) ≡ 1 → 1 ≤ sum_by f xs
-counted f d xs i off one =
-    let le = get_or-le-sum_by f xs i d (place_within d xs i off) in
-    omega (arith, le, one)
+counted f d xs i off one = grind (arith, get_or-le-sum_by, place_within)
 
 -- a sum of nothing is 0
 uncounted : {X : Type 0} (f : X → ℕ) (d : X) (xs : List X) → ((i : ℕ) → f (get_or xs i d) ≡ 0) → sum_by f xs ≡ 0
 uncounted f d [] none = refl
-uncounted f d (x ∷ xs) none =
-    let here : f x ≡ 0 = none 0 in
-    let rest = uncounted f d xs (λ i. none (suc i)) in
-    let sum = sum_by-cons f x xs in
-    omega (arith, here, rest, sum)
+uncounted f d (x ∷ xs) none = omega (arith, none 0, uncounted f d xs (λ i. none (suc i)), sum_by-cons f x xs)
 
 -- Places
 
@@ -244,55 +206,24 @@ standing_counts n locals id at = counted (standing_of n) Free locals id (λ free
 pub none_standing : (n : ℕ) (locals : List LocalPlace) → sum_by (standing_of n) locals ≡ 0 → (id : ℕ) → local_at locals id ≡ Standing n → ⊥
 none_standing n locals sum id at = let one = standing_counts n locals id at in omega (arith, one, sum)
 
-pub standing_not : (n : ℕ) (p : LocalPlace) → (p ≡ Standing n → ⊥) → standing_of n p ≡ 0
-standing_not n (Standing m) off = one_other m n (λ same. off (ap (λ (k : ℕ). Standing k) same))
-standing_not n _ off = refl
-
 pub no_standing : (n : ℕ) (locals : List LocalPlace) → ((id : ℕ) → local_at locals id ≡ Standing n → ⊥) → sum_by (standing_of n) locals ≡ 0
-no_standing n locals none = uncounted (standing_of n) Free locals (λ id. standing_not n (local_at locals id) (none id))
+no_standing n locals none = uncounted (standing_of n) Free locals (λ id. grind (arith, one_other, none id))
 
 -- Hands
 
-hand_one : (n : ℕ) (h : Hand) → number_of h ≡ Some n → in_hand n h ≡ 1
-hand_one n Empty named = absurd (let q : ◌≡◌ {A = Option ℕ} None (Some n) = named in cc)
-hand_one n (Taking m) named = one_self m n (let q : ◌≡◌ {A = Option ℕ} (Some m) (Some n) = named in cc)
-hand_one n (Giving m id) named = one_self m n (let q : ◌≡◌ {A = Option ℕ} (Some m) (Some n) = named in cc)
-hand_one n (Back m id) named = one_self m n (let q : ◌≡◌ {A = Option ℕ} (Some m) (Some n) = named in cc)
-hand_one n (Trying t m) named = absurd (let q : ◌≡◌ {A = Option ℕ} None (Some n) = named in cc)
-
-hand_not : (n : ℕ) (h : Hand) → (number_of h ≡ Some n → ⊥) → in_hand n h ≡ 0
-hand_not n Empty off = refl
-hand_not n (Taking m) off = one_other m n (λ same. off (ap (λ (k : ℕ). Some k) same))
-hand_not n (Giving m id) off = one_other m n (λ same. off (ap (λ (k : ℕ). Some k) same))
-hand_not n (Back m id) off = one_other m n (λ same. off (ap (λ (k : ℕ). Some k) same))
-hand_not n (Trying t m) off = refl
-
-pub hand_counts : (n : ℕ) (hands : List Hand) (c : ℕ) → number_of (get_or hands c Empty) ≡ Some n → 1 ≤ sum_by (in_hand n) hands
-hand_counts n hands c named = counted (in_hand n) Empty hands c
-    (λ empty. let q : ◌≡◌ {A = Option ℕ} (Some n) None = sym named ∙ ap number_of empty in cc)
-    (hand_one n (get_or hands c Empty) named)
-
 pub none_in_hand : (n : ℕ) (hands : List Hand) → sum_by (in_hand n) hands ≡ 0 → (c : ℕ) → number_of (get_or hands c Empty) ≡ Some n → ⊥
-none_in_hand n hands sum c named = let one = hand_counts n hands c named in omega (arith, one, sum)
+none_in_hand n hands sum c named = grind (arith, counted (in_hand n) Empty hands c, one_self)
 
 pub no_hand : (n : ℕ) (hands : List Hand) → ((c : ℕ) → number_of (get_or hands c Empty) ≡ Some n → ⊥) → sum_by (in_hand n) hands ≡ 0
-no_hand n hands none = uncounted (in_hand n) Empty hands (λ c. hand_not n (get_or hands c Empty) (none c))
+no_hand n hands none = uncounted (in_hand n) Empty hands (λ c. grind (arith, one_other, none c))
 
 -- Kept ones
 
-pub kept_not : (n : ℕ) (k : Option ℕ) → (k ≡ Some n → ⊥) → kept_of n k ≡ 0
-kept_not n None off = refl
-kept_not n (Some m) off = one_other m n (λ same. off (ap (λ (k : ℕ). Some k) same))
-
--- a kept driver is held
-pub drivers_stay : (keeps : List (Option ℕ)) (t d : ℕ) → kept_at keeps t ≡ Some d → 1 ≤ sum_by (kept_of d) keeps
-drivers_stay keeps t d at = counted (kept_of d) None keeps t (λ none. let q : ◌≡◌ {A = Option ℕ} (Some d) None = sym at ∙ none in cc) (ap (kept_of d) at ∙ one_self d d refl)
-
 pub none_kept : (n : ℕ) (keeps : List (Option ℕ)) → sum_by (kept_of n) keeps ≡ 0 → (t : ℕ) → kept_at keeps t ≡ Some n → ⊥
-none_kept n keeps sum t at = let one = drivers_stay keeps t n at in omega (arith, one, sum)
+none_kept n keeps sum t at = grind (arith, counted (kept_of n) None keeps t, one_self)
 
 pub no_kept : (n : ℕ) (keeps : List (Option ℕ)) → ((t : ℕ) → kept_at keeps t ≡ Some n → ⊥) → sum_by (kept_of n) keeps ≡ 0
-no_kept n keeps none = uncounted (kept_of n) None keeps (λ t. kept_not n (kept_at keeps t) (none t))
+no_kept n keeps none = uncounted (kept_of n) None keeps (λ t. grind (arith, one_other, none t))
 
 -- All together
 
@@ -307,43 +238,19 @@ unreferred locals hands keeps due n t none = assumption (none_standing n locals 
 
 pub nothing_held : (locals : List LocalPlace) (hands : List Hand) (keeps : List (Option ℕ)) (due : Due) (n t : ℕ) → (due ≡ Subtracting t → ⊥) → Unreferred locals hands keeps n
     → held_at locals hands keeps due n t ≡ 0
-nothing_held locals hands keeps due n t off free =
-    let a = no_standing n locals free.unplaced in
-    let b = no_hand n hands free.unhanded in
-    let c = no_kept n keeps free.unkept in
-    let d : subtraction_due_at t due ≡ 0 = not_due due off in
-    omega (arith, a, b, c, d)
-  where
-    not_due : (x : Due) → (x ≡ Subtracting t → ⊥) → subtraction_due_at t x ≡ 0
-    not_due Rest off_due = refl
-    not_due (Snapshots u c) off_due = refl
-    not_due (Adding u old) off_due = refl
-    not_due (Subtracting u) off_due = one_other u t (λ same. off_due (ap (λ (k : ℕ). Subtracting k) same))
+nothing_held locals hands keeps due n t off free = grind (arith, no_standing, no_hand, no_kept, one_other)
 
 hand_occupied : (slots : List Slot) (locals : List LocalPlace) (c n : ℕ) (h : Hand) → number_of h ≡ Some n → HandHolds slots locals c h → Occupies slots n
-hand_occupied slots locals c n Empty named holds = absurd (let q : ◌≡◌ {A = Option ℕ} None (Some n) = named in cc)
-hand_occupied slots locals c n (Taking m) named holds = subst (Occupies slots) (let q : ◌≡◌ {A = Option ℕ} (Some m) (Some n) = named in cc) holds
-hand_occupied slots locals c n (Giving m id) named holds = subst (Occupies slots) (let q : ◌≡◌ {A = Option ℕ} (Some m) (Some n) = named in cc) holds.0
-hand_occupied slots locals c n (Back m id) named holds = subst (Occupies slots) (let q : ◌≡◌ {A = Option ℕ} (Some m) (Some n) = named in cc) holds.0
-hand_occupied slots locals c n (Trying t m) named holds = absurd (let q : ◌≡◌ {A = Option ℕ} None (Some n) = named in cc)
+hand_occupied slots locals c n h named holds = grind arith
 
 -- nothing refers to a number that no slot has
 pub unoccupied : (cpus : ℕ) (slots : List Slot) (hands : List Hand) (keeps : List (Option ℕ)) (due : Due) (locals : List LocalPlace) (n : ℕ) → (Occupies slots n → ⊥)
     → ReferencesHold cpus slots hands due locals → DriversKept slots keeps → Unreferred locals hands keeps n
-unoccupied cpus slots hands keeps due locals n off refer kept = record {
-  unplaced = λ id at. off (refer.standing id n at);
-  unhanded = λ c named. off (hand_occupied slots locals c n (get_or hands c Empty) named (refer.in_hands c));
-  unkept = λ t at. (let u = kept.drivers t n at in off (u.0, u.1, u.2, u.3));
-}
-
--- a fresh number is held nowhere
-pub fresh_held : (cpus : ℕ) (slots : List Slot) (hands : List Hand) (keeps : List (Option ℕ)) (due : Due) (locals : List LocalPlace) (n t : ℕ) → (Occupies slots n → ⊥) → (due ≡ Subtracting t → ⊥)
-    → ReferencesHold cpus slots hands due locals → DriversKept slots keeps → held_at locals hands keeps due n t ≡ 0
-fresh_held cpus slots hands keeps due locals n t off rest refer kept = nothing_held locals hands keeps due n t rest (unoccupied cpus slots hands keeps due locals n off refer kept)
+unoccupied cpus slots hands keeps due locals n off refer kept = grind (arith, hand_occupied)
 
 -- the number that the next publishing gives is held nowhere
 pub published_held : (h : List Change) (cpus : ℕ) (slots : List Slot) (hands : List Hand) (keeps : List (Option ℕ)) (due : Due) (locals : List LocalPlace) (n t : ℕ) → SlotsShow h slots → length h < n
     → due ≡ Rest
     → ReferencesHold cpus slots hands due locals → DriversKept slots keeps → held_at locals hands keeps due n t ≡ 0
 published_held h cpus slots hands keeps due locals n t show above rest refer kept =
-    fresh_held cpus slots hands keeps due locals n t (fresh_unoccupied h slots n show above) (λ is. let q : Rest ≡ Subtracting t = sym rest ∙ is in cc) refer kept
+    nothing_held locals hands keeps due n t (λ is. let q : Rest ≡ Subtracting t = sym rest ∙ is in cc) (unoccupied cpus slots hands keeps due locals n (fresh_unoccupied h slots n show above) refer kept)

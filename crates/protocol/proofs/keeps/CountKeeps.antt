@@ -1,20 +1,20 @@
 -- The events on local references keep the invariant.
-use Rattle.std.proofs.Common.{Bool, List, None, Some, [], ap, arith, false, get_or, get_or-set_other, get_or-set_same, inl, leb-true, inr, length, length-set, ltb-true, not, refl, set, subst, sym, true, ℕ, ◌&&◌, ◌+◌, ◌-◌, ◌<◌, ◌∙◌, ◌≡◌, ◌≤◌}
-use Rattle.std.proofs.lemmas.Bool.{and_parts, cases_Bool, cases_eq, cases_lt, eq-eqb, eqb-true}
+use Rattle.std.proofs.Common.{List, None, Some, [], ap, arith, false, get_or, leb-true, inr, length, length-set, ltb-true, not, refl, set, subst, sym, true, ℕ, ◌&&◌, ◌+◌, ◌-◌, ◌<◌, ◌∙◌, ◌≡◌, ◌≤◌}
+use Rattle.std.proofs.lemmas.Bool.{and_parts, cases_lt, eq-eqb, eqb-true}
 use Rattle.std.proofs.lemmas.List.{get_or_past}
-use Rattle.std.specs.Prelude.{is_none, nat_le, nat_lt}
+use Rattle.std.specs.Prelude.{is_none, nat_lt}
 use Rattle.protocol.proofs.counts.Counts as C
 use Rattle.protocol.proofs.keeps.ListKeeps.{CountsOf, cell_sized, may_write_tells, false_from}
 use Rattle.protocol.proofs.keeps.MarkKeeps.{cpus_fit, mark_place, may_examine_tells}
 use Rattle.protocol.proofs.Cells.{cell_put}
-use Rattle.protocol.proofs.keeps.Marking.{list_all_within, marks_write, snapshots_marked, found_not_passed, passive_hand, passive_hands, passive_marked, passive_shifted, shifted_back, shifted_try, trying_none, trying_one}
+use Rattle.protocol.proofs.keeps.Marking.{list_all_within, marks_write, snapshots_marked, found_not_passed, passive_hand, passive_hands, trying_taken, passive_marked, passive_shifted, shifted_back, shifted_try, trying_one}
 use Rattle.protocol.proofs.Occupied.{at_rest_tells, is_retired_tells, one_number, slot_has, slot_its, slot_occupied}
 use Rattle.protocol.proofs.keeps.Drivers.{drivers_keep}
-use Rattle.protocol.proofs.keeps.References.{back_holds, due_adding, due_subtracting, giving_holds, hand_seated, references_collect, references_collected, references_count_add, references_count_down, references_join, references_join_keeper, references_keep, references_split, references_split_back, references_total, references_unheld, seats_hand}
+use Rattle.protocol.proofs.keeps.References.{back_holds, due_adding, due_subtracting, giving_holds, hand_seated, references_count_down, references_join, references_split, references_split_back, references_unheld, seats_hand, references_freed}
 use Rattle.protocol.proofs.keeps.SectionKeeps.{idle_parts, idle_tells, none_from, see_keeps, tries_hand}
 use Rattle.protocol.specs.Common.{after_collect, after_collected, after_count_add, after_count_down, after_count_store, after_hand, after_join_keeper, after_keep, after_split, after_total, after_confirm, after_taking, after_take_back, after_try, is_drainable, is_driver_slot, is_idle, is_number, may_collect, may_count, may_examine, may_join, may_join_keeper, may_keep, may_write, may_try, may_confirm, has_live, search_at, Holds, IsCounting, IsIn, IsSeenInHand, SeatsShow, TriesSeen, seen_at, SnapshotsStand, at_rest, State, count_at, found_at, hand_at, kept_at, local_at, mark_at, passive_at, total_at, trying_at, trying_of, with_cell, Due, Adding, Rest, Snapshots, Subtracting, Hand, Back, Empty, Giving, Taking, Trying, Lifted, Standing}
 use Rattle.registry_values.specs.Common.{mark_after_collect, are_clear, have_passed, is_clear, is_some_collected, no_mark, is_retired, slot_of, slot_at, bias}
-use Rattle.protocol.specs.Types.{Entry, Slot, Vacant, Live, Retired}
+use Rattle.protocol.specs.Types.{Entry, Slot, Live}
 use Rattle.protocol.proofs.Either.{either}
 
 -- the lengths and limits of the counts
@@ -52,9 +52,7 @@ only_slot s t n e on is number u f also same = (one_number s.history s.slots t u
 
 -- A store to a count word of a vacant slot.
 pub count_store_keeps : (s : State) (t c v : ℕ) → Holds s → may_write s t ≡ true → c < s.settings.cpus → Holds (after_count_store s t c v)
-count_store_keeps s t c v on may lt =
-    let told = may_write_tells s t on.shape may in
-    assumption (cell_sized s.counts t c v on.shape.counts on.shape.count_rows, C.count_store on.balance c t v lt told.2)
+count_store_keeps s t c v on may lt = grind (arith, may_write_tells, cell_sized, C.count_store)
 
 -- the word for an entry that the open section may hold counts
 pub held_counting : (s : State) (c t : ℕ) (e : Entry) → Holds s → found_at s c ≡ Some e → slot_of s.slots e.number ≡ Some t → IsIn e (slot_at s.slots t) × IsCounting s.slots s.marks c t
@@ -64,20 +62,11 @@ held_counting s c t e on found of =
     let same : t ≡ e.slot = slot_its s.history s.slots e.slot t e on.slots there of in
     let here : IsIn e (slot_at s.slots t) = subst (λ (k : ℕ). IsIn e (slot_at s.slots k)) (sym same) there in (
       here,
-      (
-        e,
-        either here
-            (λ live. inl live)
-            (λ gone. inr (
-              gone,
-              either (cases_Bool (mark_at s.marks t c).collected)
-                  (λ done.
-                  absurd (found_not_passed s.history s.slots s.marks s.section s.begins s.found c t e on.slots on.grace on.last_found gone
-                  (ap (is_number e.number) found ∙ eq-eqb e.number e.number refl)
-                  (on.passive.clear c t e gone (on.passive.collected c t e gone done)).0))
-                  (λ still. still),
-            )),
-      ),
+      either (C.counting_cases s.slots s.marks c t e here)
+          (λ counting. counting)
+          (λ off.
+          absurd (found_not_passed s.history s.slots s.marks s.section s.begins s.found c t e on.slots on.grace on.last_found off.0 (ap (is_number e.number) found ∙ eq-eqb e.number e.number refl)
+          (on.passive.clear c t e off.0 (on.passive.collected c t e off.0 off.1)).0)),
     )
 
 pub count_add_keeps : (s : State) (c t : ℕ) (e : Entry) → Holds s → found_at s c ≡ Some e → slot_of s.slots e.number ≡ Some t → may_count s c t ≡ true → Holds (after_count_add s c e.number t)
@@ -92,7 +81,7 @@ count_add_keeps s c t e on found of may =
       hand_put s c (Taking e.number) on (idle_parts s c p.0).0 tt,
       C.count_add on.balance (fit_of s on) c t e.number e idle.0 counting.0 refl (only_slot s t e.number e on counting.0 refl) counting.1 idle.1 fits,
       passive_hand s.settings.cpus s.settings.passive_limit s.slots s.marks s.passive s.hands c (Taking e.number) (λ u. sym (ap (trying_of u) idle.1)) on.passive,
-      references_count_add s.settings.cpus s.slots s.hands s.due s.locals c e.number (slot_occupied s.slots e.number t of) on.references,
+      references_unheld on.references c (Taking e.number) (omega (arith, idle.0, on.shape.hands)) (slot_occupied s.slots e.number t of),
     )
 
 pub split_keeps : (s : State) (c n : ℕ) → Holds s → hand_at s c ≡ Taking n → Holds (after_split s c n)
@@ -102,17 +91,18 @@ split_keeps s c n on hand =
       full.1,
       C.split_ref on.balance c n full.0 hand,
       passive_hand s.settings.cpus s.settings.passive_limit s.slots s.marks s.passive s.hands c Empty (λ u. sym (ap (trying_of u) hand)) on.passive,
-      references_split s.settings.cpus s.slots s.hands s.due s.locals c n hand on.references,
+      references_split on.references c n full.0 hand,
     )
 
 pub join_keeps : (s : State) (c n id : ℕ) → Holds s → local_at s.locals id ≡ Standing n → is_idle s c ≡ true → Holds (after_hand s c (Giving n id) id (Lifted c))
 join_keeps s c n id on at idle =
     let told = idle_tells s c on idle in
+    let lt : c < length s.hands = omega (arith, told.0, on.shape.hands) in
     assumption (
       hand_put s c (Giving n id) on (idle_parts s c idle).0 tt,
-      C.join_ref on.balance c n id (omega (arith, told.0, on.shape.hands)) told.1 at,
+      C.join_ref on.balance c n id lt told.1 at,
       passive_hand s.settings.cpus s.settings.passive_limit s.slots s.marks s.passive s.hands c (Giving n id) (λ u. sym (ap (trying_of u) told.1)) on.passive,
-      references_join s.settings.cpus s.slots s.hands s.due s.locals c n id at on.references,
+      references_join on.references c n id lt at,
     )
 
 -- the word isn't collected, and one is counted down
@@ -128,7 +118,7 @@ count_down_keeps s c n id t on hand of same =
       full.1,
       C.count_down on.balance (fit_of s on) c t n id has.1.0 lt has.1.1 has.1.2 (only_slot s t n has.1.0 on has.1.1 has.1.2) (C.is_counting on.balance c t has.1.0 lt has.1.1 same) hand lifted,
       passive_hand s.settings.cpus s.settings.passive_limit s.slots s.marks s.passive s.hands c Empty (λ u. sym (ap (trying_of u) hand)) on.passive,
-      references_count_down s.settings.cpus s.slots s.hands s.due s.locals c n id hand on.references,
+      references_count_down on.references c n id full.0 hand,
     )
 
 -- the word is collected, and the reference stays
@@ -139,7 +129,7 @@ collected_keeps s c n id on hand =
       full.1,
       C.found_collected on.balance c n id full.0 hand,
       passive_hand s.settings.cpus s.settings.passive_limit s.slots s.marks s.passive s.hands c (Back n id) (λ u. sym (ap (trying_of u) hand)) on.passive,
-      references_collected s.settings.cpus s.slots s.hands s.due s.locals c n id hand on.references,
+      references_unheld on.references c (Back n id) full.0 (giving_holds s.settings.cpus s.slots s.hands s.due s.locals c n id hand on.references),
     )
 
 pub split_back_keeps : (s : State) (c n id : ℕ) → Holds s → hand_at s c ≡ Back n id → Holds (after_hand s c Empty id (Standing n))
@@ -150,7 +140,7 @@ split_back_keeps s c n id on hand =
       full.1,
       C.split_back on.balance c n id full.0 hand lifted,
       passive_hand s.settings.cpus s.settings.passive_limit s.slots s.marks s.passive s.hands c Empty (λ u. sym (ap (trying_of u) hand)) on.passive,
-      references_split_back s.settings.cpus s.slots s.hands s.due s.locals c n id hand on.references,
+      references_split_back on.references c n id full.0 hand,
     )
 
 pub collect_keeps : (s : State) (t c : ℕ) → Holds s → may_collect s t c ≡ true → Holds (after_collect s t c)
@@ -170,17 +160,16 @@ collect_keeps s t c on may =
       cell_sized s.counts t c 0 on.shape.counts on.shape.count_rows,
       cell_sized s.marks t c (mark_after_collect (mark_at s.marks t c)) on.shape.marks on.shape.mark_rows,
       marks_write s.history s.slots s.marks s.section s.begins t c (mark_after_collect (mark_at s.marks t c))
-          (λ p b e is ends in_ holds. on.grace.passed t p c b e is ends in_ holds) (λ p b w e is ends in_ snap off. on.grace.changed t p c b w e is ends in_ snap off)
-          (λ w e is snap. on.grace.older t c w e is snap) (λ b w e is in_ holds snap same. on.grace.left t c b w e is in_ holds snap same) on.grace,
+          (λ p b e. on.grace.passed t p c b e) (λ p b w e. on.grace.changed t p c b w e) (λ w e. on.grace.older t c w e) (λ b w e. on.grace.left t c b w e) on.grace,
       passive_marked s.settings.cpus s.settings.passive_limit s.slots s.marks s.passive s.hands t c (mark_after_collect (mark_at s.marks t c))
           (λ e is holds. on.passive.clear c t e is holds) (λ e is holds. clear) on.passive,
       C.collect on.balance (fit_of s on) c t told.2.0 told.1 told.0 told.2.1 still,
-      references_collect s.settings.cpus s.slots s.hands s.due s.locals t (count_at s.counts c t) told.2.0 told.2.1 on.references,
+      told.2,
     )
 
 -- a total is all that is written, and the keeper is at rest again
 total_keeps : (s : State) (t v : ℕ) → Holds s → ((u d : ℕ) → s.due ≡ Snapshots u d → ⊥) → CountsOf (after_total s t v) → Holds (after_total s t v)
-total_keeps s t v on none balance = assumption (length-set s.totals t v ∙ on.shape.totals, snapshots_all s Rest none on, references_total s.settings.cpus s.slots s.hands s.due s.locals on.references)
+total_keeps s t v on none balance = assumption (length-set s.totals t v ∙ on.shape.totals, snapshots_all s Rest none on)
 
 pub total_add_keeps : (s : State) (t old : ℕ) → Holds s → s.due ≡ Adding t old → Holds (after_total s t (total_at s.totals t + old - bias))
 total_add_keeps s t old on due =
@@ -204,7 +193,7 @@ join_keeper_keeps s id n t on at of may =
     assumption (
       snapshots_all s (Subtracting t) (λ u d is. not_at_rest s.due u d rest is) on,
       C.join_keeper on.balance t n id has.1.0 rest has.1.1 has.1.2 (only_slot s t n has.1.0 on has.1.1 has.1.2) at,
-      references_join_keeper s.settings.cpus s.slots s.hands s.due s.locals id n t gone.0 at gone.1 on.references,
+      references_freed on.references (Subtracting t) id n at gone,
     )
 
 pub keep_keeps : (s : State) (t id n u : ℕ) → Holds s → local_at s.locals id ≡ Standing n → slot_of s.slots n ≡ Some u → may_keep s t u ≡ true → Holds (after_keep s t id n)
@@ -215,7 +204,7 @@ keep_keeps s t id n u on at of may =
     assumption (
       length-set s.keeps t (Some n) ∙ on.shape.keeps,
       C.keep on.balance t n id (omega (arith, told.1, on.shape.slots, on.shape.keeps)) (none_from (kept_at s.keeps t) q.0) at,
-      references_keep s.settings.cpus s.slots s.hands s.due s.locals id n at on.references,
+      references_freed on.references s.due id n at on.references.due_at,
       drivers_keep s.slots s.keeps t n u told.2 of q.1 on.kept_drivers,
     )
 
@@ -223,17 +212,11 @@ keep_keeps s t id n u on at of may =
 
 -- the place of a passive word
 pub passive_place : (s : State) (c t : ℕ) → Holds s → c < s.settings.cpus → t < s.settings.slots → (t < length s.passive) × (c < length (get_or s.passive t []))
-passive_place s c t on low within =
-    let tp : t < length s.passive = omega (arith, within, on.shape.passive) in
-    (tp, omega (arith, on.shape.passive_rows t tp, low, cpus_fit s.settings on.fit))
+passive_place s c t on low within = grind (arith, cpus_fit)
 
 -- what the test of a Try tells
 pub may_try_tells : (s : State) (c t n : ℕ) → may_try s c t n ≡ true → (is_idle s c ≡ true) × (n ≤ seen_at s c) × (t < s.settings.slots) × (passive_at s.passive c t < s.settings.passive_limit)
-may_try_tells s c t n may =
-    let p = and_parts (is_idle s c) _ may in
-    let q = and_parts (nat_le n (seen_at s c)) _ p.1 in
-    let r = and_parts (nat_lt t s.settings.slots) (nat_lt (passive_at s.passive c t) s.settings.passive_limit) q.1 in
-    (p.0, leb-true n (seen_at s c) q.0, ltb-true t s.settings.slots r.0, ltb-true (passive_at s.passive c t) s.settings.passive_limit r.1)
+may_try_tells s c t n may = grind (arith, and_parts, leb-true, ltb-true)
 
 pub try_keeps : (s : State) (c t n : ℕ) → Holds s → may_try s c t n ≡ true → Holds (after_try s c t n)
 try_keeps s c t n on may =
@@ -251,7 +234,7 @@ try_keeps s c t n on may =
           (λ d u. cell_put 0 s.passive t c (passive_at s.passive c t + 1) (λ v i x. s.settings.cpus ≤ i → x ≡ 0) u d (λ past. absurd (omega (arith, past, idle.0))) (on.passive.beyond d u))
           on.passive,
       C.hand_unheld on.balance c Empty (Trying t n) lt idle.1 (λ m. refl) (λ m. refl),
-      references_unheld s.settings.cpus s.slots s.hands s.due s.locals c (Trying t n) tt on.references,
+      references_unheld on.references c (Trying t n) lt tt,
     )
 
 -- a CPU with this hand is in range, and its word counts what it is trying
@@ -285,14 +268,12 @@ take_back_keeps s c t n on hand =
           (λ d u. cell_put 0 s.passive t c (passive_at s.passive c t - 1) (λ v i x. s.settings.cpus ≤ i → x ≡ 0) u d (λ past. absurd (omega (arith, past, told.0))) (on.passive.beyond d u))
           on.passive,
       C.hand_unheld on.balance c (Trying t n) Empty full.0 hand (λ m. refl) (λ m. refl),
-      references_unheld s.settings.cpus s.slots s.hands s.due s.locals c Empty tt on.references,
+      references_unheld on.references c Empty full.0 tt,
     )
 
 -- what the test of a live word tells: the slot's entry is live
 pub live_tells : (n : ℕ) (x : Slot) → has_live n x ≡ true → (e : Entry) × (e.number ≡ n) × (x ≡ Live e)
-live_tells n Vacant may = absurd (let q : ◌≡◌ {A = Bool} false true = may in cc)
-live_tells n (Live e) may = (e, eqb-true e.number n may, refl)
-live_tells n (Retired e) may = absurd (let q : ◌≡◌ {A = Bool} false true = may in cc)
+live_tells n x may = grind (arith, eqb-true)
 
 pub taking_keeps : (s : State) (c t n : ℕ) → Holds s → hand_at s c ≡ Trying t n → has_live n (slot_at s.slots t) ≡ true → Holds (after_taking s c)
 taking_keeps s c t n on hand may =
@@ -302,21 +283,9 @@ taking_keeps s c t n on hand may =
     assumption (
       full.1,
       passive_hands s.settings.cpus s.settings.passive_limit s.slots s.marks s.passive s.hands (set s.hands c Empty)
-          (λ d u. either (cases_eq d c)
-          (λ here.
-          let none : trying_at (set s.hands c Empty) d u ≡ 0 = ap (trying_of u) (ap (λ (k : ℕ). get_or (set s.hands c Empty) k Empty) here ∙ get_or-set_same s.hands c Empty Empty full.0) in
-          let tries : trying_at s.hands d u ≡ trying_of u (Trying t n) = ap (trying_of u) (ap (λ (k : ℕ). get_or s.hands k Empty) here ∙ hand) in
-          either (cases_eq u t)
-          (λ same. inr (
-            omega (arith, none),
-            λ vacant. (let q : Live is.0 ≡ Vacant = sym is.2 ∙ (ap (slot_at s.slots) (sym same) ∙ vacant) in cc),
-            λ e at clear. (let q : Live is.0 ≡ Retired e = sym is.2 ∙ (ap (slot_at s.slots) (sym same) ∙ at) in cc),
-          ))
-          (λ off. inl (omega (arith, none, tries, trying_none t n u (λ k. off (sym k))))))
-          (λ away. inl (ap (trying_of u) (get_or-set_other s.hands c d Empty Empty away))))
-          on.passive,
+          (trying_taken s.slots s.marks s.passive s.hands c t n is.0 hand full.0 is.2) on.passive,
       C.hand_unheld on.balance c (Trying t n) Empty full.0 hand (λ m. refl) (λ m. refl),
-      references_unheld s.settings.cpus s.slots s.hands s.due s.locals c Empty tt on.references,
+      references_unheld on.references c Empty full.0 tt,
     )
 
 -- what the test of a Confirm tells: the entry is live

@@ -1,5 +1,5 @@
 -- Each event keeps what is so of kept drivers.
-use Rattle.std.proofs.Common.{◌≡◌, ℕ, ◌<◌, inl, inr, List, length, set, replicate, Bool, true, false, Option, Some, None, refl, sym, ap, subst, ◌∙◌, get_or-set_other}
+use Rattle.std.proofs.Common.{◌≡◌, ℕ, ◌<◌, inl, inr, List, length, set, replicate, true, Option, Some, None, sym, ap, subst, ◌∙◌, get_or-set_other, arith}
 use Rattle.std.proofs.lemmas.Bool.{cases_eq}
 use Rattle.protocol.specs.Types.{Kind, Iface, Driver, Entry, Change, Slot, Vacant, Live, Retired}
 use Rattle.protocol.specs.Common.{Hand, LocalPlace, Due, kept_at, keeps_rightly, is_driver_slot, IsIn, SlotsShow, held_at, DriversKept}
@@ -23,10 +23,7 @@ has_driver_set slots t x d lt stays was = either (cases_eq was.0 t)
 pub drivers_publish : (slots : List Slot) (keeps : List (Option ℕ)) (t : ℕ) (e : Entry) → t < length slots → slot_at slots t ≡ Vacant → keeps_rightly (kept_at keeps t) e.rec.kind ≡ true
     → DriversKept slots keeps → DriversKept (set slots t (Live e)) keeps
 drivers_publish slots keeps t e lt vacant right kept = record {
-  rightly = λ u f is. either (in_published slots t u e f lt is)
-      (λ same.
-      subst (λ (g : Entry). keeps_rightly (kept_at keeps u) g.rec.kind ≡ true) (sym same.1) (subst (λ (k : ℕ). keeps_rightly (kept_at keeps k) e.rec.kind ≡ true) (sym same.0) right))
-      (λ old. kept.rightly u f old);
+  rightly = λ u f is. grind (arith, in_published slots t u e f lt is, kept.rightly u f, right);
   drivers = λ u d at. has_driver_set slots t (Live e) d lt (λ f is number kind. absurd (not_vacant f (slot_at slots t) vacant is)) (kept.drivers u d at);
 }
 
@@ -61,23 +58,17 @@ pub drivers_kept_sub : (slots : List Slot) (hands : List Hand) (keeps : List (Op
 drivers_kept_sub slots hands keeps due locals t e at none kept =
     let gone : DriversKept (set slots t Vacant) keeps = drivers_vacate slots hands keeps due locals t e at none kept in
     record {
-      rightly = λ u f is.
-          let off : u ≡ t → ⊥ = (in_vacated slots t u e f at is).0 in
-          subst (λ (k : Option ℕ). keeps_rightly k f.rec.kind ≡ true) (sym (get_or-set_other keeps t u None None off)) (gone.rightly u f is);
-      drivers = λ u d holds. either (written_cases None keeps t None u)
-          (λ here. absurd (let q : ◌≡◌ {A = Option ℕ} (Some d) None = sym holds ∙ here.1 in cc))
-          (λ other. gone.drivers u d (sym other.1 ∙ holds));
+      rightly = λ u f is. grind (arith, in_vacated slots t u e f at is, gone.rightly u f is, get_or-set_other keeps t u None None);
+      drivers = grind (arith, written_cases);
     }
 
 -- What keeps and what is kept.
 
 rightly_none : (k : Option ℕ) → keeps_rightly k Driver ≡ true → k ≡ None
-rightly_none None right = refl
-rightly_none (Some d) right = absurd (let q : ◌≡◌ {A = Bool} false true = right in cc)
+rightly_none k right = grind arith
 
 pub rightly_some : (k : Option ℕ) → keeps_rightly k Iface ≡ true → (d : ℕ) × (k ≡ Some d)
-rightly_some None right = absurd (let q : ◌≡◌ {A = Bool} false true = right in cc)
-rightly_some (Some d) right = (d, refl)
+rightly_some k right = grind arith
 
 pub driver_keeps_none : (slots : List Slot) (keeps : List (Option ℕ)) (t : ℕ) (e : Entry) → DriversKept slots keeps → IsIn e (slot_at slots t) → e.rec.kind ≡ Driver → kept_at keeps t ≡ None
 driver_keeps_none slots keeps t e kept is kind = rightly_none (kept_at keeps t) (subst (λ (k : Kind). keeps_rightly (kept_at keeps t) k ≡ true) kind (kept.rightly t e is))
@@ -86,17 +77,7 @@ driver_keeps_none slots keeps t e kept is kind = rightly_none (kept_at keeps t) 
 pub kept_elsewhere : (slots : List Slot) (keeps : List (Option ℕ)) (t d : ℕ) (e : Entry) → DriversKept slots keeps → IsIn e (slot_at slots t) → kept_at keeps t ≡ Some d
     → (u : ℕ) × (f : Entry) × IsIn f (slot_at slots u) × (f.number ≡ d) × (f.rec.kind ≡ Driver) × (u ≡ t → ⊥)
 kept_elsewhere slots keeps t d e kept is at =
-    let has : HasDriver slots d = kept.drivers t d at in (
-      has.0,
-      has.1,
-      has.2,
-      has.3,
-      has.4,
-      λ same.
-          let there : IsIn has.1 (slot_at slots t) = subst (λ (k : ℕ). IsIn has.1 (slot_at slots k)) same has.2 in
-          let q : ◌≡◌ {A = Option ℕ} (Some d) None = sym at ∙ driver_keeps_none slots keeps t has.1 kept there has.4 in
-          cc,
-    )
+    let has : HasDriver slots d = kept.drivers t d at in (has.0, has.1, has.2, has.3, has.4, λ same. grind (arith, driver_keeps_none slots keeps t has.1 kept, has))
 
 -- an interface keeps a driver, which has another slot
 pub kept_number : (slots : List Slot) (keeps : List (Option ℕ)) (t : ℕ) (e : Entry) → DriversKept slots keeps → IsIn e (slot_at slots t) → e.rec.kind ≡ Iface
@@ -118,13 +99,10 @@ kept_found h slots keeps t d u e show kept is at found =
 -- Keep
 
 is_driver_tells : (k : Kind) → is_driver k ≡ true → k ≡ Driver
-is_driver_tells Iface test = absurd (let q : ◌≡◌ {A = Bool} false true = test in cc)
-is_driver_tells Driver test = refl
+is_driver_tells k test = grind arith
 
 pub driver_slot_tells : (x : Slot) → is_driver_slot x ≡ true → (e : Entry) × IsIn e x × (e.rec.kind ≡ Driver)
-driver_slot_tells Vacant test = absurd (let q : ◌≡◌ {A = Bool} false true = test in cc)
-driver_slot_tells (Live e) test = (e, inl refl, is_driver_tells e.rec.kind test)
-driver_slot_tells (Retired e) test = (e, inr refl, is_driver_tells e.rec.kind test)
+driver_slot_tells x test = grind (arith, is_driver_tells)
 
 -- the slot of n holds a driver
 pub slot_has_driver : (slots : List Slot) (n u : ℕ) → slot_of slots n ≡ Some u → is_driver_slot (slot_at slots u) ≡ true → HasDriver slots n
@@ -137,9 +115,7 @@ slot_has_driver slots n u found test =
 pub drivers_keep : (slots : List Slot) (keeps : List (Option ℕ)) (t n u : ℕ) → slot_at slots t ≡ Vacant → slot_of slots n ≡ Some u → is_driver_slot (slot_at slots u) ≡ true → DriversKept slots keeps
     → DriversKept slots (set keeps t (Some n))
 drivers_keep slots keeps t n u vacant found test kept = record {
-  rightly = λ v e is.
-      let off : v ≡ t → ⊥ = λ same. not_vacant e (slot_at slots v) (ap (slot_at slots) same ∙ vacant) is in
-      subst (λ (k : Option ℕ). keeps_rightly k e.rec.kind ≡ true) (sym (get_or-set_other keeps t v (Some n) None off)) (kept.rightly v e is);
+  rightly = grind (arith, not_vacant, get_or-set_other);
   drivers = λ v d holds. either (written_cases None keeps t (Some n) v)
       (λ here.
       let same : n ≡ d = (let q : ◌≡◌ {A = Option ℕ} (Some n) (Some d) = sym here.1 ∙ holds in cc) in
@@ -148,7 +124,4 @@ drivers_keep slots keeps t n u vacant found test kept = record {
 }
 
 pub drivers_opening : (slots others : ℕ) → DriversKept (replicate slots Vacant) (replicate others None)
-drivers_opening slots others = record {
-  rightly = λ t e is. absurd (not_vacant e (slot_at (replicate slots Vacant) t) (get_or_all slots Vacant t) is);
-  drivers = λ t d at. absurd (let q : ◌≡◌ {A = Option ℕ} (Some d) None = sym at ∙ get_or_all others None t in cc);
-}
+drivers_opening slots others = grind (arith, not_vacant, get_or_all)

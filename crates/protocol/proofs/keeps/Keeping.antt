@@ -1,5 +1,5 @@
 -- Each event keeps the core invariant.
-use Rattle.std.proofs.Common.{◌≡◌, ℕ, ◌-◌, inr, List, [], ◌∷◌, length-set, get_or, take, Option, Some, None, true, ◌==◌, IsTrue, refl, subst, sym, ◌∙◌, arith, ltb-true}
+use Rattle.std.proofs.Common.{◌≡◌, ℕ, ◌-◌, inr, List, [], ◌∷◌, length-set, get_or, take, Option, Some, true, ◌==◌, IsTrue, refl, subst, sym, ◌∙◌, arith, ltb-true}
 use Rattle.std.specs.Prelude.{is_none, nat_lt}
 use Rattle.std.specs.List.{list_all}
 use Rattle.std.proofs.lemmas.Bool.{and_parts, eqb-true}
@@ -13,10 +13,10 @@ use Rattle.protocol.proofs.counts.Sums.{published_held}
 use Rattle.protocol.proofs.keeps.ListKeeps as L
 use Rattle.protocol.proofs.keeps.MarkKeeps as M
 use Rattle.protocol.proofs.Occupied.{in_within, at_rest_tells}
-use Rattle.protocol.proofs.keeps.References.{references_kept_sub, references_opening, references_publish, references_snapshot, references_unpublish, references_vacate, standing_tells, snapshot_due_tells}
+use Rattle.protocol.proofs.keeps.References.{references_opening, references_publish, references_snapshot, references_unpublish, references_vacate, standing_tells, snapshot_due_tells}
 use Rattle.protocol.proofs.keeps.SearchKeeps.{link_keeps, record_keeps, seek_keeps}
 use Rattle.protocol.proofs.keeps.SectionKeeps.{enter_keeps, exit_keeps, hear_keeps, recall_head_keeps, recall_keeps, refind_keeps, seat_keeps}
-use Rattle.protocol.specs.Common.{Outcome, after_kept_sub, after_look, after_look_passive, after_publish, after_snapshot, after_unpublish, after_vacate, entry_of, is_bias, is_drained, is_iface_slot, is_snapshot_due, may_examine, may_look_passive, may_publish, may_vacate, may_write, with_retired, count_at, after_live_store, snapshot_mark, state_after, step, Holds, held_at, Run, run_of_events, run_with_event, at_rest, State, kept_at, local_at, mark_at, opening, passive_at, row_at, section_at, total_at, Keeps, Event, Reply, Snapshots}
+use Rattle.protocol.specs.Common.{Outcome, after_kept_sub, after_publish, after_snapshot, after_unpublish, after_vacate, entry_of, is_bias, is_drained, is_iface_slot, is_snapshot_due, may_publish, may_vacate, may_write, with_retired, count_at, after_live_store, snapshot_mark, state_after, step, Holds, held_at, Run, run_of_events, run_with_event, at_rest, State, kept_at, local_at, mark_at, opening, passive_at, row_at, section_at, total_at, Keeps, Event, Reply, Snapshots}
 use Rattle.registry_values.specs.Common.{mark_after_passive_look, mark_after_look, slot_of, slot_at, are_fit, bias}
 use Rattle.protocol.specs.Types.{Entry, Settings, Live, Retired}
 
@@ -30,13 +30,13 @@ publish_keeps s t e on is may =
     published_held s.history s.settings.cpus s.slots s.hands s.keeps s.due s.locals e.number t on.slots (omega (arith, told.number)) told.rest on.references on.kept_drivers in
     L.publish_keeps s t e on is may
     (C.publish on.balance (fit_of s on) t e told.within told.vacant told.rest (λ c lt. bias_at (fit_of s on) t c told.within lt unused.0) none)
-    (references_publish s.settings.cpus s.slots s.hands s.due s.locals t e told.within told.vacant on.references)
+    (references_publish on.references t e told.within told.vacant)
     (drivers_publish s.slots s.keeps t e told.within told.vacant told.rightly on.kept_drivers)
 
 pub unpublish_keeps : (s : State) (t : ℕ) (e : Entry) → Holds s → slot_at s.slots t ≡ Live e → at_rest s.due ≡ true → Holds (after_unpublish s t e)
 unpublish_keeps s t e on is rest = L.unpublish_keeps s t e on is rest
     (C.unpublish on.balance (fit_of s on) t e (at_rest_tells s.due rest) is)
-    (references_unpublish s.settings.cpus s.slots s.hands s.due s.locals t e (ranges s.settings on.fit).some_cpu is on.references)
+    (references_unpublish on.references t e (ranges s.settings on.fit).some_cpu is)
     (drivers_unpublish s.slots s.keeps t e is on.kept_drivers)
 
 -- Grace
@@ -46,13 +46,7 @@ snapshot_keeps s t c on is =
     let due : s.due ≡ Snapshots t c = snapshot_due_tells s.due t c is in
     M.snapshot_keeps s t c on is
     (C.snapshot on.balance c t (snapshot_mark (section_at s c)) due refl)
-    (references_snapshot s.settings.cpus s.slots s.hands s.due s.locals t c due on.references)
-
-pub look_keeps : (s : State) (t c : ℕ) → Holds s → may_examine s t c ≡ true → Holds (after_look s t c)
-look_keeps s t c on may = M.look_keeps s t c on may (C.one_marked on.balance c t (mark_after_look (mark_at s.marks t c) (section_at s c)) refl)
-
-pub look_passive_keeps : (s : State) (t c : ℕ) → Holds s → may_look_passive s t c ≡ true → Holds (after_look_passive s t c)
-look_passive_keeps s t c on may = M.look_passive_keeps s t c on may (C.one_marked on.balance c t (mark_after_passive_look (mark_at s.marks t c) (passive_at s.passive c t)) refl)
+    (references_snapshot on.references t c due)
 
 -- The end of a slot's use
 
@@ -64,7 +58,7 @@ vacate_keeps s t on may =
     let gone : slot_at s.slots t ≡ Retired e = told.1.1 in
     let none : held_at s.locals s.hands s.keeps s.due e.number t ≡ 0 = none_held_at_bias on.balance t e told.0 gone told.4 told.5 in
     M.vacate_keeps s t on may (C.vacate on.balance t (in_within s.slots t e (inr gone)) told.5)
-    (references_vacate s.settings.cpus s.slots s.hands s.keeps s.due s.locals t e gone told.0 none on.references) (drivers_vacate s.slots s.hands s.keeps s.due s.locals t e gone none on.kept_drivers)
+    (references_vacate on.references s.keeps t e gone told.0 none) (drivers_vacate s.slots s.hands s.keeps s.due s.locals t e gone none on.kept_drivers)
 
 pub kept_sub_keeps : (s : State) (t d u : ℕ) → Holds s → kept_at s.keeps t ≡ Some d → slot_of s.slots d ≡ Some u → is_drained s t ≡ true → Holds (after_kept_sub s t u)
 kept_sub_keeps s t d u on keeps of drained =
@@ -76,7 +70,7 @@ kept_sub_keeps s t d u on keeps of drained =
     M.kept_sub_keeps s t u on drained
     (C.kept_sub on.balance (fit_of s on) t u d driver.0 (in_within s.slots t e (inr gone)) (λ same. driver.4 (sym same)) told.0 keeps driver.1 driver.2
     (only_slot s u d driver.0 on driver.1 driver.2) told.5)
-    (references_kept_sub s.settings.cpus s.slots s.hands s.keeps s.due s.locals t e gone told.0 none on.references)
+    (references_vacate on.references s.keeps t e gone told.0 none)
     (drivers_kept_sub s.slots s.hands s.keeps s.due s.locals t e gone none on.kept_drivers)
 
 pub opening_holds : (z : Settings) → IsTrue (are_fit z) → Holds (opening z)
@@ -106,10 +100,10 @@ made_keeps s _ _ _ on (Publishes t e of may) = publish_keeps s t e on of may
 made_keeps s _ _ _ on (Unpublishes t head next e at rest is) = subst (λ (x : State). Holds (with_retired x t e)) is (unpublish_keeps s t e on at rest)
 made_keeps s _ _ _ on (Hears c idle) = hear_keeps s c on idle
 made_keeps s _ _ _ on (Snaps t c due) = snapshot_keeps s t c on due
-made_keeps s _ _ _ on (Looks t c may) = look_keeps s t c on may
+made_keeps s _ _ _ on (Looks t c may) = M.look_keeps s t c on may (C.one_marked on.balance c t (mark_after_look (mark_at s.marks t c) (section_at s c)) refl)
 made_keeps s _ _ _ on (AddsPassive c n t of may) = M.add_keeps s c n t on of may
 made_keeps s _ _ _ on (SubsPassive c n t of may) = M.sub_keeps s c t on may
-made_keeps s _ _ _ on (LooksPassive t c may) = look_passive_keeps s t c on may
+made_keeps s _ _ _ on (LooksPassive t c may) = M.look_passive_keeps s t c on may (C.one_marked on.balance c t (mark_after_passive_look (mark_at s.marks t c) (passive_at s.passive c t)) refl)
 made_keeps s _ _ _ on (Counts c t e found of may) = count_add_keeps s c t e on found of may
 made_keeps s _ _ _ on (Splits c n hand) = split_keeps s c n on hand
 made_keeps s _ _ _ on (Joins c n id at idle) = join_keeps s c n id on (standing_tells (local_at s.locals id) n at) idle
@@ -141,12 +135,10 @@ step_keeps s e on = each_event Keeps s e tt (λ n r made. made_keeps s n e r on 
 
 -- the state after an event, made or not
 pub after_keeps : (s : State) (o : Option Outcome) → Holds s → Keeps o → Holds (state_after s o)
-after_keeps s None on keeps = on
-after_keeps s (Some o) on keeps = keeps
+after_keeps s o on keeps = grind arith
 
 pub turned_keeps : (r : Run) (o : Option Outcome) → Holds r.state → Keeps o → Holds (run_with_event r o).state
-turned_keeps r None on keeps = on
-turned_keeps r (Some o) on keeps = keeps
+turned_keeps r o on keeps = grind arith
 
 pub ran_keeps : (r : Run) (es : List Event) → Holds r.state → Holds (run_of_events r es).state
 ran_keeps r [] on = on

@@ -1,5 +1,5 @@
 -- An entry is linked at the head, and unlinked, there or in the middle of the list.
-use Rattle.std.proofs.Common.{List, Option, ap, arith, get_or, get_or-set_other, get_or-set_same, inl, inr, length, set, subst, suc, sym, true, zero, ℕ, ◌<◌, ◌∙◌, ◌≡◌, ◌≢◌, ◌≤◌, ◌⊎◌, Bool, None, Some, false, refl, ◌+◌}
+use Rattle.std.proofs.Common.{List, Option, ap, arith, get_or, get_or-set_other, get_or-set_same, inl, inr, length, set, subst, suc, sym, true, zero, ℕ, ◌<◌, ◌∙◌, ◌≡◌, ◌≢◌, ◌≤◌, ◌⊎◌, None, Some, ◌+◌}
 use Rattle.std.proofs.lemmas.Bool.{cases_eq, cases_lt, and_from, and_parts, eq-eqb, eqb-true}
 use Rattle.std.proofs.lemmas.List.{get_or_past}
 use Rattle.std.proofs.lemmas.List.Quantifiers.{position-Some}
@@ -9,31 +9,19 @@ use Rattle.std.specs.Prelude.{◌==◌}
 use Rattle.protocol.specs.Types.{Change, Attach, Detach, Entry, Mark, Slot, Live, Retired, Vacant}
 use Rattle.registry_values.specs.Common.{key_of, slot_at, is_live, leads_to, slot_before}
 use Rattle.registry_values.specs.Names.{are_key_words}
-use Rattle.protocol.specs.Common.{words_of, EndsAt, IsLegal, IsLiveAt, after_change, HeldStay, IsIn, Leads, LinksStay, ListShows, MarksHold, RowsShow, SlotsShow, SnapshotsStand, To_end, To_entry, row_at, Due, RecordWords, IsAttached}
+use Rattle.protocol.specs.Common.{words_of, EndsAt, IsLegal, IsLiveAt, after_change, HeldStay, IsIn, Leads, LinksStay, ListShows, MarksHold, RowsShow, SlotsShow, To_end, To_entry, row_at, RecordWords, IsAttached}
 use Rattle.protocol.specs.History.{change_at}
 use Rattle.protocol.proofs.History.{hold_was, leads_old, at_cases, at_new, at_within, attached_old, ends_after, ends_old, length-after_change, live_down, live_old, live_was, one_entry, one_end}
-use Rattle.protocol.proofs.Occupied.{slot_cases, in_other, not_vacant, live_one}
+use Rattle.protocol.proofs.Occupied.{slot_cases, live_one}
 use Rattle.protocol.proofs.Either.{either}
 use Rattle.protocol.proofs.Cells.{position_fails}
 
 pub legal_attach : (h : List Change) (e : Entry) → IsLegal h → e.number ≡ suc (length h)
     → ((f : Entry) → IsLiveAt h (length h) f → key_of f ≡ key_of e → ⊥) → ((f : Entry) → IsLiveAt h (length h) f → f.slot ≡ e.slot → ⊥) → IsLegal (after_change h (Attach e))
 legal_attach h e legal number no_key no_slot = record {
-  numbered = λ k f x. either (at_cases h (Attach e) k (Attach f) x)
-      (λ old. legal.numbered k f old.was)
-      (λ new. let one : f ≡ e = let q : Attach f ≡ Attach e = new.is in cc in ap (λ (g : Entry). g.number) one ∙ (number ∙ sym new.new));
-  new_key = λ k f g x live same. either (at_cases h (Attach e) (suc k) (Attach f) x)
-      (λ old. legal.new_key k f g old.was (live_was h (Attach e) k g (omega (arith, old.old)) live) same)
-      (λ new.
-      let one : f ≡ e = let q : Attach f ≡ Attach e = new.is in cc in
-      let now : k ≡ length h = omega (arith, new.new) in
-      no_key g (live_was h (Attach e) (length h) g (omega arith) (subst (λ (n : ℕ). IsLiveAt (after_change h (Attach e)) n g) now live)) (same ∙ ap key_of one));
-  new_slot = λ k f g x live same. either (at_cases h (Attach e) (suc k) (Attach f) x)
-      (λ old. legal.new_slot k f g old.was (live_was h (Attach e) k g (omega (arith, old.old)) live) same)
-      (λ new.
-      let one : f ≡ e = let q : Attach f ≡ Attach e = new.is in cc in
-      let now : k ≡ length h = omega (arith, new.new) in
-      no_slot g (live_was h (Attach e) (length h) g (omega arith) (subst (λ (n : ℕ). IsLiveAt (after_change h (Attach e)) n g) now live)) (same ∙ ap (λ (i : Entry). i.slot) one));
+  numbered = grind (arith, at_cases);
+  new_key = λ k f g x live same. grind (arith, at_cases h (Attach e) (suc k) (Attach f) x, legal.new_key k f g, live_was h (Attach e) k g, no_key g);
+  new_slot = λ k f g x live same. grind (arith, at_cases h (Attach e) (suc k) (Attach f) x, legal.new_slot k f g, live_was h (Attach e) k g, no_slot g);
   ends_live = λ k n x. either (at_cases h (Attach e) (suc k) (Detach n) x)
       (λ old.
       let l : (f : Entry) × IsLiveAt h k f × (f.number ≡ n) = legal.ends_live k n old.was in
@@ -46,18 +34,10 @@ pub ends_before : (h : List Change) (e : Entry) (n p : ℕ) → EndsAt (after_ch
 ends_before h e n p x = either (at_cases h (Attach e) p (Detach n) x) (λ old. (old.old, old.was)) (λ new. absurd (let q : Detach n ≡ Attach e = new.is in cc))
 
 pub new_live : (h : List Change) (e : Entry) → IsLegal h → e.number ≡ suc (length h) → IsLiveAt (after_change h (Attach e)) (suc (length h)) e
-new_live h e legal number = record {
-  attached = ap (change_at (after_change h (Attach e))) number ∙ at_new h (Attach e);
-  begun = omega arith;
-  unended = λ p x. let was = ends_before h e e.number p x in absurd (omega (arith, ends_after h legal e.number p was.1, was.0));
-}
+new_live h e legal number = grind (arith, at_new, ends_before, ends_after)
 
 pub still_live : (h : List Change) (e f : Entry) → IsLiveAt h (length h) f → IsLiveAt (after_change h (Attach e)) (suc (length h)) f
-still_live h e f live = record {
-  attached = attached_old h (Attach e) f live.attached;
-  begun = omega (arith, live.begun);
-  unended = λ p x. let was = ends_before h e f.number p x in absurd (omega (arith, live.unended p was.1, was.0));
-}
+still_live h e f live = grind (arith, attached_old, ends_before)
 
 pub live_cases : (h : List Change) (e f : Entry) → e.number ≡ suc (length h) → IsLiveAt (after_change h (Attach e)) (suc (length h)) f → (f ≡ e) ⊎ IsLiveAt h (length h) f
 live_cases h e f number live = either (cases_eq f.number (suc (length h)))
@@ -78,19 +58,8 @@ slots_attach h slots e legal lt vacant number show =
     let now : (f : Entry) → IsLiveAt (after_change h (Attach e)) (suc (length h)) f → IsLiveAt (after_change h (Attach e)) (length (after_change h (Attach e))) f
     = λ f live. subst (λ (n : ℕ). IsLiveAt (after_change h (Attach e)) n f) (sym (length-after_change h (Attach e))) live in
     record {
-      live = λ u f is. either (slot_cases slots e.slot (Live e) u lt)
-          (λ same.
-          let one : f ≡ e = let q : Live f ≡ Live e = sym is ∙ same.1 in cc in
-          (now f (subst (IsLiveAt (after_change h (Attach e)) (suc (length h))) (sym one) (new_live h e legal number)), ap (λ (g : Entry). g.slot) one ∙ sym same.0))
-          (λ off.
-          let was = show.live u f (sym off.1 ∙ is) in
-          (now f (still_live h e f was.0), was.1));
-      placed = λ f live. either (live_cases h e f number (subst (λ (n : ℕ). IsLiveAt (after_change h (Attach e)) n f) (length-after_change h (Attach e)) live))
-          (λ same. subst (λ (g : Entry). slot_at (set slots e.slot (Live e)) g.slot ≡ Live g) (sym same) (get_or-set_same slots e.slot (Live e) Vacant lt))
-          (λ old.
-          let at : slot_at slots f.slot ≡ Live f = show.placed f old in
-          let off : f.slot ≢ e.slot = λ same. (let q : Live f ≡ Vacant = sym at ∙ (ap (slot_at slots) same ∙ vacant) in cc) in
-          get_or-set_other slots e.slot f.slot (Live e) Vacant off ∙ at);
+      live = λ u f is. grind (arith, slot_cases slots e.slot (Live e) u lt, show.live u f, now f, still_live h e f, new_live h e legal number);
+      placed = grind (arith, live_cases, length-after_change, get_or-set_same, get_or-set_other);
       retired = λ u f is. either (slot_cases slots e.slot (Live e) u lt)
           (λ same. absurd (let q : Retired f ≡ Live e = sym is ∙ same.1 in cc))
           (λ off.
@@ -114,75 +83,39 @@ list_attach h slots head next e legal lt number link show list =
     record {
       first = up (suc (length (after_change h (Attach e)))) (suc e.slot)
           (To_entry e (new_live h e legal number) (omega (arith, length-after_change h (Attach e))) (λ f lf low. omega (arith, lf.begun)));
-      links = λ u f is. either (slot_cases slots e.slot (Live e) u lt)
-          (λ same.
-          let one : f ≡ e = let q : Live f ≡ Live e = sym is ∙ same.1 in cc in
-          let was : Leads h (length h) e.number (get_or next u 0) =
-          subst (λ (n : ℕ). Leads h (length h) n (get_or next u 0)) (sym number) (subst (Leads h (length h) (suc (length h))) (sym link ∙ ap (λ (k : ℕ). get_or next k 0) (sym same.0)) list.first) in
-          subst (λ (g : Entry). Leads (after_change h (Attach e)) (length (after_change h (Attach e))) g.number (get_or next u 0)) (sym one)
-          (up e.number (get_or next u 0) (leads_attach h e e.number (get_or next u 0) number (omega arith) was)))
-          (λ off.
-          let at : slot_at slots u ≡ Live f = sym off.1 ∙ is in
-          up f.number (get_or next u 0) (leads_attach h e f.number (get_or next u 0) number (omega (arith, (show.live u f at).0.begun)) (list.links u f at)));
+      links = λ u f is. grind (arith, slot_cases slots e.slot (Live e) u lt, leads_attach h e f.number (get_or next u 0) number, up f.number (get_or next u 0), show.live u f, list.links u f, list.first);
     }
 
 pub held_attach : (h : List Change) (slots : List Slot) (begins : List (Option ℕ)) (e : Entry) → e.slot < length slots → slot_at slots e.slot ≡ Vacant → e.number ≡ suc (length h)
     → HeldStay h slots begins → HeldStay (after_change h (Attach e)) (set slots e.slot (Live e)) begins
-held_attach h slots begins e lt vacant number held c b f is hold = either (cases_lt f.number (suc (length h)))
-    (λ le.
-    let was : IsIn f (slot_at slots f.slot) = held c b f is (hold_was h (Attach e) b f hold (omega arith)) in
-    in_other slots e.slot (Live e) f f.slot (λ same. not_vacant f (slot_at slots f.slot) (ap (slot_at slots) same ∙ vacant) was) was)
-    (λ ge.
-    let top : f.number ≤ length (after_change h (Attach e)) = (at_within (after_change h (Attach e)) f.number (Attach f) hold.attached).1 in
-    let one : f ≡ e =
-    one_entry (after_change h (Attach e)) f e hold.attached (ap (change_at (after_change h (Attach e))) number ∙ at_new h (Attach e)) (omega (arith, length-after_change h (Attach e))) in
-    inl (subst (λ (g : Entry). slot_at (set slots e.slot (Live e)) g.slot ≡ Live g) (sym one) (get_or-set_same slots e.slot (Live e) Vacant lt)))
+held_attach h slots begins e lt vacant number held c b f is hold =
+    let placed = slot_cases slots e.slot (Live e) f.slot lt in
+    let top = at_within (after_change h (Attach e)) f.number (Attach f) hold.attached in
+    grind (arith, cases_lt f.number (suc (length h)), held c b f is, hold_was h (Attach e) b f hold, placed, top, one_entry (after_change h (Attach e)) f e, at_new h (Attach e), length-after_change h (Attach e))
 
 -- what is retired after the publishing was so before
 pub retired_before : (slots : List Slot) (e : Entry) (u : ℕ) (f : Entry) → e.slot < length slots → slot_at (set slots e.slot (Live e)) u ≡ Retired f → slot_at slots u ≡ Retired f
-retired_before slots e u f lt is = either (slot_cases slots e.slot (Live e) u lt)
-    (λ same. absurd (let q : Retired f ≡ Live e = sym is ∙ same.1 in cc))
-    (λ off. sym off.1 ∙ is)
+retired_before slots e u f lt is = grind (arith, slot_cases)
 
 pub links_attach : (h : List Change) (slots : List Slot) (next : List ℕ) (begins : List (Option ℕ)) (e : Entry) → e.slot < length slots
     → LinksStay h slots next begins → LinksStay (after_change h (Attach e)) (set slots e.slot (Live e)) next begins
-links_attach h slots next begins e lt links u p c b f is ends in_ low =
-    let was = ends_before h e f.number p ends in
-    leads_old h (Attach e) p f.number (get_or next u 0) was.0 (links u p c b f (retired_before slots e u f lt is) was.1 in_ low)
+links_attach h slots next begins e lt links u p c b f is ends in_ low = grind (arith, ends_before, leads_old, retired_before)
 
 pub marks_attach : (h : List Change) (slots : List Slot) (marks : List (List Mark)) (section : List ℕ) (begins : List (Option ℕ)) (e : Entry) → e.slot < length slots
     → MarksHold h slots marks section begins → MarksHold (after_change h (Attach e)) (set slots e.slot (Live e)) marks section begins
-marks_attach h slots marks section begins e lt m = record {
-  passed = λ u p c b f is ends in_ yes_. m.passed u p c b f (retired_before slots e u f lt is) (ends_before h e f.number p ends).1 in_ yes_;
-  changed = λ u p c b w f is ends in_ snap off. m.changed u p c b w f (retired_before slots e u f lt is) (ends_before h e f.number p ends).1 in_ snap off;
-  older = λ u c w f is. m.older u c w f (retired_before slots e u f lt is);
-  left = λ u c b w f is. m.left u c b w f (retired_before slots e u f lt is);
-}
-
-pub snapshots_attach : (cpus : ℕ) (slots : List Slot) (marks : List (List Mark)) (due : Due) (e : Entry) → e.slot < length slots → SnapshotsStand cpus slots marks due
-    → SnapshotsStand cpus (set slots e.slot (Live e)) marks due
-snapshots_attach cpus slots marks due e lt stand u c f is = stand u c f (retired_before slots e u f lt is)
+marks_attach h slots marks section begins e lt m = grind (arith, retired_before, ends_before)
 
 -- An entry is unlinked, in the middle of the list or at its head.
 
-no_attach : (f : Entry) (n : ℕ) → Attach f ≡ Detach n → ⊥
-no_attach f n is = cc
-
 -- an attach is an older one
 pub attached_before : (h : List Change) (n : ℕ) (f : Entry) → IsAttached (after_change h (Detach n)) f → (f.number ≤ length h) × IsAttached h f
-attached_before h n f x = either (at_cases h (Detach n) f.number (Attach f) x) (λ old. (old.old, old.was)) (λ new. absurd (no_attach f n new.is))
+attached_before h n f x = either (at_cases h (Detach n) f.number (Attach f) x) (λ old. (old.old, old.was)) (λ new. absurd (let q : Attach f ≡ Detach n = new.is in cc))
 
 pub legal_detach : (h : List Change) (e : Entry) → IsLegal h → IsLiveAt h (length h) e → IsLegal (after_change h (Detach e.number))
 legal_detach h e legal live = record {
-  numbered = λ k f x. either (at_cases h (Detach e.number) k (Attach f) x)
-      (λ old. legal.numbered k f old.was)
-      (λ new. absurd (no_attach f e.number new.is));
-  new_key = λ k f g x lg same. either (at_cases h (Detach e.number) (suc k) (Attach f) x)
-      (λ old. legal.new_key k f g old.was (live_was h (Detach e.number) k g (omega (arith, old.old)) lg) same)
-      (λ new. absurd (no_attach f e.number new.is));
-  new_slot = λ k f g x lg same. either (at_cases h (Detach e.number) (suc k) (Attach f) x)
-      (λ old. legal.new_slot k f g old.was (live_was h (Detach e.number) k g (omega (arith, old.old)) lg) same)
-      (λ new. absurd (no_attach f e.number new.is));
+  numbered = grind (arith, at_cases);
+  new_key = λ k f g x lg same. grind (arith, at_cases h (Detach e.number) (suc k) (Attach f) x, legal.new_key k f g, live_was h (Detach e.number) k g);
+  new_slot = λ k f g x lg same. grind (arith, at_cases h (Detach e.number) (suc k) (Attach f) x, legal.new_slot k f g, live_was h (Detach e.number) k g);
   ends_live = λ k n x. either (at_cases h (Detach e.number) (suc k) (Detach n) x)
       (λ old.
       let l : (f : Entry) × IsLiveAt h k f × (f.number ≡ n) = legal.ends_live k n old.was in
@@ -195,13 +128,7 @@ legal_detach h e legal live = record {
 
 -- what is live after the detach: all that was, except e
 pub still_there : (h : List Change) (e f : Entry) → IsLiveAt h (length h) f → f.number ≢ e.number → IsLiveAt (after_change h (Detach e.number)) (suc (length h)) f
-still_there h e f live off = record {
-  attached = attached_old h (Detach e.number) f live.attached;
-  begun = omega (arith, live.begun);
-  unended = λ p x. either (at_cases h (Detach e.number) p (Detach f.number) x)
-      (λ old. absurd (omega (arith, live.unended p old.was, old.old)))
-      (λ new. absurd (off (let q : Detach f.number ≡ Detach e.number = new.is in cc)));
-}
+still_there h e f live off = grind (arith, attached_old, at_cases)
 
 pub was_there : (h : List Change) (e f : Entry) → IsLiveAt (after_change h (Detach e.number)) (suc (length h)) f → IsLiveAt h (length h) f × (f.number ≢ e.number)
 was_there h e f live =
@@ -232,11 +159,7 @@ leads_over h e n _ lt top (To_entry g live under most) = To_entry g (still_there
 -- what a link to the slot of e says of e
 pub link_to : (h : List Change) (slots : List Slot) (e : Entry) (n x : ℕ) → SlotsShow h slots → slot_at slots e.slot ≡ Live e → x ≡ suc e.slot → Leads h (length h) n x
     → (e.number < n) × ((f : Entry) → IsLiveAt h (length h) f → f.number < n → f.number ≤ e.number)
-link_to h slots e n zero show at is (To_end none) = absurd (omega arith)
-link_to h slots e n _ show at is (To_entry g live lt most) =
-    let same : g.slot ≡ e.slot = omega arith in
-    let one : g ≡ e = let q : Live g ≡ Live e = sym (show.placed g live) ∙ (ap (slot_at slots) same ∙ at) in cc in
-    (subst (λ (i : Entry). i.number < n) one lt, subst (λ (i : Entry). (f : Entry) → IsLiveAt h (length h) f → f.number < n → f.number ≤ i.number) one most)
+link_to h slots e n x show at is leads = grind arith
 
 -- Some link leads to each live entry.
 pub find_link : (h : List Change) (slots : List Slot) (head : ℕ) (next : List ℕ) (e : Entry) → SlotsShow h slots → ListShows h slots head next → IsLiveAt h (length h) e
@@ -254,8 +177,7 @@ find_link h slots head next e show list live (suc fuel) n _ le lt (To_entry g lg
     (λ further. inr further))
 
 pub live_entry : (x : Slot) → is_live x ≡ true → (g : Entry) × (x ≡ Live g)
-live_entry (Live e) is = (e, refl)
-live_entry _ is = absurd (let q : ◌≡◌ {A = Bool} false true = is in cc)
+live_entry x is = grind arith
 
 pub within_live : (slots : List Slot) (t : ℕ) (e : Entry) → slot_at slots t ≡ Live e → t < length slots
 within_live slots t e is = either (cases_lt t (length slots)) (λ lt. lt) (λ ge. absurd (let q : Vacant ≡ Live e = sym (get_or_past slots t Vacant ge) ∙ is in cc))
@@ -302,15 +224,11 @@ head_leads_on h slots head next e g p show list at before_at before_to is =
 
 -- What is live after the detach is in another slot, and was live.
 pub live_before : (slots : List Slot) (e f : Entry) (u : ℕ) → e.slot < length slots → slot_at (set slots e.slot (Retired e)) u ≡ Live f → (u ≡ e.slot → ⊥) × (slot_at slots u ≡ Live f)
-live_before slots e f u lt is = either (slot_cases slots e.slot (Retired e) u lt)
-    (λ same. absurd (let q : Live f ≡ Retired e = sym is ∙ same.1 in cc))
-    (λ off. (off.0, sym off.1 ∙ is))
+live_before slots e f u lt is = grind (arith, slot_cases)
 
 pub gone_before : (slots : List Slot) (e f : Entry) (u : ℕ) → e.slot < length slots → slot_at (set slots e.slot (Retired e)) u ≡ Retired f
     → ((u ≡ e.slot) × (f ≡ e)) ⊎ ((u ≡ e.slot → ⊥) × (slot_at slots u ≡ Retired f))
-gone_before slots e f u lt is = either (slot_cases slots e.slot (Retired e) u lt)
-    (λ same. inl (same.0, (let q : Retired f ≡ Retired e = sym is ∙ same.1 in cc)))
-    (λ off. inr (off.0, sym off.1 ∙ is))
+gone_before slots e f u lt is = grind (arith, slot_cases)
 
 pub slots_detach : (h : List Change) (slots : List Slot) (e : Entry) → IsLegal h → slot_at slots e.slot ≡ Live e → SlotsShow h slots
     → SlotsShow (after_change h (Detach e.number)) (set slots e.slot (Retired e))
@@ -319,16 +237,8 @@ slots_detach h slots e legal at show =
     let le : IsLiveAt h (length h) e = (show.live e.slot e at).0 in
     let size : length (after_change h (Detach e.number)) ≡ suc (length h) = length-after_change h (Detach e.number) in
     record {
-      live = λ u f is.
-          let was = live_before slots e f u lt is in
-          let lf = show.live u f was.1 in
-          let off : f.number ≢ e.number = λ same. was.0 (sym lf.1 ∙ ap (λ (g : Entry). g.slot) (one_entry h f e lf.0.attached le.attached same)) in
-          (subst (λ (n : ℕ). IsLiveAt (after_change h (Detach e.number)) n f) (sym size) (still_there h e f lf.0 off), lf.1);
-      placed = λ f live.
-          let was = was_there h e f (subst (λ (n : ℕ). IsLiveAt (after_change h (Detach e.number)) n f) size live) in
-          let now : slot_at slots f.slot ≡ Live f = show.placed f was.0 in
-          let off : f.slot ≢ e.slot = λ same. was.1 (let q : Live f ≡ Live e = sym now ∙ (ap (slot_at slots) same ∙ at) in let one : f ≡ e = cc in ap (λ (g : Entry). g.number) one) in
-          get_or-set_other slots e.slot f.slot (Retired e) Vacant off ∙ now;
+      live = λ u f is. grind (arith, live_before slots e f u lt is, show.live u f, one_entry h f e, still_there h e f, size);
+      placed = grind (arith, was_there, get_or-set_other);
       retired = λ u f is. either (gone_before slots e f u lt is)
           (λ same. subst (λ (g : Entry). IsAttached (after_change h (Detach e.number)) g × (g.slot ≡ u) × ((p : ℕ) × EndsAt (after_change h (Detach e.number)) g.number p)) (sym same.1)
           (attached_old h (Detach e.number) e le.attached, sym same.0, (suc (length h), at_new h (Detach e.number))))
@@ -349,23 +259,13 @@ pub held_detach : (h : List Change) (slots : List Slot) (begins : List (Option �
 held_detach h slots begins e at held c b f is hold =
     let lt : e.slot < length slots = within_live slots e.slot e at in
     let was : IsIn f (slot_at slots f.slot) = held c b f is (hold_was h (Detach e.number) b f hold (attached_before h e.number f hold.attached).0) in
-    either (slot_cases slots e.slot (Retired e) f.slot lt)
-    (λ same.
-    let one : f ≡ e = live_one f e (slot_at slots f.slot) (ap (slot_at slots) same.0 ∙ at) was in
-    inr (same.1 ∙ ap Retired (sym one)))
-    (λ off. subst (IsIn f) (sym off.1) was)
+    grind (arith, slot_cases, live_one)
 
 -- The end of another entry is an older one.
 pub end_before : (h : List Change) (slots : List Slot) (e f : Entry) (u p : ℕ) → SlotsShow h slots → IsLiveAt h (length h) e → slot_at slots u ≡ Retired f
     → EndsAt (after_change h (Detach e.number)) f.number p
     → (p ≤ length h) × EndsAt h f.number p
-end_before h slots e f u p show le gone ends = either (at_cases h (Detach e.number) p (Detach f.number) ends)
-    (λ old. (old.old, old.was))
-    (λ new.
-    let was = (show.retired u f gone).2 in
-    let same : f.number ≡ e.number = let q : Detach f.number ≡ Detach e.number = new.is in cc in
-    let x : EndsAt h e.number was.0 = subst (λ (n : ℕ). EndsAt h n was.0) same was.1 in
-    absurd (omega (arith, le.unended was.0 x, (at_within h was.0 (Detach e.number) x).1)))
+end_before h slots e f u p show le gone ends = grind (arith, at_cases, at_within)
 
 -- the links of unlinked entries, where only links of live slots may have been written
 pub links_detach : (h : List Change) (slots : List Slot) (head : ℕ) (next now : List ℕ) (begins : List (Option ℕ)) (e : Entry) → IsLegal h → slot_at slots e.slot ≡ Live e → SlotsShow h slots
@@ -375,19 +275,18 @@ pub links_detach : (h : List Change) (slots : List Slot) (head : ℕ) (next now 
 links_detach h slots head next now begins e legal at show list kept links u p c b f is ends in_ low =
     let lt : e.slot < length slots = within_live slots e.slot e at in
     let le : IsLiveAt h (length h) e = (show.live e.slot e at).0 in
-    either (gone_before slots e f u lt is)
-    (λ same.
-    let there : slot_at slots u ≡ Live f = ap (slot_at slots) same.0 ∙ (at ∙ ap Live (sym same.1)) in
-    let word : get_or now u 0 ≡ get_or next u 0 = kept u f (inl there) (λ x. same.0) in
-    let when : p ≡ suc (length h) = one_end (after_change h (Detach e.number)) (legal_detach h e legal le) f.number p (suc (length h)) ends
-    (at_new h (Detach e.number) ∙ ap (λ (g : Entry). Some (Detach g.number)) (sym same.1)) in
-    let under : Leads (after_change h (Detach e.number)) (suc (length h)) f.number (get_or next u 0) =
-    leads_under h e f.number (get_or next u 0) (omega (arith, ap (λ (g : Entry). g.number) same.1)) (list.links u f there) in
-    subst (λ (k : ℕ). Leads (after_change h (Detach e.number)) k f.number (get_or now u 0)) (sym when) (subst (Leads (after_change h (Detach e.number)) (suc (length h)) f.number) (sym word) under))
-    (λ off.
-    let was = end_before h slots e f u p show le off.1 ends in
-    let word : get_or now u 0 ≡ get_or next u 0 = kept u f (inr off.1) (λ x. absurd (let q : Live f ≡ Retired f = sym x ∙ off.1 in cc)) in
-    subst (Leads (after_change h (Detach e.number)) p f.number) (sym word) (leads_old h (Detach e.number) p f.number (get_or next u 0) was.0 (links u p c b f off.1 was.1 in_ low)))
+    grind (
+      arith,
+      gone_before slots e f u lt is,
+      kept u f,
+      one_end (after_change h (Detach e.number)) (legal_detach h e legal le) f.number p (suc (length h)) ends,
+      at_new h (Detach e.number),
+      leads_under h e f.number (get_or next u 0),
+      list.links u f,
+      end_before h slots e f u p show le,
+      links u p c b f,
+      leads_old h (Detach e.number) p f.number (get_or next u 0),
+    )
 
 -- The list without e: e was the first.
 pub list_unlink_head : (h : List Change) (slots : List Slot) (head : ℕ) (next : List ℕ) (e : Entry) → slot_at slots e.slot ≡ Live e → SlotsShow h slots → head ≡ suc e.slot
@@ -399,15 +298,9 @@ list_unlink_head h slots head next e at show is list =
     let size : length (after_change h (Detach e.number)) ≡ suc (length h) = length-after_change h (Detach e.number) in
     let top = link_to h slots e (suc (length h)) head show at is list.first in
     record {
-      first = subst (λ (n : ℕ). Leads (after_change h (Detach e.number)) n (suc n) (get_or next e.slot 0)) (sym size)
-          (leads_over h e (suc (suc (length h))) (get_or next e.slot 0) (omega arith) (λ f lf low. top.1 f lf (omega (arith, lf.begun))) (list.links e.slot e at));
+      first = grind (arith, leads_over);
       links = λ u f live.
-          let was = live_before slots e f u lt live in
-          let lf = show.live u f was.1 in
-          subst (λ (n : ℕ). Leads (after_change h (Detach e.number)) n f.number (get_or next u 0)) (sym size)
-          (leads_past h e f.number (get_or next u 0) le (λ x.
-          let to = link_to h slots e f.number (get_or next u 0) show at x (list.links u f was.1) in
-          omega (arith, to.0, top.1 f lf.0 (omega (arith, lf.0.begun)))) (list.links u f was.1));
+          grind (arith, live_before slots e f u lt live, show.live u f, link_to h slots e f.number (get_or next u 0) show at, list.links u f, top.1 f, leads_past h e f.number (get_or next u 0) le, size);
     }
 
 -- The list without e: the link of the live entry before it was written.
@@ -425,25 +318,22 @@ list_unlink_mid h slots head next e g q at show same_size off before_at before_t
     record {
       first = subst (λ (n : ℕ). Leads (after_change h (Detach e.number)) n (suc n) head) (sym size)
           (leads_first head (leads_past h e (suc (length h)) head le off list.first));
-      links = λ u f live.
-          let was = live_before slots e f u lt live in
-          let lf = show.live u f was.1 in
-          subst (λ (n : ℕ). Leads (after_change h (Detach e.number)) n f.number (get_or (set next q (get_or next e.slot 0)) u 0)) (sym size)
-          (either (cases_eq u q)
-          (λ same.
-          let one : g ≡ f = let x : Live g ≡ Live f = sym before_at ∙ (ap (slot_at slots) (sym same) ∙ was.1) in cc in
-          let word : get_or (set next q (get_or next e.slot 0)) u 0 ≡ get_or next e.slot 0 =
-          ap (λ (k : ℕ). get_or (set next q (get_or next e.slot 0)) k 0) same ∙ get_or-set_same next q (get_or next e.slot 0) 0 ql in
-          subst (λ (i : Entry). Leads (after_change h (Detach e.number)) (suc (length h)) i.number (get_or (set next q (get_or next e.slot 0)) u 0)) one
-          (subst (Leads (after_change h (Detach e.number)) (suc (length h)) g.number) (sym word) (leads_over h e g.number (get_or next e.slot 0) top.0 top.1 (list.links e.slot e at))))
-          (λ other.
-          subst (Leads (after_change h (Detach e.number)) (suc (length h)) f.number) (sym (get_or-set_other next q u (get_or next e.slot 0) 0 other))
-          (leads_past h e f.number (get_or next u 0) le (λ x.
-          let to = link_to h slots e f.number (get_or next u 0) show at x (list.links u f was.1) in
-          let apart : f.number ≢ g.number = λ same. other (sym lf.1 ∙ (ap (λ (i : Entry). i.slot) (one_entry h f g lf.0.attached lg.0.attached same) ∙ lg.1)) in
-          either (cases_lt f.number g.number)
-          (λ low. omega (arith, top.1 f lf.0 low, to.0))
-          (λ high. omega (arith, to.1 g lg.0 (omega arith), top.0))) (list.links u f was.1))));
+      links = λ u f live. grind (
+        arith,
+        cases_eq u q,
+        cases_lt f.number g.number,
+        cases_lt g.number f.number,
+        live_before slots e f u lt live,
+        show.live u f,
+        get_or-set_same next q (get_or next e.slot 0) 0 ql,
+        get_or-set_other next q u (get_or next e.slot 0) 0,
+        leads_over h e g.number (get_or next e.slot 0) top.0 top.1 (list.links e.slot e at),
+        leads_past h e f.number (get_or next u 0) le,
+        link_to h slots e f.number (get_or next u 0) show at,
+        list.links u f,
+        one_entry h f g,
+        size,
+      );
     }
   where
     leads_first : (x : ℕ) → Leads (after_change h (Detach e.number)) (suc (length h)) (suc (length h)) x → Leads (after_change h (Detach e.number)) (suc (length h)) (suc (suc (length h))) x

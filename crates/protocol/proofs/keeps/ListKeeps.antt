@@ -1,17 +1,17 @@
 -- The keeper's events on the list keep the invariant: stores to a vacant slot, Publish and Unpublish.
-use Rattle.std.proofs.Common.{Bool, List, None, Option, Some, [], ap, arith, false, get_or, get_or-set_other, get_or-set_same, inl, inr, length, length-set, ltb-true, not, refl, replicate, set, subst, suc, sym, true, zero, ℕ, ◌&&◌, ◌+◌, ◌<◌, ◌∙◌, ◌≡◌, ◌≢◌, ◌≤◌}
-use Rattle.std.proofs.lemmas.Bool.{and_from, and_parts, cases_eq, cases_lt, eq-eqb, eqb-true, leb-true}
+use Rattle.std.proofs.Common.{Bool, List, None, Option, Some, [], ap, arith, false, get_or, get_or-set_other, get_or-set_same, inl, inr, length, length-set, ltb-true, not, refl, replicate, set, subst, suc, sym, true, ℕ, ◌+◌, ◌<◌, ◌∙◌, ◌≡◌, ◌≢◌, ◌≤◌}
+use Rattle.std.proofs.lemmas.Bool.{and_parts, cases_eq, eq-eqb, eqb-true, leb-true}
 use Rattle.std.proofs.lemmas.List.{set_past}
 use Rattle.std.proofs.lemmas.List.Folds.{list_any_at}
 use Rattle.std.proofs.lemmas.List.Sums.{sum_by-set}
 use Rattle.std.proofs.lemmas.Option.{none-some, same_Some}
-use Rattle.std.specs.Prelude.{if◌then◌else◌, nat_lt, ◌==◌}
+use Rattle.std.specs.Prelude.{if◌then◌else◌}
 use Rattle.protocol.proofs.History.{found_old, searches_old, sections_old, length-after_change}
 use Rattle.protocol.proofs.keeps.Marking.{marks_detach, snapshots_detach, passive_attach, passive_detach}
-use Rattle.protocol.proofs.keeps.Linking.{held_attach, legal_attach, links_attach, list_attach, marks_attach, rows_attach, slots_attach, snapshots_attach, before_leads, head_leads, head_leads_on, held_detach, legal_detach, link_to, links_detach, list_unlink_head, list_unlink_mid, rows_detach, slots_detach, within_live}
-use Rattle.protocol.specs.Common.{after_link_store, after_publish, after_row_store, after_unpublish, are_unused, entry_if, entry_of, has_room, is_prepared, keeps_rightly, kind_of, may_publish, may_write, with_retired, with_link_past, with_word, words_of, after_change, AreRows, CountsHold, DriversKept, HasShape, Holds, IsIn, Leads, LinksStay, ListShows, ReferencesHold, RowsShow, SnapshotsStand, one_if, at_rest, State, kept_at, no_words, row_at, with_cell, Rest, RecordWords}
-use Rattle.protocol.specs.Types.{MOST_CPUS, Attach, Detach, Entry, Kind, Driver, Iface, Key, Slot, Live, Retired, Vacant}
-use Rattle.registry_values.specs.Common.{key_of, is_live, is_live_as, is_taken, is_vacant, kind_word, live_count, same_key, same_kind, same_name, slot_before, slot_at, bias, no_mark}
+use Rattle.protocol.proofs.keeps.Linking.{held_attach, legal_attach, links_attach, list_attach, marks_attach, rows_attach, slots_attach, before_leads, head_leads, head_leads_on, held_detach, legal_detach, link_to, links_detach, list_unlink_head, list_unlink_mid, rows_detach, slots_detach, within_live, retired_before}
+use Rattle.protocol.specs.Common.{after_link_store, after_publish, after_row_store, after_unpublish, are_unused, entry_of, keeps_rightly, may_publish, may_write, with_retired, with_link_past, with_word, words_of, after_change, AreRows, CountsHold, DriversKept, HasShape, Holds, IsIn, Leads, LinksStay, ListShows, ReferencesHold, RowsShow, SnapshotsStand, one_if, at_rest, State, kept_at, no_words, row_at, with_cell, Rest, RecordWords}
+use Rattle.protocol.specs.Types.{MOST_CPUS, Attach, Detach, Entry, Key, Slot, Live, Retired, Vacant}
+use Rattle.registry_values.specs.Common.{key_of, is_live, is_taken, live_count, same_key, slot_before, slot_at, bias, no_mark}
 use Rattle.registry_values.specs.Names.{are_key_words}
 use Rattle.protocol.proofs.Occupied.{not_vacant, is_vacant_tells, at_rest_tells}
 use Rattle.protocol.proofs.Either.{either}
@@ -27,15 +27,11 @@ abbrev pub DriversOf : State → Type 0
 DriversOf s = DriversKept s.slots s.keeps
 
 pub false_from : (b : Bool) → not b ≡ true → b ≡ false
-false_from false is = refl
-false_from true is = absurd (let q : ◌≡◌ {A = Bool} false true = is in cc)
+false_from b is = grind arith
 
 -- the slot that may be written is in range and vacant, and the keeper at rest
 pub may_write_tells : (s : State) (t : ℕ) → HasShape s → may_write s t ≡ true → (s.due ≡ Rest) × (t < length s.slots) × (slot_at s.slots t ≡ Vacant)
-may_write_tells s t shape may =
-    let p = and_parts (at_rest s.due) (nat_lt t s.settings.slots && is_vacant (slot_at s.slots t)) may in
-    let q = and_parts (nat_lt t s.settings.slots) (is_vacant (slot_at s.slots t)) p.1 in
-    (at_rest_tells s.due p.0, omega (arith, ltb-true t s.settings.slots q.0, shape.slots), is_vacant_tells (slot_at s.slots t) q.1)
+may_write_tells s t shape may = grind (arith, and_parts, at_rest_tells, ltb-true, is_vacant_tells)
 
 -- what an entry that may be published shows
 pub record IsPublishable (s : State) (t : ℕ) (e : Entry) : Type 0 where
@@ -50,38 +46,14 @@ pub record IsPublishable (s : State) (t : ℕ) (e : Entry) : Type 0 where
   pub rightly : keeps_rightly (kept_at s.keeps t) e.rec.kind ≡ true
 
 pub may_publish_tells : (s : State) (t : ℕ) (e : Entry) → HasShape s → may_publish s t e ≡ true → IsPublishable s t e
-may_publish_tells s t e shape may =
-    let write = and_parts (may_write s t) (e.number == length s.history + 1 && (not (is_taken (key_of e) s.slots) && (has_room s && is_prepared s t e.rec.kind))) may in
-    let numbered = and_parts (e.number == length s.history + 1) (not (is_taken (key_of e) s.slots) && (has_room s && is_prepared s t e.rec.kind)) write.1 in
-    let free = and_parts (not (is_taken (key_of e) s.slots)) (has_room s && is_prepared s t e.rec.kind) numbered.1 in
-    let room = and_parts (has_room s) (is_prepared s t e.rec.kind) free.1 in
-    let linked = and_parts (get_or s.next t 0 == s.head) (are_unused s t && keeps_rightly (kept_at s.keeps t) e.rec.kind) room.1 in
-    let unused = and_parts (are_unused s t) (keeps_rightly (kept_at s.keeps t) e.rec.kind) linked.1 in
-    let told = may_write_tells s t shape write.0 in
-    record {
-      rest = told.0;
-      within = told.1;
-      vacant = told.2;
-      number = omega (arith, eqb-true e.number (length s.history + 1) numbered.0);
-      free = false_from (is_taken (key_of e) s.slots) free.0;
-      room = leb-true (length s.history + live_count s.slots + 2) s.settings.change_limit room.0;
-      link = eqb-true (get_or s.next t 0) s.head linked.0;
-      unused = unused.0;
-      rightly = unused.1;
-    }
-
-same_kind_own : (k : Kind) → same_kind k k ≡ true
-same_kind_own Iface = refl
-same_kind_own Driver = refl
+may_publish_tells s t e shape may = grind (arith, and_parts, may_write_tells, eqb-true, false_from, leb-true)
 
 same_key_own : (k : Key) → same_key k k ≡ true
-same_key_own k = and_from (same_kind k.kind k.kind) (same_name k.name k.name) (same_kind_own k.kind)
-    (and_from (k.name.high == k.name.high) (k.name.low == k.name.low) (eq-eqb k.name.high k.name.high refl) (eq-eqb k.name.low k.name.low refl))
+same_key_own k = grind (arith, eq-eqb)
 
 -- a live entry with the key shows that it is taken
 pub taken_from : (key : Key) (slots : List Slot) (t : ℕ) (f : Entry) → slot_at slots t ≡ Live f → key_of f ≡ key → is_taken key slots ≡ true
-taken_from key slots t f at same = list_any_at (is_live_as key) slots t Vacant (within_live slots t f at)
-    (ap (is_live_as key) at ∙ (ap (λ (k : Key). same_key k key) same ∙ same_key_own key))
+taken_from key slots t f at same = grind (arith, list_any_at, within_live, same_key_own)
 
 -- how many are live after a write
 pub live_count_set : (slots : List Slot) (t : ℕ) (x : Slot) → t < length slots → live_count (set slots t x) + one_if (is_live (slot_at slots t)) ≡ live_count slots + one_if (is_live x)
@@ -92,16 +64,11 @@ live_count_put slots t x y lt at = subst (λ (z : Slot). live_count (set slots t
 
 -- a row with a place for each CPU is written
 pub rows_put : {X : Type 0} (rows : List (List X)) (t : ℕ) (row : List X) → length row ≡ MOST_CPUS → AreRows rows → AreRows (set rows t row)
-rows_put {X} rows t row size are u lt = either (cases_eq u t)
-    (λ same. ap (λ (k : ℕ). length (get_or (set rows t row) k [])) same ∙ (ap (λ (r : List X). length r) (get_or-set_same rows t row [] (omega (arith, length-set rows t row))) ∙ size))
-    (λ off. ap (λ (r : List X). length r) (get_or-set_other rows t u row [] off) ∙ are u (omega (arith, length-set rows t row)))
+rows_put {X} rows t row size are u lt = grind (arith, get_or-set_same, length-set, get_or-set_other, cases_eq u t)
 
 -- and so where one place of a row is
 pub rows_cell : {X : Type 0} (rows : List (List X)) (t c : ℕ) (x : X) → AreRows rows → AreRows (set rows t (set (get_or rows t []) c x))
-rows_cell {X} rows t c x are u lt = either (cases_lt t (length rows))
-    (λ in_. rows_put rows t (set (get_or rows t []) c x) (length-set (get_or rows t []) c x ∙ are t in_) are u lt)
-    (λ out. let same = set_past rows t (set (get_or rows t []) c x) out in
-    ap (λ (r : List (List X)). length (get_or r u [])) same ∙ are u (subst (λ (r : List (List X)). u < length r) same lt))
+rows_cell {X} rows t c x are u lt = grind (arith, rows_put, length-set, set_past)
 
 -- they are as many as before, too
 pub cell_sized : {X : Type 0} (rows : List (List X)) (t c : ℕ) (x : X) {n : ℕ} → length rows ≡ n → AreRows rows → (length (with_cell rows t c x) ≡ n) × AreRows (with_cell rows t c x)
@@ -130,28 +97,9 @@ link_store_keeps s t v on may =
     λ u p c b f is ends in_ low. subst (Leads s.history p f.number) (sym (same u f (inr is))) (on.frozen_links u p c b f is ends in_ low) in
     assumption (length-set s.next t v ∙ on.shape.links)
 
-kind_from : (w : ℕ) (k : Kind) → kind_of w ≡ Some k → w ≡ kind_word k
-kind_from (suc zero) k is = ap kind_word (same_Some Iface k is)
-kind_from (suc (suc zero)) k is = ap kind_word (same_Some Driver k is)
-kind_from _ k is = absurd (none-some k is)
-
-some_if : {X : Type 0} (b : Bool) (x y : X) → (if b then Some x else None) ≡ Some y → (b ≡ true) × (x ≡ y)
-some_if true x y is = (refl, same_Some x y is)
-some_if false x y is = absurd (none-some y is)
-
 -- the words of a row are its entry's
 pub entry_shows : (t : ℕ) (r : RecordWords) (e : Entry) → entry_of t r ≡ Some e → (e.slot ≡ t) × (r ≡ words_of e) × (are_key_words e.rec.name.high e.rec.name.low ≡ true)
-entry_shows t r e is = go (kind_of r.kind) refl is
-  where
-    go : (o : Option Kind) → kind_of r.kind ≡ o → entry_if t r o ≡ Some e → (e.slot ≡ t) × (r ≡ words_of e) × (are_key_words e.rec.name.high e.rec.name.low ≡ true)
-    go None kind same = absurd (none-some e same)
-    go (Some k) kind same =
-        let told = some_if (are_key_words r.high r.low) (record { number = r.number; slot = t; rec = record { kind = k; name = record { high = r.high; low = r.low }; value = r.value } }) e same in
-        let word : r.kind ≡ kind_word k = kind_from r.kind k kind in (
-          ap (λ (f : Entry). f.slot) (sym told.1),
-          ap (λ (w : ℕ). record { number = r.number; kind = w; high = r.high; low = r.low; value = r.value }) word ∙ ap words_of told.1,
-          subst (λ (f : Entry). are_key_words f.rec.name.high f.rec.name.low ≡ true) told.1 told.0,
-        )
+entry_shows t r e is = grind (arith, none-some, same_Some)
 
 -- an entry is published in its own slot
 publish_own : (s : State) (e : Entry) → Holds s → row_at s.rows e.slot ≡ words_of e → are_key_words e.rec.name.high e.rec.name.low ≡ true → may_publish s e.slot e ≡ true
@@ -176,7 +124,7 @@ publish_own s e on row name may counts references drivers =
       held_attach s.history s.slots s.begins e told.within told.vacant told.number on.held,
       links_attach s.history s.slots s.next s.begins e told.within on.frozen_links,
       marks_attach s.history s.slots s.marks s.section s.begins e told.within on.grace,
-      snapshots_attach s.settings.cpus s.slots s.marks s.due e told.within on.snapshots,
+      λ (u c : ℕ) (f : Entry) (is : slot_at (set s.slots e.slot (Live e)) u ≡ Retired f). on.snapshots u c f (retired_before s.slots e u f told.within is),
       sections_old s.settings s.history (Attach e) s.section s.begins s.depths s.seen on.sections,
       searches_old s.settings s.history (Attach e) s.section s.begins s.depths s.seen s.searches on.sections on.searches,
       found_old s.settings s.history (Attach e) s.section s.begins s.depths s.seen s.found on.sections on.last_found,

@@ -1,18 +1,18 @@
 -- Snapshots, looks, passive references and the end of a slot's use keep the invariant; the opening state has it.
-use Rattle.std.proofs.Common.{Bool, List, None, Option, Some, [], ap, arith, false, get_or, length, length-set, ltb-true, refl, replicate, set, subst, suc, sym, true, zero, ℕ, ◌%◌, ◌&&◌, ◌+◌, ◌-◌, ◌<◌, ◌||◌, ◌∙◌, ◌≡◌, ◌≤◌}
+use Rattle.std.proofs.Common.{Bool, List, None, Option, Some, [], ap, arith, false, get_or, length, length-set, ltb-true, refl, replicate, set, subst, suc, sym, true, zero, ℕ, ◌&&◌, ◌+◌, ◌-◌, ◌<◌, ◌||◌, ◌∙◌, ◌≡◌, ◌≤◌, inl, inr}
 use Rattle.std.proofs.lemmas.Bool.{and_parts, cases_lt, eqb-true, or_cases}
 use Rattle.std.proofs.lemmas.List.{get_or_past, length-replicate}
 use Rattle.std.proofs.lemmas.Option.{none-some}
 use Rattle.std.specs.Prelude.{IsTrue, is_none, nat_lt, ◌==◌}
 use Rattle.protocol.proofs.History.{at_empty}
 use Rattle.protocol.proofs.keeps.ListKeeps.{CountsOf, DriversOf, ReferencesOf, cell_sized, live_count_put}
-use Rattle.protocol.proofs.keeps.Marking.{held_vacate, links_vacate, list_all_within, list_vacate, marks_look, marks_snapshot, marks_vacate, marks_write, rows_vacate, slots_vacate, snapshots_marked, snapshots_taken, snapshots_vacate, found_not_passed, passive_counted, passive_marked, passive_vacate}
+use Rattle.protocol.proofs.keeps.Marking.{held_vacate, list_all_within, marks_look, marks_snapshot, marks_vacate, marks_write, slots_vacate, snapshots_marked, snapshots_taken, found_not_passed, passive_counted, passive_marked, passive_vacate, vacated_before}
 use Rattle.protocol.proofs.keeps.Linking.{within_retired}
-use Rattle.protocol.specs.Common.{after_add, after_kept_sub, after_look, after_look_passive, after_snapshot, after_sub, after_vacate, is_drainable, is_drained, is_idle, is_number, is_snapshot_due, may_add, may_examine, may_look_passive, may_sub, may_vacate, snapshot_mark, AreRows, DueHolds, Holds, IsIn, SnapshotsStand, To_end, at_rest, State, found_at, kept_at, mark_at, no_words, opening, passive_at, trying_at, trying_of, section_at, total_at, Rest, Snapshots, Empty, IsSeenInHand}
-use Rattle.registry_values.specs.Common.{mark_after_passive_look, mark_after_look, are_clear, are_collected, has_changed, have_passed, is_clear, is_collected, is_even, is_passed, no_mark, are_fit, is_retired, live_count, slot_of, slot_at, bias}
+use Rattle.protocol.specs.Common.{after_add, after_kept_sub, after_look, after_look_passive, after_snapshot, after_sub, after_vacate, is_drainable, is_drained, is_idle, is_number, is_snapshot_due, may_add, may_examine, may_look_passive, may_sub, may_vacate, snapshot_mark, AreRows, DueHolds, Holds, SnapshotsStand, To_end, at_rest, State, found_at, kept_at, mark_at, opening, passive_at, trying_at, trying_of, section_at, total_at, Rest, Snapshots, Empty, IsSeenInHand, IsLegal, SlotsShow, MarksHold, IsIn}
+use Rattle.registry_values.specs.Common.{mark_after_passive_look, mark_after_look, are_collected, has_changed, have_passed, is_clear, is_collected, is_even, is_passed, no_mark, are_fit, is_retired, live_count, slot_of, slot_at, bias}
 use Rattle.registry_values.proofs.Fit.{ranges}
-use Rattle.protocol.specs.Types.{Attach, Detach, Entry, Settings, MOST_CPUS, Mark, Slot, Live, Retired, Vacant}
-use Rattle.protocol.proofs.Occupied.{not_vacant, slot_has, is_retired_tells, at_rest_tells}
+use Rattle.protocol.specs.Types.{Attach, Entry, Settings, MOST_CPUS, Mark, Live, Retired, Vacant}
+use Rattle.protocol.proofs.Occupied.{retired_one, not_vacant, slot_has, is_retired_tells, at_rest_tells}
 use Rattle.protocol.proofs.keeps.References.{snapshot_due_tells}
 use Rattle.protocol.proofs.keeps.SectionKeeps.{idle_tells}
 use Rattle.protocol.proofs.Cells.{get_or_all}
@@ -55,10 +55,7 @@ look_keeps s t c on may counts =
 
 -- what a slot that may be examined shows
 pub may_examine_tells : (s : State) (t c : ℕ) → may_examine s t c ≡ true → (s.due ≡ Rest) × (c < s.settings.cpus) × ((e : Entry) × (slot_at s.slots t ≡ Retired e))
-may_examine_tells s t c may =
-    let p = and_parts (at_rest s.due) (nat_lt c s.settings.cpus && is_retired (slot_at s.slots t)) may in
-    let q = and_parts (nat_lt c s.settings.cpus) (is_retired (slot_at s.slots t)) p.1 in
-    (at_rest_tells s.due p.0, ltb-true c s.settings.cpus q.0, is_retired_tells (slot_at s.slots t) q.1)
+may_examine_tells s t c may = grind (arith, and_parts, at_rest_tells, ltb-true, is_retired_tells)
 
 pub look_passive_keeps : (s : State) (t c : ℕ) → Holds s → may_look_passive s t c ≡ true → CountsOf (after_look_passive s t c) → Holds (after_look_passive s t c)
 look_passive_keeps s t c on may counts =
@@ -70,8 +67,7 @@ look_passive_keeps s t c on may counts =
     assumption (
       cell_sized s.marks t c mark on.shape.marks on.shape.mark_rows,
       marks_write s.history s.slots s.marks s.section s.begins t c mark
-          (λ p b e is ends in_ holds. on.grace.passed t p c b e is ends in_ holds) (λ p b w e is ends in_ snap off. on.grace.changed t p c b w e is ends in_ snap off)
-          (λ w e is snap. on.grace.older t c w e is snap) (λ b w e is in_ holds snap same. on.grace.left t c b w e is in_ holds snap same) on.grace,
+          (λ p b e. on.grace.passed t p c b e) (λ p b w e. on.grace.changed t p c b w e) (λ w e. on.grace.older t c w e) (λ b w e. on.grace.left t c b w e) on.grace,
       snapshots_marked s.settings.cpus s.slots s.marks s.due t c mark refl on.snapshots,
       passive_marked s.settings.cpus s.settings.passive_limit s.slots s.marks s.passive s.hands t c mark
           (λ e is holds. (
@@ -98,18 +94,13 @@ add_keeps s c n t on of may =
           (λ vacant. not_vacant there.1.0 (slot_at s.slots t) vacant there.1.1)
           (λ e gone clear. either (or_cases (is_number n (found_at s c)) (nat_lt 0 (passive_at s.passive c t)) q.0)
           (λ f.
-          let same : there.1.0 ≡ e = is_retired_one there.1.0 e (slot_at s.slots t) gone there.1.1 in
+          let same : there.1.0 ≡ e = retired_one there.1.0 e (slot_at s.slots t) gone there.1.1 in
           let number : n ≡ e.number = sym there.1.2 ∙ ap (λ (g : Entry). g.number) same in
           found_not_passed s.history s.slots s.marks s.section s.begins s.found c t e on.slots on.grace on.last_found gone (ap (λ (k : ℕ). is_number k (found_at s c)) (sym number) ∙ f)
           (on.passive.clear c t e gone clear).0)
           (λ h. omega (arith, untried, ltb-true 0 (passive_at s.passive c t) h, (on.passive.clear c t e gone clear).1)))
           on.passive,
     )
-  where
-    is_retired_one : (f e : Entry) (x : Slot) → x ≡ Retired e → IsIn f x → f ≡ e
-    is_retired_one f e x at is = either is
-        (λ live. absurd (let q : Live f ≡ Retired e = sym live ∙ at in cc))
-        (λ gone. let q : Retired f ≡ Retired e = sym gone ∙ at in cc)
 
 pub sub_keeps : (s : State) (c t : ℕ) → Holds s → may_sub s c t ≡ true → Holds (after_sub s c t)
 sub_keeps s c t on may =
@@ -130,13 +121,12 @@ pub is_drained_tells : (s : State) (t : ℕ) → Holds s → is_drained s t ≡ 
     × ((c : ℕ) → c < s.settings.cpus → (mark_at s.marks t c).collected ≡ true) × (total_at s.totals t ≡ bias)
 is_drained_tells s t on is =
     let row : List Mark = get_or s.marks t [] in
-    let settled = are_collected s.settings.cpus row && total_at s.totals t == bias in
-    let p = and_parts (at_rest s.due) (is_retired (slot_at s.slots t) && (is_drainable s t && settled)) is in
-    let p1 = and_parts (is_retired (slot_at s.slots t)) (is_drainable s t && settled) p.1 in
-    let p2 = and_parts (is_drainable s t) settled p1.1 in
-    let p3 = and_parts (are_collected s.settings.cpus row) (total_at s.totals t == bias) p2.1 in
-    let p4 = and_parts (have_passed s.settings.cpus row) (are_clear s.settings.cpus row) p2.0 in
-    let gone : (e : Entry) × (slot_at s.slots t ≡ Retired e) = is_retired_tells (slot_at s.slots t) p1.0 in
+    let p = and_parts (at_rest s.due) _ is in
+    let p1 = and_parts (is_retired (slot_at s.slots t)) _ p.1 in
+    let p2 = and_parts (is_drainable s t) _ p1.1 in
+    let p3 = and_parts (are_collected s.settings.cpus row) _ p2.1 in
+    let p4 = and_parts (have_passed s.settings.cpus row) _ p2.0 in
+    let gone = is_retired_tells (slot_at s.slots t) p1.0 in
     let place : (c : ℕ) → c < s.settings.cpus → c < length row = λ c low. (mark_place s t c gone.0 on gone.1 low).1 in (
       at_rest_tells s.due p.0,
       gone,
@@ -163,13 +153,13 @@ vacated_keeps s t totals keeps on drained total_size keep_size counts references
       length-set s.slots t Vacant ∙ on.shape.slots,
       keep_size ∙ on.shape.keeps,
       slots_vacate s.history s.slots t gone.0 lt gone.1 on.slots,
-      rows_vacate s.slots s.rows t lt on.rows,
-      list_vacate s.history s.slots s.head s.next t lt on.list,
+      λ (u : ℕ) (f : Entry) (is : IsIn f (slot_at (set s.slots t Vacant) u)). on.rows u f (subst (IsIn f) (vacated_before s.slots t u f lt is).1 is),
+      λ (u : ℕ) (f : Entry) (is : slot_at (set s.slots t Vacant) u ≡ Live f). on.list.links u f (sym (vacated_before s.slots t u f lt (inl is)).1 ∙ is),
       held_vacate s.history s.slots s.marks s.section s.begins t gone.0 lt gone.1 on.slots
           (λ c b is. told.2 c (omega (arith, within_begin s.begins c b is, on.shape.begins))) on.grace on.held,
-      links_vacate s.history s.slots s.next s.begins t lt on.frozen_links,
+      λ (u p c b : ℕ) (f : Entry) (is : slot_at (set s.slots t Vacant) u ≡ Retired f). on.frozen_links u p c b f (sym (vacated_before s.slots t u f lt (inr is)).1 ∙ is),
       marks_vacate s.history s.slots s.marks s.section s.begins t lt on.grace,
-      snapshots_vacate s.settings.cpus s.slots s.marks s.due t lt on.snapshots,
+      λ (u c : ℕ) (f : Entry) (is : slot_at (set s.slots t Vacant) u ≡ Retired f). on.snapshots u c f (sym (vacated_before s.slots t u f lt (inr is)).1 ∙ is),
       passive_vacate s.settings.cpus s.settings.passive_limit s.slots s.marks s.passive s.hands t gone.0 lt gone.1 told.3 on.passive,
     )
   where
@@ -201,87 +191,46 @@ rows_all zero row size t lt = absurd (omega arith)
 rows_all (suc n) row size zero lt = size
 rows_all (suc n) row size (suc t) lt = rows_all n row size t (omega arith)
 
+legal_opening : IsLegal []
+legal_opening = grind (arith, at_empty)
+
+slots_opening : (z : Settings) → SlotsShow (opening z).history (opening z).slots
+slots_opening z = grind (arith, at_empty, get_or_all)
+
+grace_opening : (z : Settings) → MarksHold (opening z).history (opening z).slots (opening z).marks (opening z).section (opening z).begins
+grace_opening z = grind (arith, get_or_all)
+
 pub opening_holds : (z : Settings) → IsTrue (are_fit z) → CountsOf (opening z) → ReferencesOf (opening z) → DriversOf (opening z) → Holds (opening z)
 opening_holds z fit counts references drivers =
-    let vacant : (t : ℕ) → slot_at (replicate z.slots Vacant) t ≡ Vacant = λ t. get_or_all z.slots Vacant t in
-    let not_live : (t : ℕ) (e : Entry) → slot_at (replicate z.slots Vacant) t ≡ Live e → ⊥ = λ t e is. (let q : Vacant ≡ Live e = sym (vacant t) ∙ is in cc) in
-    let not_retired : (t : ℕ) (e : Entry) → slot_at (replicate z.slots Vacant) t ≡ Retired e → ⊥ = λ t e is. (let q : Vacant ≡ Retired e = sym (vacant t) ∙ is in cc) in
+    let not_retired : (t : ℕ) (e : Entry) → slot_at (replicate z.slots Vacant) t ≡ Retired e → ⊥ = λ t e is. (let q : Vacant ≡ Retired e = sym (get_or_all z.slots Vacant t) ∙ is in cc) in
     let untried : (c t : ℕ) → trying_at (replicate z.cpus Empty) c t ≡ 0 = λ c t. ap (trying_of t) (get_or_all z.cpus Empty c) in
-    let outside : (c b : ℕ) → get_or (replicate z.cpus None) c None ≡ Some b → ⊥ = λ c b is. none-some b (sym (get_or_all z.cpus None c) ∙ is) in
+    let unheld : (c t : ℕ) → passive_at (replicate z.slots (replicate MOST_CPUS 0)) c t ≡ 0 = λ c t. cell_all {X = ℕ} z.slots MOST_CPUS 0 t c in
     record {
       fit = fit;
-      shape = record {
-        sections = length-replicate z.cpus 0;
-        links = length-replicate z.slots 0;
-        rows = length-replicate z.slots no_words;
-        passive = length-replicate z.slots (replicate MOST_CPUS 0);
-        passive_rows = rows_all z.slots (replicate MOST_CPUS 0) refl;
-        counts = length-replicate z.slots (replicate MOST_CPUS 0);
-        count_rows = rows_all z.slots (replicate MOST_CPUS 0) refl;
-        totals = length-replicate z.slots bias;
-        lives = length-replicate z.slots 0;
-        begins = length-replicate z.cpus None;
-        depths = length-replicate z.cpus 0;
-        seen = length-replicate z.cpus 0;
-        searches = length-replicate z.cpus None;
-        found = length-replicate z.cpus None;
-        hands = length-replicate z.cpus Empty;
-        nets = length-replicate z.slots (replicate MOST_CPUS 0);
-        net_rows = rows_all z.slots (replicate MOST_CPUS 0) refl;
-        slots = length-replicate z.slots Vacant;
-        marks = length-replicate z.slots (replicate MOST_CPUS no_mark);
-        mark_rows = rows_all z.slots (replicate MOST_CPUS no_mark) refl;
-        keeps = length-replicate z.slots None;
-      };
-      legal = record {
-        numbered = λ k e x. absurd (at_empty k (Attach e) x);
-        new_key = λ k e f x live same. at_empty (suc k) (Attach e) x;
-        new_slot = λ k e f x live same. at_empty (suc k) (Attach e) x;
-        ends_live = λ k n x. absurd (at_empty (suc k) (Detach n) x);
-      };
+      shape = grind (arith, length-replicate, rows_all);
+      legal = legal_opening;
       room = omega (arith, none_live z.slots);
-      slots = record {
-        live = λ t e is. absurd (not_live t e is);
-        placed = λ e live. absurd (at_empty e.number (Attach e) live.attached);
-        retired = λ t e is. absurd (not_retired t e is);
-      };
-      rows = λ t e is. absurd (not_vacant e (slot_at (replicate z.slots Vacant) t) (vacant t) is);
+      slots = slots_opening z;
+      rows = λ t e is. absurd (not_vacant e (slot_at (replicate z.slots Vacant) t) (get_or_all z.slots Vacant t) is);
       list = record {
         first = To_end (λ f live lt. at_empty f.number (Attach f) live.attached);
-        links = λ t e is. absurd (not_live t e is);
+        links = λ t e is. absurd (let q : Vacant ≡ Live e = sym (get_or_all z.slots Vacant t) ∙ is in cc);
       };
       held = λ c b e is hold. absurd (at_empty e.number (Attach e) hold.attached);
       frozen_links = λ t p c b e is. absurd (not_retired t e is);
-      grace = record {
-        passed = λ t p c b e is. absurd (not_retired t e is);
-        changed = λ t p c b w e is. absurd (not_retired t e is);
-        older = λ t c w e is. absurd (not_retired t e is);
-        left = λ t c b w e is. absurd (not_retired t e is);
-      };
+      grace = grace_opening z;
       snapshots = λ t c e is. absurd (not_retired t e is);
-      seats = record {
-        within = omega arith;
-        outside = λ c past. get_or_all z.cpus None c;
-        unsearching = λ c past. get_or_all z.cpus None c;
-        empty = λ c past. get_or_all z.cpus Empty c;
-      };
-      sections = record {
-        outside = λ c is. (ap (λ (n : ℕ). n % 2) (get_or_all {X = ℕ} z.cpus 0 c), get_or_all {X = ℕ} z.cpus 0 c);
-        inside = λ c b is. absurd (outside c b is);
-        deep = λ c. omega (arith, get_or_all {X = ℕ} z.cpus 0 c);
-        begun = λ c b is. absurd (outside c b is);
-        prefix = λ c. omega (arith, get_or_all {X = ℕ} z.cpus 0 c);
-        limited = λ c. omega (arith, get_or_all {X = ℕ} z.cpus 0 c);
-      };
+      seats = grind (arith, get_or_all);
+      sections = grind (arith, get_or_all);
       searches = λ c q is. absurd (none-some q (sym (get_or_all z.cpus None c) ∙ is));
       last_found = λ c e is. absurd (none-some e (sym (get_or_all z.cpus None c) ∙ is));
       passive = record {
         counted = λ c t. omega (arith, untried c t);
-        vacant = λ c t is. cell_all {X = ℕ} z.slots MOST_CPUS 0 t c ∙ sym (untried c t);
+        vacant = λ c t is. unheld c t ∙ sym (untried c t);
         clear = λ c t e is. absurd (not_retired t e is);
         collected = λ c t e is. absurd (not_retired t e is);
-        beyond = λ c t past. cell_all {X = ℕ} z.slots MOST_CPUS 0 t c;
-        limited = λ c t. omega (arith, cell_all {X = ℕ} z.slots MOST_CPUS 0 t c);
+        beyond = λ c t past. unheld c t;
+        limited = λ c t. omega (arith, unheld c t);
       };
       balance = counts;
       tries = λ c. subst (IsSeenInHand (get_or (replicate z.cpus 0) c 0)) (sym (get_or_all z.cpus Empty c)) tt;

@@ -1,21 +1,18 @@
 -- Snapshots, looks and the end of a slot's use; passive references, and the marks that tell that there is none.
-use Rattle.std.proofs.Common.{Bool, List, None, Option, Some, [], ap, arith, false, get_or, get_or-set_other, get_or-set_same, inl, inr, length, not, refl, replicate, set, subst, suc, sym, take, true, zero, ℕ, ◌%◌, ◌+◌, ◌<◌, ◌||◌, ◌∙◌, ◌∷◌, ◌≡◌, ◌≢◌, ◌≤◌, ◌-◌, ◌⊎◌}
+use Rattle.std.proofs.Common.{Bool, List, None, Option, Some, [], ap, arith, get_or, get_or-set_other, get_or-set_same, inl, inr, length, refl, replicate, set, suc, sym, take, true, zero, ℕ, ◌%◌, ◌+◌, ◌<◌, ◌∙◌, ◌∷◌, ◌≡◌, ◌≢◌, ◌≤◌, ◌-◌, ◌⊎◌}
 use Rattle.std.proofs.lemmas.Bool.{and_parts, eq-eqb, eqb-true, lt-ltb, or_cases, cases_eq, cases_lt}
 use Rattle.std.proofs.lemmas.Option.{same_Some}
 use Rattle.std.specs.List.{list_all}
 use Rattle.std.specs.Prelude.{if◌then◌else◌, nat_lt}
 use Rattle.protocol.specs.Types.{Change, Detach, Entry, Settings, Mark, Slot, Live, Retired, Vacant}
-use Rattle.registry_values.specs.Common.{mark_after_look, has_changed, is_even, no_mark, slot_at}
-use Rattle.protocol.specs.Common.{snapshot_mark, EndsAt, IsLiveAt, after_change, HeldStay, IsIn, IsSnapshotDue, LinksStay, ListShows, MarksHold, RowsShow, SectionsShow, SlotsShow, SnapshotsStand, mark_at, Due, Rest, Snapshots, RecordWords, is_number, FoundHold, Hand, Empty, Trying, PassiveShow, passive_at, trying_at, trying_of, with_cell}
+use Rattle.registry_values.specs.Common.{mark_after_look, has_changed, no_mark, slot_at}
+use Rattle.protocol.specs.Common.{snapshot_mark, EndsAt, IsLiveAt, after_change, HeldStay, IsIn, IsSnapshotDue, MarksHold, SectionsShow, SlotsShow, SnapshotsStand, mark_at, Due, Rest, Snapshots, is_number, FoundHold, Hand, Empty, Trying, PassiveShow, passive_at, trying_at, trying_of, with_cell}
 use Rattle.protocol.proofs.keeps.Linking.{end_before, gone_before, within_live, retired_before}
 use Rattle.protocol.proofs.Occupied.{slot_cases, not_vacant, written_cases}
-use Rattle.protocol.proofs.Cells.{by_cell, cell_here, cell_other, cell_put, get_or_all, place_in}
+use Rattle.protocol.proofs.Cells.{by_cell, cell_cases, cell_here, cell_other, cell_put, get_or_all, place_in}
 use Rattle.protocol.proofs.Either.{either}
 use Rattle.protocol.proofs.History.{one_entry}
 use Rattle.protocol.proofs.counts.Sums.{none_at, one_at}
-
-snapshot_was : (x y : Mark) (w : ℕ) → x ≡ y → x.snapshot ≡ Some w → y.snapshot ≡ Some w
-snapshot_was x y w same is = sym (ap (λ (m : Mark). m.snapshot) same) ∙ is
 
 -- a fresh row of marks
 pub marks_detach : (h : List Change) (slots : List Slot) (marks : List (List Mark)) (section : List ℕ) (begins : List (Option ℕ)) (e : Entry) (n : ℕ) → slot_at slots e.slot ≡ Live e
@@ -31,19 +28,10 @@ marks_detach h slots marks section begins e n at size show m =
     let kept : (u j : ℕ) → (u ≡ e.slot → ⊥) → mark_at (set marks e.slot (replicate n no_mark)) u j ≡ mark_at marks u j = λ u j off.
     ap (λ (r : List Mark). get_or r j no_mark) (get_or-set_other marks e.slot u (replicate n no_mark) [] off) in
     record {
-      passed = λ u p c b f is ends in_ holds. either (gone_before slots e f u lt is)
-          (λ same. absurd (let q : ◌≡◌ {A = Bool} false true = sym (ap (λ (x : Mark). x.passed) (fresh u c same.0)) ∙ holds in cc))
-          (λ off.
-          m.passed u p c b f off.1 (end_before h slots e f u p show le off.1 ends).1 in_ (sym (ap (λ (x : Mark). x.passed) (kept u c off.0)) ∙ holds));
-      changed = λ u p c b w f is ends in_ snap differs. either (gone_before slots e f u lt is)
-          (λ same. absurd (let q : ◌≡◌ {A = Option ℕ} None (Some w) = sym (ap (λ (x : Mark). x.snapshot) (fresh u c same.0)) ∙ snap in cc))
-          (λ off. m.changed u p c b w f off.1 (end_before h slots e f u p show le off.1 ends).1 in_ (snapshot_was _ _ w (kept u c off.0) snap) differs);
-      older = λ u c w f is snap. either (gone_before slots e f u lt is)
-          (λ same. absurd (let q : ◌≡◌ {A = Option ℕ} None (Some w) = sym (ap (λ (x : Mark). x.snapshot) (fresh u c same.0)) ∙ snap in cc))
-          (λ off. m.older u c w f off.1 (snapshot_was _ _ w (kept u c off.0) snap));
-      left = λ u c b w f is in_ holds snap now. either (gone_before slots e f u lt is)
-          (λ same. let q : ◌≡◌ {A = Bool} false true = sym (ap (λ (x : Mark). x.passed) (fresh u c same.0)) ∙ holds in cc)
-          (λ off. m.left u c b w f off.1 in_ (sym (ap (λ (x : Mark). x.passed) (kept u c off.0)) ∙ holds) (snapshot_was _ _ w (kept u c off.0) snap) now);
+      passed = grind (arith, gone_before, end_before);
+      changed = λ u p c b w f is ends in_ snap differs. grind (arith, gone_before slots e f u lt is, end_before h slots e f u p show le, m.changed u p c b w f, fresh u c, kept u c);
+      older = grind (arith, gone_before);
+      left = grind (arith, gone_before);
     }
 
 -- A mark is written that says no more than is so.
@@ -53,53 +41,25 @@ pub marks_write : (h : List Change) (slots : List Slot) (marks : List (List Mark
     → ((w : ℕ) (e : Entry) → slot_at slots t ≡ Retired e → m.snapshot ≡ Some w → w ≤ get_or section c 0)
     → ((b w : ℕ) (e : Entry) → slot_at slots t ≡ Retired e → get_or begins c None ≡ Some b → m.passed ≡ true → m.snapshot ≡ Some w → get_or section c 0 ≡ w → ⊥)
     → MarksHold h slots marks section begins → MarksHold h slots (set marks t (set (get_or marks t []) c m)) section begins
-marks_write h slots marks section begins t c m passes changes olds lefts was = record {
-  passed = λ u p j b e. cell_put no_mark marks t c m (λ v i x. slot_at slots v ≡ Retired e → EndsAt h e.number p → get_or begins i None ≡ Some b → x.passed ≡ true → p ≤ b) u j
-      (passes p b e) (was.passed u p j b e);
-  changed = λ u p j b w e. cell_put no_mark marks t c m
-      (λ v i x. slot_at slots v ≡ Retired e → EndsAt h e.number p → get_or begins i None ≡ Some b → x.snapshot ≡ Some w → (get_or section i 0 ≡ w → ⊥) → p ≤ b) u j
-      (changes p b w e) (was.changed u p j b w e);
-  older = λ u j w e. cell_put no_mark marks t c m (λ v i x. slot_at slots v ≡ Retired e → x.snapshot ≡ Some w → w ≤ get_or section i 0) u j (olds w e) (was.older u j w e);
-  left = λ u j b w e. cell_put no_mark marks t c m
-      (λ v i x. slot_at slots v ≡ Retired e → get_or begins i None ≡ Some b → x.passed ≡ true → x.snapshot ≡ Some w → get_or section i 0 ≡ w → ⊥) u j
-      (lefts b w e) (was.left u j b w e);
-}
+marks_write h slots marks section begins t c m passes changes olds lefts was = grind (arith, cell_cases)
 
 -- the snapshot is the word itself
 pub marks_snapshot : (h : List Change) (slots : List Slot) (marks : List (List Mark)) (section : List ℕ) (begins : List (Option ℕ)) (t c : ℕ)
     → MarksHold h slots marks section begins → MarksHold h slots (set marks t (set (get_or marks t []) c (snapshot_mark (get_or section c 0)))) section begins
-marks_snapshot h slots marks section begins t c was = marks_write h slots marks section begins t c (snapshot_mark (get_or section c 0))
-    (λ p b e is ends in_ holds. absurd (let q : ◌≡◌ {A = Bool} false true = holds in cc))
-    (λ p b w e is ends in_ snap differs. absurd (differs (same_Some (get_or section c 0) w snap)))
-    (λ w e is snap. omega (arith, same_Some (get_or section c 0) w snap))
-    (λ b w e is in_ holds snap now. let q : ◌≡◌ {A = Bool} false true = holds in cc)
-    was
+marks_snapshot h slots marks section begins t c was = grind (arith, marks_write, same_Some)
 
 changed_word : (x : Option ℕ) (w : ℕ) → has_changed x w ≡ true → (v : ℕ) × (x ≡ Some v) × (w ≡ v → ⊥)
-changed_word None w holds = absurd (let q : ◌≡◌ {A = Bool} false true = holds in cc)
-changed_word (Some v) w holds = (v, refl, λ same. let q : ◌≡◌ {A = Bool} false true = sym (ap not (eq-eqb v w (sym same))) ∙ holds in cc)
+changed_word x w holds = grind (arith, eq-eqb)
 
 -- a look passes only where the word is even or differs from the snapshot
 pub marks_look : (z : Settings) (h : List Change) (slots : List Slot) (marks : List (List Mark)) (section : List ℕ) (begins : List (Option ℕ)) (depths seen : List ℕ) (t c : ℕ)
     → SectionsShow z h section begins depths seen
     → MarksHold h slots marks section begins → MarksHold h slots (set marks t (set (get_or marks t []) c (mark_after_look (mark_at marks t c) (get_or section c 0)))) section begins
 marks_look z h slots marks section begins depths seen t c shown was = marks_write h slots marks section begins t c (mark_after_look (mark_at marks t c) (get_or section c 0))
-    (λ p b e is ends in_ holds. either (or_cases (mark_at marks t c).passed (is_even (get_or section c 0) || has_changed (mark_at marks t c).snapshot (get_or section c 0)) holds)
-    (λ before. was.passed t p c b e is ends in_ before)
-    (λ now. either (or_cases (is_even (get_or section c 0)) (has_changed (mark_at marks t c).snapshot (get_or section c 0)) now)
-    (λ even. absurd (omega (arith, eqb-true (get_or section c 0 % 2) 0 even, (shown.inside c b in_).0)))
-    (λ changed.
-    let w = changed_word (mark_at marks t c).snapshot (get_or section c 0) changed in
-    was.changed t p c b w.0 e is ends in_ w.1 w.2)))
+    (λ p b e is ends in_ holds. grind (arith, or_cases, was.passed t p c b e is ends in_, eqb-true (get_or section c 0 % 2) 0, (shown.inside c b in_).0, changed_word, was.changed t p c b))
     (λ p b w e is ends in_ snap differs. was.changed t p c b w e is ends in_ snap differs)
     (λ w e is snap. was.older t c w e is snap)
-    (λ b x e is in_ holds snap same. either (or_cases (mark_at marks t c).passed (is_even (get_or section c 0) || has_changed (mark_at marks t c).snapshot (get_or section c 0)) holds)
-    (λ before. was.left t c b x e is in_ before snap same)
-    (λ now. either (or_cases (is_even (get_or section c 0)) (has_changed (mark_at marks t c).snapshot (get_or section c 0)) now)
-    (λ even. omega (arith, eqb-true (get_or section c 0 % 2) 0 even, (shown.inside c b in_).0))
-    (λ changed.
-    let w = changed_word (mark_at marks t c).snapshot (get_or section c 0) changed in
-    w.2 (same ∙ same_Some x w.0 (sym snap ∙ w.1)))))
+    (λ b x e is in_ holds snap same. grind (arith, or_cases, was.left t c b x e is in_, eqb-true (get_or section c 0 % 2) 0, (shown.inside c b in_).0, changed_word, same_Some))
     was
 
 -- Snapshots: a fresh row of marks has none, and all are due.
@@ -146,48 +106,19 @@ vacated_before slots t u f lt is = either (slot_cases slots t Vacant u lt) (λ s
 pub slots_vacate : (h : List Change) (slots : List Slot) (t : ℕ) (e : Entry) → t < length slots → slot_at slots t ≡ Retired e → SlotsShow h slots → SlotsShow h (set slots t Vacant)
 slots_vacate h slots t e lt at show = record {
   live = λ u f is. show.live u f (sym (vacated_before slots t u f lt (inl is)).1 ∙ is);
-  placed = λ f live.
-      let was : slot_at slots f.slot ≡ Live f = show.placed f live in
-      let off : f.slot ≢ t = λ same. (let q : Live f ≡ Retired e = sym was ∙ (ap (slot_at slots) same ∙ at) in cc) in
-      get_or-set_other slots t f.slot Vacant Vacant off ∙ was;
+  placed = grind (arith, get_or-set_other);
   retired = λ u f is. show.retired u f (sym (vacated_before slots t u f lt (inr is)).1 ∙ is);
 }
 
-pub rows_vacate : (slots : List Slot) (rows : List RecordWords) (t : ℕ) → t < length slots → RowsShow slots rows → RowsShow (set slots t Vacant) rows
-rows_vacate slots rows t lt show u f is = show u f (subst (IsIn f) (vacated_before slots t u f lt is).1 is)
-
-pub list_vacate : (h : List Change) (slots : List Slot) (head : ℕ) (next : List ℕ) (t : ℕ) → t < length slots → ListShows h slots head next → ListShows h (set slots t Vacant) head next
-list_vacate h slots head next t lt list = record { first = list.first; links = λ u f is. list.links u f (sym (vacated_before slots t u f lt (inl is)).1 ∙ is) }
-
-pub links_vacate : (h : List Change) (slots : List Slot) (next : List ℕ) (begins : List (Option ℕ)) (t : ℕ) → t < length slots → LinksStay h slots next begins
-    → LinksStay h (set slots t Vacant) next begins
-links_vacate h slots next begins t lt links u p c b f is = links u p c b f (sym (vacated_before slots t u f lt (inr is)).1 ∙ is)
-
 pub marks_vacate : (h : List Change) (slots : List Slot) (marks : List (List Mark)) (section : List ℕ) (begins : List (Option ℕ)) (t : ℕ) → t < length slots → MarksHold h slots marks section begins
     → MarksHold h (set slots t Vacant) marks section begins
-marks_vacate h slots marks section begins t lt m = record {
-  passed = λ u p c b f is. m.passed u p c b f (sym (vacated_before slots t u f lt (inr is)).1 ∙ is);
-  changed = λ u p c b w f is. m.changed u p c b w f (sym (vacated_before slots t u f lt (inr is)).1 ∙ is);
-  older = λ u c w f is. m.older u c w f (sym (vacated_before slots t u f lt (inr is)).1 ∙ is);
-  left = λ u c b w f is. m.left u c b w f (sym (vacated_before slots t u f lt (inr is)).1 ∙ is);
-}
+marks_vacate h slots marks section begins t lt m = grind (arith, slot_cases)
 
 -- No section may hold an entry once every CPU has passed for it.
 pub held_vacate : (h : List Change) (slots : List Slot) (marks : List (List Mark)) (section : List ℕ) (begins : List (Option ℕ)) (t : ℕ) (e : Entry) → t < length slots → slot_at slots t ≡ Retired e
     → SlotsShow h slots
     → ((c b : ℕ) → get_or begins c None ≡ Some b → (mark_at marks t c).passed ≡ true) → MarksHold h slots marks section begins → HeldStay h slots begins → HeldStay h (set slots t Vacant) begins
-held_vacate h slots marks section begins t e lt at show all m held c b f is hold =
-    let was : IsIn f (slot_at slots f.slot) = held c b f is hold in
-    either (slot_cases slots t Vacant f.slot lt)
-    (λ same.
-    let there : slot_at slots f.slot ≡ Retired e = ap (slot_at slots) same.0 ∙ at in
-    absurd (either was
-    (λ live. let q : Live f ≡ Retired e = sym live ∙ there in cc)
-    (λ gone.
-    let end = (show.retired f.slot f gone).2 in
-    let here : slot_at slots t ≡ Retired f = ap (slot_at slots) (sym same.0) ∙ gone in
-    omega (arith, m.passed t end.0 c b f here end.1 is (all c b is), hold.unended end.0 end.1))))
-    (λ off. subst (IsIn f) (sym off.1) was)
+held_vacate h slots marks section begins t e lt at show all m held c b f is hold = grind (arith, slot_cases)
 
 -- what a test passes of each of the first n
 pub list_all_within : {X : Type 0} (p : X → Bool) (xs : List X) (n i : ℕ) (d : X) → list_all p (take n xs) ≡ true → i < n → i < length xs → p (get_or xs i d) ≡ true
@@ -196,87 +127,35 @@ list_all_within p (x ∷ xs) zero i d all lt in_ = absurd (omega arith)
 list_all_within p (x ∷ xs) (suc n) zero d all lt in_ = (and_parts (p x) (list_all p (take n xs)) all).0
 list_all_within p (x ∷ xs) (suc n) (suc i) d all lt in_ = list_all_within p xs n i d (and_parts (p x) (list_all p (take n xs)) all).1 (omega arith) (omega arith)
 
-pub snapshots_vacate : (cpus : ℕ) (slots : List Slot) (marks : List (List Mark)) (due : Due) (t : ℕ) → t < length slots → SnapshotsStand cpus slots marks due
-    → SnapshotsStand cpus (set slots t Vacant) marks due
-snapshots_vacate cpus slots marks due t lt stand u c f is = stand u c f (sym (vacated_before slots t u f lt (inr is)).1 ∙ is)
-
 -- Passive references and the marks that tell that there is none.
-
--- where the slot v is vacant, c has no reference in it
-abbrev IsVacantAt : List (List ℕ) → List Hand → ℕ → ℕ → Slot → Type 0
-IsVacantAt passive hands c v x = x ≡ Vacant → passive_at passive c v ≡ trying_at hands c v
 
 pub passive_attach : (cpus limit : ℕ) (slots : List Slot) (marks : List (List Mark)) (passive : List (List ℕ)) (hands : List Hand) (e : Entry) → e.slot < length slots → PassiveShow cpus limit slots marks passive hands
     → PassiveShow cpus limit (set slots e.slot (Live e)) marks passive hands
-passive_attach cpus limit slots marks passive hands e lt p = record {
-  counted = p.counted;
-  vacant = λ c u. place_in Vacant slots e.slot (Live e) (IsVacantAt passive hands c) u lt (λ is. absurd (let q : Live e ≡ Vacant = is in cc)) (λ off. p.vacant c u);
-  clear = λ c u f is. p.clear c u f (retired_before slots e u f lt is);
-  collected = λ c u f is. p.collected c u f (retired_before slots e u f lt is);
-  beyond = p.beyond;
-  limited = p.limited;
-}
+passive_attach cpus limit slots marks passive hands e lt p = grind (arith, slot_cases, retired_before)
 
 pub passive_detach : (cpus limit : ℕ) (slots : List Slot) (marks : List (List Mark)) (passive : List (List ℕ)) (hands : List Hand) (e : Entry) (n : ℕ) → e.slot < length slots → e.slot < length marks
     → PassiveShow cpus limit slots marks passive hands
     → PassiveShow cpus limit (set slots e.slot (Retired e)) (set marks e.slot (replicate n no_mark)) passive hands
-passive_detach cpus limit slots marks passive hands e n lt lm p =
-    let fresh : (u c : ℕ) → u ≡ e.slot → mark_at (set marks e.slot (replicate n no_mark)) u c ≡ no_mark = λ u c same.
-    ap (λ (k : ℕ). get_or (get_or (set marks e.slot (replicate n no_mark)) k []) c no_mark) same
-    ∙ (ap (λ (r : List Mark). get_or r c no_mark) (get_or-set_same marks e.slot (replicate n no_mark) [] lm) ∙ get_or_all n no_mark c) in
-    let kept : (u c : ℕ) → (u ≡ e.slot → ⊥) → mark_at (set marks e.slot (replicate n no_mark)) u c ≡ mark_at marks u c = λ u c off.
-    ap (λ (r : List Mark). get_or r c no_mark) (get_or-set_other marks e.slot u (replicate n no_mark) [] off) in
-    record {
-      counted = p.counted;
-      vacant = λ c u. place_in Vacant slots e.slot (Retired e) (IsVacantAt passive hands c) u lt (λ is. absurd (let q : Retired e ≡ Vacant = is in cc)) (λ off. p.vacant c u);
-      clear = λ c u f is holds. either (gone_before slots e f u lt is)
-          (λ same. absurd (let q : ◌≡◌ {A = Bool} false true = sym (ap (λ (x : Mark). x.clear) (fresh u c same.0)) ∙ holds in cc))
-          (λ off.
-          let was = p.clear c u f off.1 (sym (ap (λ (x : Mark). x.clear) (kept u c off.0)) ∙ holds) in
-          (ap (λ (x : Mark). x.passed) (kept u c off.0) ∙ was.0, was.1));
-      collected = λ c u f is holds. either (gone_before slots e f u lt is)
-          (λ same. absurd (let q : ◌≡◌ {A = Bool} false true = sym (ap (λ (x : Mark). x.collected) (fresh u c same.0)) ∙ holds in cc))
-          (λ off.
-          ap (λ (x : Mark). x.clear) (kept u c off.0) ∙ p.collected c u f off.1 (sym (ap (λ (x : Mark). x.collected) (kept u c off.0)) ∙ holds));
-      beyond = p.beyond;
-      limited = p.limited;
-    }
+passive_detach cpus limit slots marks passive hands e n lt lm p = grind (arith, get_or-set_same, get_or_all, get_or-set_other, place_in, gone_before)
 
 -- a mark is written whose clear and collected say no more than is so
 pub passive_marked : (cpus limit : ℕ) (slots : List Slot) (marks : List (List Mark)) (passive : List (List ℕ)) (hands : List Hand) (t c : ℕ) (m : Mark)
     → ((e : Entry) → slot_at slots t ≡ Retired e → m.clear ≡ true → (m.passed ≡ true) × (passive_at passive c t ≡ trying_at hands c t))
     → ((e : Entry) → slot_at slots t ≡ Retired e → m.collected ≡ true → m.clear ≡ true)
     → PassiveShow cpus limit slots marks passive hands → PassiveShow cpus limit slots (set marks t (set (get_or marks t []) c m)) passive hands
-passive_marked cpus limit slots marks passive hands t c m says collects p = record {
-  counted = p.counted;
-  vacant = p.vacant;
-  clear = λ j u f. cell_put no_mark marks t c m (λ v i x. slot_at slots v ≡ Retired f → x.clear ≡ true → (x.passed ≡ true) × (passive_at passive i v ≡ trying_at hands i v)) u j (says f) (p.clear j u f);
-  collected = λ j u f. cell_put no_mark marks t c m (λ v i x. slot_at slots v ≡ Retired f → x.collected ≡ true → x.clear ≡ true) u j (collects f) (p.collected j u f);
-  beyond = p.beyond;
-  limited = p.limited;
-}
+passive_marked cpus limit slots marks passive hands t c m says collects p = grind (arith, cell_cases)
 
 -- a word of a CPU in range is written where the CPU has a reference already, or may take its first
 pub passive_counted : (cpus limit : ℕ) (slots : List Slot) (marks : List (List Mark)) (passive : List (List ℕ)) (hands : List Hand) (c t n : ℕ) → c < cpus → n ≤ limit → trying_at hands c t ≤ n → (slot_at slots t ≡ Vacant → ⊥)
     → ((e : Entry) → slot_at slots t ≡ Retired e → (mark_at marks t c).clear ≡ true → ⊥)
     → PassiveShow cpus limit slots marks passive hands → PassiveShow cpus limit slots marks (set passive t (set (get_or passive t []) c n)) hands
-passive_counted cpus limit slots marks passive hands c t n lt fits above full open_ p = record {
-  counted = λ j u. cell_put 0 passive t c n (λ v i x. trying_at hands i v ≤ x) u j above (p.counted j u);
-  vacant = λ j u. cell_put 0 passive t c n (λ v i x. slot_at slots v ≡ Vacant → x ≡ trying_at hands i v) u j (λ is. absurd (full is)) (p.vacant j u);
-  clear = λ j u f. cell_put 0 passive t c n (λ v i x. slot_at slots v ≡ Retired f → (mark_at marks v i).clear ≡ true → ((mark_at marks v i).passed ≡ true) × (x ≡ trying_at hands i v)) u j
-      (λ is holds. absurd (open_ f is holds)) (p.clear j u f);
-  collected = p.collected;
-  beyond = λ j u. cell_put 0 passive t c n (λ v i x. cpus ≤ i → x ≡ 0) u j (λ past. absurd (omega (arith, past, lt))) (p.beyond j u);
-  limited = λ j u. cell_put 0 passive t c n (λ v i x. x ≤ limit) u j fits (p.limited j u);
-}
+passive_counted cpus limit slots marks passive hands c t n lt fits above full open_ p = grind (arith, cell_cases)
 
 pub passive_vacate : (cpus limit : ℕ) (slots : List Slot) (marks : List (List Mark)) (passive : List (List ℕ)) (hands : List Hand) (t : ℕ) (e : Entry) → t < length slots → slot_at slots t ≡ Retired e
     → ((c : ℕ) → c < cpus → (mark_at marks t c).clear ≡ true) → PassiveShow cpus limit slots marks passive hands → PassiveShow cpus limit (set slots t Vacant) marks passive hands
 passive_vacate cpus limit slots marks passive hands t e lt at all p = record {
   counted = p.counted;
-  vacant = λ c u. place_in Vacant slots t Vacant (IsVacantAt passive hands c) u lt
-      (λ _. either (cases_lt c cpus) (λ in_. (p.clear c t e at (all c in_)).1) (λ out. omega (arith, p.beyond c t out, p.counted c t)))
-      (λ off. p.vacant c u);
+  vacant = λ c u. grind (arith, slot_cases slots t Vacant u lt, cases_lt c cpus, all c, p.clear c t e at, p.beyond c t, p.counted c t, p.vacant c u);
   clear = λ c u f is. p.clear c u f (sym (vacated_before slots t u f lt (inr is)).1 ∙ is);
   collected = λ c u f is. p.collected c u f (sym (vacated_before slots t u f lt (inr is)).1 ∙ is);
   beyond = p.beyond;
@@ -287,43 +166,26 @@ passive_vacate cpus limit slots marks passive hands t e lt at all p = record {
 
 -- a hand is written that is trying what the one before it was
 pub trying_stays : (hands : List Hand) (c : ℕ) (h : Hand) → ((u : ℕ) → trying_of u h ≡ trying_at hands c u) → (d u : ℕ) → trying_at (set hands c h) d u ≡ trying_at hands d u
-trying_stays hands c h same d u = either (written_cases Empty hands c h d)
-    (λ here. ap (trying_of u) here.1 ∙ (same u ∙ ap (λ (k : ℕ). trying_at hands k u) (sym here.0)))
-    (λ off. ap (trying_of u) off.1)
+trying_stays hands c h same d u = grind (arith, written_cases)
 
 -- hands change: each CPU is trying what it was, or is trying no more than it counts in a slot where it may have references
 pub passive_hands : (cpus limit : ℕ) (slots : List Slot) (marks : List (List Mark)) (passive : List (List ℕ)) (hands others : List Hand)
     → ((c t : ℕ) → (trying_at others c t ≡ trying_at hands c t)
     ⊎ ((trying_at others c t ≤ passive_at passive c t) × (slot_at slots t ≡ Vacant → ⊥) × ((e : Entry) → slot_at slots t ≡ Retired e → (mark_at marks t c).clear ≡ true → ⊥)))
     → PassiveShow cpus limit slots marks passive hands → PassiveShow cpus limit slots marks passive others
-passive_hands cpus limit slots marks passive hands others now p = record {
-  counted = λ c t. either (now c t) (λ same. omega (arith, same, p.counted c t)) (λ free. free.0);
-  vacant = λ c t is. either (now c t) (λ same. p.vacant c t is ∙ sym same) (λ free. absurd (free.1 is));
-  clear = λ c t e is holds. either (now c t) (λ same. let was = p.clear c t e is holds in (was.0, was.1 ∙ sym same)) (λ free. absurd (free.2 e is holds));
-  collected = p.collected;
-  beyond = p.beyond;
-  limited = p.limited;
-}
+passive_hands cpus limit slots marks passive hands others now p = grind arith
 
 -- a hand is written that is trying what the one before it was
 pub passive_hand : (cpus limit : ℕ) (slots : List Slot) (marks : List (List Mark)) (passive : List (List ℕ)) (hands : List Hand) (c : ℕ) (h : Hand) → ((u : ℕ) → trying_of u h ≡ trying_at hands c u)
     → PassiveShow cpus limit slots marks passive hands → PassiveShow cpus limit slots marks passive (set hands c h)
-passive_hand cpus limit slots marks passive hands c h same p =
-    passive_hands cpus limit slots marks passive hands (set hands c h) (λ d u. inl (trying_stays hands c h same d u)) p
+passive_hand cpus limit slots marks passive hands c h same p = grind (arith, passive_hands, trying_stays)
 
 -- words and what is tried change by the same
 pub passive_shifted : (cpus limit : ℕ) (slots : List Slot) (marks : List (List Mark)) (passive words : List (List ℕ)) (hands others : List Hand)
     → ((c t : ℕ) → passive_at words c t + trying_at hands c t ≡ passive_at passive c t + trying_at others c t)
     → ((c t : ℕ) → passive_at words c t ≤ limit) → ((c t : ℕ) → cpus ≤ c → passive_at words c t ≡ 0)
     → PassiveShow cpus limit slots marks passive hands → PassiveShow cpus limit slots marks words others
-passive_shifted cpus limit slots marks passive words hands others both fits past p = record {
-  counted = λ c t. omega (arith, both c t, p.counted c t);
-  vacant = λ c t is. omega (arith, both c t, p.vacant c t is);
-  clear = λ c t e is holds. let was = p.clear c t e is holds in (was.0, omega (arith, both c t, was.1));
-  collected = p.collected;
-  beyond = past;
-  limited = fits;
-}
+passive_shifted cpus limit slots marks passive words hands others both fits past p = grind arith
 
 -- what c is trying in t, and nowhere else
 pub trying_one : (t n u : ℕ) → t ≡ u → trying_of u (Trying t n) ≡ 1
@@ -335,57 +197,26 @@ trying_none t n u off = none_at t u off
 -- a CPU begins to try: its word and what it is trying grow by 1
 pub shifted_try : (passive : List (List ℕ)) (hands : List Hand) (c t n : ℕ) → t < length passive → c < length (get_or passive t []) → c < length hands → get_or hands c Empty ≡ Empty
     → (d u : ℕ) → passive_at (with_cell passive t c (passive_at passive c t + 1)) d u + trying_at hands d u ≡ passive_at passive d u + trying_at (set hands c (Trying t n)) d u
-shifted_try passive hands c t n tp cp lt empty d u =
-    either (cases_eq d c)
-    (λ here.
-    let hand : trying_at (set hands c (Trying t n)) d u ≡ trying_of u (Trying t n) = ap (trying_of u) (ap (λ (k : ℕ). get_or (set hands c (Trying t n)) k Empty) here ∙ get_or-set_same hands c (Trying t n) Empty lt) in
-    let none : trying_at hands d u ≡ 0 = ap (trying_of u) (ap (λ (k : ℕ). get_or hands k Empty) here ∙ empty) in
-    either (cases_eq u t)
-    (λ same.
-    let word : passive_at (with_cell passive t c (passive_at passive c t + 1)) d u ≡ passive_at passive c t + 1 =
-    ap (λ (k : ℕ). passive_at (with_cell passive t c (passive_at passive c t + 1)) k u) here
-    ∙ (ap (λ (k : ℕ). passive_at (with_cell passive t c (passive_at passive c t + 1)) c k) same ∙ cell_here 0 passive t c (passive_at passive c t + 1) tp cp) in
-    let was : passive_at passive d u ≡ passive_at passive c t = ap (λ (k : ℕ). passive_at passive k u) here ∙ ap (λ (k : ℕ). passive_at passive c k) same in
-    omega (arith, hand, none, word, was, trying_one t n u (sym same)))
-    (λ off. omega (arith, hand, none, cell_other 0 passive t c (passive_at passive c t + 1) u d (λ is _. off is), trying_none t n u (λ is. off (sym is)))))
-    (λ away.
-    let stays : trying_at (set hands c (Trying t n)) d u ≡ trying_at hands d u = ap (trying_of u) (get_or-set_other hands c d (Trying t n) Empty away) in
-    omega (arith, stays, cell_other 0 passive t c (passive_at passive c t + 1) u d (λ _ is. away is)))
+shifted_try passive hands c t n tp cp lt empty d u = grind (arith, get_or-set_same, cell_here, trying_one, cell_other, trying_none, get_or-set_other, cases_eq d c, cases_eq u t)
 
 -- it takes that back
 pub shifted_back : (passive : List (List ℕ)) (hands : List Hand) (c t n : ℕ) → t < length passive → c < length (get_or passive t []) → c < length hands → get_or hands c Empty ≡ Trying t n
     → 1 ≤ passive_at passive c t
     → (d u : ℕ) → passive_at (with_cell passive t c (passive_at passive c t - 1)) d u + trying_at hands d u ≡ passive_at passive d u + trying_at (set hands c Empty) d u
-shifted_back passive hands c t n tp cp lt hand some d u =
-    either (cases_eq d c)
-    (λ here.
-    let none : trying_at (set hands c Empty) d u ≡ 0 = ap (trying_of u) (ap (λ (k : ℕ). get_or (set hands c Empty) k Empty) here ∙ get_or-set_same hands c Empty Empty lt) in
-    let tries : trying_at hands d u ≡ trying_of u (Trying t n) = ap (trying_of u) (ap (λ (k : ℕ). get_or hands k Empty) here ∙ hand) in
-    either (cases_eq u t)
-    (λ same.
-    let word : passive_at (with_cell passive t c (passive_at passive c t - 1)) d u ≡ passive_at passive c t - 1 =
-    ap (λ (k : ℕ). passive_at (with_cell passive t c (passive_at passive c t - 1)) k u) here
-    ∙ (ap (λ (k : ℕ). passive_at (with_cell passive t c (passive_at passive c t - 1)) c k) same ∙ cell_here 0 passive t c (passive_at passive c t - 1) tp cp) in
-    let was : passive_at passive d u ≡ passive_at passive c t = ap (λ (k : ℕ). passive_at passive k u) here ∙ ap (λ (k : ℕ). passive_at passive c k) same in
-    omega (arith, none, tries, word, was, some, trying_one t n u (sym same)))
-    (λ off. omega (arith, none, tries, cell_other 0 passive t c (passive_at passive c t - 1) u d (λ is _. off is), trying_none t n u (λ is. off (sym is)))))
-    (λ away.
-    let stays : trying_at (set hands c Empty) d u ≡ trying_at hands d u = ap (trying_of u) (get_or-set_other hands c d Empty Empty away) in
-    omega (arith, stays, cell_other 0 passive t c (passive_at passive c t - 1) u d (λ _ is. away is)))
+shifted_back passive hands c t n tp cp lt hand some d u = grind (arith, get_or-set_same, cell_here, trying_one, cell_other, trying_none, get_or-set_other, cases_eq d c, cases_eq u t)
+
+-- what is tried in a slot with a live entry is taken
+pub trying_taken : (slots : List Slot) (marks : List (List Mark)) (passive : List (List ℕ)) (hands : List Hand) (c t n : ℕ) (e : Entry) → get_or hands c Empty ≡ Trying t n → c < length hands
+    → slot_at slots t ≡ Live e → (d u : ℕ) → (trying_at (set hands c Empty) d u ≡ trying_at hands d u)
+    ⊎ ((trying_at (set hands c Empty) d u ≤ passive_at passive d u) × (slot_at slots u ≡ Vacant → ⊥) × ((f : Entry) → slot_at slots u ≡ Retired f → (mark_at marks u d).clear ≡ true → ⊥))
+trying_taken slots marks passive hands c t n e hand lt live d u = grind (arith, cases_eq d c, cases_eq u t, get_or-set_same, get_or-set_other, trying_none)
 
 -- what a test of the last found entry tells
 pub found_number : (n : ℕ) (o : Option Entry) → is_number n o ≡ true → (e : Entry) × (o ≡ Some e) × (e.number ≡ n)
-found_number n None is = absurd (let q : ◌≡◌ {A = Bool} false true = is in cc)
-found_number n (Some e) is = (e, refl, eqb-true e.number n is)
+found_number n o is = grind (arith, eqb-true)
 
 -- c has not passed for an entry that it found last
 pub found_not_passed : (h : List Change) (slots : List Slot) (marks : List (List Mark)) (section : List ℕ) (begins : List (Option ℕ)) (found : List (Option Entry)) (c t : ℕ) (f : Entry)
     → SlotsShow h slots → MarksHold h slots marks section begins → FoundHold h begins found → slot_at slots t ≡ Retired f → is_number f.number (get_or found c None) ≡ true
     → (mark_at marks t c).passed ≡ true → ⊥
-found_not_passed h slots marks section begins found c t f show m hold gone is passed =
-    let e = found_number f.number (get_or found c None) is in
-    let held = hold c e.0 e.1 in
-    let was = show.retired t f gone in
-    let same : e.0 ≡ f = one_entry h e.0 f held.2.attached was.0 e.2 in
-    let end : EndsAt h e.0.number was.2.0 = subst (λ (g : Entry). EndsAt h g.number was.2.0) (sym same) was.2.1 in
-    omega (arith, held.2.unended was.2.0 end, m.passed t was.2.0 c held.0 f gone was.2.1 held.1 passed)
+found_not_passed h slots marks section begins found c t f show m hold gone is passed = grind (arith, found_number, one_entry)

@@ -1,11 +1,11 @@
 -- Seek and the loads of a search keep the invariant, their answers are lawful, and what they do to the state.
-use Rattle.std.proofs.Common.{◌≡◌, ℕ, zero, suc, ◌<◌, List, length, get_or, set, Option, Some, None, Bool, true, false, refl, sym, subst, ◌∙◌, arith, get_or-set_same, length-set, ◌≤◌}
+use Rattle.std.proofs.Common.{◌≡◌, ℕ, zero, suc, ◌<◌, List, length, get_or, set, Option, Some, None, Bool, true, false, sym, subst, ◌∙◌, arith, get_or-set_same, length-set, ◌≤◌}
 use Rattle.std.proofs.lemmas.Bool.{and_parts}
 use Rattle.protocol.specs.Types.{Entry, Key, Change}
 use Rattle.registry_values.specs.Common.{are_words_of}
 use Rattle.protocol.specs.Common.{Reply, Done, Word, Found, Missed, Ref, Collected, SearchPlace, AtHead, AtNext, AtNumber, AtKind, AtHigh, AtLow, AtValue, Search, MayHold, IsLawful, State, begin_at, seen_at, search_at, row_at, entry_with, loaded_of_name, Outcome, is_idle, is_inside, may_seek, after_seek, after_seeing, with_search_at, search_over, link_loaded, load_link, load_searched, outcome_of, StandsOn, PlaceHolds, SearchHolds, FoundHold, Holds, Keeps, Loaded, loaded_at, row_of_place}
 use Rattle.protocol.proofs.keeps.SectionKeeps.{seats_search, seated_search, some_from, idle_parts, see_keeps}
-use Rattle.protocol.proofs.keeps.Searching.{within_some, searches_over, searches_on, found_none, found_some, Walks, search_walks, head_ahead, next_ahead, LinkTells, link_tells, goes_on, found_is, weight, IsStep, Steps, load_link_steps, load_searched_steps, at_next_ahead}
+use Rattle.protocol.proofs.keeps.Searching.{within_some, searches_over, searches_on, found_none, found_some, Walks, search_walks, head_ahead, next_ahead, LinkTells, link_tells, goes_on, found_is, weight, Steps, load_link_steps, load_searched_steps, at_next_ahead}
 
 -- the invariant after an event, if it was allowed
 
@@ -95,8 +95,7 @@ link_keeps s c q on is = load_link_keeps s c q q.place on is (on.searches c q is
 compared_keeps : (s : State) (c : ℕ) (q : Search) (t n l : ℕ) (b : Bool) → Holds s → search_at s c ≡ Some q
     → (b ≡ true → PlaceHolds s.history q.start (seen_at s c) q.key (AtValue t n)) → (b ≡ false → PlaceHolds s.history q.start (seen_at s c) q.key (AtNext t))
     → Keeps (outcome_of s c q (Some (loaded_of_name t n l b)))
-compared_keeps s c q t n l true on is right wrong = going_on_keeps s c q (AtValue t n) on is (right refl)
-compared_keeps s c q t n l false on is right wrong = going_on_keeps s c q (AtNext t) on is (wrong refl)
+compared_keeps s c q t n l b on is right wrong = grind (arith, going_on_keeps)
 
 load_searched_keeps : (s : State) (c : ℕ) (q : Search) (place : SearchPlace) → Holds s → search_at s c ≡ Some q
     → PlaceHolds s.history q.start (seen_at s c) q.key place → Keeps (load_searched s c q place)
@@ -122,16 +121,7 @@ record_keeps s c q on is = load_searched_keeps s c q q.place on is (on.searches 
 
 -- The reply of a load that ends a search is lawful.
 pub step_answers : (c : ℕ) (q : Search) (n : ℕ) (o : Option Outcome) → Steps c q.start q n o → AnswersLookup c q o
-step_answers c q n None steps = tt
-step_answers c q n (Some o) steps = go o.reply steps
-  where
-    go : (r : Reply) → IsStep o.state c q.start q n r → IsAnswer o.state.history q.start (seen_at o.state c) q.key r
-    go Done is = tt
-    go (Word w) is = tt
-    go (Found e) is = is
-    go Missed is = is
-    go (Ref id) is = tt
-    go Collected is = tt
+step_answers c q n o steps = grind arith
 
 pub link_answers : (s : State) (c : ℕ) (q : Search) → Holds s → search_at s c ≡ Some q → AnswersLookup c q (load_link s c q q.place)
 link_answers s c q on is = step_answers c q (weight s q.place) (load_link s c q q.place) (load_link_steps s c q.start q q.place on (search_walks s c q on is) is (on.searches c q is).stands)
@@ -154,8 +144,7 @@ pub next_keeps : (s : State) (c t : ℕ) (q : Search) → Holds s → search_at 
 next_keeps s c t q on is at = subst (λ (p : SearchPlace). Keeps (load_link s c q p)) at (link_keeps s c q on is)
 
 tells_bound : (s : State) (from n x : ℕ) (key : Key) → LinkTells s from key n x → x ≤ length s.slots
-tells_bound s from n zero key tells = omega arith
-tells_bound s from n (suc t) key tells = tells.4
+tells_bound s from n x key tells = grind arith
 
 -- a link that a search follows is in range
 pub head_bound : (s : State) (c : ℕ) (q : Search) → Holds s → search_at s c ≡ Some q → s.head ≤ s.settings.slots

@@ -1,10 +1,10 @@
 -- A walk over links: what each load leaves holds, and what ends it is lawful.
-use Rattle.std.proofs.Common.{◌≡◌, ℕ, zero, suc, ◌+◌, ◌*◌, ◌<◌, ◌≤◌, ◌⊎◌, inl, inr, List, length, get_or, set, Option, Some, None, Bool, true, false, ◌&&◌, nat_eq, refl, sym, ap, subst, ◌∙◌, arith, get_or-set_same, get_or-set_other, eqb-true}
+use Rattle.std.proofs.Common.{◌≡◌, ℕ, zero, suc, ◌+◌, ◌*◌, ◌<◌, ◌≤◌, ◌⊎◌, inl, inr, List, length, get_or, set, Option, Some, None, Bool, true, false, refl, sym, ap, subst, ◌∙◌, arith, get_or-set_same, get_or-set_other, eqb-true}
 use Rattle.std.proofs.lemmas.Option.{same_Some, none-some}
 use Rattle.std.proofs.lemmas.List.{get_or_past}
 use Rattle.std.proofs.lemmas.Bool.{cases_lt, cases_eq, and_parts}
-use Rattle.protocol.specs.Types.{Kind, Iface, Driver, Entry, Change, Attach, Detach, Key}
-use Rattle.protocol.specs.Common.{Reply, Done, Word, Found, Missed, Ref, Collected, RecordWords, Loaded, SearchPlace, On, Over, AtHead, AtNext, AtNumber, AtKind, AtHigh, AtLow, AtValue, Search, EndsAt, MayHold, IsLookup, IsLawful, State, row_at, seen_at, search_at, begin_at, Outcome, after_seeing, with_search_at, with_some, link_at, link_loaded, load_link, load_searched, outcome_of, words_of, SlotWithin, entry_with, loaded_at, loaded_of_name, row_of_place, IsIn, SearchHolds, SearchesHold, FoundHold, StandsOn, AllBelow, PlaceHolds, Holds}
+use Rattle.protocol.specs.Types.{Entry, Change, Attach, Detach, Key}
+use Rattle.protocol.specs.Common.{Reply, Done, Word, Found, Missed, Ref, Collected, RecordWords, Loaded, SearchPlace, AtHead, AtNext, AtNumber, AtKind, AtHigh, AtLow, AtValue, Search, EndsAt, MayHold, IsLookup, IsLawful, State, row_at, seen_at, search_at, begin_at, Outcome, after_seeing, with_search_at, with_some, link_at, link_loaded, load_link, load_searched, outcome_of, words_of, SlotWithin, entry_with, loaded_at, loaded_of_name, row_of_place, IsIn, SearchHolds, SearchesHold, FoundHold, StandsOn, AllBelow, PlaceHolds, Holds}
 use Rattle.registry_values.specs.Common.{are_words_of, key_of, slot_at, kind_word}
 use Rattle.protocol.proofs.History.{at_within, one_entry, Ahead, No_more, One_more, step_ahead, all_below_later, found_lawful, missed_lawful, find_exact}
 use Rattle.protocol.proofs.Occupied.{in_within}
@@ -17,33 +17,21 @@ within_some xs c x is = either (cases_lt c (length xs)) (λ lt. lt) (λ ge. absu
 -- c's search is over
 pub searches_over : (h : List Change) (begins : List (Option ℕ)) (seen : List ℕ) (searches : List (Option Search)) (c : ℕ) → c < length searches
     → SearchesHold h begins seen searches → SearchesHold h begins seen (set searches c None)
-searches_over h begins seen searches c cs hold j q is = either (cases_eq j c)
-    (λ same. absurd (none-some q (sym (get_or-set_same searches c None None cs) ∙ (ap (λ (k : ℕ). get_or (set searches c None) k None) (sym same) ∙ is))))
-    (λ other. hold j q (simp get_or-set_other at is))
+searches_over h begins seen searches c cs hold j q is = grind (arith, none-some, get_or-set_same, get_or-set_other, cases_eq j c)
 
 -- c's search is q now
 pub searches_on : (h : List Change) (begins : List (Option ℕ)) (seen : List ℕ) (searches : List (Option Search)) (c : ℕ) (q : Search) → c < length searches
     → SearchHolds h (get_or begins c None) (get_or seen c 0) q
     → SearchesHold h begins seen searches → SearchesHold h begins seen (set searches c (Some q))
-searches_on h begins seen searches c q cs now hold j r is = either (cases_eq j c)
-    (λ same.
-    let one : q ≡ r = same_Some q r (sym (get_or-set_same searches c (Some q) None cs) ∙ (ap (λ (k : ℕ). get_or (set searches c (Some q)) k None) (sym same) ∙ is)) in
-    subst (λ (k : ℕ). SearchHolds h (get_or begins k None) (get_or seen k 0) r) (sym same) (subst (SearchHolds h (get_or begins c None) (get_or seen c 0)) one now))
-    (λ other. hold j r (simp get_or-set_other at is))
+searches_on h begins seen searches c q cs now hold j r is = grind (arith, same_Some, get_or-set_same, get_or-set_other, cases_eq j c)
 
 -- a lookup's answer becomes the last found entry
 pub found_none : (h : List Change) (begins : List (Option ℕ)) (found : List (Option Entry)) (c : ℕ) → c < length found → FoundHold h begins found → FoundHold h begins (set found c None)
-found_none h begins found c cf hold j e is = either (cases_eq j c)
-    (λ same. absurd (none-some e (sym (get_or-set_same found c None None cf) ∙ (ap (λ (k : ℕ). get_or (set found c None) k None) (sym same) ∙ is))))
-    (λ other. hold j e (simp get_or-set_other at is))
+found_none h begins found c cf hold j e is = grind (arith, none-some, get_or-set_same, get_or-set_other, cases_eq j c)
 
 pub found_some : (h : List Change) (begins : List (Option ℕ)) (found : List (Option Entry)) (c b : ℕ) (f : Entry) → c < length found
     → get_or begins c None ≡ Some b → MayHold h b f → FoundHold h begins found → FoundHold h begins (set found c (Some f))
-found_some h begins found c b f cf in_ may hold j e is = either (cases_eq j c)
-    (λ same.
-    let one : f ≡ e = same_Some f e (sym (get_or-set_same found c (Some f) None cf) ∙ (ap (λ (k : ℕ). get_or (set found c (Some f)) k None) (sym same) ∙ is)) in
-    (b, ap (λ (k : ℕ). get_or begins k None) same ∙ in_, subst (MayHold h b) one may))
-    (λ other. hold j e (simp get_or-set_other at is))
+found_some h begins found c b f cf in_ may hold j e is = grind (arith, same_Some, get_or-set_same, get_or-set_other, cases_eq j c)
 
 -- a walk of c from `from`: its section began before, and nothing of it is yet to come
 pub record Walks (s : State) (c from : ℕ) : Type 0 where
@@ -169,8 +157,7 @@ search_placed : (s : State) (c : ℕ) (q : Search) (place : SearchPlace) → sea
 search_placed s c q place is = get_or-set_same s.searches c (Some (placed q place)) None (within_some s.searches c q is)
 
 link_steps : (s : State) (c from : ℕ) (q : Search) (n x : ℕ) → Holds s → Walks s c from → search_at s c ≡ Some q → LinkTells s from q.key n x → Steps c from q (6 * n) (link_loaded s c q x)
-link_steps s c from q n zero on walk is tells =
-    subst (λ (to : ℕ). IsLawful s.history from to q.key None) (sym (seen_now s c on (searching_within s c q on is))) tells
+link_steps s c from q n zero on walk is tells = grind (arith, seen_now, searching_within)
 link_steps s c from q n (suc t) on walk is tells =
     let number : (row_at s.rows t).number ≡ tells.0.number = ap (λ (r : RecordWords). r.number) (words_stand s c from (length s.history) t tells.0 on walk tells.1) in (
       AtNumber t,
@@ -196,20 +183,8 @@ load_link_steps s c from q (AtNext t) on walk is p =
 load_link_steps s c from q _ on walk is p = tt
 
 -- Words and keys.
-kind_from_word : (a b : Kind) → kind_word a ≡ kind_word b → a ≡ b
-kind_from_word Iface Iface is = refl
-kind_from_word Iface Driver is = absurd (omega (arith, is))
-kind_from_word Driver Iface is = absurd (omega (arith, is))
-kind_from_word Driver Driver is = refl
-
 pub key_from_words : (key : Key) (e : Entry) → are_words_of key (kind_word e.rec.kind) e.rec.name.high e.rec.name.low ≡ true → key ≡ key_of e
-key_from_words key e holds =
-    let a = and_parts (nat_eq (kind_word e.rec.kind) (kind_word key.kind)) (nat_eq e.rec.name.high key.name.high && nat_eq e.rec.name.low key.name.low) holds in
-    let b = and_parts (nat_eq e.rec.name.high key.name.high) (nat_eq e.rec.name.low key.name.low) a.1 in
-    let kind : key.kind ≡ e.rec.kind = sym (kind_from_word e.rec.kind key.kind (eqb-true (kind_word e.rec.kind) (kind_word key.kind) a.0)) in
-    let high : key.name.high ≡ e.rec.name.high = sym (eqb-true e.rec.name.high key.name.high b.0) in
-    let low : key.name.low ≡ e.rec.name.low = sym (eqb-true e.rec.name.low key.name.low b.1) in
-    λ i. record { kind = kind i; name = record { high = high i; low = low i } }
+key_from_words key e holds = grind (arith, and_parts, eqb-true)
 
 pub key_to_words : (key : Key) → are_words_of key (kind_word key.kind) key.name.high key.name.low ≡ true
 key_to_words key = grind arith
@@ -217,16 +192,7 @@ key_to_words key = grind arith
 -- the walk's entry has another key: what is left is below it
 pub key_differs : (s : State) (from to t : ℕ) (key : Key) (e : Entry) → StandsOn s.history from to t e → AllBelow s.history from to key (suc e.number)
     → are_words_of key (kind_word e.rec.kind) e.rec.name.high e.rec.name.low ≡ false → AllBelow s.history from to key e.number
-key_differs s from to t key e stands below test f live un same = either (cases_lt f.number e.number)
-    (λ lt. lt)
-    (λ ge.
-    let number : f.number ≡ e.number = omega (arith, below f live un same) in
-    let one : f ≡ e = one_entry s.history f e live.attached stands.attached number in
-    let is : key ≡ key_of e = sym same ∙ ap key_of one in
-    let yes : are_words_of key (kind_word e.rec.kind) e.rec.name.high e.rec.name.low ≡ true =
-    subst (λ (k : Key). are_words_of key (kind_word k.kind) k.name.high k.name.low ≡ true) is (key_to_words key) in
-    let no : ◌≡◌ {A = Bool} true false = sym yes ∙ test in
-    absurd cc)
+key_differs s from to t key e stands below test f live un same = grind (arith, one_entry, key_to_words, cases_lt f.number e.number)
 
 -- the walk is at exactly the entry that is returned
 pub found_is : (s : State) (c from to t n : ℕ) (q : Search) (e : Entry) → Holds s → Walks s c from → StandsOn s.history from to t e → n ≡ e.number → q.key ≡ key_of e
@@ -247,15 +213,9 @@ GoesOn s from to key (AtLow t n k x) = ((are_words_of key k x (row_at s.rows t).
 GoesOn s from to key (AtValue t n) = Unit {0}
 
 pub goes_on : (s : State) (c from to : ℕ) (key : Key) (place : SearchPlace) → Holds s → Walks s c from → PlaceHolds s.history from to key place → GoesOn s from to key place
-goes_on s c from to key (AtNumber t) on walk p =
-    let row : row_at s.rows t ≡ words_of p.0 = words_stand s c from to t p.0 on walk p.1 in
-    (p.0, p.1, p.2, ap (λ (r : RecordWords). r.number) row)
-goes_on s c from to key (AtKind t n) on walk p =
-    let row : row_at s.rows t ≡ words_of p.0 = words_stand s c from to t p.0 on walk p.1 in
-    (p.0, p.1, p.2, p.3, ap (λ (r : RecordWords). r.kind) row)
-goes_on s c from to key (AtHigh t n k) on walk p =
-    let row : row_at s.rows t ≡ words_of p.0 = words_stand s c from to t p.0 on walk p.1 in
-    (p.0, p.1, p.2, p.3, p.4, ap (λ (r : RecordWords). r.high) row)
+goes_on s c from to key (AtNumber t) on walk p = (p.0, p.1, p.2, ap (λ (r : RecordWords). r.number) (words_stand s c from to t p.0 on walk p.1))
+goes_on s c from to key (AtKind t n) on walk p = (p.0, p.1, p.2, p.3, ap (λ (r : RecordWords). r.kind) (words_stand s c from to t p.0 on walk p.1))
+goes_on s c from to key (AtHigh t n k) on walk p = (p.0, p.1, p.2, p.3, p.4, ap (λ (r : RecordWords). r.high) (words_stand s c from to t p.0 on walk p.1))
 goes_on s c from to key (AtLow t n k x) on walk p =
     let row : row_at s.rows t ≡ words_of p.0 = words_stand s c from to t p.0 on walk p.1 in
     let test : are_words_of key (kind_word p.0.rec.kind) p.0.rec.name.high p.0.rec.name.low ≡ are_words_of key k x (row_at s.rows t).low =
@@ -316,39 +276,13 @@ Sees s c None = Unit {0}
 Sees s c (Some o) = (o.state.history ≡ s.history) × (seen_at o.state c ≡ length s.history)
 
 find_steps : (s : State) (c : ℕ) (q : Search) (n : ℕ) (o : Option Outcome) → Sees s c o → Steps c (length s.history) q n o → FindSteps c q n o
-find_steps s c q n None sees steps = tt
-find_steps s c q n (Some o) sees steps = go o.reply steps
-  where
-    from : length s.history ≡ length o.state.history
-    from = ap length (sym sees.0)
-
-    all : seen_at o.state c ≡ length o.state.history
-    all = sees.1 ∙ from
-
-    exact : (answer : Option Entry) → IsLawful o.state.history (length s.history) (seen_at o.state c) q.key answer → IsLookup o.state.history (length o.state.history) q.key answer
-    exact answer lawful = find_exact o.state.history (length o.state.history) q.key answer
-        (subst (λ (k : ℕ). IsLawful o.state.history k (length o.state.history) q.key answer) from (subst (λ (k : ℕ). IsLawful o.state.history (length s.history) k q.key answer) all lawful))
-
-    go : (r : Reply) → IsStep o.state c (length s.history) q n r → IsFindStep o.state c q n r
-    go Done is = tt
-    go (Word w) is = (is.0, record { searching = is.1; stands = subst (λ (k : ℕ). PlaceHolds o.state.history k (seen_at o.state c) q.key is.0) from is.2; seen = inr all }, is.3)
-    go (Found e) is = exact (Some e) is
-    go Missed is = exact None is
-    go (Ref id) is = tt
-    go Collected is = tt
-
-loaded_sees : (s : State) (c : ℕ) (q : Search) (x : ℕ) → Holds s → search_at s c ≡ Some q → Sees s c (link_loaded s c q x)
-loaded_sees s c q zero on is = (refl, seen_now s c on (searching_within s c q on is))
-loaded_sees s c q (suc t) on is = (refl, seen_now s c on (searching_within s c q on is))
+find_steps s c q n o sees steps = grind (arith, find_exact)
 
 followed_sees : (s : State) (c : ℕ) (q : Search) (x : Option ℕ) → Holds s → search_at s c ≡ Some q → Sees s c (with_some x (link_loaded s c q))
-followed_sees s c q None on is = tt
-followed_sees s c q (Some x) on is = loaded_sees s c q x on is
+followed_sees s c q x on is = grind (arith, seen_now, searching_within)
 
 outcome_sees : (s : State) (c : ℕ) (q : Search) (o : Option Loaded) → seen_at s c ≡ length s.history → Sees s c (outcome_of s c q o)
-outcome_sees s c q None all = tt
-outcome_sees s c q (Some (On p w)) all = (refl, all)
-outcome_sees s c q (Some (Over e)) all = (refl, all)
+outcome_sees s c q o all = grind arith
 
 record_sees : (s : State) (c : ℕ) (q : Search) (place : SearchPlace) → (place ≡ AtHead) ⊎ (seen_at s c ≡ length s.history) → Sees s c (load_searched s c q place)
 record_sees s c q place (inl head) = subst (λ (p : SearchPlace). Sees s c (load_searched s c q p)) (sym head) tt

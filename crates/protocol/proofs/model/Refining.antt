@@ -1,9 +1,9 @@
 -- Every event makes steps of the model.
-use Rattle.std.proofs.Common.{inl, inr, ◌≡◌, ℕ, ◌+◌, ◌-◌, List, [], ◌∷◌, replicate, Option, Some, None, Bool, true, refl, sym, ap, subst, ◌∙◌, arith}
+use Rattle.std.proofs.Common.{inl, inr, ◌≡◌, ℕ, ◌+◌, ◌-◌, List, [], ◌∷◌, replicate, Option, Some, None, true, refl, sym, ap, subst, ◌∙◌, arith}
 use Rattle.std.specs.Prelude.{IsSome}
 use Rattle.std.proofs.lemmas.Bool.{and_parts}
 use Rattle.protocol.specs.Types.{Settings, MOST_CPUS, Vacant}
-use Rattle.protocol.specs.Common.{Event, Confirm, Reply, Word, Hand, Empty, Trying, State, opening, total_at, hand_at, with_retired, is_iface_slot, is_drained, live_at, local_at, Outcome, guard, some_outcome, step, Run, run_with_event, run_of_events, empty_run, Holds, Model, empty_model, IsModelRun, Stays, passive_in, lookup_of, number_in, picture, Confirms, EveryRunIsModelRun, HasConfirm, TakesNone}
+use Rattle.protocol.specs.Common.{Event, Confirm, Reply, Empty, Trying, State, opening, total_at, hand_at, is_iface_slot, is_drained, local_at, Outcome, step, Run, run_with_event, run_of_events, empty_run, Holds, Model, empty_model, IsModelRun, Stays, passive_in, lookup_of, number_in, picture, Confirms, EveryRunIsModelRun, HasConfirm}
 use Rattle.registry_values.specs.Common.{bias, slot_at, slot_of}
 use Rattle.protocol.specs.Events
 use Rattle.protocol.proofs.Made.{Made, Enters, Exits, Seeks, LoadsEnd, LoadsSlot, LoadsWord, LoadsLast, Publishes, Unpublishes, Hears, Snaps, AddsPassive, SubsPassive, Counts, Splits, Joins, CountsDown, made, FindsCollected, SplitsBack, Collects, AddsTotal, JoinsKeeper, SubsTotal, KeepsDriver, SubsKept, Vacates, Recalls, RecallsHead, Refinds, Tries, ConfirmsTry, TakesBack}
@@ -15,14 +15,14 @@ use Rattle.protocol.proofs.runs.Steps.{turned_state}
 use Rattle.protocol.proofs.keeps.MarkKeeps.{cell_all}
 use Rattle.protocol.proofs.Cells.{get_or_all}
 use Rattle.protocol.proofs.counts.Sums.{number_of, no_hand}
-use Rattle.protocol.proofs.model.RefiningSections.{same_model, join_runs, widen_run, enter_refines, exit_refines, hear_refines, recall_head_refines, recall_refines, refind_refines, seek_refines, missed_refines, followed_refines, going_on_refines, over_refines}
+use Rattle.protocol.proofs.model.RefiningSections.{same_model, join_runs, widen_run, enter_refines, exit_refines, seeing_refines, refind_refines, seek_refines, missed_refines, followed_refines, going_on_alike, no_step, over_refines}
 use Rattle.protocol.proofs.model.RefiningReferences.{confirm_refines, take_back_refines, try_refines, add_refines, sub_refines, count_add_refines, split_refines, join_refines, count_down_refines, collected_refines, split_back_refines, snapshot_refines, collect_refines, total_add_refines, total_sub_refines, join_keeper_refines}
-use Rattle.protocol.proofs.model.RefiningEntries.{publish_refines, unpublish_refines, keep_refines, vacate_refines, kept_sub_refines}
+use Rattle.protocol.proofs.model.RefiningEntries.{publish_refines, retiring_refines, keep_refines, vacate_refines, kept_sub_refines}
+use Rattle.protocol.proofs.keeps.SectionKeeps.{idle_tells, recall_head_tells, recall_tells}
 
 -- the Confirm of an entry that is live is allowed
 confirm_allowed : (s : State) (c t n : ℕ) → hand_at s c ≡ Trying t n → Events.may_confirm s c n (slot_at s.slots t) ≡ true → IsSome (step s (Confirm c))
-confirm_allowed s c t n hand ok =
-    subst (λ (h : Hand). IsSome (Events.confirm s c h)) (sym hand) (subst (λ (b : Bool). IsSome (guard b (some_outcome (Events.after_confirm s c) (Word (live_at s.lives t))))) (sym ok) refl)
+confirm_allowed s c t n hand ok = grind arith
 
 -- Each event; most leave the picture
 
@@ -32,12 +32,11 @@ made_refines s _ _ _ on now (Exits c may) = exit_refines s c on may
 made_refines s _ _ _ on now (Seeks c kind name may) = seek_refines s c (record { kind = kind; name = name }) on may
 made_refines s _ _ _ on now (LoadsEnd c q at is) = missed_refines s c q on at (subst (AnswersLookup c q) is (link_answers s c q on at))
 made_refines s _ _ _ on now (LoadsSlot c t q at is) = followed_refines s c q t on at
-made_refines s _ _ _ on now (LoadsWord c w q p at is) = going_on_refines s c q p at
+made_refines s _ _ _ on now (LoadsWord c w q p at is) = no_step _ _ (going_on_alike s c q p at)
 made_refines s _ _ _ on now (LoadsLast c q e at is) = over_refines s c q (Some e) on at (subst (AnswersLookup c q) is (record_answers s c q on at))
 made_refines s _ _ _ on now (Publishes t e of may) = publish_refines s t e on now of may
-made_refines s _ _ _ on now (Unpublishes t head next e at rest is) =
-    subst (λ (x : State). Holds (with_retired x t e) → IsModelRun TakesNone (picture s) (picture (with_retired x t e))) is (λ here. unpublish_refines s t e on here (at_rest_tells s.due rest) at) now
-made_refines s _ _ _ on now (Hears c may) = hear_refines s c on may
+made_refines s _ _ _ on now (Unpublishes t head next e at rest is) = retiring_refines s t e on (at_rest_tells s.due rest) at now.legal now.slots
+made_refines s _ _ _ on now (Hears c may) = seeing_refines s c on (idle_tells s c on may).0
 made_refines s _ _ _ on now (Snaps t c due) = snapshot_refines s t c due
 made_refines s _ _ _ on now (AddsPassive c n t of may) = add_refines s c n t on of may
 made_refines s _ _ _ on now (SubsPassive c n t of may) = sub_refines s c n t on of may
@@ -54,8 +53,8 @@ made_refines s _ _ _ on now (SubsTotal t due) = total_sub_refines s t (total_at 
 made_refines s _ _ _ on now (KeepsDriver t id n u at of may) = keep_refines s t id n u on (standing_tells (local_at s.locals id) n at) of may
 made_refines s _ _ _ on now (SubsKept t d u keeps of may) = kept_sub_refines s t u d on now keeps (and_parts (is_iface_slot (slot_at s.slots t)) (is_drained s t) may).1
 made_refines s _ _ _ on now (Vacates t may) = vacate_refines s t on now may
-made_refines s _ _ _ on now (Recalls c t may) = recall_refines s c t on may
-made_refines s _ _ _ on now (RecallsHead c may) = recall_head_refines s c on may
+made_refines s _ _ _ on now (Recalls c t may) = seeing_refines s c on (omega (arith, (recall_tells s c t may).0, on.seats.within))
+made_refines s _ _ _ on now (RecallsHead c may) = seeing_refines s c on (omega (arith, (recall_head_tells s c may).0, on.seats.within))
 made_refines s _ _ _ on now (Refinds c t n e at may) = refind_refines s c t n e on at may
 made_refines s _ _ _ on now (Tries c t n may) = try_refines s c t n on may
 made_refines s _ _ _ on now (ConfirmsTry c t n hand may) = confirm_refines s c t n on hand may (refl, (t, hand), confirm_allowed s c t n hand may)

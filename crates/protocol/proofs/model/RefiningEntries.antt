@@ -3,10 +3,9 @@ use Rattle.std.proofs.Common.{◌≡◌, ℕ, ◌+◌, ◌-◌, ◌<◌, ◌⊎�
 use Rattle.std.proofs.lemmas.Bool.{and_parts, cases_eq, cases_lt}
 use Rattle.std.proofs.lemmas.Option.{none-some, same_Some}
 use Rattle.protocol.specs.Types.{Entry, Change, Attach, Detach, Slot, Vacant, Live, Retired}
-use Rattle.protocol.specs.Common.{Free, Standing, Due, Rest, after_change, IsLegal, EndsAt, State, row_at, passive_at, kept_at, local_at, may_write, entry_of, may_publish, after_publish, with_retired, with_link_past, after_unpublish, is_driver_slot, may_keep, after_keep, is_drained, after_kept_sub, may_vacate, after_vacate, Holds, IsIn, SlotsShow, held_at, standing_of, in_hand, put, IsUnheld, IsDriverHere, IsModelRun, number_in, passive_in, Hand, trying_at, subtractions_due, locals_of, picture, TakesNone}
-use Rattle.registry_values.specs.Common.{slot_at, slot_of, slot_before}
+use Rattle.protocol.specs.Common.{Free, Standing, Due, Rest, after_change, IsLegal, EndsAt, State, row_at, passive_at, kept_at, local_at, may_write, entry_of, may_publish, after_publish, with_retired, is_driver_slot, may_keep, after_keep, is_drained, after_kept_sub, may_vacate, after_vacate, Holds, IsIn, SlotsShow, held_at, standing_of, in_hand, put, IsUnheld, IsDriverHere, IsModelRun, number_in, passive_in, Hand, trying_at, subtractions_due, locals_of, picture, TakesNone}
+use Rattle.registry_values.specs.Common.{slot_at, slot_of}
 use Rattle.protocol.specs.Model
-use Rattle.protocol.proofs.History.{one_entry}
 use Rattle.protocol.proofs.keeps.Searching.{within_some}
 use Rattle.protocol.proofs.Occupied.{in_other, in_written, not_vacant, live_one, in_within, in_published, in_unpublished, in_vacated, attached_in, slot_has}
 use Rattle.protocol.proofs.Cells.{slot_number}
@@ -60,22 +59,16 @@ publish_own : (s : State) (e : Entry) → Holds s → Holds (after_publish s e.s
 publish_own s e on now ok =
     let told = may_publish_tells s e.slot e on.shape ok in
     let unheld : (c : ℕ) → passive_at s.passive c e.slot - trying_at s.hands c e.slot ≡ 0 = λ c. omega (arith, on.passive.vacant c e.slot told.vacant) in
-    one_step (picture s) _ (picture (after_publish s e.slot e)) (Model.Attaches e (ap number_in told.vacant) now.legal told.number told.rightly) (record {
-      history = refl;
-      sections = λ c. refl;
-      passes = λ c. refl;
-      lookups = λ c. refl;
-      found = λ c. refl;
-      passive = λ c n. passive_moved s.history (after_change s.history (Attach e)) s.slots (set s.slots e.slot (Live e)) s.passive s.hands c n on.slots now.slots
+    one_step (picture s) _ (picture (after_publish s e.slot e)) (Model.Attaches e (ap number_in told.vacant) now.legal told.number told.rightly) (assumption (
+      λ (c : ℕ) (n : ℕ). passive_moved s.history (after_change s.history (Attach e)) s.slots (set s.slots e.slot (Live e)) s.passive s.hands c n on.slots now.slots
           (λ u at. inl (at.0, in_other s.slots e.slot (Live e) at.0 u (λ same. not_vacant at.0 (slot_at s.slots u) (ap (slot_at s.slots) same ∙ told.vacant) at.1) at.1, at.2))
           (λ u at. either (in_published s.slots e.slot u e at.0 told.within at.1)
           (λ new. inr (ap (λ (w : ℕ). passive_at s.passive c w - trying_at s.hands c w) new.0 ∙ unheld c))
-          (λ old. inl (at.0, old, at.2)));
-      locals = λ n. ap (λ (w : ℕ). sum_by (standing_of n) s.locals + sum_by (in_hand n) s.hands + w)
-          (waiting_rest s.slots n s.due told.rest ∙ sym (waiting_rest (set s.slots e.slot (Live e)) n s.due told.rest));
-      occupants = written number_in Vacant s.slots e.slot (Live e) told.within;
-      keeps = λ t. refl;
-    })
+          (λ old. inl (at.0, old, at.2))),
+      λ (n : ℕ). ap (λ (w : ℕ). sum_by (standing_of n) s.locals + sum_by (in_hand n) s.hands + w)
+          (waiting_rest s.slots n s.due told.rest ∙ sym (waiting_rest (set s.slots e.slot (Live e)) n s.due told.rest)),
+      written number_in Vacant s.slots e.slot (Live e) told.within,
+    ))
 
 pub publish_refines : (s : State) (t : ℕ) (e : Entry) → Holds s → Holds (after_publish s t e) → entry_of t (row_at s.rows t) ≡ Some e → may_publish s t e ≡ true
     → IsModelRun TakesNone (picture s) (picture (after_publish s t e))
@@ -83,17 +76,12 @@ publish_refines s t e on now is ok =
     subst (λ (u : ℕ). Holds (after_publish s u e) → may_publish s u e ≡ true → IsModelRun TakesNone (picture s) (picture (after_publish s u e)))
     (entry_shows t (row_at s.rows t) e is).0 (λ later may. publish_own s e on later may) now ok
 
-retiring_refines : (s : State) (t : ℕ) (e : Entry) → Holds s → s.due ≡ Rest → slot_at s.slots t ≡ Live e → IsLegal (after_change s.history (Detach e.number))
+pub retiring_refines : (s : State) (t : ℕ) (e : Entry) → Holds s → s.due ≡ Rest → slot_at s.slots t ≡ Live e → IsLegal (after_change s.history (Detach e.number))
     → SlotsShow (after_change s.history (Detach e.number)) (set s.slots t (Retired e))
     → IsModelRun TakesNone (picture s) (picture (with_retired s t e))
 retiring_refines s t e on rest at legal later =
-    one_step (picture s) _ (picture (with_retired s t e)) (Model.Detaches e.number legal) (record {
-      history = refl;
-      sections = λ c. refl;
-      passes = λ c. refl;
-      lookups = λ c. refl;
-      found = λ c. refl;
-      passive = λ c n. passive_moved s.history (after_change s.history (Detach e.number)) s.slots (set s.slots t (Retired e)) s.passive s.hands c n on.slots later
+    one_step (picture s) _ (picture (with_retired s t e)) (Model.Detaches e.number legal) (assumption (
+      λ (c : ℕ) (n : ℕ). passive_moved s.history (after_change s.history (Detach e.number)) s.slots (set s.slots t (Retired e)) s.passive s.hands c n on.slots later
           (λ u was. either (cases_eq u t)
           (λ same.
           let one : was.0 ≡ e = live_one was.0 e (slot_at s.slots t) at (subst (λ (k : ℕ). IsIn was.0 (slot_at s.slots k)) same was.1) in
@@ -103,19 +91,10 @@ retiring_refines s t e on rest at legal later =
             ap (λ (f : Entry). f.number) (sym one) ∙ was.2,
           ))
           (λ off. inl (was.0, in_other s.slots t (Retired e) was.0 u off was.1, was.2)))
-          (λ u was. inl (was.0, in_unpublished s.slots t u e was.0 at was.1, was.2));
-      locals = λ n. ap (λ (w : ℕ). sum_by (standing_of n) s.locals + sum_by (in_hand n) s.hands + w) (waiting_rest s.slots n s.due rest);
-      occupants = unwritten number_in Vacant s.slots t (Retired e) (ap number_in at);
-      keeps = λ u. refl;
-    })
-
-unlinked_refines : (s : State) (t : ℕ) (e : Entry) (before : Option ℕ) → Holds s → Holds (with_retired (with_link_past s t before) t e) → s.due ≡ Rest → slot_at s.slots t ≡ Live e
-    → IsModelRun TakesNone (picture s) (picture (with_retired (with_link_past s t before) t e))
-unlinked_refines s t e None on now rest at = retiring_refines s t e on rest at now.legal now.slots
-unlinked_refines s t e (Some p) on now rest at = retiring_refines s t e on rest at now.legal now.slots
-
-pub unpublish_refines : (s : State) (t : ℕ) (e : Entry) → Holds s → Holds (after_unpublish s t e) → s.due ≡ Rest → slot_at s.slots t ≡ Live e → IsModelRun TakesNone (picture s) (picture (after_unpublish s t e))
-unpublish_refines s t e on now rest at = unlinked_refines s t e (slot_before s.slots s.next t) on now rest at
+          (λ u was. inl (was.0, in_unpublished s.slots t u e was.0 at was.1, was.2)),
+      λ (n : ℕ). ap (λ (w : ℕ). sum_by (standing_of n) s.locals + sum_by (in_hand n) s.hands + w) (waiting_rest s.slots n s.due rest),
+      unwritten number_in Vacant s.slots t (Retired e) (ap number_in at),
+    ))
 
 -- Keep
 
@@ -184,10 +163,8 @@ drained s t n on ok is =
       passive = words;
       unheld = record {
         sections = λ c b f in_ may same.
-            let one : f ≡ e = one_entry s.history f e may.attached was.0 (same ∙ sym number) in
             let low : c < s.settings.cpus = omega (arith, within_some s.begins c b in_, on.shape.begins) in
-            let ends : EndsAt s.history f.number was.2.0 = subst (λ (g : Entry). EndsAt s.history g.number was.2.0) (sym one) was.2.1 in
-            omega (arith, may.unended was.2.0 ends, on.grace.passed t was.2.0 c b e at was.2.1 in_ (told.2 c low));
+            omega (arith, may.unended was.2.0 (subst (λ (k : ℕ). EndsAt s.history k was.2.0) (sym same) end), on.grace.passed t was.2.0 c b e at was.2.1 in_ (told.2 c low));
         passive = λ c. ap (passive_in s.passive s.hands c) (own_slot s.history s.slots n t on.slots (e, inr at, number)) ∙ words c;
         locals = omega (arith, free, waiting_rest s.slots n s.due told.0);
         keeps = (unreferred s.locals s.hands s.keeps s.due n t free).unkept;
@@ -211,8 +188,7 @@ vacated_passive s t n on d later c i = passive_moved s.history s.history s.slots
     (λ u was. inl (was.0, (in_vacated s.slots t u d.entry was.0 d.gone was.1).1, was.2))
 
 vacated_locals : (s : State) (t n : ℕ) → Drained s t n → (i : ℕ) → locals_of s i ≡ locals_of (record s { slots = set s.slots t Vacant }) i
-vacated_locals s t n d i =
-    ap (λ (w : ℕ). sum_by (standing_of i) s.locals + sum_by (in_hand i) s.hands + w) (waiting_rest s.slots i s.due d.due ∙ sym (waiting_rest (set s.slots t Vacant) i s.due d.due))
+vacated_locals s t n d i = grind (arith, waiting_rest)
 
 pub vacate_refines : (s : State) (t : ℕ) → Holds s → Holds (after_vacate s t) → may_vacate s t ≡ true → IsModelRun TakesNone (picture s) (picture (after_vacate s t))
 vacate_refines s t on now ok =

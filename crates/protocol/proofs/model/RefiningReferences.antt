@@ -1,5 +1,5 @@
 -- The events of passive and local references make steps of the model.
-use Rattle.std.proofs.Common.{◌≡◌, ℕ, ◌+◌, ◌-◌, ◌<◌, inl, inr, List, [], length, get_or, set, Option, Some, None, Bool, true, false, ◌&&◌, ◌||◌, ◌==◌, nat_lt, if◌then◌else◌, refl, sym, ap, subst, ◌∙◌, arith, ltb-true, get_or-set_same, get_or-set_other}
+use Rattle.std.proofs.Common.{◌≡◌, ℕ, ◌+◌, ◌-◌, ◌<◌, inl, inr, List, length, set, Option, Some, Bool, true, ◌&&◌, ◌||◌, ◌==◌, nat_lt, if◌then◌else◌, refl, sym, ap, subst, ◌∙◌, arith, ltb-true, get_or-set_same, get_or-set_other}
 use Rattle.std.proofs.lemmas.Bool.{and_parts, or_cases}
 use Rattle.protocol.specs.Types.{Entry, Slot, Retired}
 use Rattle.protocol.specs.Common.{Hand, Empty, Taking, Giving, Back, Trying, LocalPlace, Free, Standing, Lifted, Due, Rest, Snapshots, Adding, Subtracting, State, with_cell, found_at, hand_at, passive_at, count_at, local_at, is_idle, is_number, may_add, after_add, may_sub, after_sub, may_count, after_count_add, least_id, with_local, after_split, after_hand, after_count_down, after_collected, is_snapshot_due, after_snapshot, due_after, may_collect, after_collect, after_total, may_join_keeper, may_join, after_join_keeper, Holds, DueHolds, one_if, put, IsModelRun, passive_in, number_in, subtractions_due, locals_of, picture, TakesNone, after_confirm, after_take_back, after_taking, after_tried, after_try, has_live, may_confirm, may_try, cell, trying_at, trying_of, in_hand, IsIn}
@@ -8,7 +8,7 @@ use Rattle.protocol.specs.Model
 use Rattle.protocol.proofs.Cells.{cell_here, cell_other, slot_number}
 use Rattle.protocol.proofs.Occupied.{one_in, slot_has, is_retired_tells, at_rest_tells}
 use Rattle.protocol.proofs.keeps.SectionKeeps.{idle_tells}
-use Rattle.protocol.proofs.keeps.MarkKeeps.{cpus_fit, may_examine_tells}
+use Rattle.protocol.proofs.keeps.MarkKeeps.{may_examine_tells}
 use Rattle.protocol.proofs.keeps.Marking.{found_number, shifted_back, shifted_try, trying_none, trying_one, trying_stays}
 use Rattle.protocol.proofs.keeps.References.{snapshot_due_tells, giving_holds, back_holds}
 use Rattle.protocol.proofs.counts.Sums.{one_at, none_at, standing_within, lifted_within, local_changed, hand_changed, local_added}
@@ -21,8 +21,7 @@ use Rattle.protocol.proofs.Either.{either}
 -- a write of a cell leaves what another CPU or slot has
 passive_beside : (passive : List (List ℕ)) (hands : List Hand) (t c v j : ℕ) (o : Option ℕ) → ((u : ℕ) → o ≡ Some u → u ≡ t → j ≡ c → ⊥)
     → passive_in passive hands j o ≡ passive_in (with_cell passive t c v) hands j o
-passive_beside passive hands t c v j None off = refl
-passive_beside passive hands t c v j (Some u) off = ap (λ (w : ℕ). w - trying_at hands j u) (sym (cell_other 0 passive t c v u j (off u refl)))
+passive_beside passive hands t c v j o off = grind (arith, cell_other)
 
 -- two numbers with one slot are one
 one_slot : (slots : List Slot) (m n t : ℕ) → slot_of slots n ≡ Some t → slot_of slots m ≡ Some t → m ≡ n
@@ -38,9 +37,8 @@ passives_of s c n = passive_in s.passive s.hands c (slot_of s.slots n)
 pub passive_put : (s : State) (c n t v : ℕ) → Holds s → c < s.settings.cpus → slot_of s.slots n ≡ Some t → trying_at s.hands c t ≡ 0
     → (j m : ℕ) → put (passives_of s) c (put (passives_of s c) n v) j m ≡ passive_in (with_cell s.passive t c v) s.hands j (slot_of s.slots m)
 passive_put s c n t v on low is untried =
-    let tp : t < length s.passive = omega (arith, (slot_has s.slots n t is).0, on.shape.slots, on.shape.passive) in
-    let cp : c < length (get_or s.passive t []) = omega (arith, on.shape.passive_rows t tp, low, cpus_fit s.settings on.fit) in
-    let here : cell 0 (with_cell s.passive t c v) t c - trying_at s.hands c t ≡ v = omega (arith, cell_here 0 s.passive t c v tp cp, untried) in
+    let place = passive_place s c t on low (omega (arith, (slot_has s.slots n t is).0, on.shape.slots)) in
+    let here : cell 0 (with_cell s.passive t c v) t c - trying_at s.hands c t ≡ v = omega (arith, cell_here 0 s.passive t c v place.0 place.1, untried) in
     put_twice (passives_of s) (λ k. λ i. passive_in (with_cell s.passive t c v) s.hands k (slot_of s.slots i)) c n v (sym (ap (passive_in (with_cell s.passive t c v) s.hands c) is ∙ here))
     (λ m off. passive_beside s.passive s.hands t c v c (slot_of s.slots m) (λ u at same here. off (one_slot s.slots m n t is (at ∙ ap (λ (k : ℕ). Some k) same))))
     (λ j m off. passive_beside s.passive s.hands t c v j (slot_of s.slots m) (λ u at same here. off here))
@@ -53,19 +51,8 @@ add_refines s c n t on is ok =
     let word : passive_at s.passive c t - trying_at s.hands c t ≡ passive_at s.passive c t = omega (arith, untried) in
     let was : passive_in s.passive s.hands c (slot_of s.slots n) ≡ passive_at s.passive c t = ap (passive_in s.passive s.hands c) is ∙ word in
     let made : (m : ℕ) → m ≡ n → Alike (record (picture s) { passive = put (picture s).passive c (put ((picture s).passive c) m ((picture s).passive c m + 1)) }) (picture (after_add s c t)) =
-    λ m same. record {
-      history = refl;
-      sections = λ j. refl;
-      passes = λ j. refl;
-      lookups = λ j. refl;
-      found = λ j. refl;
-      passive = λ j i. ap (λ (k : ℕ). put (passives_of s) c (put (passives_of s c) k (passives_of s c k + 1)) j i) same
-          ∙ (ap (λ (v : ℕ). put (passives_of s) c (put (passives_of s c) n (v + 1)) j i) was
-          ∙ passive_put s c n t (passive_at s.passive c t + 1) on (idle_tells s c on p.0).0 is untried j i);
-      locals = λ i. refl;
-      occupants = λ u. refl;
-      keeps = λ u. refl;
-    } in
+    λ m same. assumption (λ (j : ℕ) (i : ℕ). ap (λ (k : ℕ). put (passives_of s) c (put (passives_of s c) k (passives_of s c k + 1)) j i) same
+    ∙ (ap (λ (v : ℕ). put (passives_of s) c (put (passives_of s c) n (v + 1)) j i) was ∙ passive_put s c n t (passive_at s.passive c t + 1) on (idle_tells s c on p.0).0 is untried j i)) in
     either (or_cases (is_number n (found_at s c)) (nat_lt 0 (passive_at s.passive c t)) q.0)
     (λ f.
     let e = found_number n (found_at s c) f in
@@ -79,48 +66,30 @@ sub_refines s c n t on is ok =
     let untried : trying_at s.hands c t ≡ 0 = ap (trying_of t) (idle_tells s c on p.0).1 in
     let word : passive_at s.passive c t - trying_at s.hands c t ≡ passive_at s.passive c t = omega (arith, untried) in
     let was : passive_in s.passive s.hands c (slot_of s.slots n) ≡ passive_at s.passive c t = ap (passive_in s.passive s.hands c) is ∙ word in
-    one_step (picture s) _ (picture (after_sub s c t)) (Model.Releases c n (omega (arith, ltb-true 0 (passive_at s.passive c t) p.1, was))) (record {
-      history = refl;
-      sections = λ j. refl;
-      passes = λ j. refl;
-      lookups = λ j. refl;
-      found = λ j. refl;
-      passive = λ j i. ap (λ (v : ℕ). put (passives_of s) c (put (passives_of s c) n (v - 1)) j i) was
-          ∙ passive_put s c n t (passive_at s.passive c t - 1) on (idle_tells s c on p.0).0 is untried j i;
-      locals = λ i. refl;
-      occupants = λ u. refl;
-      keeps = λ u. refl;
-    })
+    one_step (picture s) _ (picture (after_sub s c t)) (Model.Releases c n (omega (arith, ltb-true 0 (passive_at s.passive c t) p.1, was))) (assumption (
+    λ (j : ℕ) (i : ℕ). ap (λ (v : ℕ). put (passives_of s) c (put (passives_of s c) n (v - 1)) j i) was ∙ passive_put s c n t (passive_at s.passive c t - 1) on (idle_tells s c on p.0).0 is untried j i
+    ))
 
 -- A passive reference without a section
 
 -- each CPU is trying what it was
 passive_tries : (passive : List (List ℕ)) (hands others : List Hand) (c : ℕ) (o : Option ℕ) → ((t : ℕ) → trying_at others c t ≡ trying_at hands c t)
     → passive_in passive hands c o ≡ passive_in passive others c o
-passive_tries passive hands others c None same = refl
-passive_tries passive hands others c (Some t) same = ap (λ (k : ℕ). passive_at passive c t - k) (sym (same t))
+passive_tries passive hands others c o same = grind arith
 
 -- words and what is tried change by the same
 passive_shows : (passive words : List (List ℕ)) (hands others : List Hand) (c : ℕ) (o : Option ℕ)
     → ((t : ℕ) → passive_at words c t + trying_at hands c t ≡ passive_at passive c t + trying_at others c t) → passive_in passive hands c o ≡ passive_in words others c o
-passive_shows passive words hands others c None both = refl
-passive_shows passive words hands others c (Some t) both = omega (arith, both t)
+passive_shows passive words hands others c o both = grind arith
 
 -- a word and a hand change, and no reference does
 tried_refines : (s : State) (c t v : ℕ) (h k : Hand) → c < length s.hands → hand_at s c ≡ h → ((m : ℕ) → in_hand m h ≡ 0) → ((m : ℕ) → in_hand m k ≡ 0)
     → ((d u : ℕ) → passive_at (with_cell s.passive t c v) d u + trying_at s.hands d u ≡ passive_at s.passive d u + trying_at (set s.hands c k) d u)
     → IsModelRun TakesNone (picture s) (picture (after_tried s c t v k))
-tried_refines s c t v h k lt hand before later both = no_step (picture s) (picture (after_tried s c t v k)) (record {
-  history = refl;
-  sections = λ j. refl;
-  passes = λ j. refl;
-  lookups = λ j. refl;
-  found = λ j. refl;
-  passive = λ j i. passive_shows s.passive (with_cell s.passive t c v) s.hands (set s.hands c k) j (slot_of s.slots i) (both j);
-  locals = λ i. omega (arith, hand_changed i s.hands c h k lt hand, before i, later i);
-  occupants = λ u. refl;
-  keeps = λ u. refl;
-})
+tried_refines s c t v h k lt hand before later both =
+    let held : (i : ℕ) → locals_of s i ≡ locals_of (after_tried s c t v k) i = λ i. omega (arith, hand_changed i s.hands c h k lt hand, before i, later i) in
+    no_step (picture s) (picture (after_tried s c t v k))
+    (assumption (λ (j : ℕ) (i : ℕ). passive_shows s.passive (with_cell s.passive t c v) s.hands (set s.hands c k) j (slot_of s.slots i) (both j)))
 
 pub try_refines : (s : State) (c t n : ℕ) → Holds s → may_try s c t n ≡ true → IsModelRun TakesNone (picture s) (picture (after_try s c t n))
 try_refines s c t n on ok =
@@ -140,11 +109,7 @@ take_back_refines s c t n on hand =
 -- what c is trying elsewhere is nothing, and stays so
 untried_beside : (s : State) (c t n : ℕ) (o : Option ℕ) → c < length s.hands → hand_at s c ≡ Trying t n → ((u : ℕ) → o ≡ Some u → u ≡ t → ⊥)
     → passive_in s.passive s.hands c o ≡ passive_in s.passive (set s.hands c Empty) c o
-untried_beside s c t n None lt hand off = refl
-untried_beside s c t n (Some u) lt hand off =
-    let tries : trying_at s.hands c u ≡ 0 = ap (trying_of u) hand ∙ trying_none t n u (λ same. off u refl (sym same)) in
-    let none : trying_at (set s.hands c Empty) c u ≡ 0 = ap (trying_of u) (get_or-set_same s.hands c Empty Empty lt) in
-    omega (arith, tries, none)
+untried_beside s c t n o lt hand off = grind (arith, trying_none, get_or-set_same)
 
 -- what c was trying in t is a reference to n
 pub confirmed : (s : State) (c t n : ℕ) → Holds s → hand_at s c ≡ Trying t n → slot_of s.slots n ≡ Some t
@@ -154,10 +119,8 @@ confirmed s c t n on hand is =
     let lt : c < length s.hands = omega (arith, told.0, on.shape.hands) in
     let tries : trying_at s.hands c t ≡ 1 = ap (trying_of t) hand ∙ trying_one t n t refl in
     let none : trying_at (set s.hands c Empty) c t ≡ 0 = ap (trying_of t) (get_or-set_same s.hands c Empty Empty lt) in
-    let was : passive_in s.passive s.hands c (slot_of s.slots n) ≡ passive_at s.passive c t - trying_at s.hands c t = ap (passive_in s.passive s.hands c) is in
-    let now : passive_in s.passive (set s.hands c Empty) c (slot_of s.slots n) ≡ passive_at s.passive c t - trying_at (set s.hands c Empty) c t = ap (passive_in s.passive (set s.hands c Empty) c) is in
     put_twice (passives_of s) (λ k. λ i. passive_in s.passive (set s.hands c Empty) k (slot_of s.slots i)) c n (passive_in s.passive s.hands c (slot_of s.slots n) + 1)
-    (omega (arith, was, now, tries, none, told.2))
+    (omega (arith, ap (passive_in s.passive s.hands c) is, ap (passive_in s.passive (set s.hands c Empty) c) is, tries, none, told.2))
     (λ m off. untried_beside s c t n (slot_of s.slots m) lt hand (λ u at same. off (one_slot s.slots m n t is (at ∙ ap (λ (k : ℕ). Some k) same))))
     (λ j m off. passive_tries s.passive s.hands (set s.hands c Empty) j (slot_of s.slots m) (λ u. ap (trying_of u) (get_or-set_other s.hands c j Empty Empty off)))
 
@@ -171,17 +134,9 @@ taking_refines {MayTake} s c t n on hand ok may =
     let same : Trying t n ≡ Trying t e.number = ap (λ (k : ℕ). Trying t k) (sym is.1) in
     let told = trying_tells s c t n on hand in
     let occupant : number_in (slot_at s.slots t) ≡ Some e.number = ap number_in is.2 in
-    one_step (picture s) _ (picture (after_taking s c)) (Model.Takes c t e (on.slots.live t e is.2).0 occupant (tried_seen s c t e.number on (hand ∙ same)) (subst (MayTake c) (sym is.1) may)) (record {
-      history = refl;
-      sections = λ j. refl;
-      passes = λ j. refl;
-      lookups = λ j. refl;
-      found = λ j. refl;
-      passive = λ j i. confirmed s c t e.number on (hand ∙ same) of j i;
-      locals = λ i. omega (arith, hand_changed i s.hands c (Trying t n) Empty (omega (arith, told.0, on.shape.hands)) hand);
-      occupants = λ u. refl;
-      keeps = λ u. refl;
-    })
+    let held : (i : ℕ) → locals_of s i ≡ locals_of (after_taking s c) i = λ i. omega (arith, hand_changed i s.hands c (Trying t n) Empty (omega (arith, told.0, on.shape.hands)) hand) in
+    one_step (picture s) _ (picture (after_taking s c)) (Model.Takes c t e (on.slots.live t e is.2).0 occupant (tried_seen s c t e.number on (hand ∙ same)) (subst (MayTake c) (sym is.1) may))
+    (assumption (confirmed s c t e.number on (hand ∙ same) of))
 
 -- what was tried is a reference, and then the pass grows
 pub confirm_refines : {MayTake : ℕ → ℕ → Type 0} (s : State) (c t n : ℕ) → Holds s → hand_at s c ≡ Trying t n → may_confirm s c n (slot_at s.slots t) ≡ true → MayTake c n
@@ -205,14 +160,9 @@ waiting_one slots n t e due at is = ap (subtractions_due slots n) is ∙ ap (λ 
 abbrev with_places : State → List Hand → Due → List LocalPlace → State
 with_places s hands due locals = record s { hands = hands; due = due; locals = locals }
 
--- only local references change, and agree
-locals_alike : (s : State) (hands : List Hand) (due : Due) (locals : List LocalPlace) → ((c t : ℕ) → trying_at hands c t ≡ trying_at s.hands c t)
-    → ((n : ℕ) → locals_of s n ≡ locals_of (with_places s hands due locals) n) → Alike (picture s) (picture (with_places s hands due locals))
-locals_alike s hands due locals tries same = assumption (λ (c : ℕ) (n : ℕ). passive_tries s.passive s.hands hands c (slot_of s.slots n) (tries c))
-
 locals_same : (s : State) (hands : List Hand) (due : Due) (locals : List LocalPlace) → ((c t : ℕ) → trying_at hands c t ≡ trying_at s.hands c t)
     → ((n : ℕ) → locals_of s n ≡ locals_of (with_places s hands due locals) n) → IsModelRun TakesNone (picture s) (picture (with_places s hands due locals))
-locals_same s hands due locals tries same = no_step _ _ (locals_alike s hands due locals tries same)
+locals_same s hands due locals tries same = no_step _ _ (assumption (λ (c : ℕ) (n : ℕ). passive_tries s.passive s.hands hands c (slot_of s.slots n) (tries c)))
 
 -- one reference more
 locals_more : (s : State) (c : ℕ) (e : Entry) (hands : List Hand) (due : Due) (locals : List LocalPlace) → found_at s c ≡ Some e → ((d t : ℕ) → trying_at hands d t ≡ trying_at s.hands d t)
@@ -284,8 +234,7 @@ split_back_refines s c n id on hand =
 -- What the keeper does with marks, counts and totals.
 
 waiting_snapshots : (slots : List Slot) (n t c : ℕ) (b : Bool) → subtractions_due slots n (if b then Snapshots t c else Rest) ≡ 0
-waiting_snapshots slots n t c true = refl
-waiting_snapshots slots n t c false = refl
+waiting_snapshots slots n t c b = grind arith
 
 pub snapshot_refines : (s : State) (t c : ℕ) → is_snapshot_due s.due t c ≡ true → IsModelRun TakesNone (picture s) (picture (after_snapshot s t c))
 snapshot_refines s t c ok =

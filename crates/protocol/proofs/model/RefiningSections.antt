@@ -3,13 +3,13 @@ use Rattle.std.proofs.Common.{◌≡◌, ℕ, ◌<◌, List, length, get_or, set
 use Rattle.std.proofs.lemmas.Bool.{cases_eq, eq-eqb, ne_eqb, and_parts}
 use Rattle.protocol.specs.Types.{Entry, Key, Live}
 use Rattle.registry_values.specs.Common.{key_of, slot_at}
-use Rattle.protocol.specs.Common.{put, Model, IsModelStep, IsModelRun, Stays, Goes_on, Enters, Exits, Sees, Seeks, Answers, Attaches, Detaches, Acquires, Copies, Releases, Takes, Counts, Uncounts, Vacates, Gives_up, SearchPlace, AtHead, AtNumber, Search, IsLawful, State, section_at, begin_at, depth_at, seen_at, search_at, is_idle, is_outside, is_inside, after_refind, may_recall, may_recall_head, may_refind, may_enter, after_enter, may_exit, after_exit, after_seeing, may_seek, after_seek, with_search_at, search_over, Holds, lookup_of, picture, TakesNone}
+use Rattle.protocol.specs.Common.{put, Model, IsModelStep, IsModelRun, Stays, Goes_on, Enters, Exits, Sees, Seeks, Answers, Attaches, Detaches, Acquires, Copies, Releases, Takes, Counts, Uncounts, Vacates, Gives_up, SearchPlace, AtHead, AtNumber, Search, IsLawful, State, section_at, begin_at, depth_at, seen_at, search_at, is_idle, is_outside, is_inside, after_refind, may_refind, may_enter, after_enter, may_exit, after_exit, after_seeing, may_seek, after_seek, with_search_at, search_over, Holds, lookup_of, picture, TakesNone}
 use Rattle.protocol.specs.Model.{Keeps}
 use Rattle.protocol.specs.Model
 use Rattle.protocol.proofs.Occupied.{written_cases}
 use Rattle.protocol.proofs.Either.{either}
 use Rattle.protocol.proofs.keeps.Searching.{within_some}
-use Rattle.protocol.proofs.keeps.SectionKeeps.{none_from, some_from, idle_parts, idle_tells, recall_head_tells, recall_tells, refind_tells}
+use Rattle.protocol.proofs.keeps.SectionKeeps.{none_from, some_from, idle_parts, idle_tells, refind_tells}
 
 -- When two model states are the same, what written lists show, and runs of few steps.
 
@@ -27,17 +27,7 @@ pub record Alike (a b : Model) : Type 0 where
 
 -- are equal, by function extensionality
 pub same_model : (a b : Model) → Alike a b → a ≡ b
-same_model a b alike = λ i. record {
-  history = alike.history i;
-  sections = λ c. alike.sections c i;
-  passes = λ c. alike.passes c i;
-  lookups = λ c. alike.lookups c i;
-  found = λ c. alike.found c i;
-  passive = λ c n. alike.passive c n i;
-  locals = λ n. alike.locals n i;
-  occupants = λ t. alike.occupants t i;
-  keeps = λ t. alike.keeps t i;
-}
+same_model a b alike = grind arith
 
 -- the pictures are equal: no step
 pub no_step : {MayTake : ℕ → ℕ → Type 0} (a b : Model) → Alike a b → IsModelRun MayTake a b
@@ -90,20 +80,15 @@ put_is f g i x here off j = either (cases_eq j i) (λ same. ap (put f i x) same 
 
 pub put_twice : {X : Type 0} (f g : ℕ → ℕ → X) (c n : ℕ) (x : X) → x ≡ g c n → ((m : ℕ) → (m ≡ n → ⊥) → f c m ≡ g c m) → ((j m : ℕ) → (j ≡ c → ⊥) → f j m ≡ g j m)
     → (j m : ℕ) → put f c (put (f c) n x) j m ≡ g j m
-put_twice {X} f g c n x here beside off j m = either (cases_eq j c)
-    (λ same. ap (λ (k : ℕ). put f c (put (f c) n x) k m) same ∙ (ap (λ (h : ℕ → X). h m) (put_here f c (put (f c) n x)) ∙ (put_is (f c) (g c) n x here beside m ∙ ap (λ (k : ℕ). g k m) (sym same))))
-    (λ no. ap (λ (h : ℕ → X). h m) (put_other f c (put (f c) n x) j no) ∙ off j m no)
+put_twice {X} f g c n x here beside off j m = grind (arith, put_here, put_is, put_other, cases_eq j c)
 
 -- a list after a write shows the function with one value put
 pub written : {X Y : Type 0} (f : X → Y) (d : X) (xs : List X) (c : ℕ) (x : X) → c < length xs → (j : ℕ) → put (λ k. f (get_or xs k d)) c (f x) j ≡ f (get_or (set xs c x) j d)
-written f d xs c x lt j = put_is (λ k. f (get_or xs k d)) (λ k. f (get_or (set xs c x) k d)) c (f x)
-    (ap f (sym (get_or-set_same xs c x d lt))) (λ k off. ap f (sym (get_or-set_other xs c k x d off))) j
+written f d xs c x lt j = grind (arith, put_is, get_or-set_same, get_or-set_other)
 
 -- or the same function, where what it shows of that place stays
 pub unwritten : {X Y : Type 0} (f : X → Y) (d : X) (xs : List X) (c : ℕ) (x : X) → f (get_or xs c d) ≡ f x → (j : ℕ) → f (get_or xs j d) ≡ f (get_or (set xs c x) j d)
-unwritten f d xs c x stays j = either (written_cases d xs c x j)
-    (λ here. ap (λ (k : ℕ). f (get_or xs k d)) here.0 ∙ (stays ∙ ap f (sym here.1)))
-    (λ off. ap f (sym off.1))
+unwritten f d xs c x stays j = grind (arith, written_cases)
 
 -- Seats, sections, notes and lookups make steps of the model.
 
@@ -138,15 +123,6 @@ see_step s c on lt = subst (IsModelStep TakesNone (picture s))
 pub seeing_refines : (s : State) (c : ℕ) → Holds s → c < s.settings.cpus → IsModelRun TakesNone (picture s) (picture (after_seeing s c))
 seeing_refines s c on lt = Goes_on _ _ Stays (see_step s c on lt)
 
-pub recall_refines : (s : State) (c t : ℕ) → Holds s → may_recall s c t ≡ true → IsModelRun TakesNone (picture s) (picture (after_seeing s c))
-recall_refines s c t on ok = let seated = (recall_tells s c t ok).0 in seeing_refines s c on (omega (arith, seated, on.seats.within))
-
-pub recall_head_refines : (s : State) (c : ℕ) → Holds s → may_recall_head s c ≡ true → IsModelRun TakesNone (picture s) (picture (after_seeing s c))
-recall_head_refines s c on ok = let seated = (recall_head_tells s c ok).0 in seeing_refines s c on (omega (arith, seated, on.seats.within))
-
-pub hear_refines : (s : State) (c : ℕ) → Holds s → is_idle s c ≡ true → IsModelRun TakesNone (picture s) (picture (after_seeing s c))
-hear_refines s c on ok = seeing_refines s c on (idle_tells s c on ok).0
-
 pub seek_refines : (s : State) (c : ℕ) (key : Key) → Holds s → may_seek s c ≡ true → IsModelRun TakesNone (picture s) (picture (after_seek s c key))
 seek_refines s c key on ok =
     let p = and_parts (is_idle s c) (is_inside s c) ok in
@@ -159,10 +135,7 @@ seek_refines s c key on ok =
 
 -- a search that began and is over leaves the searches
 unsought : (searches : List (Option Search)) (c : ℕ) (q : Search) → get_or searches c None ≡ None → c < length searches → (d : ℕ) → get_or (set (set searches c (Some q)) c None) d None ≡ get_or searches d None
-unsought searches c q none few d = either (cases_eq d c)
-    (λ same. ap (λ (k : ℕ). get_or (set (set searches c (Some q)) c None) k None) same
-    ∙ (get_or-set_same (set searches c (Some q)) c None None (omega (arith, length-set searches c (Some q), few)) ∙ (sym none ∙ ap (λ (k : ℕ). get_or searches k None) (sym same))))
-    (λ off. get_or-set_other (set searches c (Some q)) c d None None off ∙ get_or-set_other searches c d (Some q) None off)
+unsought searches c q none few d = grind (arith, get_or-set_same, length-set, get_or-set_other, cases_eq d c)
 
 -- a lookup is over, with a lawful answer
 over_step : (s : State) (c : ℕ) (q : Search) (answer : Option Entry) → c < length s.found → search_at s c ≡ Some q
@@ -204,11 +177,8 @@ refind_refines s c t n e on at ok =
     (Goes_on _ _ (Goes_on _ _ (seeing_refines s c on lt) seek) (over_step b c q (Some e) (omega (arith, lt, on.shape.found)) is lawful))
 
 -- a search that goes on shows nothing
-going_on_alike : (s : State) (c : ℕ) (q : Search) (place : SearchPlace) → search_at s c ≡ Some q → Alike (picture s) (picture (with_search_at s c q place))
+pub going_on_alike : (s : State) (c : ℕ) (q : Search) (place : SearchPlace) → search_at s c ≡ Some q → Alike (picture s) (picture (with_search_at s c q place))
 going_on_alike s c q place is = assumption (unwritten lookup_of None s.searches c (Some (record { key = q.key; start = q.start; place = place })) (ap lookup_of is))
-
-pub going_on_refines : (s : State) (c : ℕ) (q : Search) (place : SearchPlace) → search_at s c ≡ Some q → IsModelRun TakesNone (picture s) (picture (with_search_at s c q place))
-going_on_refines s c q place is = no_step (picture s) (picture (with_search_at s c q place)) (going_on_alike s c q place is)
 
 -- The loads of a search.
 

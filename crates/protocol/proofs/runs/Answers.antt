@@ -1,36 +1,23 @@
 -- The result of each lookup is lawful, and a search has its start from its Seek on.
-use Rattle.std.proofs.Common.{◌≡◌, ℕ, ◌≤◌, inl, inr, List, [], ◌∷◌, ◌++◌, length, get_or, set, Option, Some, None, refl, sym, ap, subst, ◌∙◌, arith}
+use Rattle.std.proofs.Common.{◌≡◌, ℕ, ◌≤◌, inl, List, [], ◌∷◌, ◌++◌, length, get_or, set, Option, Some, None, refl, sym, ◌∙◌, arith}
 use Rattle.std.proofs.lemmas.Option.{none-some, same_Some}
 use Rattle.protocol.specs.Types.{Entry, Change, Attach, Detach, Key}
-use Rattle.protocol.specs.Common.{Event, Seek, Reply, Found, Missed, Search, SearchPlace, AtNumber, IsLawful, State, opening, seen_at, search_at, Outcome, step, state_after, Holds, after, after_event, answer_of, IsAnswered, HasBegun, AnswersLawfully, LawfulAnswers}
+use Rattle.protocol.specs.Common.{Event, Reply, Search, SearchPlace, AtNumber, IsLawful, State, opening, seen_at, search_at, Outcome, step, state_after, Holds, after, after_event, answer_of, IsAnswered, HasBegun, AnswersLawfully, LawfulAnswers}
 use Rattle.protocol.proofs.Occupied.{written_cases}
-use Rattle.protocol.proofs.keeps.SearchKeeps.{AnswersLookup, IsAnswer, link_answers, record_answers}
+use Rattle.protocol.proofs.keeps.SearchKeeps.{IsAnswer, link_answers, record_answers}
 use Rattle.protocol.proofs.Made.{Made, Enters, Seeks, LoadsEnd, LoadsSlot, LoadsWord, LoadsLast, Publishes, Unpublishes, Hears, Recalls, RecallsHead, Refinds, ConfirmsTry, made, each_event}
 use Rattle.protocol.proofs.runs.Reuse.{every_run_keeps}
 use Rattle.protocol.proofs.Either.{either}
+use Rattle.std.proofs.lemmas.List.{append-nil}
 
 -- Answers
 
 lawful_of : (h : List Change) (from to : ℕ) (key : Key) (r : Reply) (answer : Option Entry) → IsAnswer h from to key r → answer_of r ≡ Some answer → IsLawful h from to key answer
-lawful_of h from to key (Found e) answer is same = subst (IsLawful h from to key) (same_Some (Some e) answer same) is
-lawful_of h from to key Missed answer is same = subst (IsLawful h from to key) (same_Some None answer same) is
-lawful_of h from to key _ answer is same = absurd (none-some answer same)
+lawful_of h from to key r answer is same = grind (arith, same_Some, none-some)
 
 answered : (s n : State) (e : Event) (r : Reply) (answer : Option Entry) → Holds s → Made s e n r → answer_of r ≡ Some answer → IsAnswered s e (record { state = n; reply = r }) answer
-answered s n _ r answer on (LoadsEnd c q at is) reply = record {
-  cpu = c;
-  search = q;
-  loads = inl refl;
-  under_way = at;
-  lawful = lawful_of n.history q.start (seen_at n c) q.key r answer (subst (AnswersLookup c q) is (link_answers s c q on at)) reply;
-}
-answered s n _ r answer on (LoadsLast c q f at is) reply = record {
-  cpu = c;
-  search = q;
-  loads = inr refl;
-  under_way = at;
-  lawful = lawful_of n.history q.start (seen_at n c) q.key r answer (subst (AnswersLookup c q) is (record_answers s c q on at)) reply;
-}
+answered s n _ r answer on (LoadsEnd c q at is) reply = grind (arith, lawful_of, link_answers)
+answered s n _ r answer on (LoadsLast c q f at is) reply = grind (arith, lawful_of, record_answers)
 answered s n _ _ answer on _ reply = absurd (none-some answer reply)
 
 pub answers_lawful : (s : State) (e : Event) (o : Outcome) (answer : Option Entry) → Holds s → step s e ≡ Some o → answer_of o.reply ≡ Some answer → IsAnswered s e o answer
@@ -43,20 +30,10 @@ over_begun s e c j q is = either (written_cases None s.searches j None c) (λ he
 
 on_begun : (s : State) (e : Event) (c j : ℕ) (q old : Search) (p : SearchPlace) → search_at s j ≡ Some old
     → get_or (set s.searches j (Some (record { key = old.key; start = old.start; place = p }))) c None ≡ Some q → HasBegun s e c q
-on_begun s e c j q old p under is =
-    let new : Search = record { key = old.key; start = old.start; place = p } in
-    either (written_cases None s.searches j (Some new) c)
-    (λ here.
-    let same : new ≡ q = same_Some new q (sym here.1 ∙ is) in
-    inl (old, ap (search_at s) here.0 ∙ under, ap (λ (x : Search). x.start) same, ap (λ (x : Search). x.key) same))
-    (λ off. inl (q, sym off.1 ∙ is, refl, refl))
+on_begun s e c j q old p under is = grind (arith, written_cases, same_Some)
 
 begun : (s n : State) (e : Event) (r : Reply) (c : ℕ) (q : Search) → Made s e n r → search_at n c ≡ Some q → HasBegun s e c q
-begun s _ _ _ c q (Seeks j kind name may) is = either (written_cases None s.searches j (Some (record { key = record { kind = kind; name = name }; start = seen_at s j; place = _ })) c)
-    (λ here.
-    let same = same_Some _ q (sym here.1 ∙ is) in
-    inr (ap (λ (x : Search). Seek j x.key.kind x.key.name) same ∙ ap (λ (k : ℕ). Seek k q.key.kind q.key.name) (sym here.0), ap (λ (x : Search). x.start) (sym same) ∙ ap (seen_at s) (sym here.0)))
-    (λ off. inl (q, sym off.1 ∙ is, refl, refl))
+begun s _ _ _ c q (Seeks j kind name may) is = grind (arith, written_cases, same_Some)
 begun s _ e _ c q (LoadsEnd j old at _) is = over_begun s e c j q is
 begun s _ e _ c q (LoadsSlot j t old at _) is = on_begun s e c j q old (AtNumber t) at is
 begun s _ e _ c q (LoadsWord j w old p at _) is = on_begun s e c j q old p at is
@@ -85,16 +62,12 @@ passes s _ _ _ c on (Refinds j t i e at may) = pass_sees s c j on
 passes s _ _ _ c on (ConfirmsTry j t i at may) = pass_sees s c j on
 passes s _ _ _ c on _ = same_pass s c
 
-append_nil : {X : Type 0} (xs : List X) → xs ++ [] ≡ xs
-append_nil [] = refl
-append_nil (x ∷ xs) = ap (λ zs. x ∷ zs) (append_nil xs)
-
 Grows : List Change → List Change → Type 0
 Grows h k = (more : List Change) × (k ≡ h ++ more)
 
 grown_none : (h : List Change) → Grows h h
 unfolding Grows
-grown_none h = ([], sym (append_nil h))
+grown_none h = ([], sym (append-nil h))
 
 history : (s n : State) (e : Event) (r : Reply) → Made s e n r → Grows s.history n.history
 unfolding Grows

@@ -1,10 +1,10 @@
 -- Fresh lookups: a search goes on from the history as it was at its Seek, whatever other events come between.
-use Rattle.std.proofs.Common.{◌≡◌, ℕ, zero, suc, ◌<◌, ◌≤◌, ◌⊎◌, inl, inr, List, [], ◌∷◌, ◌++◌, length, get_or, set, Option, Some, None, Bool, true, false, refl, sym, ap, subst, ◌∙◌, arith, get_or-set_other, get_or-set_same, IsSome, append_assoc}
+use Rattle.std.proofs.Common.{◌≡◌, ℕ, suc, ◌<◌, ◌≤◌, ◌⊎◌, inl, List, [], ◌∷◌, ◌++◌, length, get_or, set, Option, Some, None, Bool, true, refl, sym, ap, subst, ◌∙◌, arith, get_or-set_other, get_or-set_same, IsSome, append_assoc}
 use Rattle.std.proofs.lemmas.Bool.{and_parts, cases_eq}
 use Rattle.std.proofs.lemmas.List.{append-nil}
 use Rattle.std.proofs.lemmas.Option.{none-some, same_Some}
 use Rattle.protocol.specs.Types.{Entry, Change, Attach, Detach, Key, Slot, Live}
-use Rattle.protocol.specs.Common.{Leads, To_end, To_entry, IsNewestAt, RecallsNewest, NewestRecalls, Refind, after_refind, found_at, may_recall_head, may_refind, refind, Event, Seek, Reply, Done, Word, Found, Missed, Search, SearchPlace, AtHead, AtNumber, EndsAt, IsLiveAt, IsLawful, IsLegal, IsLookup, State, opening, seen_at, search_at, begin_at, Outcome, step, state_after, guard, is_idle, is_inside, may_enter, may_seek, may_recall, may_confirm, confirm, is_honest, has_live, live_at, hand_at, Hand, Trying, IsAttached, after_confirm, after_seek, after_enter, after_seeing, after_change, with_some, load_link, load_searched, some_outcome, Holds, PlaceHolds, after, after_event, IsAllowed, IsLoadOf, answer_of, seek_for, IsNoSeek, SeeksNone, AnswersFreshly, SeesAll, RecallsLive, FreshAnswers, WholePasses, LiveRecalls}
+use Rattle.protocol.specs.Common.{Leads, IsNewestAt, RecallsNewest, NewestRecalls, Refind, after_refind, found_at, may_recall_head, may_refind, refind, Event, Reply, Done, Word, Search, SearchPlace, AtHead, AtNumber, EndsAt, IsLiveAt, IsLawful, IsLegal, IsLookup, State, opening, seen_at, search_at, begin_at, Outcome, step, state_after, guard, is_idle, is_inside, may_seek, may_recall, may_confirm, confirm, is_honest, has_live, live_at, hand_at, Hand, Trying, IsAttached, after_confirm, after_seek, after_seeing, after_change, with_some, load_link, load_searched, some_outcome, Holds, PlaceHolds, after, after_event, IsAllowed, IsLoadOf, answer_of, seek_for, IsNoSeek, SeeksNone, AnswersFreshly, SeesAll, RecallsLive, FreshAnswers, WholePasses, LiveRecalls}
 use Rattle.protocol.specs.History.{change_at}
 use Rattle.registry_values.specs.Common.{key_of, slot_at}
 use Rattle.protocol.proofs.History.{at_within, at_prefix, one_entry, one_live, length-after_change, place_old}
@@ -37,12 +37,7 @@ place_with h k from v w key p same seen holds = subst (λ (x : ℕ). PlaceHolds 
 
 -- what leaves the history, the section and the pass of c leaves its search
 goes_same : (s n : State) (c from : ℕ) (key : Key) (q : Search) → n.history ≡ s.history → begin_at n c ≡ begin_at s c → seen_at n c ≡ seen_at s c → Goes s c from key q → Goes n c from key q
-goes_same s n c from key q history begin seen is = record {
-  sought = is.sought;
-  walk = record { begin = is.walk.begin; open_since = begin ∙ is.walk.open_since; since = is.walk.since; by_now = omega (arith, is.walk.by_now, ap length history) };
-  stands = place_with s.history n.history from (seen_at s c) (seen_at n c) q.key q.place (sym history) (sym seen) is.stands;
-  seen = either is.seen (λ head. inl head) (λ le. inr (omega (arith, le, seen)));
-}
+goes_same s n c from key q history begin seen is = grind (arith, place_with)
 
 going_same : (s n : State) (c from : ℕ) (key : Key) → n.history ≡ s.history → begin_at n c ≡ begin_at s c → seen_at n c ≡ seen_at s c → search_at n c ≡ search_at s c → Going s c from key → Going n c from key
 going_same s n c from key history begin seen search going q is = goes_same s n c from key q history begin seen (going q (sym search ∙ is))
@@ -50,14 +45,7 @@ going_same s n c from key history begin seen search going q is = goes_same s n c
 -- one change more
 going_changed : (s n : State) (x : Change) (c from : ℕ) (key : Key) → n.history ≡ after_change s.history x → begin_at n c ≡ begin_at s c → seen_at n c ≡ seen_at s c → search_at n c ≡ search_at s c
     → Going s c from key → Going n c from key
-going_changed s n x c from key history begin seen search going q is =
-    let was : Goes s c from key q = going q (sym search ∙ is) in record {
-      sought = was.sought;
-      walk = record { begin = was.walk.begin; open_since = begin ∙ was.walk.open_since; since = was.walk.since; by_now = omega (arith, was.walk.by_now, ap length history, length-after_change s.history x) };
-      stands = place_with (after_change s.history x) n.history from (seen_at s c) (seen_at n c) q.key q.place (sym history) (sym seen)
-          (place_old s.history x from (seen_at s c) q.key q.place was.walk.by_now was.stands);
-      seen = either was.seen (λ head. inl head) (λ le. inr (omega (arith, le, seen)));
-    }
+going_changed s n x c from key history begin seen search going q is = grind (arith, length-after_change, place_with, place_old)
 
 -- no search is under way
 going_none : (s : State) (c from : ℕ) (key : Key) → search_at s c ≡ None → Going s c from key
@@ -70,13 +58,7 @@ over_none s c q is = get_or-set_same s.searches c None None (within_some s.searc
 
 placed_goes : (s n : State) (c from left : ℕ) (key : Key) (q : Search) (place : SearchPlace) (w : ℕ) → Goes s c from key q → n.history ≡ s.history → begin_at n c ≡ begin_at s c → from ≤ seen_at n c
     → IsStep n c from q left (Word w) → Going n c from key
-placed_goes s n c from left key q place w was history begin le steps r is =
-    let same : placed q steps.0 ≡ r = same_Some (placed q steps.0) r (sym steps.1 ∙ is) in record {
-      sought = ap (λ (x : Search). x.key) (sym same) ∙ was.sought;
-      walk = record { begin = was.walk.begin; open_since = begin ∙ was.walk.open_since; since = was.walk.since; by_now = omega (arith, was.walk.by_now, ap length history) };
-      stands = subst (λ (x : Search). PlaceHolds n.history from (seen_at n c) x.key x.place) same steps.2;
-      seen = inr le;
-    }
+placed_goes s n c from left key q place w was history begin le steps r is = grind (arith, placed, same_Some)
 
 -- what a load of the search leaves is a step of the walk
 
@@ -98,27 +80,14 @@ own_steps s c from key q e on is was of = either of
 -- the CPU j, which has no search, sees all of the history
 seen_going : (s n : State) (c j from : ℕ) (key : Key) → search_at s j ≡ None → n.history ≡ s.history → n.begins ≡ s.begins → n.seen ≡ set s.seen j (length s.history) → n.searches ≡ s.searches
     → Going s c from key → Going n c from key
-seen_going s n c j from key none history begins seen searches going =
-    let same_search = ap (λ (xs : List (Option Search)). get_or xs c None) searches in
-    either (cases_eq c j)
-    (λ same. going_none n c from key (same_search ∙ (ap (search_at s) same ∙ none)))
-    (λ off. going_same s n c from key history (ap (λ (xs : List (Option ℕ)). get_or xs c None) begins)
-    (ap (λ (xs : List ℕ). get_or xs c 0) seen ∙ get_or-set_other s.seen j c (length s.history) 0 off) same_search going)
+seen_going s n c j from key none history begins seen searches going = grind (arith, going_none, going_same, get_or-set_other, cases_eq c j)
 
 made_going : (s n : State) (c from : ℕ) (key : Key) (e : Event) (r : Reply) → Holds s → IsNoSeek c e → Going s c from key → Made s e n r → Going n c from key
-made_going s n c from key _ _ on off_seek going (Enters j may) = either (cases_eq c j)
-    (λ same. going_none n c from key (ap (search_at s) same ∙ (idle_parts s j (and_parts (is_idle s j) _ may).0).1))
-    (λ off. going_same s n c from key refl (get_or-set_other s.begins j c _ None off) (get_or-set_other s.seen j c _ 0 off) refl going)
-made_going s n c from key _ _ on off_seek going (Exits j may) = either (cases_eq c j)
-    (λ same. going_none n c from key (ap (search_at s) same ∙ (idle_parts s j (and_parts (is_idle s j) _ may).0).1))
-    (λ off. going_same s n c from key refl (get_or-set_other s.begins j c _ None off) refl refl going)
-made_going s n c from key _ _ on off_seek going (Seeks j kind name may) = either (cases_eq c j)
-    (λ same. absurd (off_seek (record { kind = kind; name = name }) (ap (λ (k : ℕ). Seek k kind name) (sym same))))
-    (λ off. going_same s n c from key refl refl refl (get_or-set_other s.searches j c _ None off) going)
+made_going s n c from key _ _ on off_seek going (Enters j may) = grind (arith, going_none, idle_parts, and_parts, going_same, get_or-set_other, cases_eq c j)
+made_going s n c from key _ _ on off_seek going (Exits j may) = grind (arith, going_none, idle_parts, and_parts, going_same, get_or-set_other, cases_eq c j)
+made_going s n c from key _ _ on off_seek going (Seeks j kind name may) = grind (arith, cases_eq c j, off_seek (record { kind = kind; name = name }), going_same s n c from key, get_or-set_other)
 made_going s n c from key _ _ on off_seek going (LoadsEnd j q at is) = by_place (λ k. Going s k from key → Going n k from key) j c
-    (λ was. going_none n j from key (over_none s j q at))
-    (λ off was. going_same s n c from key refl refl (get_or-set_other s.seen j c _ 0 off) (get_or-set_other s.searches j c _ None off) was)
-    going
+    (λ was. going_none n j from key (over_none s j q at)) (λ off. grind (arith, going_same s n c from key, get_or-set_other, off)) going
 made_going s n c from key _ _ on off_seek going (LoadsSlot j t q at is) = by_place (λ k. Going s k from key → Going n k from key) j c
     (λ was.
     let goes = was q at in
@@ -133,9 +102,7 @@ made_going s n c from key _ _ on off_seek going (LoadsWord j w q p at is) = by_p
     (λ off was. going_same s n c from key refl refl refl (get_or-set_other s.searches j c _ None off) was)
     going
 made_going s n c from key _ _ on off_seek going (LoadsLast j q e at is) = by_place (λ k. Going s k from key → Going n k from key) j c
-    (λ was. going_none n j from key (over_none s j q at))
-    (λ off was. going_same s n c from key refl refl refl (get_or-set_other s.searches j c _ None off) was)
-    going
+    (λ was. going_none n j from key (over_none s j q at)) (λ off. grind (arith, going_same s n c from key, get_or-set_other, off)) going
 made_going s n c from key _ _ on off_seek going (Hears j may) = seen_going s n c j from key (idle_parts s j may).1 refl refl refl refl going
 made_going s n c from key _ _ on off_seek going (Recalls j t may) = seen_going s n c j from key (recall_tells s j t may).1 refl refl refl refl going
 made_going s n c from key _ _ on off_seek going (RecallsHead j may) = seen_going s n c j from key (recall_head_tells s j may).1 refl refl refl refl going
@@ -169,12 +136,10 @@ since_events h s c key (e ∷ es) none is =
 -- The begin
 
 allowed_guard : (b : Bool) (o : Option Outcome) → IsSome (guard b o) → b ≡ true
-allowed_guard true o is = refl
-allowed_guard false o is = absurd (let q : ◌≡◌ {A = Bool} false true = is in cc)
+allowed_guard b o is = grind arith
 
 guarded : (s n : State) (b : Bool) (r : Reply) → b ≡ true → state_after s (guard b (some_outcome n r)) ≡ n
-guarded s n true r is = refl
-guarded s n false r is = absurd (let q : ◌≡◌ {A = Bool} false true = is in cc)
+guarded s n b r is = grind arith
 
 since_seek : (s : State) (c : ℕ) (key : Key) → Holds s → IsAllowed s (seek_for c key) → Since s.history (after_event s (seek_for c key)) c key
 since_seek s c key on allowed =
@@ -199,16 +164,11 @@ since_seek s c key on allowed =
 -- The answer
 
 answered_by : (n : State) (c from left : ℕ) (q : Search) (r : Reply) (answer : Option Entry) → IsStep n c from q left r → answer_of r ≡ Some answer → IsLawful n.history from (seen_at n c) q.key answer
-answered_by n c from left q (Found e) answer is same = subst (IsLawful n.history from (seen_at n c) q.key) (same_Some (Some e) answer same) is
-answered_by n c from left q Missed answer is same = subst (IsLawful n.history from (seen_at n c) q.key) (same_Some None answer same) is
-answered_by n c from left q _ answer is same = absurd (none-some answer same)
+answered_by n c from left q r answer is same = grind (arith, same_Some, none-some)
 
 -- an allowed load has a search
 load_searches : (s : State) (c : ℕ) (e : Event) (o : Outcome) (found : Option Search) → IsLoadOf c e → search_at s c ≡ found → step s e ≡ Some o → (q : Search) × (search_at s c ≡ Some q)
-load_searches s c e o (Some q) of is made = (q, is)
-load_searches s c e o None of is made = absurd (none-some o (sym (either of
-    (λ link. ap (step s) link ∙ ap (λ (x : Option Search). with_some x (λ (r : Search). load_link s c r r.place)) is)
-    (λ rec. ap (step s) rec ∙ ap (λ (x : Option Search). with_some x (λ (r : Search). load_searched s c r r.place)) is)) ∙ made))
+load_searches s c e o found of is made = grind (arith, none-some)
 
 load_lawful : (h : List Change) (s : State) (c : ℕ) (key : Key) (e : Event) (o : Outcome) (answer : Option Entry) → Since h s c key → IsLoadOf c e → step s e ≡ Some o → answer_of o.reply ≡ Some answer
     → IsLawful o.state.history (length h) (seen_at o.state c) key answer
@@ -217,8 +177,7 @@ load_lawful h s c key e o answer is of made reply =
     let was : Goes s c (length h) key search.0 = is.going search.0 search.1 in
     let steps : Steps c (length h) search.0 (weight s search.0.place) (Some o) =
     subst (Steps c (length h) search.0 (weight s search.0.place)) made (own_steps s c (length h) key search.0 e is.holds search.1 was of) in
-    subst (λ (k : Key). IsLawful o.state.history (length h) (seen_at o.state c) k answer) was.sought
-    (answered_by o.state c (length h) (weight s search.0.place) search.0 o.reply answer steps reply)
+    grind (arith, answered_by, weight)
 
 -- what was attached, or ended, in the old history is so in the new one
 at_grown : (old new more : List Change) (k : ℕ) (x : Change) → new ≡ old ++ more → change_at old k ≡ Some x → change_at new k ≡ Some x
@@ -237,9 +196,7 @@ met_as old new more seen key (Some f) e legal grown lawful at live same stays =
 
 left_as : (old new more : List Change) (seen : ℕ) (key : Key) (answer : Option Entry) (e : Entry) (p : ℕ) → new ≡ old ++ more → (lawful : IsLawful new (length old) seen key answer)
     → IsLookup new lawful.point key answer → EndsAt old e.number p → answer ≡ Some e → ⊥
-left_as old new more seen key answer e p grown lawful at end is =
-    let live : IsLiveAt new lawful.point e = (subst (IsLookup new lawful.point key) is at).0 in
-    omega (arith, live.unended p (at_grown old new more p (Detach e.number) grown end), (at_within old p (Detach e.number) end).1, lawful.from_on)
+left_as old new more seen key answer e p grown lawful at end is = grind (arith, at_grown, at_within)
 
 pub answers_freshly : (s : State) → Holds s → AnswersFreshly s
 answers_freshly s on c key since event o answer allowed none of made reply =
@@ -266,10 +223,7 @@ record Confirms (s : State) (c : ℕ) (h : Hand) : Type 0 where
   state : state_after s (confirm s c h) ≡ after_confirm s c
 
 confirms : (s : State) (c : ℕ) (h : Hand) → IsSome (confirm s c h) → Confirms s c h
-confirms s c (Trying t n) allowed =
-    let may : may_confirm s c n (slot_at s.slots t) ≡ true = allowed_guard (may_confirm s c n (slot_at s.slots t)) _ allowed in
-    record { slot = t; number = n; hand = refl; may = may; state = guarded s (after_confirm s c) (may_confirm s c n (slot_at s.slots t)) (Word (live_at s.lives t)) may }
-confirms s c _ allowed = absurd (let q : ◌≡◌ {A = Bool} false true = allowed in cc)
+confirms s c h allowed = grind (arith, allowed_guard, guarded)
 
 -- an allowed Refind: the slot has a live entry
 record AllowsRefind (s : State) (c t n : ℕ) (x : Slot) : Type 0 where
@@ -279,60 +233,17 @@ record AllowsRefind (s : State) (c t n : ℕ) (x : Slot) : Type 0 where
   state : state_after s (refind s c t n x) ≡ after_refind s c entry
 
 refinds : (s : State) (c t n : ℕ) (x : Slot) → IsSome (refind s c t n x) → AllowsRefind s c t n x
-refinds s c t n (Live e) allowed =
-    let may : may_refind s c t n e ≡ true = allowed_guard (may_refind s c t n e) _ allowed in
-    record { entry = e; live = refl; may = may; state = guarded s (after_refind s c e) (may_refind s c t n e) (Word (live_at s.lives t)) may }
-refinds s c t n _ allowed = absurd (let q : ◌≡◌ {A = Bool} false true = allowed in cc)
+refinds s c t n x allowed = grind (arith, allowed_guard, guarded)
 
 pub sees_all : (s : State) → Holds s → SeesAll s
-sees_all s on = record {
-  entered = λ c allowed.
-      let may : may_enter s c ≡ true = allowed_guard (may_enter s c) _ allowed in
-      let seated = (idle_parts s c (and_parts (is_idle s c) _ may).0).0 in
-      ap (λ (n : State). seen_at n c) (guarded s (after_enter s c) (may_enter s c) Done may)
-      ∙ get_or-set_same s.seen c (length s.history) 0 (omega (arith, seated, on.shape.seen, on.seats.within));
-  heard = λ c allowed.
-      let may : is_idle s c ≡ true = allowed_guard (is_idle s c) _ allowed in
-      let seated = (idle_parts s c may).0 in
-      ap (λ (n : State). seen_at n c) (guarded s (after_seeing s c) (is_idle s c) Done may)
-      ∙ get_or-set_same s.seen c (length s.history) 0 (omega (arith, seated, on.shape.seen, on.seats.within));
-  recalled = λ c t allowed.
-      let may : may_recall s c t ≡ true = allowed_guard (may_recall s c t) _ allowed in
-      let seated = (recall_tells s c t may).0 in
-      ap (λ (n : State). seen_at n c) (guarded s (after_seeing s c) (may_recall s c t) (Word (live_at s.lives t)) may)
-      ∙ get_or-set_same s.seen c (length s.history) 0 (omega (arith, seated, on.shape.seen, on.seats.within));
-  headed = λ c allowed.
-      let may : may_recall_head s c ≡ true = allowed_guard (may_recall_head s c) _ allowed in
-      let seated = (recall_head_tells s c may).0 in
-      ap (λ (n : State). seen_at n c) (guarded s (after_seeing s c) (may_recall_head s c) (Word s.head) may)
-      ∙ get_or-set_same s.seen c (length s.history) 0 (omega (arith, seated, on.shape.seen, on.seats.within));
-  refound = λ c t n allowed.
-      let made = refinds s c t n (slot_at s.slots t) allowed in
-      let seated = (refind_tells s c t n made.entry made.may).0 in
-      ap (λ (n : State). seen_at n c) made.state ∙ get_or-set_same s.seen c (length s.history) 0 (omega (arith, seated, on.shape.seen, on.seats.within));
-  confirmed = λ c allowed.
-      let made = confirms s c (hand_at s c) allowed in
-      let low = (trying_tells s c made.slot made.number on made.hand).0 in
-      ap (λ (n : State). seen_at n c) made.state ∙ get_or-set_same s.seen c (length s.history) 0 (omega (arith, low, on.shape.seen));
-}
+sees_all s on = grind (arith, allowed_guard, idle_parts, and_parts, guarded, get_or-set_same, recall_tells, recall_head_tells, refinds, refind_tells, confirms, trying_tells)
 
 -- the entry of the history with the number of the slot's live entry is that one
 pub live_is : (s : State) (t n : ℕ) (e : Entry) → Holds s → has_live n (slot_at s.slots t) ≡ true → IsAttached s.history e → e.number ≡ n → IsLiveAt s.history (length s.history) e × (e.slot ≡ t)
-live_is s t n e on test attached number =
-    let is = live_tells n (slot_at s.slots t) test in
-    let shown = on.slots.live t is.0 is.2 in
-    let same : is.0 ≡ e = one_entry s.history is.0 e shown.0.attached attached (is.1 ∙ sym number) in
-    subst (λ (f : Entry). IsLiveAt s.history (length s.history) f × (f.slot ≡ t)) same shown
+live_is s t n e on test attached number = grind (arith, live_tells, one_entry)
 
 pub honest_tells : (n : ℕ) (x : Slot) → 0 < n → is_honest n x ≡ true → has_live n x ≡ true
-honest_tells zero x some test = absurd (omega arith)
-honest_tells (suc n) x some test = test
-
-trying_slot : (t n u m : ℕ) → Trying t n ≡ Trying u m → t ≡ u
-trying_slot t n u m same = cc
-
-trying_number : (t n u m : ℕ) → Trying t n ≡ Trying u m → n ≡ m
-trying_number t n u m same = cc
+honest_tells n x some test = grind arith
 
 pub recalls_live : (s : State) → Holds s → RecallsLive s
 recalls_live s on = record {
@@ -342,9 +253,9 @@ recalls_live s on = record {
       live_is s t (live_at s.lives t) e on (honest_tells (live_at s.lives t) (slot_at s.slots t) some (recall_tells s c t may).3) attached number;
   confirmed = λ c t e hand allowed attached.
       let made = confirms s c (hand_at s c) allowed in
-      let same : Trying made.slot made.number ≡ Trying t e.number = sym made.hand ∙ hand in
-      let slot : made.slot ≡ t = trying_slot made.slot made.number t e.number same in
-      let number : made.number ≡ e.number = trying_number made.slot made.number t e.number same in
+      let q : Trying made.slot made.number ≡ Trying t e.number = sym made.hand ∙ hand in
+      let slot : made.slot ≡ t = cc in
+      let number : made.number ≡ e.number = cc in
       let found = live_is s made.slot made.number e on (confirm_tells s c made.number (slot_at s.slots made.slot) made.may).1 attached (sym number) in
       (found.0, found.1 ∙ slot, tried_seen s c t e.number on hand);
   refound = λ c t e allowed attached.
@@ -361,21 +272,11 @@ recalls_live s on = record {
 
 -- the head leads to the newest live entry
 pub head_newest : (h : List Change) (w : ℕ) → Leads h (length h) (suc (length h)) w → IsNewestAt h w
-head_newest h _ (To_end all) = record {
-  none = λ _ e live. all e live (omega (arith, live.begun));
-  newest = λ t is. absurd (let q : ◌≡◌ {A = ℕ} 0 (suc t) = is in omega (arith, q));
-}
-head_newest h _ (To_entry e live below above) = record {
-  none = λ is. absurd (let q : ◌≡◌ {A = ℕ} (suc e.slot) 0 = is in omega (arith, q));
-  newest = λ t is. (e, live, omega (arith, is), λ f at. above f at (omega (arith, at.begun)));
-}
+head_newest h w leads = grind arith
 
 -- only one word is replied
 pub one_word : (b : Bool) (s n : State) (m w : ℕ) → guard b (some_outcome s (Word m)) ≡ Some (record { state = n; reply = Word w }) → m ≡ w
-one_word true s n m w is = let same : ◌≡◌ {A = Outcome} (record { state = s; reply = Word m }) (record { state = n; reply = Word w }) = same_Some _ _ is in
-    let words : Word m ≡ Word w = ap (λ (x : Outcome). x.reply) same in
-    (let number : m ≡ w = cc in number)
-one_word false s n m w is = absurd (none-some _ is)
+one_word b s n m w is = grind (arith, same_Some, none-some)
 
 pub recalls_newest : (s : State) → Holds s → RecallsNewest s
 recalls_newest s on c w n made = subst (IsNewestAt s.history) (one_word (may_recall_head s c) (after_seeing s c) n s.head w made) (head_newest s.history s.head on.list.first)

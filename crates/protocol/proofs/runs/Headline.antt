@@ -1,10 +1,10 @@
 -- All laws of a state with the invariant: the grace law, the balance at rest, drivers that outlive their interfaces, the headline.
-use Rattle.std.proofs.Common.{◌≡◌, ℕ, ◌*◌, ◌⊎◌, inl, inr, List, [], ◌∷◌, Some, None, ◌&&◌, nat_lt, IsSome, refl, sym, ap, ◌∙◌, arith, get_or-set_other, ◌<◌, Bool, true, false, subst, ◌≤◌, ◌++◌, length, Option}
+use Rattle.std.proofs.Common.{◌≡◌, ℕ, ◌⊎◌, inl, inr, List, [], ◌∷◌, Some, None, IsSome, refl, sym, ap, ◌∙◌, arith, get_or-set_other, ◌<◌, Bool, true, false, subst, ◌≤◌, ◌++◌, length, Option}
 use Rattle.std.proofs.lemmas.Bool.{and_parts, cases_eq}
 use Rattle.std.proofs.lemmas.Option.{none-some}
 use Rattle.protocol.specs.Types.{Entry, Slot, Vacant, Live, Retired, Change}
 use Rattle.registry_values.specs.Common.{bias, slot_at, slot_of, has_number}
-use Rattle.protocol.specs.Common.{Reply, Event, Exit, State, opening, section_at, begin_at, step, state_after, is_idle, is_outside, Holds, after, after_event, HasExit, EndsByExit, GraceLaw, Rest, mark_at, count_at, total_at, at_rest, IsIn, IsCounting, held_at, subtraction_due_at, addition_due_at, is_adding_at, number_in, subtractions_due, occupant_of, held_of, IsBalanced, BalancesAtRest, BalanceAtRest, kept_at, keeps_rightly, ReusesSafely, SafeReuse, OutliveInterfaces, DriversOutlive, Due, Subtracting, IsAttached, Occupies, one_if, IsUnheld, passive_in, picture, IsAllowed, destroyed_slot, given_slot, IsSafe, Headline, empty_run, ObeysLaws, InvariantSuffices}
+use Rattle.protocol.specs.Common.{Reply, Event, Exit, State, opening, section_at, begin_at, step, state_after, Holds, after, after_event, HasExit, EndsByExit, GraceLaw, Rest, mark_at, count_at, total_at, at_rest, IsIn, IsCounting, held_at, addition_due_at, is_adding_at, number_in, subtractions_due, occupant_of, held_of, IsBalanced, BalancesAtRest, BalanceAtRest, kept_at, keeps_rightly, ReusesSafely, SafeReuse, OutliveInterfaces, DriversOutlive, Due, IsAttached, Occupies, one_if, IsUnheld, passive_in, picture, IsAllowed, destroyed_slot, given_slot, IsSafe, Headline, empty_run, ObeysLaws, InvariantSuffices}
 use Rattle.protocol.proofs.keeps.Keeping.{step_keeps, after_keeps, ran_keeps}
 use Rattle.protocol.proofs.keeps.SectionKeeps.{none_from}
 use Rattle.protocol.proofs.Made.{Made, Enters, Exits, each_event}
@@ -28,15 +28,8 @@ Same c s t = (section_at t c ≡ section_at s c) × (begin_at t c ≡ begin_at s
 
 -- each event leaves an open section of c, except its exit
 made_open : (s n : State) (c b : ℕ) (e : Event) (r : Reply) → Made s e n r → begin_at s c ≡ Some b → Same c s n ⊎ (e ≡ Exit c)
-made_open s _ c b _ _ (Enters j may) in_ = either (cases_eq c j)
-    (λ same. absurd (
-    let p = and_parts (is_idle s j) (is_outside s j && nat_lt (section_at s j) (2 * s.settings.section_limit)) may in
-    let q = and_parts (is_outside s j) (nat_lt (section_at s j) (2 * s.settings.section_limit)) p.1 in
-    none-some b (sym (none_from (begin_at s j) q.0) ∙ (ap (begin_at s) (sym same) ∙ in_))))
-    (λ off. inl (get_or-set_other s.section j c _ 0 off, get_or-set_other s.begins j c _ None off))
-made_open s _ c b _ _ (Exits j may) in_ = either (cases_eq c j)
-    (λ same. inr (ap Exit (sym same)))
-    (λ off. inl (get_or-set_other s.section j c _ 0 off, get_or-set_other s.begins j c _ None off))
+made_open s _ c b _ _ (Enters j may) in_ = grind (arith, and_parts, none-some, none_from, get_or-set_other, cases_eq c j)
+made_open s _ c b _ _ (Exits j may) in_ = grind (arith, get_or-set_other, cases_eq c j)
 made_open s _ c b _ _ _ in_ = inl (refl, refl)
 
 stays_open : (s : State) (c b : ℕ) (e : Event) → begin_at s c ≡ Some b → Same c s (after_event s e) ⊎ ((e ≡ Exit c) × IsSome (step s e))
@@ -68,24 +61,14 @@ grace_law z events fit = ends_by_exit (after (opening z) events) (every_run_keep
 -- At rest the balance of each slot is its local references held.
 
 vacant_number : (x : Slot) → number_in x ≡ None → x ≡ Vacant
-vacant_number Vacant is = refl
-vacant_number (Live e) is = absurd (none-some e.number (sym is))
-vacant_number (Retired e) is = absurd (none-some e.number (sym is))
+vacant_number x is = grind (arith, none-some)
 
 -- what is held in the slot of n is what the model and the slots hold of n
 held_same : (s : State) (n t : ℕ) → s.due ≡ Rest → held_at s.locals s.hands s.keeps s.due n t ≡ held_of s n
-held_same s n t rest =
-    let none : subtraction_due_at t s.due ≡ 0 = ap (subtraction_due_at t) rest in
-    let also : subtractions_due s.slots n s.due ≡ 0 = ap (subtractions_due s.slots n) rest in
-    omega (arith, none, also)
+held_same s n t rest = grind arith
 
 entry_balanced : (s : State) (t : ℕ) (e : Entry) → Holds s → s.due ≡ Rest → IsIn e (slot_at s.slots t) → IsBalanced s t e.number
-entry_balanced s t e on rest is =
-    let b = on.balance.balance t e is in
-    let none : addition_due_at t s.due ≡ 0 = ap (addition_due_at t) rest in
-    let also : is_adding_at t s.due ≡ 0 = ap (is_adding_at t) rest in
-    let held = held_same s e.number t rest in
-    omega (arith, b.even, none, also, held)
+entry_balanced s t e on rest is = omega (arith, (on.balance.balance t e is).even, ap (addition_due_at t) rest, ap (is_adding_at t) rest, held_same s e.number t rest)
 
 pub slot_balanced : (s : State) (t n : ℕ) → Holds s → at_rest s.due ≡ true → occupant_of s t ≡ Some n → IsBalanced s t n
 slot_balanced s t n on rest is =
@@ -195,8 +178,7 @@ one_waits (Live e) n off = one_other e.number n (off e (inl refl))
 one_waits (Retired e) n off = one_other e.number n (off e (inr refl))
 
 none_waits : (slots : List Slot) (n : ℕ) (due : Due) → (Occupies slots n → ⊥) → subtractions_due slots n due ≡ 0
-none_waits slots n (Subtracting t) off = one_waits (slot_at slots t) n (λ e is same. off (t, e, is, same))
-none_waits slots n _ off = refl
+none_waits slots n due off = grind (arith, one_waits)
 
 none_passive : (s : State) (c n : ℕ) (o : Option ℕ) → slot_of s.slots n ≡ o → (Occupies s.slots n → ⊥) → passive_in s.passive s.hands c o ≡ 0
 none_passive s c n None is off = refl
@@ -215,10 +197,7 @@ unheld_unoccupied s e on attached off =
 
 -- an entry whose slot doesn't have it has none
 elsewhere : (s : State) (e : Entry) → Holds s → IsAttached s.history e → (occupant_of s e.slot ≡ Some e.number → ⊥) → Occupies s.slots e.number → ⊥
-elsewhere s e on attached off is =
-    let was = attached_in s.history s.slots is.0 is.1 on.slots is.2 in
-    let one : is.1 ≡ e = one_entry s.history is.1 e was.0 attached is.3 in
-    off (ap (occupant_of s) (ap (λ (f : Entry). f.slot) (sym one) ∙ was.1) ∙ (number_of (slot_at s.slots is.0) is.1 is.2 ∙ ap (λ (k : ℕ). Some k) is.3))
+elsewhere s e on attached off is = grind (arith, attached_in, one_entry, number_of)
 
 destroyed : (s : State) (event : Event) (e : Entry) → Holds s → destroyed_slot event ≡ Some e.slot → IsAllowed s event → IsAttached s.history e → IsUnheld (picture s) e.number
 destroyed s event e on of allowed attached = either (goes_or_stays (occupant_of s e.slot) e.number)

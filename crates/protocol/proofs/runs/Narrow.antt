@@ -1,5 +1,5 @@
 -- The pure machine: its lists of events are lists of `step`, and what it attaches has a lawful name; the worked rows, computed.
-use Rattle.std.proofs.Common.{◌≡◌, ℕ, ◌+◌, List, [], ◌∷◌, length, Option, Some, None, Bool, true, false, if◌then◌else◌, refl, sym, subst, arith, ◌++◌}
+use Rattle.std.proofs.Common.{◌≡◌, ℕ, ◌+◌, List, [], ◌∷◌, length, Option, Some, Bool, true, false, if◌then◌else◌, refl, sym, subst, arith, ◌++◌}
 use Rattle.std.specs.Prelude.{IsTrue}
 use Rattle.std.proofs.lemmas.Option.{none-some}
 use Rattle.protocol.specs.Types.{Entry, Change, Attach, Detach}
@@ -14,8 +14,7 @@ use Rattle.protocol.proofs.Made.{Made, Publishes, Unpublishes, each_event}
 use Rattle.protocol.proofs.runs.Steps.{turned_state}
 
 guard_tells : (b : Bool) (o : Option Outcome) (x : Outcome) → guard b o ≡ Some x → (b ≡ true) × (o ≡ Some x)
-guard_tells true o x is = (refl, is)
-guard_tells false o x is = absurd (none-some x is)
+guard_tells b o x is = grind (arith, none-some)
 
 pub narrow_events : NarrowEvents
 narrow_events s event o is = (guard_tells (names_lawfully s event) (step s event) o is).1
@@ -39,22 +38,14 @@ AllAlike es = (s : State) (k m n : ℕ) (l : Option Reply)
 
 alike_step : (s : State) (es : List Event) (k m n : ℕ) (l : Option Reply) (o : Option Outcome) → AllAlike es
     → Alike (narrow_run_of_events (run_with_event (made s k m l) o) es) (run_of_events (run_with_event (made s k n l) o) (with_lawful_names (state_after s o) es)) es (with_lawful_names (state_after s o) es) m n
-alike_step s es k m n l None all =
-    let a = all s k (m + 1) (n + 1) l in
-    record { state = a.state; taken = a.taken; last = a.last; refused = omega (arith, a.refused) }
-alike_step s es k m n l (Some o) all = all o.state (k + 1) m n (Some o.reply)
+alike_step s es k m n l o all = grind arith
 
 -- by the name that the first event publishes, if it does
 alike_name : (s : State) (e : Event) (es : List Event) (k m n : ℕ) (l : Option Reply) (b : Bool) → AllAlike es
     → Alike (narrow_run_of_events (run_with_event (made s k m l) (guard b (step s e))) es)
     (run_of_events (made s k n l) (if b then e ∷ with_lawful_names (state_after s (step s e)) es else with_lawful_names s es)) (e ∷ es)
     (if b then e ∷ with_lawful_names (state_after s (step s e)) es else with_lawful_names s es) m n
-alike_name s e es k m n l true all =
-    let a = alike_step s es k m n l (step s e) all in
-    record { state = a.state; taken = a.taken; last = a.last; refused = omega (arith, a.refused) }
-alike_name s e es k m n l false all =
-    let a = all s k (m + 1) n l in
-    record { state = a.state; taken = a.taken; last = a.last; refused = omega (arith, a.refused) }
+alike_name s e es k m n l b all = grind (arith, alike_step)
 
 alike : (es : List Event) (s : State) (k m n : ℕ) (l : Option Reply)
     → Alike (narrow_run_of_events (made s k m l) es) (run_of_events (made s k n l) (with_lawful_names s es)) es (with_lawful_names s es) m n
@@ -62,19 +53,12 @@ alike [] s k m n l = record { state = refl; taken = refl; last = refl; refused =
 alike (e ∷ es) s k m n l = alike_name s e es k m n l (names_lawfully s e) (alike es)
 
 pub narrow_runs : NarrowRuns
-narrow_runs s events =
-    let a = alike events s 0 0 0 None in
-    record { state = a.state; taken = a.taken; last = a.last; refused = omega (arith, a.refused) }
+narrow_runs s events = grind (arith, alike)
 
 -- Names
 
 named_attach : (h : List Change) (e : Entry) → IsTrue (is_lawful e.rec.name) → AreNamedLawfully h → AreNamedLawfully (after_change h (Attach e))
-named_attach h e lawful named f att = either (at_cases h (Attach e) f.number (Attach f) att)
-    (λ old. named f old.was)
-    (λ new. subst (λ (g : Entry). IsTrue (is_lawful g.rec.name)) (same f e new.is) lawful)
-  where
-    same : (f e : Entry) → ◌≡◌ {A = Change} (Attach f) (Attach e) → e ≡ f
-    same f e is = cc
+named_attach h e lawful named f att = grind (arith, at_cases)
 
 named_detach : (h : List Change) (n : ℕ) → AreNamedLawfully h → AreNamedLawfully (after_change h (Detach n))
 named_detach h n named f att = either (at_cases h (Detach n) f.number (Attach f) att) (λ old. named f old.was) (λ new. absurd (let q : ◌≡◌ {A = Change} (Attach f) (Detach n) = new.is in cc))
@@ -93,8 +77,7 @@ named_if s event true is named = each_event (λ o. AreNamedLawfully (state_after
 named_if s event false is named = named
 
 holds_if : (s : State) (event : Event) (b : Bool) → Holds s → Holds (state_after s (guard b (step s event)))
-holds_if s event true on = after_keeps s (step s event) on (step_keeps s event on)
-holds_if s event false on = on
+holds_if s event b on = grind (arith, after_keeps, step_keeps)
 
 ran_named : (r : Run) (es : List Event) → Holds r.state → AreNamedLawfully r.state.history → AreNamedLawfully (narrow_run_of_events r es).state.history
 ran_named r [] on named = named

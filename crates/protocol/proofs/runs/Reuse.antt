@@ -1,8 +1,8 @@
 -- Safe reuse: which events move an occupant, and what holds nothing then.
-use Rattle.std.proofs.Common.{◌≡◌, ℕ, suc, ◌⊎◌, inl, inr, List, length, set, Option, Some, None, Bool, true, false, ◌&&◌, IsSome, refl, sym, ap, subst, ◌∙◌, get_or-set_same, get_or-set_other}
-use Rattle.std.proofs.lemmas.Bool.{and_parts, cases_eq}
+use Rattle.std.proofs.Common.{◌≡◌, ℕ, suc, ◌⊎◌, inl, inr, List, length, set, Option, Some, None, Bool, true, false, ◌&&◌, IsSome, refl, sym, ap, subst, ◌∙◌, get_or-set_same, get_or-set_other, arith}
+use Rattle.std.proofs.lemmas.Bool.{and_parts}
 use Rattle.std.proofs.lemmas.Option.{none-some, same_Some}
-use Rattle.protocol.specs.Types.{Entry, Slot, Vacant, Live, Retired}
+use Rattle.protocol.specs.Types.{Entry, Slot, Vacant}
 use Rattle.protocol.specs.Common.{Event, Publish, KeptSub, Vacate, EndsAt, State, opening, kept_at, state_after, may_write, is_drained, Holds, IsIn, IsUnheld, number_in, picture, empty_run, IsAllowed, occupant_of, Reply, after_event, destroyed_slot, given_slot, EveryRunKeeps}
 use Rattle.registry_values.specs.Common.{slot_at}
 use Rattle.protocol.proofs.keeps.Keeping.{ran_keeps, opening_holds}
@@ -21,9 +21,7 @@ every_run_keeps z events fit = ran_keeps (empty_run (opening z)) events (opening
 -- Occupants
 
 pub number_is : (x : Slot) (n : ℕ) → number_in x ≡ Some n → (e : Entry) × IsIn e x × (e.number ≡ n)
-number_is Vacant n is = absurd (none-some n is)
-number_is (Live e) n is = (e, inl refl, same_Some e.number n is)
-number_is (Retired e) n is = (e, inr refl, same_Some e.number n is)
+number_is x n is = grind (arith, none-some, same_Some)
 
 -- what a written slot list has at a place
 moved : (slots : List Slot) (t : ℕ) (x : Slot) (u : ℕ) → ((u ≡ t) × (number_in (slot_at (set slots t x) u) ≡ number_in x)) ⊎ (number_in (slot_at (set slots t x) u) ≡ number_in (slot_at slots u))
@@ -42,12 +40,8 @@ vacated_goes s e t u n on of ok is off = either (moved s.slots u Vacant t)
     (λ same. absurd (off (same ∙ is)))
 
 made_goes : (s g : State) (e : Event) (r : Reply) (t n : ℕ) → Holds s → Made s e g r → occupant_of s t ≡ Some n → (occupant_of g t ≡ Some n → ⊥) → Goes s e t n
-made_goes s g _ _ t n on (Publishes u e of may) is off = absurd (either (moved s.slots u (Live e) t)
-    (λ here. none-some n (sym (ap number_in (ap (slot_at s.slots) here.0 ∙ (may_publish_tells s u e on.shape may).vacant)) ∙ is))
-    (λ same. off (same ∙ is)))
-made_goes s g _ _ t n on (Unpublishes u head next e at rest past) is off = absurd (either (moved s.slots u (Retired e) t)
-    (λ here. off (here.1 ∙ (sym (ap number_in (ap (slot_at s.slots) here.0 ∙ at)) ∙ is)))
-    (λ same. off (same ∙ is)))
+made_goes s g _ _ t n on (Publishes u e of may) is off = grind (arith, moved, none-some, may_publish_tells)
+made_goes s g _ _ t n on (Unpublishes u head next e at rest past) is off = grind (arith, moved)
 made_goes s g _ _ t n on (SubsKept u d v keeps of may) is off = vacated_goes s (KeptSub u) t u n on refl (and_parts _ (is_drained s u) may).1 is off
 made_goes s g _ _ t n on (Vacates u may) is off = vacated_goes s (Vacate u) t u n on refl (and_parts _ (is_drained s u) may).1 is off
 made_goes s g _ _ t n on _ is off = absurd (off is)
@@ -63,15 +57,8 @@ vacated_away : (s : State) (t u n : ℕ) → (occupant_of s t ≡ Some n → ⊥
 vacated_away s t u n off is = either (moved s.slots u Vacant t) (λ here. none-some n (sym here.1 ∙ is)) (λ same. off (sym same ∙ is))
 
 made_comes : (s g : State) (e : Event) (r : Reply) (t n : ℕ) → Holds s → Made s e g r → (occupant_of s t ≡ Some n → ⊥) → occupant_of g t ≡ Some n → Comes s e t n
-made_comes s g _ _ t n on (Publishes u e of may) off is = either (moved s.slots u (Live e) t)
-    (λ here.
-    let told = may_publish_tells s u e on.shape may in
-    let same : e.number ≡ n = same_Some e.number n (sym here.1 ∙ is) in
-    (ap Publish (sym here.0), ap number_in (ap (slot_at s.slots) here.0 ∙ told.vacant), sym same ∙ told.number))
-    (λ same. absurd (off (sym same ∙ is)))
-made_comes s g _ _ t n on (Unpublishes u head next e at rest past) off is = absurd (either (moved s.slots u (Retired e) t)
-    (λ here. off (ap number_in (ap (slot_at s.slots) here.0 ∙ at) ∙ (sym here.1 ∙ is)))
-    (λ same. off (sym same ∙ is)))
+made_comes s g _ _ t n on (Publishes u e of may) off is = grind (arith, moved, may_publish_tells, same_Some)
+made_comes s g _ _ t n on (Unpublishes u head next e at rest past) off is = grind (arith, moved)
 made_comes s g _ _ t n on (SubsKept u d v keeps of may) off is = absurd (vacated_away s t u n off is)
 made_comes s g _ _ t n on (Vacates u may) off is = absurd (vacated_away s t u n off is)
 made_comes s g _ _ t n on _ off is = absurd (off is)
@@ -120,9 +107,7 @@ vacated_keeps s t u n on ok is now same = either (moved s.slots u Vacant t)
     none-some n (sym gone ∙ now)))
 
 made_same : (s g : State) (e : Event) (r : Reply) (t n : ℕ) → Holds s → Made s e g r → occupant_of s t ≡ Some n → occupant_of g t ≡ Some n → kept_at g.keeps t ≡ kept_at s.keeps t
-made_same s g _ _ t n on (KeepsDriver u id d v at stands may) is now =
-    let vacant = (may_write_tells s u on.shape (and_parts (may_write s u) _ may).0).2 in
-    get_or-set_other s.keeps u t (Some d) None (λ same. none-some n (sym (ap number_in (ap (slot_at s.slots) same ∙ vacant)) ∙ is))
+made_same s g _ _ t n on (KeepsDriver u id d v at stands may) is now = grind (arith, may_write_tells, and_parts, get_or-set_other, none-some)
 made_same s g _ _ t n on (SubsKept u d v keeps of may) is now = get_or-set_other s.keeps u t None None (vacated_keeps s t u n on (and_parts _ (is_drained s u) may).1 is now)
 made_same s g _ _ t n on _ is now = refl
 
@@ -132,5 +117,4 @@ keeps_same s e t n on is =
 
 -- the occupant of a slot goes or stays
 pub goes_or_stays : (x : Option ℕ) (n : ℕ) → (x ≡ Some n) ⊎ (x ≡ Some n → ⊥)
-goes_or_stays None n = inr (λ is. none-some n is)
-goes_or_stays (Some m) n = either (cases_eq m n) (λ same. inl (ap (λ (k : ℕ). Some k) same)) (λ off. inr (λ is. off (same_Some m n is)))
+goes_or_stays x n = grind (arith, none-some, same_Some)

@@ -1,5 +1,5 @@
 -- What each event does to the history, the slots, the sections, the passes and the searches, and a run over one event more.
-use Rattle.std.proofs.Common.{◌≡◌, ℕ, ◌+◌, ◌<◌, List, [], ◌∷◌, ◌++◌, Option, refl, ap, ◌∙◌, take, length, get_or, Some, None, sym}
+use Rattle.std.proofs.Common.{◌≡◌, ℕ, ◌+◌, ◌<◌, List, [], ◌∷◌, ◌++◌, Option, refl, ap, ◌∙◌, take, length, get_or, sym, arith}
 use Rattle.std.proofs.lemmas.List.{take_more}
 use Rattle.protocol.specs.Common.{Event, Counted, State, Outcome, narrow_step, Run, narrow_run_of_events, run_with_event, step, state_after, run_of_events, empty_run, after, after_event}
 
@@ -20,8 +20,7 @@ ran_more r es i d s k o below so_far is =
 
 -- the counts of a run don't matter to its state
 pub turned_state : (r : Run) (o : Option Outcome) → (run_with_event r o).state ≡ state_after r.state o
-turned_state r None = refl
-turned_state r (Some o) = refl
+turned_state r o = grind arith
 
 pub same_states : (q r : Run) (es : List Event) → q.state ≡ r.state → (run_of_events q es).state ≡ (run_of_events r es).state
 same_states q r [] same = same
