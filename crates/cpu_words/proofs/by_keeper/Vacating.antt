@@ -15,8 +15,8 @@ use Rattle.protocol.proofs.Occupied.{written_cases, in_other, in_vacated, one_nu
 use Rattle.protocol.proofs.Cells.{get_or_all, cell_in_old, slot_other}
 use Rattle.protocol.proofs.counts.Bounds.{driver_positive}
 use Rattle.protocol.proofs.keeps.ListKeeps.{rows_put}
-use Rattle.cpu_words.specs.Common.{KeeperView, KeeperShown, Good, IsDrained, Keeper, total_of, index, keeper_view, one_more, GivesUp, Agrees, did, Makes, KeeperMay, MayKeptSub, HasKeptSub, KeptSubTold, LogItem, View, keeper_of, KeeperHasHeard, Ruled, GoesOn, Moves, MayVacate, keeper_after_vacate, VacateTold, head_word}
-use Rattle.cpu_words.proofs.by_keeper.KeeperSteps.{KeeperLists, keeper_lists, LeavesCpus, seen_by_keeper, with_keeper, keeper_makes, loads}
+use Rattle.cpu_words.specs.Common.{KeeperView, KeeperShown, Good, IsDrained, Keeper, total_of, index, keeper_view, one_more, Agrees, did, Makes, KeeperMay, MayKeptSub, HasKeptSub, KeptSubTold, LogItem, View, keeper_of, KeeperHasHeard, Ruled, GoesOn, Moves, MayVacate, keeper_after_vacate, VacateTold, head_word}
+use Rattle.cpu_words.proofs.by_keeper.KeeperSteps.{LeavesCpus, seen_by_keeper, with_keeper, keeper_makes, loads}
 use Rattle.cpu_words.proofs.shown.Seeing.{honest_retired}
 use Rattle.cpu_words.proofs.by_keeper.Totals.{total_words, shown_less, later_less}
 use Rattle.cpu_words.proofs.shown.Showing.{goes_both}
@@ -45,8 +45,7 @@ drained_of g k t good had drained =
     let passed : have_passed g.settings.cpus row ≡ true = sym (λ i. have_passed (seen.settings i).cpus (get_or (seen.marks i) t [])) ∙ drained.passed in
     let clear : are_clear g.settings.cpus row ≡ true = sym (λ i. are_clear (seen.settings i).cpus (get_or (seen.marks i) t [])) ∙ drained.clear in
     let all : are_collected g.settings.cpus row ≡ true = sym (λ i. are_collected (seen.settings i).cpus (get_or (seen.marks i) t [])) ∙ drained.collected in
-    let total : total_at g.totals t ≡ bias = sym (ap (λ (x : List ℕ). total_at x t) seen.totals) ∙ drained.total in
-    let is : is_drained g t ≡ true = rw (rest, retired, passed, clear, all, eq-eqb (total_at g.totals t) bias total) refl in
+    let is : is_drained g t ≡ true = rw (rest, retired, passed, clear, all, eq-eqb (total_at g.totals t) bias (sym (ap (λ (x : List ℕ). total_at x t) seen.totals) ∙ drained.total)) refl in
     let told = is_drained_tells g t good.holds is in
     record {
       rest = rest;
@@ -55,10 +54,7 @@ drained_of g k t good had drained =
       clear = told.3 0 (ranges g.settings good.holds.fit).some_cpu;
       passive = λ c. ⊎_elim
           (λ (lt : c < g.settings.cpus). (good.holds.passive.clear c t e retired (told.3 c lt)).1)
-          (λ (past : g.settings.cpus ≤ c).
-          let none = good.holds.passive.beyond c t past in
-          let counted = good.holds.passive.counted c t in
-          omega (arith, none, counted))
+          (λ (past : g.settings.cpus ≤ c). omega (arith, good.holds.passive.beyond c t past, good.holds.passive.counted c t))
           (cases_lt c g.settings.cpus);
       counts = λ c. ⊎_elim
           (λ (lt : c < g.settings.cpus). good.holds.balance.emptied c t e retired (told.4 c lt))
@@ -67,8 +63,8 @@ drained_of g k t good had drained =
     }
 
 -- the slot t is vacant; totals and what slots keep may change beside it
-abbrev pub vacating : State → ℕ → List ℕ → List (Option ℕ) → KeeperLists
-vacating g t totals keeps = record (keeper_lists g) { totals = totals; slots = set g.slots t Vacant; keeps = keeps }
+abbrev pub vacating : State → ℕ → List ℕ → List (Option ℕ) → State
+vacating g t totals keeps = record g { totals = totals; slots = set g.slots t Vacant; keeps = keeps }
 
 -- the CPUs' views stay
 pub vacated_leaves : (g : State) (t : ℕ) (e : Entry) (totals : List ℕ) (keeps : List (Option ℕ)) → Good g → Drained g t e → LeavesCpus g (vacating g t totals keeps)
@@ -148,7 +144,7 @@ kept_of g k t u may good had =
     }
 
 -- the state after it, and the view's own counts
-abbrev giving_back : State → ℕ → ℕ → KeeperLists
+abbrev giving_back : State → ℕ → ℕ → State
 giving_back g t u = vacating g t (set g.totals u (total_at g.totals u - 1)) (set g.keeps t None)
 
 abbrev own_after : KeeperView → ℕ → ℕ → KeeperView
@@ -166,9 +162,7 @@ shown_kept_sub g k t d u e good had x = record {
       shown_less g k u x.driver good x.here x.some_left v f (inl was) ∙ had.live_total v f was;
   gives_up = λ v f gone.
       let there = stood g t v e f (Retired f) x.drained gone (inr refl) in
-      let was : GivesUp g k.given_up v f.number = had.gives_up v f there in
-      let less = shown_less g k u x.driver good x.here x.some_left v f (inr there) in
-      omega (arith, was, less);
+      omega (arith, had.gives_up v f there, shown_less g k u x.driver good x.here x.some_left v f (inr there));
   later = later_less g k u x.driver good had x.here;
   beyond = had.beyond;
   honest = honest_retired g.slots g.lives t e Vacant x.drained.retired had.honest;
@@ -186,12 +180,10 @@ kept_sub_may z k t u may s r i at fits =
     let n = x.driver.number in
     let v = total_at g.totals u - 1 in
     let w = slice_index s.words (index z (total_of u)) in
-    let found : w ≡ total_at g.totals u = r.words.at (total_of u) x.slot in
-    let next : (w + (2 ^ 64 - 1)) % 2 ^ 64 ≡ v = omega (arith, found, x.some_left, fits) in
-    let l : KeeperLists = giving_back g t u in
+    let next : (w + (2 ^ 64 - 1)) % 2 ^ 64 ≡ v = omega (arith, r.words.at (total_of u) x.slot, x.some_left, fits) in
+    let l = giving_back g t u in
     let own : KeeperView = own_after k t n in
-    let kind : is_iface e.rec.kind ≡ true = ap is_iface may.kind in
-    let made : step g (KeptSub t) ≡ Some (record { state = with_keeper g l; reply = Done }) = rw (x.kept, x.of, x.drained.is, x.drained.retired, kind) refl in
+    let made : step g (KeptSub t) ≡ Some (record { state = with_keeper g l; reply = Done }) = rw (x.kept, x.of, x.drained.is, x.drained.retired, ap is_iface may.kind) refl in
     let words : Agrees z (set s.words (index z (total_of u)) ((w + (2 ^ 64 - 1)) % 2 ^ 64)) (with_keeper g l) =
     subst (λ m. Agrees z (set s.words (index z (total_of u)) m) (with_keeper g l)) (sym next) (total_words z s.words g l u v r.good x.slot r.words refl refl refl refl refl refl) in
     let done = keeper_makes z s r i k (index z (total_of u)) ((w + (2 ^ 64 - 1)) % 2 ^ 64) l (KeptSub t) Done own at made (vacated_leaves g t e (set g.totals u v) (set g.keeps t None) r.good x.drained)
@@ -230,7 +222,7 @@ kept_sub_change k l t u may told =
 -- Vacate by the keeper's seat: it changes no word, so it is made right before the load of the head that lets the keeper hear.
 
 -- the state after it, and the keeper's view
-abbrev emptied : State → ℕ → KeeperLists
+abbrev emptied : State → ℕ → State
 emptied g t = vacating g t g.totals g.keeps
 
 shown_vacated : (g : State) (k : KeeperView) (t : ℕ) (e : Entry) → KeeperShown g k → Drained g t e
@@ -262,7 +254,7 @@ vacates z k t may s r i at =
     let e = may.drained.retired.0 in
     let keeps_none : kept_at g.keeps t ≡ None = ap (λ (x : List (Option ℕ)). kept_at x t) (sym (seen_by_keeper g k r.good had).keeps) ∙ may.keeps_nothing in
     let made : step g (Vacate t) ≡ Some (record { state = after_vacate g t; reply = Done }) = rw (keeps_none, drained.is) refl in
-    let l : KeeperLists = emptied g t in
+    let l = emptied g t in
     let own = (keeper_after_vacate k t) in
     let w = keeper_view (with_keeper g l) own in
     let n = slice_index s.words 0 in

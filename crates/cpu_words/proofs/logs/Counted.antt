@@ -157,9 +157,8 @@ apart t c u d off = ⊎_elim
 collected_does : (s : State) (t c : ℕ) → Holds s → may_collect s t c ≡ true → Does s (Collect t c) (Word (count_at s.counts c t)) (after_collect s t c)
 collected_does s t c on may =
     let p = and_parts (may_examine s t c) (is_drainable s t && not (mark_at s.marks t c).collected) may in
-    let q = and_parts (is_drainable s t) (not (mark_at s.marks t c).collected) p.1 in
     let told = may_examine_tells s t c p.0 in
-    let still : (mark_at s.marks t c).collected ≡ false = false_from (mark_at s.marks t c).collected q.1 in
+    let still : (mark_at s.marks t c).collected ≡ false = false_from (mark_at s.marks t c).collected (and_parts (is_drainable s t) (not (mark_at s.marks t c).collected) p.1).1 in
     let gone : slot_at s.slots t ≡ Retired told.2.0 = told.2.1 in
     let place = mark_place s t c told.2.0 on gone told.1 in
     let net : count_at s.counts c t ≡ count_at s.nets c t = (on.balance.counted c t told.1 (told.2.0, inr (gone, still))).0 in
@@ -171,9 +170,7 @@ collected_does s t c on may =
       λ u d. by_cell (λ i j. word_in n i j ≡ word_after i j (Collect t c) (Word w) (word_in s i j)) t c u d
           (
           let drawn : is_drawn n t c ≡ true = λ k. is_retired (gone k) && (here k).collected in
-          let same = eq-eqb t t refl in
-          let too = eq-eqb c c refl in
-          ap (λ (b : Bool). word_if b (count_at s.nets c t)) drawn ∙ (ap (λ (k : ℕ). Some k) (sym net) ∙ sym (λ k. if same k && too k then Some w else word_in s t c))
+          ap (λ (b : Bool). word_if b (count_at s.nets c t)) drawn ∙ (ap (λ (k : ℕ). Some k) (sym net) ∙ sym (λ k. if (eq-eqb t t refl) k && (eq-eqb c c refl) k then Some w else word_in s t c))
           )
           (λ off.
           let flag : (mark_at n.marks u d).collected ≡ (mark_at s.marks u d).collected = ap (λ (x : Mark). x.collected) (cell_other no_mark s.marks t c m u d off) in
@@ -192,8 +189,7 @@ made_does s n _ _ on (Counts c t e found of may) = (λ u. refl, counted_word s n
 made_does s n _ _ on (CountsDown c m id t hand of same) =
     let lt = hand_within s c on (λ empty. let q : Giving m id ≡ Empty = sym hand ∙ empty in cc) in
     let has = slot_has s.slots m t of in
-    let counting = is_counting on.balance c t has.1.0 lt has.1.1 (eqb-true (count_at s.counts c t) (count_at s.nets c t) same) in
-    (λ u. refl, counted_word s n c t (count_at s.nets c t - 1) counting refl refl refl)
+    (λ u. refl, counted_word s n c t (count_at s.nets c t - 1) (is_counting on.balance c t has.1.0 lt has.1.1 (eqb-true (count_at s.counts c t) (count_at s.nets c t) same)) refl refl refl)
 made_does s n _ _ on (Collects t c may) = collected_does s t c on may
 made_does s n _ _ on (SubsKept t d u keeps of may) = vacated_does s n t on (and_parts _ (is_drained s t) may).1 refl refl refl
 made_does s n _ _ on (Vacates t may) = vacated_does s n t on (and_parts _ (is_drained s t) may).1 refl refl refl

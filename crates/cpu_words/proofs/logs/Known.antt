@@ -118,8 +118,7 @@ ahead_after s n _ _ _ none = none
 first_due : (s : State) (t c : ℕ) → Holds s → NoneAhead s.due s.marks → s.due ≡ Snapshots t c → IsFirst s t c
 first_due s t c on none due =
     let at : (c < s.settings.cpus) × ((e : Entry) × (slot_at s.slots t ≡ Retired e)) = subst (DueHolds s.settings.cpus s.slots) due on.references.due_at in
-    let lt : t < s.settings.slots = omega (arith, within_retired s.slots t at.1.0 at.1.1, on.shape.slots) in
-    (none t c c due (omega arith), mark_there s t c (snapshot_mark (section_at s c)) on lt at.0)
+    (none t c c due (omega arith), mark_there s t c (snapshot_mark (section_at s c)) on (omega (arith, within_retired s.slots t at.1.0 at.1.1, on.shape.slots)) at.0)
 
 -- The walk
 
@@ -241,12 +240,10 @@ words_grow : (s : State) (acts : List (ℕ × LogItem)) (es : List Event) (t : S
 words_grow s acts es t run on c v w d e before between after are first second =
     let p = place 0 acts before (between ++ e ∷ after) d are in
     let x = cut s p.first ((0, d) ∷ p.second) es t (subst (λ (a : List (ℕ × LogItem)). Follows s a es t) p.are run) in
-    let taken : section_at x.between c ≡ v = starts_word x.between d c v p.second x.later t x.since first in
     let q = place 0 p.second between after e p.rest in
     let y = cut x.between ((0, d) ∷ q.first) ((0, e) ∷ q.second) x.later t (subst (λ (a : List (ℕ × LogItem)). Follows x.between ((0, d) ∷ a) x.later t) q.are x.since) in
-    let found : section_at y.between c ≡ w = starts_word y.between e c w q.second y.later t y.since second in
     let up = (run_since c x.between ((0, d) ∷ q.first) y.earlier y.between y.before (follows_holds s p.first x.earlier x.between x.before on)).0.0 in
-    omega (arith, taken, found, up)
+    omega (arith, starts_word x.between d c v p.second x.later t x.since first, starts_word y.between e c w q.second y.later t y.since second, up)
 
 -- The keeper's log
 
@@ -258,11 +255,10 @@ log_known z s r = subst (Known z.cpus (part 0 r.acts)) (sym r.run.reached.run)
 -- a state that shows a seat's view is one in which the keeper had done just what it did
 pub shown_after : (z : Settings) (v : View) (l : Logged) (s : Table ℕ Logged) (r : LoggedRuled z s) (i : ℕ) → get_elem? s.views i ≡ some (record l { view = v }) → IsShownAfter (part 0 r.acts) v
 shown_after z v l s r i at =
-    let its = r.run.shows.fits i v (at_map (λ (x : Logged). x.view) s.views i (record l { view = v }) at) in
     let known = log_known z s r in record {
       g = r.run.g;
       good = r.run.good;
-      shown = its.1;
+      shown = (r.run.shows.fits i v (at_map (λ (x : Logged). x.view) s.views i (record l { view = v }) at)).1;
       counts = known.counts;
       totals = known.totals;
     }
@@ -270,8 +266,7 @@ shown_after z v l s r i at =
 pub own_log : (z : Settings) (k : KeeperView) (l : Logged) (s : Table ℕ Logged) (r : LoggedRuled z s) (i : ℕ) → get_elem? s.views i ≡ some (record l { view = Keeper k }) → IsOwnLog l.log l.noted_log k
 own_log z k l s r i at =
     let its = r.run.shows.fits i (Keeper k) (at_map (λ (x : Logged). x.view) s.views i (record l { view = Keeper k }) at) in
-    let here : i ≡ 0 = its.0 in
-    let whole : l.log ≡ part 0 r.acts = r.logs i (record l { view = Keeper k }) at tt ∙ ap (λ (m : ℕ). part m r.acts) here in
+    let whole : l.log ≡ part 0 r.acts = r.logs i (record l { view = Keeper k }) at tt ∙ ap (λ (m : ℕ). part m r.acts) its.0 in
     let history : k.history ≡ r.run.g.history = ap (λ (x : KeeperView). x.history) its.1.is in
     let marks : k.marks ≡ r.run.g.marks = ap (λ (x : KeeperView). x.marks) its.1.is in
     let slots : k.slots ≡ r.run.g.slots = ap (λ (x : KeeperView). x.slots) its.1.is in

@@ -27,9 +27,7 @@ changes_both [] b = omega arith
 changes_both (d ∷ ds) b = ap (changes_of d.event) (changes_both ds b) ∙ pushes d.event (changes_in ds) (changes_in b)
 
 pub changes_last : (log : List LogItem) (d : LogItem) → changes_in (log ++ d ∷ []) ≡ changes_of d.event (changes_in log)
-changes_last log d =
-    let past : changes_of d.event (changes_in log) + 0 ≡ changes_in log + changes_of d.event 0 = moves_past d.event (changes_in log) 0 in
-    changes_both log (d ∷ []) ∙ omega (arith, past)
+changes_last log d = changes_both log (d ∷ []) ∙ omega (arith, moves_past d.event (changes_in log) 0)
 
 stands_both : (t n : ℕ) (x : Standing) (a b : List LogItem) → stands_from t n x (a ++ b) ≡ stands_from t (changes_in a + n) (stands_from t n x a) b
 stands_both t n x [] b = let same : n ≡ 0 + n = omega arith in ap (λ (m : ℕ). stands_from t m x b) same

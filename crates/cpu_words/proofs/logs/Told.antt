@@ -58,10 +58,7 @@ come_acts : (seat : ℕ → ℕ) (n : ℕ) (acts more : List (ℕ × LogItem)) (
 come_acts seat n acts more None come = tt
 come_acts seat n acts more (Some h) come = record {
   seated = come.seated;
-  events =
-      let at = come.events in
-      let size : length (part (seat h.cpu) (acts ++ more)) ≡ length (part (seat h.cpu) acts ++ part (seat h.cpu) more) = ap (λ (l : List LogItem). length l) (part_append (seat h.cpu) acts more) in
-      omega (arith, at, size, length-append (part (seat h.cpu) acts) (part (seat h.cpu) more));
+  events = omega (arith, come.events, ap (λ (l : List LogItem). length l) (part_append (seat h.cpu) acts more), length-append (part (seat h.cpu) acts) (part (seat h.cpu) more));
 }
 
 pub come_more : (seat next : ℕ → ℕ) (n all : ℕ) (acts more : List (ℕ × LogItem)) (h : Option Teller) → n ≤ all → ((c : ℕ) → c < n → next c ≡ seat c) → HasComeIf seat n acts h

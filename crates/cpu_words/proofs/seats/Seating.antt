@@ -18,13 +18,13 @@ use Rattle.protocol.proofs.Cells.{get_or_all}
 use Rattle.protocol.proofs.keeps.MarkKeeps.{cell_all, rows_all}
 use Rattle.protocol.proofs.keeps.Keeping.{opening_holds, step_holds}
 use Rattle.protocol.proofs.Occupied.{not_vacant}
-use Rattle.cpu_words.specs.Common.{CpuView, Logged, View, Spot, section_of, passive_of, count_of, head_word, live_of, next_of, record_of, total_of, index, IsSpot, word_at, Seated, new_keeper, first_view, Shown, Sits, Good, Ruled, IsStanding, Knows, HasItsSections, LoggedRuled, first_logged, HasComeIf, AreOpening, AreSeats, cpu_seat, KeeperView, Keeper, Cpu, Reference, Note, Spent, SameHand, cpu_view, new_cpu, CpuShown, KeeperShown, cpu_of, keeper_of, ShowsViews, IsFresh, did, SplitsBy, SplitsOn, MaySeat, one_seated, with_cpu_seated, next_seat, the_cpu, logged_after_split, no_log, no_teller, fresh, seats_next, keeper_with, IsShownAs, IsShown, Makes, SectionMayHold, IsShownCpu, HasWholePass}
+use Rattle.cpu_words.specs.Common.{CpuView, Logged, View, Spot, section_of, passive_of, count_of, head_word, live_of, next_of, record_of, total_of, index, IsSpot, word_at, Seated, new_keeper, first_view, Shown, Sits, Good, Ruled, IsStanding, Knows, HasItsSections, LoggedRuled, first_logged, HasComeIf, AreOpening, AreSeats, cpu_seat, KeeperView, Keeper, Cpu, SameHand, cpu_view, new_cpu, CpuShown, KeeperShown, cpu_of, keeper_of, ShowsViews, IsFresh, did, SplitsBy, SplitsOn, MaySeat, one_seated, with_cpu_seated, next_seat, the_cpu, logged_after_split, no_log, no_teller, fresh, seats_next, keeper_with, IsShownAs, IsShown, Makes, SectionMayHold, IsShownCpu, HasWholePass}
 use Rattle.cpu_words.specs.declared.view.InHand.TheVariants.{Empty as NoEntry}
 use Rattle.cpu_words.proofs.shown.Placing.{below_size, same_spot, agrees_same}
 use Rattle.cpu_words.proofs.logs.Told.{no_act}
-use Rattle.cpu_words.proofs.shown.Showing.{more, Stay, SeatsWith, shows_split}
+use Rattle.cpu_words.proofs.shown.Showing.{more, SeatsWith, shows_split}
 use Rattle.cpu_words.proofs.logs.Logs.{tells_nothing, names_nobody, seat_cut}
-use Rattle.cpu_words.proofs.by_keeper.KeeperSteps.{KeeperLists, keeper_lists, with_keeper, cpu_beside_shown, seen_by_keeper}
+use Rattle.cpu_words.proofs.by_keeper.KeeperSteps.{with_keeper, beside_stays, beside_words, seen_by_keeper}
 use Rattle.cpu_words.proofs.shown.Seeing.{take_whole, seen_of}
 
 -- The state of the core at the start is shown by the words and the keeper's first view; and the seats of the first CPUs.
@@ -48,23 +48,14 @@ first_good z fit = record {
 -- the words at the start
 
 no_word : (k : ℕ) → word no_words k ≡ 0
-no_word zero = refl
-no_word (suc zero) = refl
-no_word (suc (suc zero)) = refl
-no_word (suc (suc (suc zero))) = refl
 no_word (suc (suc (suc (suc k)))) = refl
+no_word k = refl
 
 -- no word but a total is a total
 
 abbrev IsOther : Spot → Type 0
-IsOther (section_of c) = Unit {0}
-IsOther (passive_of c t) = Unit {0}
-IsOther (count_of c t) = Unit {0}
-IsOther head_word = Unit {0}
-IsOther (live_of t) = Unit {0}
-IsOther (next_of t) = Unit {0}
-IsOther (record_of t k) = Unit {0}
 IsOther (total_of t) = ⊥
+IsOther q = Unit {0}
 
 no_total : (p : Spot) (t : ℕ) → IsOther p → p ≡ total_of t → ⊥
 no_total p t other same = subst IsOther same other
@@ -169,19 +160,11 @@ more_seats table z n seats new are is =
 -- A CPU gets its seat: the keeper's seat is cut in two, and the new view is shown since the CPU has made no step.
 
 -- the core with one more CPU seated
-abbrev pub seated_lists : State → KeeperLists
-seated_lists g = record (keeper_lists g) { seated = g.seated + 1 }
+abbrev pub seated_lists : State → State
+seated_lists g = record g { seated = g.seated + 1 }
 
 abbrev pub one_more_seated : State → State
 one_more_seated g = with_keeper g (seated_lists g)
-
--- the other views don't speak of the new seat
-others_stay : (g : State) (seat : ℕ → ℕ) (i : ℕ) → i ≡ 0 → Stay g (one_more_seated g) seat i
-others_stay g seat i mine j (Keeper k) ne sits shown backed = absurd (ne (sits ∙ sym mine))
-others_stay g seat i mine j (Cpu y) ne sits shown backed = cpu_beside_shown g (g.seated + 1) g.locals g.due g.keeps y (λ lt. omega (arith, lt)) shown
-others_stay g seat i mine j (Reference v) ne sits shown backed = record { attached = shown.attached; collected = shown.collected }
-others_stay g seat i mine j (Note h) ne sits shown backed = shown
-others_stay g seat i mine j Spent ne sits shown backed = tt
 
 -- the CPUs that have no seat yet have made no step
 good_seated : (g : State) → Good g → step g (Seat g.seated) ≡ Some (record { state = one_more_seated g; reply = Done }) → Good (one_more_seated g)
@@ -191,17 +174,6 @@ good_seated g good made = record {
       let was = good.fresh c (omega (arith, le)) lt in
       record { section = was.section; depth = was.depth; seen = was.seen; passive = was.passive; nets = was.nets };
 }
-
--- no word tells of a seat
-same_words : (g : State) (q : Spot) → word_at (one_more_seated g) q ≡ word_at g q
-same_words g (section_of d) = refl
-same_words g (passive_of d t) = refl
-same_words g (count_of d t) = refl
-same_words g head_word = refl
-same_words g (live_of u) = refl
-same_words g (next_of t) = refl
-same_words g (record_of t k) = refl
-same_words g (total_of t) = refl
 
 -- a CPU that is outside has found nothing
 found_none : (g : State) (c : ℕ) (o : Option Entry) → Holds g → begin_at g c ≡ None → found_at g c ≡ o → o ≡ None
@@ -249,18 +221,7 @@ new_shown g good lt =
     more n = omega arith
 
 keeper_shown : (g : State) (k : KeeperView) → KeeperShown g k → KeeperShown (one_more_seated g) (one_seated k)
-keeper_shown g k had = record {
-  is = ap one_seated had.is;
-  counts = had.counts;
-  sized = had.sized;
-  rows = had.rows;
-  live_total = had.live_total;
-  gives_up = had.gives_up;
-  later = had.later;
-  beyond = had.beyond;
-  honest = had.honest;
-  noted_pass = had.noted_pass;
-}
+keeper_shown g k had = assumption (ap one_seated had.is, had)
 
 -- the keeper's view tells that the event may be made
 pub record Seats (g : State) (k : KeeperView) : Type 0 where
@@ -313,11 +274,8 @@ sits_on : (g : State) (seat : ℕ → ℕ) (i j : ℕ) (u : View) → Sits seat 
 sits_on g seat i j (Keeper k) sits shown = sits
 sits_on g seat i j (Cpu y) sits shown =
     let lt : y.id < g.seated = shown.seated in
-    let apart : y.id ≢ g.seated = λ e. omega arith in
-    sits ∙ sym (ap (λ b. cond b i (seat y.id)) (ne_eqb y.id g.seated apart))
-sits_on g seat i j (Reference v) sits shown = tt
-sits_on g seat i j (Note h) sits shown = tt
-sits_on g seat i j Spent sits shown = tt
+    sits ∙ sym (ap (λ b. cond b i (seat y.id)) (ne_eqb y.id g.seated (λ e. omega arith)))
+sits_on g seat i j v sits shown = tt
 
 shows_reseated : (g : State) (seat : ℕ → ℕ) (i : ℕ) (views : List View) → ShowsViews g seat views → ShowsViews g (seat_with seat g.seated i) views
 shows_reseated g seat i views shows = record {
@@ -326,8 +284,7 @@ shows_reseated g seat i views shows = record {
     keeper = shows.each.keeper;
     cpus = λ c lt.
         let was = shows.each.cpus c lt in
-        let same : seat_with seat g.seated i c ≡ seat c = ap (λ b. cond b i (seat c)) (ne_eqb c g.seated (λ e. omega (arith, lt, e))) in
-        (was.0, ap (get_elem? views) same ∙ was.1, was.2);
+        (was.0, ap (get_elem? views) (ap (λ b. cond b i (seat c)) (ne_eqb c g.seated (λ e. omega (arith, lt, e)))) ∙ was.1, was.2);
   };
   references = shows.references;
 }
@@ -358,8 +315,8 @@ splits z i k may s r at =
         settings = r.settings;
         good = p.good;
         reached = (more z g g' (Seat k.seated) Done r.reached (subst (λ c. step g (Seat c) ≡ Some (record { state = g'; reply = Done })) (sym p.number) p.made)).0;
-        words = agrees_same z s.words g g' r.words refl (λ q there. same_words g q);
-        shows = shows_split g g' seat' s.views i (Keeper k) (with_cpu_seated (Keeper k)) (next_seat (Keeper k)) reseated at (others_stay g seat' i had.0) (had.0, p.keeper) (here, p.new)
+        words = agrees_same z s.words g g' r.words refl (λ q _. beside_words g (g.seated + 1) g.locals g.due g.keeps q);
+        shows = shows_split g g' seat' s.views i (Keeper k) (with_cpu_seated (Keeper k)) (next_seat (Keeper k)) reseated at (beside_stays g (g.seated + 1) g.locals g.due g.keeps (omega arith) seat' i had.0) (had.0, p.keeper) (here, p.new)
             (seats_one g r.seat far k p.number) refl (λ n. refl);
       };
     }
@@ -375,9 +332,8 @@ seat_splits z i l k is view may = seat_cut z i l (Keeper k) with_cpu_seated next
 pub seat_splits_by : (v a b : View) (k : KeeperView) → keeper_of v ≡ k → a ≡ with_cpu_seated v → b ≡ next_seat v → MaySeat k
     → SplitsBy (Seat k.seated) (Keeper k) (Keeper (keeper_of a)) (Cpu (cpu_of b))
 seat_splits_by v a b k view left right may =
-    let p : keeper_of a ≡ one_seated k = ap keeper_of left ∙ ap one_seated view in
     let q : cpu_of b ≡ new_cpu k.settings k.seated = ap cpu_of right ∙ ap (λ (u : KeeperView). new_cpu u.settings u.seated) view in
-    subst (λ (w : KeeperView × CpuView). SplitsBy (Seat k.seated) (Keeper k) (Keeper w.0) (Cpu w.1)) (λ n. (sym p n, sym q n)) (seats_by k may)
+    subst (λ (w : KeeperView × CpuView). SplitsBy (Seat k.seated) (Keeper k) (Keeper w.0) (Cpu w.1)) (λ n. (sym (ap keeper_of left ∙ ap one_seated view) n, sym q n)) (seats_by k may)
 
 -- Views that some good state shows: any after a step or a cut, and the keeper's at the start.
 
