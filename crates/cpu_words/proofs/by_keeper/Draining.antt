@@ -27,13 +27,16 @@ sum_marked f (x ∷ ms) [] c m lt there = absurd (omega arith)
 sum_marked f (x ∷ ms) (n ∷ ns) zero m lt there = omega (arith, sum_by-cons f (x, n) (zip ms ns), sum_by-cons f (m, n) (zip ms ns))
 sum_marked f (x ∷ ms) (n ∷ ns) (suc c) m lt there = omega (arith, sum_marked f ms ns c m (omega arith) (omega arith), sum_by-cons f (x, n) (zip ms ns), sum_by-cons f (x, n) (zip (set ms c m) ns))
 
+-- what is so of the written cell, and was so of each, is so of each
+pub cell_put : {X : Type 0} (d : X) (rows : List (List X)) (t c : ℕ) (x : X) (P : ℕ → ℕ → X → Type 0) (u j : ℕ) → P t c x → P u j (cell d rows u j) → P u j (cell d (with_cell rows t c x) u j)
+cell_put d rows t c x P u j here was = ⊎_elim
+    (λ (at : (u ≡ t) × (j ≡ c) × (cell d (with_cell rows t c x) u j ≡ x)). subst (P u j) (sym at.2) (subst (λ (k : ℕ × ℕ). P k.0 k.1 x) (λ i. (sym at.0 i, sym at.1 i)) here))
+    (λ (off : cell d (with_cell rows t c x) u j ≡ cell d rows u j). subst (P u j) (sym off) was)
+    (cell_cases d rows t c x u j)
+
 pub same_collected : (g : State) (t c : ℕ) (m : Mark) → m.collected ≡ (mark_at g.marks t c).collected → (u d : ℕ) → (mark_at g.marks u d).collected ≡ true
     → (mark_at (with_cell g.marks t c m) u d).collected ≡ true
-same_collected g t c m same u d is = ⊎_elim
-    (λ (here : (u ≡ t) × (d ≡ c) × (cell no_mark (with_cell g.marks t c m) u d ≡ m)). ap (λ (x : Mark). x.collected) here.2 ∙ same
-    ∙ sym (ap (λ (p : ℕ × ℕ). (mark_at g.marks p.0 p.1).collected) (λ k. (here.0 k, here.1 k))) ∙ is)
-    (λ (off : cell no_mark (with_cell g.marks t c m) u d ≡ cell no_mark g.marks u d). ap (λ (x : Mark). x.collected) off ∙ is)
-    (cell_cases no_mark g.marks t c m u d)
+same_collected g t c m same u d = cell_put no_mark g.marks t c m (λ v e x. (mark_at g.marks v e).collected ≡ true → x.collected ≡ true) u d (λ was. same ∙ was) (λ was. was)
 
 -- of the slot t, and of another slot
 pub sum_here : (f : Mark × ℕ → ℕ) (g : State) (t c : ℕ) (m : Mark) → Good g → t < length g.slots → c < g.settings.cpus
@@ -90,10 +93,7 @@ shown_marked g k t c m due own good had lt same alike counts given_up noted_pass
   live_total = λ u e live. ap (λ (x : List ℕ). total_at g.totals u + number_at x e.number) given_up ∙ had.live_total u e live;
   gives_up = λ u e retired. gives_up_marked g t c m due own.given_up good lt same alike u e (inr retired) (subst (λ (x : List ℕ). GivesUp g x u e.number) (sym given_up) (had.gives_up u e retired));
   later = λ n above. ap (λ (x : List ℕ). number_at x n) given_up ∙ had.later n above;
-  beyond = λ d u past. ⊎_elim
-      (λ (here : (u ≡ t) × (d ≡ c) × (cell no_mark (with_cell g.marks t c m) u d ≡ m)). absurd (let e = here.1 in omega (arith, e, past, lt)))
-      (λ (off : cell no_mark (with_cell g.marks t c m) u d ≡ cell no_mark g.marks u d). ap (λ (x : Mark). x.collected) off ∙ had.beyond d u past)
-      (cell_cases no_mark g.marks t c m u d);
+  beyond = λ d u. cell_put no_mark g.marks t c m (λ v e x. g.settings.cpus ≤ e → x.collected ≡ false) u d (λ past. absurd (omega (arith, past, lt))) (had.beyond d u);
   honest = had.honest;
   noted_pass = subst (λ (x : List Change). IsPrefix x g.history) (sym noted_pass) had.noted_pass;
 }
@@ -272,19 +272,15 @@ shown_collected g k t c good had here still = assumption (
   λ (d u : ℕ) (vacant : slot_at g.slots u ≡ Vacant).
       cell_other 0 g.counts t c 0 u d (λ same _. let q : Vacant ≡ Retired here.e = sym vacant ∙ ap (slot_at g.slots) same ∙ here.retired in cc) ∙ had.counts d u vacant,
   λ (u : ℕ) (e : Entry) (retired : slot_at g.slots u ≡ Retired e). gives_up_collected g t c k.given_up good here still u e retired (had.gives_up u e retired),
-  λ (d u : ℕ) (past : g.settings.cpus ≤ d). ⊎_elim
-      (λ (at : (u ≡ t) × (d ≡ c) × (cell no_mark (marks_collected g t c) u d ≡ mark_after_collect (mark_at g.marks t c))). absurd (let e = at.1 in omega (arith, e, past, here.cpu)))
-      (λ (off : cell no_mark (marks_collected g t c) u d ≡ cell no_mark g.marks u d). ap (λ (x : Mark). x.collected) off ∙ had.beyond d u past)
-      (cell_cases no_mark g.marks t c (mark_after_collect (mark_at g.marks t c)) u d),
+  λ (d u : ℕ). cell_put no_mark g.marks t c (mark_after_collect (mark_at g.marks t c)) (λ v e x. g.settings.cpus ≤ e → x.collected ≡ false) u d
+      (λ past. absurd (omega (arith, past, here.cpu))) (had.beyond d u),
   had,
 )
 
 -- what was collected stays so
 still_collected : (g : State) (t c : ℕ) (u d : ℕ) → (mark_at g.marks u d).collected ≡ true → (mark_at (marks_collected g t c) u d).collected ≡ true
-still_collected g t c u d is = ⊎_elim
-    (λ (at : (u ≡ t) × (d ≡ c) × (cell no_mark (marks_collected g t c) u d ≡ mark_after_collect (mark_at g.marks t c))). ap (λ (x : Mark). x.collected) at.2)
-    (λ (off : cell no_mark (marks_collected g t c) u d ≡ cell no_mark g.marks u d). ap (λ (x : Mark). x.collected) off ∙ is)
-    (cell_cases no_mark g.marks t c (mark_after_collect (mark_at g.marks t c)) u d)
+still_collected g t c u d =
+    cell_put no_mark g.marks t c (mark_after_collect (mark_at g.marks t c)) (λ v e x. (mark_at g.marks v e).collected ≡ true → x.collected ≡ true) u d (λ _. refl) (λ was. was)
 
 -- the words after it
 collect_words : (z : Settings) (words : List ℕ) (g : State) (t c : ℕ) → Good g → Looking g t c → Agrees z words g → Agrees z (set words (index z (count_of c t)) 0) (with_keeper g (collecting g t c))

@@ -11,9 +11,9 @@ use Rattle.protocol.specs.Common.{SlotsShow, ListShows, Leads, To_entry, after_c
 use Rattle.protocol.specs.Invariant.{To_end as No_entry}
 use Rattle.protocol.proofs.History.{one_entry, length-after_change}
 use Rattle.protocol.proofs.keeps.Linking.{before_leads, head_leads, link_to}
-use Rattle.protocol.proofs.Cells.{cell_in_new, cell_in_old, get_or_all}
-use Rattle.protocol.proofs.Occupied.{slot_cases, in_other, in_published, not_vacant, place_cases, in_unpublished, in_within, live_one}
-use Rattle.cpu_words.specs.Common.{LeadsBelow, IsBefore, KeeperView, Keeper, Spot, head_word, next_of, IsSpot, word_at, index, keeper_view, KeeperShown, collected_net, collected_one, Agrees, Good, did, Makes, KeeperStores, MayPublish, HasPublished, PublishTold, GivesUp, MayUnpublish, HasUnpublished, UnpublishTold, keeper_after_unpublish, link_index, head_with, links_with}
+use Rattle.protocol.proofs.Cells.{cell_in_new, cell_in_old, get_or_all, place_put}
+use Rattle.protocol.proofs.Occupied.{slot_cases, in_other, in_published, not_vacant, in_unpublished, in_within, live_one}
+use Rattle.cpu_words.specs.Common.{LeadsBelow, IsBefore, KeeperView, Keeper, Spot, head_word, next_of, IsSpot, word_at, index, keeper_view, KeeperShown, collected_net, collected_one, Agrees, Good, did, Makes, KeeperStores, MayPublish, HasPublished, PublishTold, GivesUp, MayUnpublish, HasUnpublished, UnpublishTold, keeper_after_unpublish, link_index, head_with, links_with, number_at}
 use Rattle.cpu_words.specs.Publishing.{To_end, To_slot}
 use Rattle.cpu_words.proofs.shown.Seeing.{prefix_on, honest_vacant, honest_changed}
 use Rattle.cpu_words.proofs.shown.Placing.{agrees_set}
@@ -161,16 +161,12 @@ shown_published g k t e good had may =
       is = refl;
       sized = had.sized;
       rows = had.rows;
-      counts = λ c u vacant. ⊎_elim
-          (λ (same : (u ≡ t) × (slot_at (set g.slots t (Live e)) u ≡ Live e)). absurd (let q : Live e ≡ Vacant = sym same.1 ∙ vacant in cc))
-          (λ (off : (u ≡ t → ⊥) × (slot_at (set g.slots t (Live e)) u ≡ slot_at g.slots u)). had.counts c u (sym off.1 ∙ vacant))
-          (slot_cases g.slots t (Live e) u may.within);
-      live_total = λ u f live. ⊎_elim
-          (λ (same : (u ≡ t) × (slot_at (set g.slots t (Live e)) u ≡ Live e)).
-          let one : f ≡ e = let q : Live f ≡ Live e = sym live ∙ same.1 in cc in
-          omega (arith, ap (total_at g.totals) same.0 ∙ may.total, had.later f.number (omega (arith, ap (λ (i : Entry). i.number) one ∙ may.number))))
-          (λ (off : (u ≡ t → ⊥) × (slot_at (set g.slots t (Live e)) u ≡ slot_at g.slots u)). had.live_total u f (sym off.1 ∙ live))
-          (slot_cases g.slots t (Live e) u may.within);
+      counts = λ c u. place_put Vacant g.slots t (Live e) (λ v x. x ≡ Vacant → count_at g.counts c v ≡ count_at k.counts c v) u (λ vacant. absurd (let q : Live e ≡ Vacant = vacant in cc)) (had.counts c u);
+      live_total = λ u f. place_put Vacant g.slots t (Live e) (λ v x. x ≡ Live f → total_at g.totals v + number_at k.given_up f.number ≡ bias) u
+          (λ live.
+          let one : f ≡ e = let q : Live e ≡ Live f = live in cc in
+          omega (arith, may.total, had.later f.number (omega (arith, ap (λ (i : Entry). i.number) one ∙ may.number))))
+          (had.live_total u f);
       gives_up = λ u f retired. ⊎_elim
           (λ (same : (u ≡ t) × (slot_at (set g.slots t (Live e)) u ≡ Live e)). absurd (let q : Retired f ≡ Live e = sym retired ∙ same.1 in cc))
           (λ (off : (u ≡ t → ⊥) × (slot_at (set g.slots t (Live e)) u ≡ slot_at g.slots u)).
@@ -315,22 +311,14 @@ shown_unlinked g k t e p v good had may =
       is = refl;
       sized = had.sized;
       rows = had.rows;
-      counts = λ c u vacant. ⊎_elim
-          (λ (same : (u ≡ t) × (slot_at (set g.slots t (Retired e)) u ≡ Retired e)). absurd (let q : Retired e ≡ Vacant = sym same.1 ∙ vacant in cc))
-          (λ (off : (u ≡ t → ⊥) × (slot_at (set g.slots t (Retired e)) u ≡ slot_at g.slots u)). had.counts c u (sym off.1 ∙ vacant))
-          (slot_cases g.slots t (Retired e) u may.within);
-      live_total = λ u f live. ⊎_elim
-          (λ (same : (u ≡ t) × (slot_at (set g.slots t (Retired e)) u ≡ Retired e)). absurd (let q : Live f ≡ Retired e = sym live ∙ same.1 in cc))
-          (λ (off : (u ≡ t → ⊥) × (slot_at (set g.slots t (Retired e)) u ≡ slot_at g.slots u)). had.live_total u f (sym off.1 ∙ live))
-          (slot_cases g.slots t (Retired e) u may.within);
+      counts = λ c u.
+          place_put Vacant g.slots t (Retired e) (λ v x. x ≡ Vacant → count_at g.counts c v ≡ count_at k.counts c v) u (λ vacant. absurd (let q : Retired e ≡ Vacant = vacant in cc)) (had.counts c u);
+      live_total = λ u f. place_put Vacant g.slots t (Retired e) (λ v x. x ≡ Live f → total_at g.totals v + number_at k.given_up f.number ≡ bias) u
+          (λ live. absurd (let q : Retired e ≡ Live f = live in cc)) (had.live_total u f);
       gives_up = gives_up_unlinked g k t e p v had may;
       later = λ n above. had.later n (omega (arith, above, longer));
-      beyond = λ c u past. ⊎_elim
-          (λ (same : (u ≡ t) × (get_or (set g.marks t (replicate MOST_CPUS no_mark)) u [] ≡ replicate MOST_CPUS no_mark)).
-          ap (λ (row : List Mark). (get_or row c no_mark).collected) same.1 ∙ ap (λ (m : Mark). m.collected) (get_or_all MOST_CPUS no_mark c))
-          (λ (off : (u ≡ t → ⊥) × (get_or (set g.marks t (replicate MOST_CPUS no_mark)) u [] ≡ get_or g.marks u [])).
-          ap (λ (row : List Mark). (get_or row c no_mark).collected) off.1 ∙ had.beyond c u past)
-          (place_cases [] g.marks t (replicate MOST_CPUS no_mark) u may.in_marks);
+      beyond = λ c u past. place_put [] g.marks t (replicate MOST_CPUS no_mark) (λ v row. (get_or row c no_mark).collected ≡ false) u
+          (ap (λ (m : Mark). m.collected) (get_or_all MOST_CPUS no_mark c)) (had.beyond c u past);
       honest = honest_changed g.slots g.lives t (Retired e) may.hidden had.honest;
       noted_pass = prefix_on k.noted_pass g.history (Detach e.number ∷ []) had.noted_pass;
     }

@@ -11,16 +11,9 @@ use Rattle.protocol.specs.Common.{State, hand_at, count_at, total_at, IsIn, one_
 use Rattle.protocol.proofs.Occupied.{in_within}
 use Rattle.cpu_words.specs.Common.{InHand, Empty, Taking, Giving, Back, Trying, KeeperView, View, Keeper, Cpu, count_of, total_of, SameHand, CpuShown, Shown, Agrees, Sits, ShowsViews, Good, sum_below, count_word, total_word, in_hand_to, hand_to, held_by_seats, HasOneSeat, IsBalanced, SeatsBalance}
 use Rattle.cpu_words.proofs.by_keeper.KeeperSteps.{SeenByKeeper, seen_by_keeper}
+use Rattle.cpu_words.proofs.logs.Totalled.{sum_first, sum_other}
 
 -- Sums over numbers
-
-below_first : (f : ℕ → ℕ) (n : ℕ) → sum_below f (suc n) ≡ f 0 + sum_below (λ c. f (suc c)) n
-below_first f zero = omega arith
-below_first f (suc n) = let rest = below_first f n in omega (arith, rest)
-
-below_same : (f g : ℕ → ℕ) (n : ℕ) → ((c : ℕ) → c < n → f c ≡ g c) → sum_below f n ≡ sum_below g n
-below_same f g zero same = refl
-below_same f g (suc n) same = omega (arith, below_same f g n (λ c lt. same c (omega (arith, lt))), same n (omega arith))
 
 below_none : (f : ℕ → ℕ) (n : ℕ) → ((c : ℕ) → f c ≡ 0) → sum_below f n ≡ 0
 below_none f zero none = refl
@@ -30,7 +23,7 @@ below_none f (suc n) none = omega (arith, below_none f n none, none n)
 list_below : {X : Type 0} (f : X → ℕ) (d : X) (xs : List X) (m : ℕ) → f d ≡ 0 → ((i : ℕ) → m ≤ i → f (get_or xs i d) ≡ 0) → sum_by f xs ≡ sum_below (λ c. f (get_or xs c d)) m
 list_below f d [] m none past = sym (below_none (λ c. f d) m (λ c. none))
 list_below f d (x ∷ xs) zero none past = omega (arith, sum_by-cons f x xs, list_below f d xs zero none (λ i le. past (suc i) (omega arith)), past 0 (omega arith))
-list_below f d (x ∷ xs) (suc m) none past = omega (arith, sum_by-cons f x xs, list_below f d xs m none (λ i le. past (suc i) (omega (arith, le))), below_first (λ c. f (get_or (x ∷ xs) c d)) m)
+list_below f d (x ∷ xs) (suc m) none past = omega (arith, sum_by-cons f x xs, list_below f d xs m none (λ i le. past (suc i) (omega (arith, le))), sum_first (λ c. f (get_or (x ∷ xs) c d)) m)
 
 -- Sums over views
 
@@ -118,7 +111,7 @@ counts_of_all : (z : Settings) (words : List ℕ) (g : State) (t : ℕ) (f : ℕ
     → sum_by f (get_or g.counts t []) ≡ sum_below (λ c. f (count_word z words t c)) g.settings.cpus
 counts_of_all z words g t f good agrees slot none =
     list_below f 0 (get_or g.counts t []) g.settings.cpus none (λ c le. ap f (good.holds.balance.beyond c t le) ∙ none)
-    ∙ below_same (λ c. f (count_at g.counts c t)) (λ c. f (count_word z words t c)) g.settings.cpus (λ c lt. ap f (sym (agrees.at (count_of c t) (lt, slot))))
+    ∙ sum_other (λ c. f (count_word z words t c)) (λ c. f (count_at g.counts c t)) g.settings.cpus (λ c lt. ap f (sym (agrees.at (count_of c t) (lt, slot))))
 
 -- Seats
 

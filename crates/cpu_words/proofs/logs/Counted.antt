@@ -17,6 +17,7 @@ use Rattle.cpu_words.specs.Common.{LogItem, Teller, by_number, reply_without_id,
 use Rattle.cpu_words.proofs.logs.Loads.{moves_past}
 use Rattle.cpu_words.proofs.logs.Marks.{fresh}
 use Rattle.cpu_words.proofs.logs.Runs.{item_of}
+use Rattle.cpu_words.proofs.by_keeper.Draining.{cell_put}
 
 -- One event
 
@@ -46,17 +47,10 @@ undrawn_mark s u d is = by (is_retired (slot_at s.slots u)) refl
     by true at = λ k. at k && is k
     by false at = undrawn_slot s u d at
 
--- a mark whose flag stays
-flag_cell : (marks : List (List Mark)) (t c : ℕ) (m : Mark) → m.collected ≡ (mark_at marks t c).collected → (u j : ℕ) → (mark_at (with_cell marks t c m) u j).collected ≡ (mark_at marks u j).collected
-flag_cell marks t c m same u j = ⊎_elim
-    (λ (p : (u ≡ t) × (j ≡ c) × (mark_at (with_cell marks t c m) u j ≡ m)). ap (λ (x : Mark). x.collected) p.2 ∙ (same ∙ sym (λ k. (mark_at marks (p.0 k) (p.1 k)).collected)))
-    (λ (old : mark_at (with_cell marks t c m) u j ≡ mark_at marks u j). ap (λ (x : Mark). x.collected) old)
-    (cell_cases no_mark marks t c m u j)
-
 marked_word : (s n : State) (t c : ℕ) (m : Mark) → n.slots ≡ s.slots → n.nets ≡ s.nets → n.marks ≡ with_cell s.marks t c m → m.collected ≡ (mark_at s.marks t c).collected → (u d : ℕ)
     → word_in n u d ≡ word_in s u d
 marked_word s n t c m slots nets marks same u d =
-    let flag = ap (λ (x : List (List Mark)). (mark_at x u d).collected) marks ∙ flag_cell s.marks t c m same u d in
+    let flag = ap (λ (x : List (List Mark)). (mark_at x u d).collected) marks ∙ cell_put no_mark s.marks t c m (λ v e x. x.collected ≡ (mark_at s.marks v e).collected) u d same refl in
     same_word s n u d (λ k. is_retired (slot_at (slots k) u) && flag k) (λ on. ap (λ (x : List (List ℕ)). count_at x d u) nets)
 
 -- Attach, detach, and the end of a slot's use

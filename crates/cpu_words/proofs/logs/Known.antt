@@ -14,7 +14,7 @@ use Rattle.protocol.proofs.keeps.ListKeeps.{may_write_tells}
 use Rattle.protocol.proofs.keeps.Searching.{within_some}
 use Rattle.protocol.proofs.keeps.References.{snapshot_due_tells}
 use Rattle.protocol.proofs.keeps.Linking.{within_retired}
-use Rattle.protocol.proofs.Cells.{cell_cases, cell_other, mark_there}
+use Rattle.protocol.proofs.Cells.{cell_other, mark_there}
 use Rattle.protocol.proofs.keeps.Keeping.{opening_holds}
 use Rattle.cpu_words.specs.Common.{LogItem, Teller, number_or_none, by_number, keeps_next, keeping_from, keeping, word_in, changes_of, changes_in, AreCountsOf, AreTotalsOf, AreMarksOf, AreSlotsOf, maker, IsSeatOf, CpuView, KeeperView, Logged, View, Keeper, Cpu, log_item, FindsWord, WordsGrow, IsFreedFrom, IsAttachedKeeping, IsShownAfter, IsOwnLog, part, LoggedRuled, with_note, keeper_with_note}
 use Rattle.cpu_words.proofs.logs.Runs.{item_of, Stays, walked, Follows, follows_holds, cut}
@@ -23,6 +23,7 @@ use Rattle.cpu_words.proofs.logs.Counted.{counts_own, words_off, no_counts}
 use Rattle.cpu_words.proofs.logs.Marks.{IsFirst, fresh, more_marks, no_marks}
 use Rattle.cpu_words.proofs.logs.Slots.{slots_own, no_slots, changes_last}
 use Rattle.cpu_words.proofs.logs.Totalled.{totals_own, no_totals}
+use Rattle.cpu_words.proofs.by_keeper.Draining.{cell_put}
 
 -- What the keeper's log says of kept drivers.
 
@@ -79,10 +80,7 @@ same_snapshots : (due later : Due) (marks new : List (List Mark)) → ((u d : �
 same_snapshots due later marks new stays same none t c j is le = same t j ∙ none t c j (stays t c is) le
 
 cell_snapshot : (marks : List (List Mark)) (t c : ℕ) (m : Mark) → m.snapshot ≡ (mark_at marks t c).snapshot → (u j : ℕ) → (mark_at (with_cell marks t c m) u j).snapshot ≡ (mark_at marks u j).snapshot
-cell_snapshot marks t c m same u j = ⊎_elim
-    (λ (p : (u ≡ t) × (j ≡ c) × (mark_at (with_cell marks t c m) u j ≡ m)). ap (λ (x : Mark). x.snapshot) p.2 ∙ (same ∙ sym (λ k. (mark_at marks (p.0 k) (p.1 k)).snapshot)))
-    (λ (old : mark_at (with_cell marks t c m) u j ≡ mark_at marks u j). ap (λ (x : Mark). x.snapshot) old)
-    (cell_cases no_mark marks t c m u j)
+cell_snapshot marks t c m same u j = cell_put no_mark marks t c m (λ v e x. x.snapshot ≡ (mark_at marks v e).snapshot) u j same refl
 
 next_snapshots : (cpus t c u d : ℕ) (b : Bool) → (if b then Snapshots t (c + 1) else Rest) ≡ Snapshots u d → (u ≡ t) × (d ≡ c + 1)
 next_snapshots cpus t c u d true is = (let q : Snapshots t (c + 1) ≡ Snapshots u d = is in cc, let q : Snapshots t (c + 1) ≡ Snapshots u d = is in cc)

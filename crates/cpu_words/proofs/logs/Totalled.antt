@@ -39,7 +39,7 @@ given_more n log d = given_last [] n log d
 -- Sums over the places for CPUs
 
 -- the places have the same words
-sum_other : (f g : ℕ → ℕ) (n : ℕ) → ((c : ℕ) → c < n → g c ≡ f c) → sum_below g n ≡ sum_below f n
+pub sum_other : (f g : ℕ → ℕ) (n : ℕ) → ((c : ℕ) → c < n → g c ≡ f c) → sum_below g n ≡ sum_below f n
 sum_other f g zero same = refl
 sum_other f g (suc n) same = omega (arith, sum_other f g n (λ c lt. same c (omega arith)), same n (omega arith))
 
@@ -52,7 +52,7 @@ sum_changed f g c (suc n) lt same = ⊎_elim
     (cases_eq n c)
 
 -- the first place by itself
-sum_first : (f : ℕ → ℕ) (n : ℕ) → sum_below f (suc n) ≡ f 0 + sum_below (λ c. f (suc c)) n
+pub sum_first : (f : ℕ → ℕ) (n : ℕ) → sum_below f (suc n) ≡ f 0 + sum_below (λ c. f (suc c)) n
 sum_first f zero = omega arith
 sum_first f (suc n) = let rest = sum_first f n in omega (arith, rest)
 
