@@ -13,7 +13,7 @@ use Rattle.protocol.proofs.Occupied.{in_within}
 use Rattle.protocol.proofs.Cells.{slot_number}
 use Rattle.protocol.proofs.keeps.Keeping.{step_holds}
 use Rattle.cpu_words.specs.Common.{ReferenceView, View, Reference, Spot, record_of, index, IsSpot, ReferenceShown, Good, Ruled, GoesOn, number_or_none, by_number, did, OneSeat, Makes, ReferenceMay, tells_local, CpuView, Keeper, Cpu, Note, Spent, cpu_view, SameHand, depth_of, GivesUp, CpuShown, Agrees, IsFresh, number_at}
-use Rattle.cpu_words.proofs.shown.Showing.{reference_place, more, shows_set, backed, standing_in, Stay}
+use Rattle.cpu_words.proofs.shown.Showing.{reference_place, goes_to, shows_set, backed, standing_in, Stay}
 use Rattle.cpu_words.proofs.shown.Placing.{agrees_set}
 use Rattle.cpu_words.proofs.shown.Seeing.{attached_longer, its_slot}
 
@@ -34,20 +34,9 @@ pub keeps_view : (z : Settings) (s : Table ℕ View) (r : Ruled z s) (i : ℕ) (
 keeps_view z s r i v p e rep at there made same =
     let g = r.g in
     let had = r.shows.fits i v at in (
-      record {
-        ruled = record {
-          g = g;
-          seat = r.seat;
-          settings = r.settings;
-          good = r.good;
-          reached = (more z g g e rep r.reached made).0;
-          words = agrees_set z s.words g g p (slice_index s.words (index z p)) r.words refl there (sym (r.words.at p there)) (λ q also ne. refl);
-          shows = shows_set g g r.seat s.views i v v r.shows at (λ j u ne sits shown backed. shown) had refl refl (λ n. refl);
-        };
-        goes_on = (more z g g e rep r.reached made).1;
-        seated = omega arith;
-        seats = λ c lt. refl;
-      },
+      goes_to z s r g r.seat e rep _ _ made refl r.good refl (omega arith) (λ c lt. refl)
+          (agrees_set z s.words g g p (slice_index s.words (index z p)) r.words refl there (sym (r.words.at p there)) (λ q also ne. refl))
+          (shows_set g g r.seat s.views i v v r.shows at (λ j u ne sits shown backed. shown) had refl refl (λ n. refl)),
       record { g = g; after = g; good = r.good; good_after = r.good; before = had.1; made = made; shown = had.1; same = same },
     )
 
@@ -178,20 +167,8 @@ cpu_makes z s r i x word m l e rep own at made leaves count noted_pass shown wor
     let had = r.shows.fits i (Cpu x) at in
     let was : CpuShown g x = had.1 in
     let good = good_after g l x.id e rep r.good leaves was.seated made in (
-      record {
-        ruled = record {
-          g = g';
-          seat = r.seat;
-          settings = r.settings;
-          good = good;
-          reached = (more z g g' e rep r.reached made).0;
-          words = words;
-          shows = shows_set g g' r.seat s.views i (Cpu x) (Cpu y) r.shows at (cpu_stays g l x.id r.seat i leaves had.0) (had.0, shown) refl refl (λ n. let h = count n in omega arith);
-        };
-        goes_on = (more z g g' e rep r.reached made).1;
-        seated = omega arith;
-        seats = λ c lt. refl;
-      },
+      goes_to z s r g' r.seat e rep _ _ made refl good refl (omega arith) (λ c lt. refl) words
+          (shows_set g g' r.seat s.views i (Cpu x) (Cpu y) r.shows at (cpu_stays g l x.id r.seat i leaves had.0) (had.0, shown) refl refl (λ n. let h = count n in omega arith)),
       record { g = g; after = g'; good = r.good; good_after = good; before = was; made = made; shown = shown; same = (sym (ap (λ (v : CpuView). v.settings) was.is), refl, noted_pass) },
     )
 

@@ -1,5 +1,5 @@
 -- What is in a CPU's hand changes, and the places of references: why the other views stay, and what a split or a join of the CPU's seat makes.
-use Rattle.std.proofs.Common.{◌++◌, ◌≡◌, ◌≢◌, inl, ℕ, ◌+◌, ◌==◌, Bool, false, List, set, sum_by, Option, Some, None, refl, sym, ap, ◌∙◌, subst, arith, get_or-set_same, get_or-set_other}
+use Rattle.std.proofs.Common.{◌≡◌, ◌≢◌, inl, ℕ, ◌+◌, ◌==◌, Bool, false, List, set, sum_by, Option, Some, None, refl, sym, ap, ◌∙◌, subst, arith, get_or-set_same, get_or-set_other}
 use Rattle.atomic_table.specs.Table.{Splits, Joins}
 use Rattle.cpu_words.specs.Types.{Entry, Settings, Event, SplitRef, JoinRef, SplitBack, Reply, Done, Ref, Hand, Empty, Taking, Giving, Back, Trying, LocalPlace, Standing, Lifted}
 use Rattle.registry_values.specs.Common.{slot_at}
@@ -7,9 +7,9 @@ use Rattle.protocol.specs.Common.{IsIn, IsAttached, State, hand_at, local_at, st
 use Rattle.protocol.proofs.counts.Bounds.{back_within}
 use Rattle.protocol.proofs.keeps.References.{back_holds}
 use Rattle.protocol.proofs.counts.Sums.{local_changed, local_added, standing_within}
-use Rattle.cpu_words.proofs.shown.Showing.{more, standing_in, shows_split, JoinsSo, joins_on, reference_place}
+use Rattle.cpu_words.proofs.shown.Showing.{standing_in, shows_split, JoinsSo, joins_on, reference_place, goes_to}
 use Rattle.cpu_words.proofs.logs.Logs.{tells_nothing, names_nobody, seat_cut, seat_join}
-use Rattle.cpu_words.specs.Common.{InHand, CpuView, ReferenceView, LogItem, Logged, View, Cpu, Reference, Spot, section_of, word_at, is_to, references_to, SameHand, HandFits, IsCollectedFor, CpuShown, ReferenceShown, cpu_of, reference_of, Good, number_or_none, by_number, did, log_of_events, the_cpu, maker, LoggedRuled, logged_after_split, no_log, no_teller, fresh, joined_seat, spent_seat, leaves_hand, cuts_off, takes_in, SplitsBy, JoinsBy, SplitsOn, IsIdle, with_hand, reference_in, with_empty_hand, reference_of_hand, with_reference_in_hand, IsTaking, IsBack, IsTrying, trying_in, HasNone, is_border, is_hear}
+use Rattle.cpu_words.specs.Common.{InHand, CpuView, ReferenceView, Logged, View, Cpu, Reference, Spot, section_of, word_at, is_to, references_to, SameHand, HandFits, IsCollectedFor, CpuShown, ReferenceShown, cpu_of, reference_of, Good, number_or_none, by_number, did, the_cpu, maker, LoggedRuled, logged_after_split, no_log, no_teller, fresh, joined_seat, spent_seat, leaves_hand, cuts_off, takes_in, SplitsBy, JoinsBy, SplitsOn, IsIdle, with_hand, reference_in, with_empty_hand, reference_of_hand, with_reference_in_hand, IsTaking, IsBack, IsTrying, trying_in, HasNone, is_border, is_hear}
 use Rattle.cpu_words.specs.declared.view.InHand.TheVariants.{Empty as NoEntry, Taking as TakingEntry, Giving as GivingEntry, Back as BackEntry, Trying as TryingEntry}
 use Rattle.cpu_words.proofs.shown.Placing.{agrees_same}
 use Rattle.cpu_words.proofs.by_cpu.CpuSteps.{with_lists, LeavesOthers, cpu_stays, good_after}
@@ -114,22 +114,12 @@ splits z i x e leaves s r at =
     let p = leaves g r.good had.1 in
     let m = p.step in
     let l = hand_lists g x.id m.h m.locals in
-    let after = leaves_hands g x.id m.h m.locals in record {
-      goes_on = (more z g (with_lists g l) e p.r r.reached m.made).1 ∙ ap (λ (ds : List LogItem). log_of_events z r.reached.events ++ ds) p.told;
-      seated = omega arith;
-      seats = λ c lt. refl;
-      ruled = record {
-        g = with_lists g l;
-        seat = r.seat;
-        settings = r.settings;
-        good = good_after g l x.id e p.r r.good after had.1.seated m.made;
-        reached = (more z g (with_lists g l) e p.r r.reached m.made).0;
-        words = agrees_same z s.words g (with_lists g l) r.words refl (λ q there. same_words g x.id m.h m.locals q);
-        shows = shows_split g (with_lists g l) r.seat s.views i (Cpu x) (with_empty_hand (Cpu x)) (reference_of_hand (Cpu x)) r.shows at (cpu_stays g l x.id r.seat i after had.0)
-            (had.0, shown_hand g x m.h m.locals NoEntry r.good had.1 m.same m.fits m.tries) (tt, record { attached = p.right.attached; collected = p.right.collected }) (λ c lt. inl lt) refl
-            (λ n. let h = p.count n in omega arith);
-      };
-    }
+    let after = leaves_hands g x.id m.h m.locals in
+    goes_to z s r (with_lists g l) r.seat e p.r _ _ m.made p.told (good_after g l x.id e p.r r.good after had.1.seated m.made) refl (omega arith) (λ c lt. refl)
+    (agrees_same z s.words g (with_lists g l) r.words refl (λ q there. same_words g x.id m.h m.locals q))
+    (shows_split g (with_lists g l) r.seat s.views i (Cpu x) (with_empty_hand (Cpu x)) (reference_of_hand (Cpu x)) r.shows at (cpu_stays g l x.id r.seat i after had.0)
+    (had.0, shown_hand g x m.h m.locals NoEntry r.good had.1 m.same m.fits m.tries) (tt, record { attached = p.right.attached; collected = p.right.collected }) (λ c lt. inl lt) refl
+    (λ n. let h = p.count n in omega arith))
 
 -- what a hand leaves is a SplitRef or a SplitBack
 leaves_quietly : (of : Event → Bool) (c : ℕ) (h : InHand) → ((c : ℕ) → of (SplitRef c) ≡ false) → ((c : ℕ) → of (SplitBack c) ≡ false) → HasNone of (leaves_hand c h)

@@ -1,10 +1,10 @@
 -- The loads of a search on the words.
-use Rattle.std.proofs.Common.{◌++◌, ◌≡◌, ◌≢◌, ℕ, zero, suc, ◌≤◌, ◌<◌, ⊎_elim, List, [], ◌∷◌, length, take, drop, get_or, set, Option, Some, None, refl, sym, ap, ◌∙◌, subst, arith, get_or-set_same, get_or-set_other, set-set}
+use Rattle.std.proofs.Common.{◌++◌, ◌≡◌, ◌≢◌, ℕ, zero, suc, ◌≤◌, ◌<◌, ⊎_elim, List, [], length, take, drop, get_or, set, Option, Some, None, refl, sym, ap, ◌∙◌, subst, arith, get_or-set_same, get_or-set_other, set-set}
 use Rattle.std.proofs.lemmas.List.{set-get_or, length-take-le, take-append-drop}
 use Rattle.std.proofs.lemmas.Bool.{cases_lt}
 use Rattle.std.proofs.lemmas.Option.{none-some, same_Some}
 use Rattle.std.specs.Prelude.{slice_index}
-use mathlib.Core.Option.{some, some-ne-none}
+use mathlib.Core.Option.{some}
 use mathlib.Core.List.{IsPrefix}
 use lib.ListN.{get_elem?}
 use Rattle.atomic_table.specs.Table.{State as Table, keeps, stepped}
@@ -20,7 +20,7 @@ use Rattle.protocol.proofs.keeps.SearchKeeps.{IsAnswer, AnswersLookup, record_an
 use Rattle.protocol.proofs.Cells.{one_in}
 use Rattle.protocol.proofs.keeps.Searching.{Walks, stands_in, words_stand, search_walks, LinkTells, link_tells, head_ahead, at_next_ahead}
 use Rattle.cpu_words.specs.Common.{CpuView, View, Cpu, Spot, section_of, passive_of, count_of, head_word, next_of, record_of, word_at, index, cpu_view, cpu_of, depth_of, CpuShown, Agrees, Good, Ruled, GoesOn, did, Makes, CpuMay, sought, MaySeek, key_with, search_for, cpu_after_seek, search_with_place, MayLoadLink, link_answer, cpu_after_link, LinkHolds, MayStandOn, Descends, SkipsNone, PassTells, HasFollowed, HasLoadedLink, HasSought, IsAtWord, MayLoadSearched, every_word, loaded_of, loaded_answer, cpu_after_record_word, FoundHolds, HasSearched, HasLoadedWord, tells_compared}
-use Rattle.cpu_words.proofs.shown.Showing.{goes_both}
+use Rattle.cpu_words.proofs.shown.Showing.{goes_both, at_same}
 use Rattle.cpu_words.proofs.shown.Placing.{agrees_same}
 use Rattle.cpu_words.proofs.shown.Seeing.{attached_take, attached_prefix, taken_is_prefix, prefix_longer, take_whole, seen_of, idle_of}
 use Rattle.cpu_words.proofs.by_cpu.CpuSteps.{keeps_view, with_lists, same_counts, shown_on, found_on, cpu_makes}
@@ -253,11 +253,6 @@ load_link_may z x c t id may = rw (← id)
     told z s r i x spot m q under done = (Cpu done.0, done.1, (refl, (done.2, λ p is. subst (λ (o : Search). HasFollowed x o m done.0) (same_Some q p (sym under ∙ is)) done.3)))
 
 -- Seek touches no word: it is made with the load of the head
-
-at_same : (l : List View) (i : ℕ) (v w : View) → get_elem? l i ≡ some v → get_elem? (set l i w) i ≡ some w
-at_same [] i v w e = absurd (some-ne-none v (sym e))
-at_same (u ∷ us) zero v w e = refl
-at_same (u ∷ us) (suc i) v w e = at_same us i v w e
 
 abbrev pub begun_lists : State → ℕ → Search → State
 begun_lists g c q = record g { searches = set g.searches c (Some q) }

@@ -15,7 +15,7 @@ use Rattle.protocol.proofs.keeps.Keeping.{step_holds}
 use Rattle.cpu_words.specs.Common.{KeeperView, Spot, IsSpot, word_at, KeeperShown, Agrees, Good, InHand, CpuView, View, Keeper, Cpu, Reference, Note, Spent, cpu_view, keeper_view, references_to, SameHand, HandFits, CpuShown, section_of, IsFresh, Ruled, GoesOn, by_number, did, Makes}
 use Rattle.cpu_words.specs.declared.view.InHand.TheVariants.{Empty as NoEntry, Taking as TakingEntry, Giving as GivingEntry, Back as BackEntry, Trying as TryingEntry}
 use Rattle.cpu_words.proofs.shown.Placing.{agrees_same}
-use Rattle.cpu_words.proofs.shown.Showing.{more, reference_place, standing_in, Stay, shows_set}
+use Rattle.cpu_words.proofs.shown.Showing.{goes_to, reference_place, standing_in, Stay, shows_set}
 use Rattle.cpu_words.proofs.shown.Seeing.{tries, attached_on, attached_prefix, prefix_on, take_on, occupied_or_not}
 
 -- What the keeper's view tells of the core that shows it.
@@ -190,21 +190,9 @@ keeper_makes z s r i k word m l e rep own at made leaves count noted_pass shown 
     let had = r.shows.fits i (Keeper k) at in
     let was : KeeperShown g k = had.1 in
     let good = keeper_good_after g l e rep r.good leaves made in (
-      record {
-        ruled = record {
-          g = g';
-          seat = r.seat;
-          settings = r.settings;
-          good = good;
-          reached = (more z g g' e rep r.reached made).0;
-          words = words;
-          shows = shows_set g g' r.seat s.views i (Keeper k) (Keeper w) r.shows at (keeper_stays g l r.seat i r.good good.holds leaves count had.0) (had.0, shown) leaves.seated refl
-              (λ n. let h = count n in omega arith);
-        };
-        goes_on = (more z g g' e rep r.reached made).1;
-        seated = omega (arith, leaves.seated);
-        seats = λ c lt. refl;
-      },
+      goes_to z s r g' r.seat e rep _ _ made refl good refl (omega (arith, leaves.seated)) (λ c lt. refl) words
+          (shows_set g g' r.seat s.views i (Keeper k) (Keeper w) r.shows at (keeper_stays g l r.seat i r.good good.holds leaves count had.0) (had.0, shown) leaves.seated refl
+          (λ n. let h = count n in omega arith)),
       record { g = g; after = g'; good = r.good; good_after = good; before = was; made = made; shown = shown; same = (sym (ap (λ (v : KeeperView). v.settings) was.is), noted_pass) },
     )
 

@@ -1,9 +1,9 @@
 -- The end of a drain on the words: a slot becomes vacant, and an interface gives its driver up.
-use Rattle.std.proofs.Common.{◌≡◌, ◌≢◌, ◌⊎◌, inl, inr, ⊎_elim, ℕ, ◌≤◌, ◌<◌, List, [], length, replicate, get_or, set, Option, true, eq-eqb, refl, sym, ap, ◌∙◌, subst, arith, length-set, ◌+◌, ◌-◌, ◌%◌, ◌^◌, Some, None, zero, suc, ◌∷◌, ◌++◌}
+use Rattle.std.proofs.Common.{◌≡◌, ◌≢◌, ◌⊎◌, inl, inr, ⊎_elim, ℕ, ◌≤◌, ◌<◌, List, [], length, replicate, get_or, set, Option, true, eq-eqb, refl, sym, ap, ◌∙◌, subst, arith, length-set, ◌+◌, ◌-◌, ◌%◌, ◌^◌, Some, None, ◌++◌, set-set}
 use Rattle.std.proofs.lemmas.Bool.{cases_eq, cases_lt}
 use Rattle.std.proofs.lemmas.List.{append-nil, get_or_past, set-get_or}
 use Rattle.std.specs.Prelude.{slice_index}
-use mathlib.Core.Option.{some, some-ne-none}
+use mathlib.Core.Option.{some}
 use lib.ListN.{get_elem?}
 use Rattle.atomic_table.specs.Table.{State as Table}
 use Rattle.cpu_words.specs.Types.{MOST_CPUS, Entry, Slot, Vacant, Retired, Mark, Rest, Settings, Live, KeptSub, Done, Hear, Vacate}
@@ -19,7 +19,7 @@ use Rattle.cpu_words.specs.Common.{KeeperView, KeeperShown, Good, IsDrained, Kee
 use Rattle.cpu_words.proofs.by_keeper.KeeperSteps.{LeavesCpus, seen_by_keeper, with_keeper, keeper_makes, loads}
 use Rattle.cpu_words.proofs.shown.Seeing.{honest_retired}
 use Rattle.cpu_words.proofs.by_keeper.Totals.{total_words, shown_less, later_less}
-use Rattle.cpu_words.proofs.shown.Showing.{goes_both}
+use Rattle.cpu_words.proofs.shown.Showing.{goes_both, at_same}
 use Rattle.cpu_words.proofs.seats.Notes.{hear_keeper_may}
 
 -- The end of a drain on the words: a slot becomes vacant, and what it kept is given up.
@@ -266,27 +266,16 @@ vacates z k t may s r i at =
       subst (λ (v : KeeperView). Makes (Vacate t) Done (Keeper k) (Keeper v)) is done.1,
     )
 
--- a seat's view that is written twice
-views_again : (views : List View) (i : ℕ) (v w : View) → set (set views i v) i w ≡ set views i w
-views_again [] i v w = refl
-views_again (x ∷ xs) zero v w = refl
-views_again (x ∷ xs) (suc i) v w = ap (λ l. x ∷ l) (views_again xs i v w)
-
-view_here : (views : List View) (i : ℕ) (v w : View) → get_elem? views i ≡ some v → get_elem? (set views i w) i ≡ some w
-view_here [] i v w e = absurd (some-ne-none v (sym e))
-view_here (x ∷ xs) zero v w e = refl
-view_here (x ∷ xs) (suc i) v w e = view_here xs i v w e
-
 -- a step that may be made by the view with a change that touches no word may be made by the view before it
 moves_after : (z : Settings) (v u : View) (i : ℕ) (f : ℕ → ℕ) (before : List LogItem) (es : ℕ → List LogItem) (tells : ℕ → View → Type 0) (T : Type 0)
     → ((s : Table ℕ View) (r : Ruled z s) (id : ℕ) → get_elem? s.views id ≡ some v → GoesOn z s r before (with_view s id u) × T) → Moves z u i f es tells
     → Moves z v i f (λ n. before ++ es n) (λ n w. T × tells n w)
 moves_after z v u i f before es tells T first then s r id at fits =
     let a = first s r id at in
-    let b = then (with_view s id u) a.0.ruled id (view_here s.views id v u at) fits in (
+    let b = then (with_view s id u) a.0.ruled id (at_same s.views id v u at) fits in (
       b.0,
       subst (λ (views : List View). GoesOn z s r (before ++ es (slice_index s.words i)) (record { words = set s.words i (f (slice_index s.words i)); homes = s.homes; views = views }))
-          (views_again s.views id u b.0) (goes_both z s (with_view s id u) _ r before (es (slice_index s.words i)) a.0 b.1),
+          (set-set s.views id u b.0) (goes_both z s (with_view s id u) _ r before (es (slice_index s.words i)) a.0 b.1),
       (a.1, b.2),
     )
 

@@ -11,7 +11,7 @@ use Rattle.protocol.proofs.keeps.ListKeeps.{may_publish_tells, false_from}
 use Rattle.protocol.proofs.keeps.MarkKeeps.{is_drained_tells, mark_place, may_examine_tells}
 use Rattle.protocol.proofs.keeps.References.{snapshot_due_tells}
 use Rattle.protocol.proofs.keeps.Linking.{within_live, within_retired}
-use Rattle.protocol.proofs.Cells.{by_cell, cell_cases, cell_here, cell_in_old, cell_other, get_or_all}
+use Rattle.protocol.proofs.Cells.{by_cell, cell_cases, cell_here, cell_in_old, cell_other, get_or_all, place_put}
 use Rattle.protocol.proofs.Occupied.{is_retired_tells, slot_cases, slot_has}
 use Rattle.cpu_words.specs.Common.{LogItem, Teller, by_number, reply_without_id, changes_of, changes_in, occupant_after, occupant_from, occupant, replied, word_after, word_from, word_collected, occupant_of, word_if, is_drawn, word_in, AreCountsOf, maker, IsSeatOf}
 use Rattle.cpu_words.proofs.logs.Loads.{moves_past}
@@ -63,10 +63,8 @@ retired_does : (s n : State) (t : ℕ) (e : Entry) → n.slots ≡ set s.slots t
     → Does s (Unpublish t) Done n
 retired_does s n t e slots marks nets live =
     let lt = within_live s.slots t e live in (
-      λ u. ap (λ (x : List Slot). occupant_of (slot_at x u)) slots ∙ ⊎_elim
-          (λ (here : (u ≡ t) × (slot_at (set s.slots t (Retired e)) u ≡ Retired e)). ap occupant_of here.1 ∙ sym (ap occupant_of (ap (slot_at s.slots) here.0 ∙ live)))
-          (λ (old : (u ≡ t → ⊥) × (slot_at (set s.slots t (Retired e)) u ≡ slot_at s.slots u)). ap occupant_of old.1)
-          (slot_cases s.slots t (Retired e) u lt),
+      λ u. ap (λ (x : List Slot). occupant_of (slot_at x u)) slots
+          ∙ place_put Vacant s.slots t (Retired e) (λ v x. occupant_of x ≡ occupant_of (slot_at s.slots v)) u (sym (ap occupant_of live)) refl,
       λ u d. ⊎_elim
           (λ (here : (u ≡ t) × (slot_at (set s.slots t (Retired e)) u ≡ Retired e)).
           let new : mark_at n.marks u d ≡ no_mark =

@@ -2,7 +2,7 @@
 use Rattle.std.proofs.Common.{◌≡◌, ◌≢◌, ◌⊎◌, inl, inr, ⊎_elim, ℕ, zero, suc, ◌<◌, ◌≤◌, List, [], ◌∷◌, ◌++◌, map, length, Option, None, set, length-set, length-append, refl, sym, ap, ◌∙◌, subst, arith, Some}
 use Rattle.std.proofs.lemmas.List.{map-set, append-nil, map-append}
 use Rattle.std.specs.Prelude.{slice_index}
-use mathlib.Core.Option.{some, some-injective, some-ne-none}
+use mathlib.Core.Option.{some, some-ne-none}
 use mathlib.Core.List.{IsPrefix}
 use lib.ListN.{get_elem?}
 use Rattle.atomic_table.specs.Table.{State as Table, Splits, Joins, keeps, stepped}
@@ -10,7 +10,7 @@ use Rattle.atomic_table.proofs.Lists.{at_set, at_map}
 use Rattle.cpu_words.specs.Types.{Settings, Hear, Done}
 use Rattle.protocol.specs.Common.{State, opening, empty_run}
 use Rattle.cpu_words.specs.Common.{LogItem, Teller, Logged, View, Keeper, Cpu, Reference, Note, Spent, Shown, Sits, Ruled, GoesOn, did, log_of_events, Moves, SplitsOn, JoinsOn, without_logs, part, events_of, untold, IsStanding, Maker, the_keeper, the_cpu, another, maker, maker_of_note, who, AreBy, IsSeatOf, AreByOwn, Knows, HasComeIf, AreToldBefore, ListGoesOn, spent_seat, LoggedRuled, KnownLogGrows, heard_from, HasHeardAll, HasItsSections, HasNone, is_border, is_hear, CpuView, logged_after_split, fresh, teller_of, joined_seat, logged_with_note}
-use Rattle.cpu_words.proofs.shown.Showing.{was_there}
+use Rattle.cpu_words.proofs.shown.Showing.{was_there, at_end}
 use Rattle.cpu_words.proofs.logs.Runs.{by_seat, part_append, part_own, part_other, events_of_seat}
 use Rattle.cpu_words.proofs.logs.Told.{HearsWith, deaf_with, hear_with, heard_own, heard_other, heard_none, sections_more, sections_whole, AreToldPast, come_more, come_seats, told_more, plain_of_end, plain_from, plain_past, heard_past}
 use Rattle.cpu_words.proofs.shown.Seeing.{prefix_on}
@@ -19,12 +19,6 @@ at_within : (l : List Logged) (i : ℕ) (a : Logged) → get_elem? l i ≡ some 
 at_within [] i a e = absurd (some-ne-none a (sym e))
 at_within (x ∷ xs) zero a e = omega arith
 at_within (x ∷ xs) (suc i) a e = let h = at_within xs i a e in omega arith
-
-at_end : (l : List Logged) (a b : Logged) (j : ℕ) → get_elem? (l ++ a ∷ []) j ≡ some b → (get_elem? l j ≡ some b) ⊎ ((j ≡ length l) × (a ≡ b))
-at_end [] a b zero e = inr (refl, some-injective a b e)
-at_end [] a b (suc j) e = absurd (some-ne-none b (sym e))
-at_end (x ∷ xs) a b zero e = inl e
-at_end (x ∷ xs) a b (suc j) e = ⊎_elim (λ t. inl t) (λ t. inr (ap suc t.0, t.1)) (at_end xs a b j e)
 
 -- Whose the seats are
 

@@ -1,5 +1,5 @@
 -- Notes on the words: what a seat has seen is told and heard.
-use Rattle.std.proofs.Common.{◌++◌, [], ◌≡◌, inl, ℕ, ◌≤◌, List, length, take, get_or, set, Some, None, refl, sym, ap, ◌∙◌, subst, arith, get_or-set_same, get_or-set_other}
+use Rattle.std.proofs.Common.{[], ◌≡◌, inl, ℕ, ◌≤◌, List, length, take, get_or, set, Some, None, refl, sym, ap, ◌∙◌, subst, arith, get_or-set_same, get_or-set_other}
 use Rattle.std.specs.Prelude.{slice_index}
 use mathlib.Core.List.{IsPrefix}
 use Rattle.atomic_table.specs.Table.{Splits, Joins}
@@ -7,7 +7,7 @@ use Rattle.cpu_words.specs.Types.{Change, Settings, Event, Tell, Hear, Done, Res
 use Rattle.protocol.specs.Common.{State, seen_at, step}
 use Rattle.cpu_words.specs.Common.{CpuView, KeeperView, Logged, View, Keeper, Cpu, Note, Spent, cpu_view, keeper_view, depth_of, CpuShown, KeeperShown, Shown, cpu_of, keeper_of, note_of, Sits, reference_to, Good, by_number, did, log_item, log_of_events, Makes, SplitsBy, CpuMay, KeeperMay, SplitsOn, JoinsOn, the_cpu, who, LoggedRuled, logged_after_split, known_log_of, whole_log, fresh, logged_with_note, spent_seat, tells_pass, tells_history, told_by_cpu, no_teller, IsIdle, as_before, pass_told, history_told, with_note, keeper_with_note, beside_cpu, beside_keeper, HasHeard, KeeperHasHeard, CpuHears, section_of, head_word, index}
 use Rattle.std.proofs.lemmas.List.{append-nil}
-use Rattle.cpu_words.proofs.shown.Showing.{more, Stay, shows_split, shows_join, was_there}
+use Rattle.cpu_words.proofs.shown.Showing.{more, Stay, shows_split, shows_join, was_there, goes_to}
 use Rattle.cpu_words.proofs.logs.Logs.{tells_known, tells_whole, seat_cut, seat_with_note, names_nobody, names_cpu}
 use Rattle.cpu_words.proofs.shown.Seeing.{taken_is_prefix, prefix_longer, take_whole, seen_of, idle_of}
 use Rattle.cpu_words.proofs.by_cpu.CpuSteps.{with_lists, same_counts, shown_on, found_on, cpu_makes}
@@ -39,20 +39,9 @@ splits : (z : Settings) (i : ℕ) (e : Event) (v : View) (h : List Change) → T
 splits z i e v h tells s r at =
     let g = r.g in
     let had = r.shows.fits i v at in
-    let told = tells g r.good had.1 in record {
-      goes_on = (more z g g e Done r.reached told.0).1 ∙ ap (λ (f : Event). log_of_events z r.reached.events ++ did f Done) told.2;
-      seated = omega arith;
-      seats = λ c lt. refl;
-      ruled = record {
-        g = g;
-        seat = r.seat;
-        settings = r.settings;
-        good = r.good;
-        reached = (more z g g e Done r.reached told.0).0;
-        words = r.words;
-        shows = shows_split g g r.seat s.views i v v (Note h) r.shows at (own_view_alone g r.seat i) had (tt, told.1) (λ c lt. inl lt) refl (λ n. omega arith);
-      };
-    }
+    let told = tells g r.good had.1 in
+    goes_to z s r g r.seat e Done _ _ told.0 (ap (λ (f : Event). did f Done) told.2) r.good refl (omega arith) (λ c lt. refl) r.words
+    (shows_split g g r.seat s.views i v v (Note h) r.shows at (own_view_alone g r.seat i) had (tt, told.1) (λ c lt. inl lt) refl (λ n. omega arith))
 
 cpu_tells : (x : CpuView) (c : ℕ) → x.id ≡ c → IsIdle x → Tells (Tell (Some c)) (Cpu x) x.pass
 cpu_tells x c id idle = subst (λ d. Tells (Tell (Some d)) (Cpu x) x.pass) id (λ g good had.

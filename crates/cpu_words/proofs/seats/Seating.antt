@@ -22,7 +22,7 @@ use Rattle.cpu_words.specs.Common.{CpuView, Logged, View, Spot, section_of, pass
 use Rattle.cpu_words.specs.declared.view.InHand.TheVariants.{Empty as NoEntry}
 use Rattle.cpu_words.proofs.shown.Placing.{below_size, same_spot, agrees_same}
 use Rattle.cpu_words.proofs.logs.Told.{no_act}
-use Rattle.cpu_words.proofs.shown.Showing.{more, SeatsWith, shows_split}
+use Rattle.cpu_words.proofs.shown.Showing.{more, SeatsWith, shows_split, goes_to}
 use Rattle.cpu_words.proofs.logs.Logs.{tells_nothing, names_nobody, seat_cut}
 use Rattle.cpu_words.proofs.by_keeper.KeeperSteps.{with_keeper, beside_stays, beside_words, seen_by_keeper}
 use Rattle.cpu_words.proofs.shown.Seeing.{take_whole, seen_of}
@@ -94,6 +94,11 @@ first_shown z = record {
   noted_pass = ([], refl);
 }
 
+-- the first seat is the only one
+first_alone : {X : Type 0} (a : X) (P : ℕ → X → Type 0) → P 0 a → (i : ℕ) (b : X) → get_elem? (a ∷ []) i ≡ some b → P i b
+first_alone a P here zero b e = subst (P 0) (some-injective _ _ e) here
+first_alone a P here (suc i) b e = absurd (some-ne-none b (sym e))
+
 opens_without_logs : (z : Settings) (words : List ℕ) → IsTrue (are_fit z) → AreOpening z words → Ruled z (opening_table words [] (first_view z))
 opens_without_logs z words fit are = record {
   g = opening z;
@@ -102,12 +107,8 @@ opens_without_logs z words fit are = record {
   good = first_good z fit;
   reached = record { events = []; run = refl; made = refl };
   words = record { size = are.size; settings = refl; at = first_words z words are; unused = λ i free. are.unused i free.0 (λ t lt same. free.1 (total_of t) lt same) };
-  shows = record { fits = one; each = record { keeper = (new_keeper z, refl); cpus = λ c lt. absurd (omega (arith, lt)) }; references = λ n. refl };
+  shows = record { fits = first_alone (first_view z) (λ i v. Sits (λ _. 0) i v × Shown (opening z) v) (refl, first_shown z); each = record { keeper = (new_keeper z, refl); cpus = λ c lt. absurd (omega (arith, lt)) }; references = λ n. refl };
 }
-  where
-    one : (i : ℕ) (v : View) → get_elem? (first_view z ∷ []) i ≡ some v → Sits (λ _. 0) i v × Shown (opening z) v
-    one zero v e = subst (λ (u : View). Sits (λ _. 0) 0 u × Shown (opening z) u) (some-injective _ _ e) (refl, first_shown z)
-    one (suc i) v e = absurd (some-ne-none v (sym e))
 
 -- nobody has done anything
 pub opens : (z : Settings) (words : List ℕ) → IsTrue (are_fit z) → AreOpening z words → LoggedRuled z (opening_table words [] (first_logged z))
@@ -117,35 +118,15 @@ opens z words fit are = record {
   acts = [];
   are = refl;
   owners = tt;
-  logs = one;
+  logs = first_alone (first_logged z) (λ i l. IsStanding l.view → l.log ≡ []) (λ _. refl);
   unseated = λ i le. refl;
-  known = none;
+  known = first_alone (first_logged z) (λ i l. Knows l []) (([], refl), ([], refl));
   told = λ i d first rest is. absurd (no_act first rest (i, d) is);
-  tellers = nobody;
-  lists = unlisted;
-  sections = outside;
+  tellers = first_alone (first_logged z) (λ i l. HasComeIf (λ _. 0) (opening z).seated [] l.teller) tt;
+  lists = first_alone (first_logged z) (λ i l. IsPrefix l.list []) ([], refl);
+  sections = first_alone (first_logged z) (λ i l. IsStanding l.view → HasItsSections i l) (λ _. record { lacks = []; are = refl; none = tt });
   heard = λ i l at stands d first rest is hear. absurd (no_act first rest (i, d) is);
 }
-  where
-    none : (i : ℕ) (l : Logged) → get_elem? (first_logged z ∷ []) i ≡ some l → Knows l []
-    none zero l e = subst (λ (m : Logged). Knows m []) (some-injective _ _ e) (([], refl), ([], refl))
-    none (suc i) l e = absurd (some-ne-none l (sym e))
-
-    nobody : (i : ℕ) (l : Logged) → get_elem? (first_logged z ∷ []) i ≡ some l → HasComeIf (λ _. 0) (opening z).seated [] l.teller
-    nobody zero l e = subst (λ (m : Logged). HasComeIf (λ _. 0) (opening z).seated [] m.teller) (some-injective _ _ e) tt
-    nobody (suc i) l e = absurd (some-ne-none l (sym e))
-
-    unlisted : (i : ℕ) (l : Logged) → get_elem? (first_logged z ∷ []) i ≡ some l → IsPrefix l.list []
-    unlisted zero l e = subst (λ (m : Logged). IsPrefix m.list []) (some-injective _ _ e) ([], refl)
-    unlisted (suc i) l e = absurd (some-ne-none l (sym e))
-
-    outside : (i : ℕ) (l : Logged) → get_elem? (first_logged z ∷ []) i ≡ some l → IsStanding l.view → HasItsSections i l
-    outside zero l e stands = subst (HasItsSections 0) (some-injective _ _ e) (record { lacks = []; are = refl; none = tt })
-    outside (suc i) l e stands = absurd (some-ne-none l (sym e))
-
-    one : (i : ℕ) (l : Logged) → get_elem? (first_logged z ∷ []) i ≡ some l → IsStanding l.view → l.log ≡ []
-    one zero l e stands = sym (ap (λ (m : Logged). m.log) (some-injective _ _ e))
-    one (suc i) l e stands = absurd (some-ne-none l (sym e))
 
 -- the seats of the first CPUs
 
@@ -305,21 +286,12 @@ splits z i k may s r at =
     let far = length s.views in
     let seat' = seat_with r.seat g.seated far in
     let reseated = shows_reseated g r.seat far s.views r.shows in
-    let here : far ≡ seat' k.seated = sym (ap (λ b. cond b far (r.seat k.seated)) (eq-eqb k.seated g.seated p.number)) in record {
-      goes_on = (more z g g' (Seat k.seated) Done r.reached (subst (λ c. step g (Seat c) ≡ Some (record { state = g'; reply = Done })) (sym p.number) p.made)).1;
-      seated = omega arith;
-      seats = λ c lt. ap (λ b. cond b far (r.seat c)) (ne_eqb c g.seated (λ same. omega (arith, lt, same)));
-      ruled = record {
-        g = g';
-        seat = seat';
-        settings = r.settings;
-        good = p.good;
-        reached = (more z g g' (Seat k.seated) Done r.reached (subst (λ c. step g (Seat c) ≡ Some (record { state = g'; reply = Done })) (sym p.number) p.made)).0;
-        words = agrees_same z s.words g g' r.words refl (λ q _. beside_words g (g.seated + 1) g.locals g.due g.keeps q);
-        shows = shows_split g g' seat' s.views i (Keeper k) (with_cpu_seated (Keeper k)) (next_seat (Keeper k)) reseated at (beside_stays g (g.seated + 1) g.locals g.due g.keeps (omega arith) seat' i had.0) (had.0, p.keeper) (here, p.new)
-            (seats_one g r.seat far k p.number) refl (λ n. refl);
-      };
-    }
+    let here : far ≡ seat' k.seated = sym (ap (λ b. cond b far (r.seat k.seated)) (eq-eqb k.seated g.seated p.number)) in
+    goes_to z s r g' seat' (Seat k.seated) Done _ _ (subst (λ c. step g (Seat c) ≡ Some (record { state = g'; reply = Done })) (sym p.number) p.made) refl p.good refl (omega arith)
+    (λ c lt. ap (λ b. cond b far (r.seat c)) (ne_eqb c g.seated (λ same. omega (arith, lt, same))))
+    (agrees_same z s.words g g' r.words refl (λ q _. beside_words g (g.seated + 1) g.locals g.due g.keeps q))
+    (shows_split g g' seat' s.views i (Keeper k) (with_cpu_seated (Keeper k)) (next_seat (Keeper k)) reseated at (beside_stays g (g.seated + 1) g.locals g.due g.keeps (omega arith) seat' i had.0)
+    (had.0, p.keeper) (here, p.new) (seats_one g r.seat far k p.number) refl (λ n. refl))
 
 -- the same of a seat, whose view is the keeper's
 

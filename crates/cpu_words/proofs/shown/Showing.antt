@@ -9,7 +9,7 @@ use Rattle.atomic_table.proofs.Lists.{at_set, at_longer, at_last}
 use Rattle.cpu_words.specs.Types.{Settings, Event, Reply, Done, LocalPlace, Free, Standing, Lifted}
 use Rattle.protocol.specs.Common.{State, opening, Outcome, step, Run, run_of_events, empty_run, run_with_event, after, local_at, standing_of, one_if}
 use Rattle.protocol.proofs.counts.Sums.{none_at, one_at}
-use Rattle.cpu_words.specs.Common.{LogItem, View, Reached, Ruled, GoesOn, by_number, did, log_with, log_from, log_of_events, CpuView, KeeperView, Keeper, Cpu, Reference, Spent, Shown, Sits, reference_to, HaveViews, ShowsViews, Maker, the_keeper, the_cpu, another, who, Good, Spot, word_at, JoinsOn, number_of_id, reference_of, ReferenceView, is_to}
+use Rattle.cpu_words.specs.Common.{LogItem, View, Reached, Ruled, GoesOn, by_number, did, log_with, log_from, log_of_events, CpuView, KeeperView, Keeper, Cpu, Reference, Spent, Shown, Sits, reference_to, HaveViews, ShowsViews, Maker, the_keeper, the_cpu, another, who, Good, Spot, word_at, JoinsOn, number_of_id, reference_of, ReferenceView, is_to, Agrees}
 use Rattle.cpu_words.specs.Steps.{JoinMakes}
 use Rattle.cpu_words.proofs.shown.Placing.{agrees_same}
 
@@ -150,8 +150,8 @@ have_push seat n m views w seats have = record {
       (seats c lt);
 }
 
--- a view of a pushed list is an old one, or the new one at the end
-at_end : (l : List View) (a b : View) (j : ℕ) → get_elem? (l ++ a ∷ []) j ≡ some b → (get_elem? l j ≡ some b) ⊎ ((j ≡ length l) × (a ≡ b))
+-- an item of a pushed list is an old one, or the new one at the end
+pub at_end : {X : Type 0} (l : List X) (a b : X) (j : ℕ) → get_elem? (l ++ a ∷ []) j ≡ some b → (get_elem? l j ≡ some b) ⊎ ((j ≡ length l) × (a ≡ b))
 at_end [] a b zero e = inr (refl, some-injective a b e)
 at_end [] a b (suc j) e = absurd (some-ne-none b (sym e))
 at_end (x ∷ xs) a b zero e = inl e
@@ -220,12 +220,30 @@ reference_place g v backs =
     let some_one : one_if (is_to n v.entry) ≤ standing_in n g = backs n in
     standing_place n g.locals (omega arith)
 
+-- a place that was written
+pub at_same : (l : List View) (i : ℕ) (v w : View) → get_elem? l i ≡ some v → get_elem? (set l i w) i ≡ some w
+at_same [] i v w e = absurd (some-ne-none v (sym e))
+at_same (u ∷ us) zero v w e = refl
+at_same (u ∷ us) (suc i) v w e = at_same us i v w e
+
 -- what was in the list before another place was written
 pub was_there : {X : Type 0} (l : List X) (i o : ℕ) (a b : X) → o ≢ i → get_elem? (set l i a) o ≡ some b → get_elem? l o ≡ some b
 was_there l i o a b apart there = ⊎_elim
     (λ (q : (o ≡ i) × (a ≡ b)). absurd (apart q.0))
     (λ (q : (o ≢ i) × (get_elem? l o ≡ some b)). q.1)
     (at_set l i o a b there)
+
+-- one event more, to the state g and the table t that shows it
+pub goes_to : (z : Settings) (s : Table ℕ View) (r : Ruled z s) (g : State) (seat : ℕ → ℕ) (e : Event) (rep : Reply) (ds : List LogItem) (t : Table ℕ View)
+    → step r.g e ≡ Some (record { state = g; reply = rep }) → did (by_number r.g e) rep ≡ ds → Good g → g.settings ≡ r.g.settings → r.g.seated ≤ g.seated
+    → ((c : ℕ) → c < r.g.seated → seat c ≡ r.seat c) → Agrees z t.words g → ShowsViews g seat t.views → GoesOn z s r ds t
+goes_to z s r g seat e rep ds t made named good settings seated seats words shows =
+    let reached = more z r.g g e rep r.reached made in record {
+      ruled = record { g = g; seat = seat; settings = settings ∙ r.settings; good = good; reached = reached.0; words = words; shows = shows };
+      goes_on = reached.1 ∙ ap (λ (l : List LogItem). log_of_events z r.reached.events ++ l) named;
+      seated = seated;
+      seats = seats;
+    }
 
 -- A reference is put into another view: what its event makes and leaves, and that a run goes on with it.
 
@@ -248,17 +266,6 @@ joins_on z i v o u both e joins owners sits s r at apart there =
     let was = was_there s.views i o both u apart there in
     let leaves = joins g r.good had.1 (r.shows.fits o u was).1 (backed g r.seat s.views o u r.shows was) in
     let law = leaves.makes in
-    let reached = more z g law.after (e law.id) Done r.reached law.made in record {
-      goes_on = reached.1 ∙ ap (λ (f : Event). log_of_events z r.reached.events ++ did f Done) (leaves.named ∙ ap e law.names);
-      seated = omega (arith, leaves.seated);
-      seats = λ c lt. refl;
-      ruled = record {
-        g = law.after;
-        seat = r.seat;
-        settings = leaves.settings ∙ r.settings;
-        good = law.good_after;
-        reached = reached.0;
-        words = agrees_same z s.words g law.after r.words leaves.settings (λ q _. leaves.words q);
-        shows = shows_join g law.after r.seat s.views i v o u both r.shows at apart was (leaves.stay r.seat i had.0) (sits r.seat had.0, law.shown) leaves.seated owners law.count there;
-      };
-    }
+    goes_to z s r law.after r.seat (e law.id) Done _ _ law.made (ap (λ (f : Event). did f Done) (leaves.named ∙ ap e law.names)) law.good_after leaves.settings (omega (arith, leaves.seated)) (λ c lt. refl)
+    (agrees_same z s.words g law.after r.words leaves.settings (λ q _. leaves.words q))
+    (shows_join g law.after r.seat s.views i v o u both r.shows at apart was (leaves.stay r.seat i had.0) (sits r.seat had.0, law.shown) leaves.seated owners law.count there)
