@@ -12,7 +12,7 @@ use Rattle.protocol.specs.Common.{State, row_at, local_at, number_standing, step
 use Rattle.protocol.proofs.Occupied.{in_within}
 use Rattle.protocol.proofs.Cells.{slot_number}
 use Rattle.protocol.proofs.keeps.Keeping.{step_holds}
-use Rattle.cpu_words.specs.Common.{ReferenceView, View, Reference, Spot, record_of, index, IsSpot, ReferenceShown, Good, Ruled, GoesOn, number_or_none, by_number, did, OneSeat, Makes, ReferenceMay, tells_local, CpuView, Keeper, Cpu, Note, Spent, cpu_view, SameHand, depth_of, GivesUp, CpuShown, Agrees, IsFresh, number_at}
+use Rattle.cpu_words.specs.Common.{ReferenceView, View, Reference, Spot, record_of, index, IsSpot, ReferenceShown, Good, Ruled, GoesOn, number_or_none, by_number, did, OneSeat, Makes, ReferenceMay, tells_local, CpuView, Keeper, Cpu, Note, Spent, cpu_view, SameHand, depth_of, GivesUp, CpuShown, Agrees, IsFresh, number_at, CpuMay}
 use Rattle.cpu_words.proofs.shown.Showing.{reference_place, goes_to, shows_set, backed, standing_in, Stay}
 use Rattle.cpu_words.proofs.shown.Placing.{agrees_set}
 use Rattle.cpu_words.proofs.shown.Seeing.{attached_longer, its_slot}
@@ -153,6 +153,10 @@ good_after g l c e r good leaves lt made = record {
   holds = step_holds g (with_lists g l) e r good.holds made;
   fresh = λ d le within. fresh_stays g l c leaves lt d le (good.fresh d le within);
 }
+
+-- what a CPU's step at the word p does: exactly this event, with the reply for the word found, and what is told of that
+abbrev pub CpuDoes : Settings → CpuView → Spot → (ℕ → ℕ) → Event → (ℕ → Reply) → (CpuView → ℕ → CpuView → Type 0) → Type 0
+CpuDoes z x p f e reply told = CpuMay z x (index z p) f (λ n. did e (reply n)) (λ v n y. Makes e (reply n) (Cpu v) (Cpu y) × told v n y)
 
 -- a CPU's step on a word keeps the rule, and is its event
 pub cpu_makes : (z : Settings) (s : Table ℕ View) (r : Ruled z s) (i : ℕ) (x : CpuView) (word m : ℕ) (l : State) (e : Event) (rep : Reply) (own : CpuView)

@@ -14,6 +14,7 @@ use Rattle.cpu_words.specs.declared.view.InHand.TheVariants.{Empty as NoEntry, T
 use Rattle.cpu_words.proofs.shown.Placing.{agrees_same}
 use Rattle.cpu_words.proofs.by_cpu.CpuSteps.{with_lists, LeavesOthers, cpu_stays, good_after}
 use Rattle.cpu_words.proofs.shown.Seeing.{seen_of, idle_of, idle_tries}
+use Rattle.std.proofs.lemmas.Option.{same_Some}
 
 -- another hand of the CPU c, and other places of references
 abbrev pub hand_lists : State → ℕ → Hand → List LocalPlace → State
@@ -60,15 +61,6 @@ back_hand g x e had is = same_back (hand_at g x.id) e (subst (SameHand (hand_at 
 pub trying_hand : (g : State) (x : CpuView) (e : Entry) → CpuShown g x → IsTrying x e → hand_at g x.id ≡ Trying e.slot e.number
 trying_hand g x e had is = same_trying (hand_at g x.id) e (subst (SameHand (hand_at g x.id)) is had.hand)
 
--- an event of the CPU that changes its hand, to k, and the places of references
-pub record HandStep (g : State) (x : CpuView) (e : Event) (r : Reply) (k : InHand) : Type 0 where
-  pub h : Hand
-  pub locals : List LocalPlace
-  pub made : step g e ≡ Some (record { state = handed g x.id h locals; reply = r })
-  pub same : SameHand h k
-  pub fits : HandFits g.history g.slots g.marks x.id k
-  pub tries : (t : ℕ) → trying_in t k ≡ trying_in t x.hand
-
 pub shown_hand : (g : State) (x : CpuView) (h : Hand) (locals : List LocalPlace) (k : InHand) → Good g → CpuShown g x → SameHand h k → HandFits g.history g.slots g.marks x.id k
     → ((t : ℕ) → trying_in t k ≡ trying_in t x.hand) → CpuShown (handed g x.id h locals) (with_hand x k)
 shown_hand g x h locals k good had same fits tries =
@@ -85,24 +77,27 @@ shown_hand g x h locals k good had same fits tries =
 -- the event that takes the reference out of the CPU's hand, and what it leaves
 pub record Leaving (e : Event) (x : CpuView) (g : State) : Type 0 where
   pub r : Reply
-  pub step : HandStep g x e r NoEntry
+  pub h : Hand
+  pub locals : List LocalPlace
+  pub made : step g e ≡ Some (record { state = handed g x.id h locals; reply = r })
+  pub same : SameHand h NoEntry
+  pub tries : (t : ℕ) → trying_in t NoEntry ≡ trying_in t x.hand
   -- the reply is an id, which the seat isn't told
   pub told : did (by_number g e) r ≡ did e (Ref 0)
   pub right : ReferenceShown g (reference_in x.id x.hand)
-  pub count : (n : ℕ) → one_if (is_to n (reference_in x.id x.hand).entry) + standing_in n g ≡ sum_by (standing_of n) step.locals
+  pub count : (n : ℕ) → one_if (is_to n (reference_in x.id x.hand).entry) + standing_in n g ≡ sum_by (standing_of n) locals
 
 abbrev pub LeavesHand : Event → CpuView → Type 0
 LeavesHand e x = (g : State) → Good g → CpuShown g x → Leaving e x g
 
 splits_by : (x : CpuView) (e : Event) → LeavesHand e x → SplitsBy e (Cpu x) (with_empty_hand (Cpu x)) (reference_of_hand (Cpu x))
 splits_by x e leaves g good had =
-    let p = leaves g good had in
-    let m = p.step in record {
-      after = handed g x.id m.h m.locals;
+    let p = leaves g good had in record {
+      after = handed g x.id p.h p.locals;
       reply = p.r;
-      made = m.made;
-      good_after = good_after g (hand_lists g x.id m.h m.locals) x.id e p.r good (leaves_hands g x.id m.h m.locals) had.seated m.made;
-      shown = shown_hand g x m.h m.locals NoEntry good had m.same m.fits m.tries;
+      made = p.made;
+      good_after = good_after g (hand_lists g x.id p.h p.locals) x.id e p.r good (leaves_hands g x.id p.h p.locals) had.seated p.made;
+      shown = shown_hand g x p.h p.locals NoEntry good had p.same tt p.tries;
       shown_right = record { attached = p.right.attached; collected = p.right.collected };
       count = λ n. let h = p.count n in omega arith;
     }
@@ -112,13 +107,12 @@ splits z i x e leaves s r at =
     let g = r.g in
     let had = r.shows.fits i (Cpu x) at in
     let p = leaves g r.good had.1 in
-    let m = p.step in
-    let l = hand_lists g x.id m.h m.locals in
-    let after = leaves_hands g x.id m.h m.locals in
-    goes_to z s r (with_lists g l) r.seat e p.r _ _ m.made p.told (good_after g l x.id e p.r r.good after had.1.seated m.made) refl (omega arith) (λ c lt. refl)
-    (agrees_same z s.words g (with_lists g l) r.words refl (λ q there. same_words g x.id m.h m.locals q))
+    let l = hand_lists g x.id p.h p.locals in
+    let after = leaves_hands g x.id p.h p.locals in
+    goes_to z s r (with_lists g l) r.seat e p.r _ _ p.made p.told (good_after g l x.id e p.r r.good after had.1.seated p.made) refl (omega arith) (λ c lt. refl)
+    (agrees_same z s.words g (with_lists g l) r.words refl (λ q there. same_words g x.id p.h p.locals q))
     (shows_split g (with_lists g l) r.seat s.views i (Cpu x) (with_empty_hand (Cpu x)) (reference_of_hand (Cpu x)) r.shows at (cpu_stays g l x.id r.seat i after had.0)
-    (had.0, shown_hand g x m.h m.locals NoEntry r.good had.1 m.same m.fits m.tries) (tt, record { attached = p.right.attached; collected = p.right.collected }) (λ c lt. inl lt) refl
+    (had.0, shown_hand g x p.h p.locals NoEntry r.good had.1 p.same tt p.tries) (tt, record { attached = p.right.attached; collected = p.right.collected }) (λ c lt. inl lt) refl
     (λ n. let h = p.count n in omega arith))
 
 -- what a hand leaves is a SplitRef or a SplitBack
@@ -160,14 +154,11 @@ split_ref_leaves x c id may = subst (λ d. LeavesHand (SplitRef d) x) id (λ g g
     let there : reference_in x.id x.hand ≡ record { entry = e; collected = None } = ap (reference_in x.id) may.1 in record {
       r = Ref (least_id g.locals);
       told = refl;
-      step = record {
-        h = Empty;
-        locals = with_local g.locals (least_id g.locals) (Standing n);
-        made = ap (split_ref g x.id) (taking_hand g x e had may.1);
-        same = tt;
-        fits = tt;
-        tries = λ t. sym (ap (trying_in t) may.1);
-      };
+      h = Empty;
+      locals = with_local g.locals (least_id g.locals) (Standing n);
+      made = ap (split_ref g x.id) (taking_hand g x e had may.1);
+      same = tt;
+      tries = λ t. sym (ap (trying_in t) may.1);
       right = subst (ReferenceShown g) (sym there) (record { attached = attached; collected = λ d no. absurd (let q : ◌≡◌ {A = Option ℕ} None (Some d) = no in cc) });
       count = λ k. let a = local_added k g.locals (Standing n) in
           let b : one_if (is_to k (reference_in x.id x.hand).entry) ≡ one_if (n == k) = ap (λ (v : ReferenceView). one_if (is_to k v.entry)) there in omega arith;
@@ -185,20 +176,14 @@ split_back_leaves x c id may = subst (λ d. LeavesHand (SplitBack d) x) id (λ g
     let there : reference_in x.id x.hand ≡ record { entry = e; collected = Some x.id } = ap (reference_in x.id) may.1 in record {
       r = Ref place;
       told = refl;
-      step = record {
-        h = Empty;
-        locals = set g.locals place (Standing n);
-        made = ap (split_back g x.id) was.1;
-        same = tt;
-        fits = tt;
-        tries = λ t. sym (ap (trying_in t) may.1);
-      };
-      right = subst (ReferenceShown g) (sym there) (record { attached = fits.0; collected = λ d is. subst (IsCollectedFor g.slots g.marks e) (some_same is) fits.1 });
+      h = Empty;
+      locals = set g.locals place (Standing n);
+      made = ap (split_back g x.id) was.1;
+      same = tt;
+      tries = λ t. sym (ap (trying_in t) may.1);
+      right = subst (ReferenceShown g) (sym there) (record { attached = fits.0; collected = λ d is. subst (IsCollectedFor g.slots g.marks e) (same_Some x.id d is) fits.1 });
       count = λ k. omega (arith, local_changed k g.locals place (Lifted x.id) (Standing n) within lifted, ap (λ (v : ReferenceView). one_if (is_to k v.entry)) there);
     })
-  where
-    some_same : {c d : ℕ} → ◌≡◌ {A = Option ℕ} (Some c) (Some d) → c ≡ d
-    some_same is = cc
 
 -- A reference goes into the hand
 

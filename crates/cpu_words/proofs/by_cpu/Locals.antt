@@ -1,5 +1,5 @@
 -- CountAdd and CountDown on the words: a count word of a CPU and its net count change, and the other views stay.
-use Rattle.std.proofs.Common.{◌≡◌, ◌≢◌, ⊎_elim, ℕ, zero, suc, ◌+◌, ◌*◌, ◌<◌, ◌≤◌, List, [], ◌∷◌, ◌++◌, length, replicate, get_or, set, sum_by, false, cond, refl, sym, ap, ◌∙◌, subst, arith, length-append, get_or-set_same, get_or-set_other, if◌then◌else◌, ◌-◌, ◌%◌, ◌^◌, ◌==◌, Option, Some, true}
+use Rattle.std.proofs.Common.{◌≡◌, ◌≢◌, ⊎_elim, ℕ, zero, suc, ◌+◌, ◌*◌, ◌<◌, ◌≤◌, List, [], ◌∷◌, ◌++◌, length, replicate, get_or, set, sum_by, false, cond, refl, sym, ap, ◌∙◌, subst, arith, length-append, get_or-set_same, get_or-set_other, if◌then◌else◌, ◌-◌, ◌%◌, ◌^◌, ◌==◌, Some, true}
 use Rattle.std.specs.List.{zip}
 use Rattle.std.proofs.lemmas.List.{length-replicate}
 use Rattle.std.proofs.lemmas.List.Sums.{sum_by-cons}
@@ -23,12 +23,13 @@ use Rattle.protocol.proofs.counts.Counts.{counting_cases, is_counting}
 use Rattle.protocol.proofs.keeps.CountKeeps.{held_counting}
 use Rattle.protocol.proofs.keeps.References.{giving_holds}
 use Rattle.protocol.proofs.counts.Sums.{local_changed}
-use Rattle.cpu_words.specs.Common.{InHand, CpuView, Spot, count_of, word_at, index, number_at, with_number, one_more, cpu_view, SameHand, HandFits, depth_of, collected_net, collected_one, GivesUp, CpuShown, trying_in, Agrees, Good, IsNetCount, IsPlaceCount, IsMetAlone, View, Cpu, IsCollectedFor, cpu_of, Ruled, GoesOn, did, Makes, CpuMay, down_reply, MayCount, HasCounted, CountTold, MayCountDown, HasCountedDown, HasFoundCollected, DownTold, with_hand}
+use Rattle.cpu_words.specs.Common.{InHand, CpuView, count_of, index, number_at, with_number, one_more, cpu_view, SameHand, HandFits, depth_of, collected_net, collected_one, GivesUp, CpuShown, trying_in, Agrees, Good, IsNetCount, IsPlaceCount, IsMetAlone, View, Cpu, IsCollectedFor, cpu_of, Ruled, GoesOn, did, Makes, CpuMay, down_reply, MayCount, HasCounted, CountTold, MayCountDown, HasCountedDown, HasFoundCollected, DownTold, with_hand}
 use Rattle.cpu_words.specs.declared.view.InHand.TheVariants.{Empty as NoEntry, Taking as TakingEntry, Giving as GivingEntry, Back as BackEntry}
 use Rattle.cpu_words.proofs.shown.Placing.{agrees_set}
-use Rattle.cpu_words.proofs.by_cpu.CpuSteps.{with_lists, LeavesOthers, cpu_makes}
+use Rattle.cpu_words.proofs.by_cpu.CpuSteps.{with_lists, LeavesOthers, cpu_makes, CpuDoes}
 use Rattle.cpu_words.proofs.shown.Seeing.{seen_of, Seen, idle_of, idle_tries, its_slot}
 use Rattle.cpu_words.proofs.by_cpu.Hands.{giving_hand, hand_lists, leaves_hands, same_words, shown_hand}
+use Rattle.std.proofs.lemmas.Option.{same_Some}
 
 -- A count word of a CPU and its net count change: why the other views stay, and what the CPU's own view shows.
 
@@ -125,11 +126,8 @@ count_words z words g c t w v h locals good agrees lt there =
     let in_rows : t < length g.counts = omega arith in
     let most : g.settings.cpus ≤ MOST_CPUS = (ranges g.settings good.holds.fit).cpus in
     let row : length (get_or g.counts t []) ≡ MOST_CPUS = good.holds.shape.count_rows t in_rows in
-    agrees_set z words g (with_lists g (count_lists g c t w v h locals)) (count_of c t) w agrees refl (lt, there) (cell_here 0 g.counts t c w in_rows (omega arith)) (λ q is ne. other q ne)
-  where
-    other : (q : Spot) → (q ≡ count_of c t → ⊥) → word_at (with_lists g (count_lists g c t w v h locals)) q ≡ word_at g q
-    other (count_of d u) ne = cell_other 0 g.counts t c w u d (λ a b. ne (λ k. count_of (b k) (a k)))
-    other q ne = refl
+    agrees_set z words g (with_lists g (count_lists g c t w v h locals)) (count_of c t) w agrees refl (lt, there) (cell_here 0 g.counts t c w in_rows (omega arith))
+    (elim [ count_of d u ↦ λ _ ne. cell_other 0 g.counts t c w u d (λ a b. ne (λ k. count_of (b k) (a k))) | _ ↦ λ _ _. refl ])
 
 -- what the CPU holds and counted after the step
 pub record Recount (x : CpuView) (e : Entry) (v : ℕ) (acquired released : List ℕ) : Type 0 where
@@ -222,8 +220,7 @@ found_counts g c e good found =
     let slot = slot_number g.history g.slots e e.slot holds.slots there in
     (slot, there, (held_counting g c e.slot e holds found slot).1)
 
-count_add_at : (z : Settings) (x : CpuView) (e : Entry) → MayCount x e.slot e.number → x.found ≡ Some e
-    → CpuMay z x (index z (count_of x.id e.slot)) (λ m. (m + 1) % 2 ^ 64) (λ m. did (CountAdd x.id) (Word m)) (λ v m y. Makes (CountAdd x.id) (Word m) (Cpu v) (Cpu y) × CountTold v m y)
+count_add_at : (z : Settings) (x : CpuView) (e : Entry) → MayCount x e.slot e.number → x.found ≡ Some e → CpuDoes z x (count_of x.id e.slot) (λ m. (m + 1) % 2 ^ 64) (CountAdd x.id) Word CountTold
 count_add_at z x e may is s r i at fits =
     let g = r.g in
     let c = x.id in
@@ -265,26 +262,20 @@ count_add_at z x e may is s r i at fits =
     let change : y ≡ record x { hand = TakingEntry e; acquired = acquired; met = with_number x.met t n } =
     ap (λ (v : CpuView). record v { hand = TakingEntry e; acquired = acquired; met = with_number x.met t n }) (sym had.is) in
     let told : CountTold x word y = λ u m other.
-    let one : e ≡ other.entry = some_same (sym is ∙ other.found) in
+    let one : e ≡ other.entry = same_Some e other.entry (sym is ∙ other.found) in
     let slot : t ≡ u = ap (λ (f : Entry). f.slot) one ∙ other.slot in
     let number : n ≡ m = ap (λ (f : Entry). f.number) one ∙ other.number in
     let low : word < bias + x.settings.count_limit = omega arith in
+    let word_net : word + number_at x.released n ≡ bias + number_at x.acquired n = omega (arith, has, same, net) in
     subst (λ (p : ℕ × ℕ). HasCounted x p.0 p.1 y × IsNetCount x p.1 word × (word < bias + x.settings.count_limit) × IsMetAlone x p.0 p.1) (λ k. (slot k, number k))
-    ((e, is, refl, refl, change), has_net word (count_at g.counts c t) (count_at g.nets c t) (number_at x.released n) (bias + number_at x.acquired n) has same net, low, met_alone g x e had attached) in
+    ((e, is, refl, refl, change), word_net, low, met_alone g x e had attached) in
     (Cpu y, done.0, (refl, (done.1, told)))
-  where
-    some_same : {a b : Entry} → ◌≡◌ {A = Option Entry} (Some a) (Some b) → a ≡ b
-    some_same eq = cc
-
-    has_net : (a b d p q : ℕ) → a ≡ b → b ≡ d → d + p ≡ q → a + p ≡ q
-    has_net a b d p q u v w = omega arith
 
 -- the place of an entry's slot, where the slot and the number are the entry's
 place_at : (x : CpuView) (e : Entry) (t n w : ℕ) → e.slot ≡ t → e.number ≡ n → IsPlaceCount x t n w → IsPlaceCount x e.slot e.number w
 place_at x e t n w slot number place = subst (λ (p : ℕ × ℕ). IsPlaceCount x p.0 p.1 w) (λ k. (sym slot k, sym number k)) place
 
-pub count_add_may : (z : Settings) (x : CpuView) (c t n : ℕ) → x.id ≡ c → MayCount x t n
-    → CpuMay z x (index z (count_of c t)) (λ m. (m + 1) % 2 ^ 64) (λ m. did (CountAdd c) (Word m)) (λ v m y. Makes (CountAdd c) (Word m) (Cpu v) (Cpu y) × CountTold v m y)
+pub count_add_may : (z : Settings) (x : CpuView) (c t n : ℕ) → x.id ≡ c → MayCount x t n → CpuDoes z x (count_of c t) (λ m. (m + 1) % 2 ^ 64) (CountAdd c) Word CountTold
 count_add_may z x c t n id may = rw (← id, ← may.slot) (count_add_at z x may.entry (record {
   idle = may.idle;
   entry = may.entry;
@@ -295,10 +286,6 @@ count_add_may z x c t n id may = rw (← id, ← may.slot) (count_add_at z x may
   place = place_at x may.entry t n may.count may.slot may.number may.place;
   room = may.room;
 }) may.found)
-
--- an entry in a hand that gives it up has its slot
-in_hand_there : (g : State) (c id : ℕ) (e : Entry) → Good g → IsAttached g.history e → hand_at g c ≡ Giving e.number id → IsIn e (slot_at g.slots e.slot)
-in_hand_there g c id e good attached hand = its_slot g e good attached (giving_holds g.settings.cpus g.slots g.hands g.due g.locals c e.number id hand good.holds.references).0
 
 -- what a CPU with a reference to e to be given up sees of its word, where its place says `old`
 record Giver (g : State) (x : CpuView) (e : Entry) (old : ℕ) : Type 0 where
@@ -319,7 +306,7 @@ giver g x e old good had is place =
     let seen = seen_of g x good had in
     let attached : IsAttached g.history e = subst (HandFits g.history g.slots g.marks x.id) is had.in_hand in
     let hand = giving_hand g x e had is in
-    let here = in_hand_there g x.id hand.0 e good attached hand.1 in
+    let here = its_slot g e good attached (giving_holds g.settings.cpus g.slots g.hands g.due g.locals x.id e.number hand.0 hand.1 good.holds.references).0 in
     let net : count_at g.nets x.id e.slot + number_at x.released e.number ≡ bias + number_at x.acquired e.number = had.nets e.slot e here in
     let low : old + number_at x.released e.number ≡ bias + number_at x.acquired e.number = place_is g x e.slot e old had here place in
     let same : count_at g.nets x.id e.slot ≡ old = omega arith in

@@ -11,7 +11,7 @@ use Rattle.protocol.specs.Common.{IsAttached, State, with_cell, begin_at, depth_
 use Rattle.registry_values.specs.Common.{slot_at, slot_of}
 use Rattle.protocol.proofs.Cells.{cell_here, cell_other, slot_number}
 use Rattle.protocol.proofs.Occupied.{one_in, in_within, one_number}
-use Rattle.cpu_words.specs.Common.{CpuView, LogItem, View, Cpu, Spot, section_of, passive_of, count_of, head_word, live_of, next_of, record_of, total_of, word_at, index, cpu_view, depth_of, references_to, trying_in, without, CpuShown, cpu_of, Agrees, Good, Ruled, GoesOn, by_number, did, Makes, CpuMay, IsIdle, MayAdd, MayUse, HasSubtracted, IsAloneAt, tells_added, tells_subtracted, tells_passive}
+use Rattle.cpu_words.specs.Common.{CpuView, LogItem, View, Cpu, passive_of, record_of, index, cpu_view, depth_of, references_to, trying_in, without, CpuShown, cpu_of, Agrees, Good, Ruled, GoesOn, by_number, did, Makes, CpuMay, IsIdle, MayAdd, MayUse, HasSubtracted, IsAloneAt, tells_added, tells_subtracted, tells_passive}
 use Rattle.cpu_words.proofs.shown.Placing.{agrees_set}
 use Rattle.cpu_words.proofs.shown.Seeing.{Seen, seen_of, idle_of, idle_tries, occupies, its_slot, known_attached}
 use Rattle.cpu_words.proofs.by_cpu.CpuSteps.{with_lists, LeavesOthers, cpu_makes, row_word, keeps_view}
@@ -76,17 +76,8 @@ put_leaves g c t m = assumption (λ (d u : ℕ) (ne : d ≢ c). cell_other 0 g.p
 -- one word changes
 pub put_words : (z : Settings) (words : List ℕ) (g : State) (c t m : ℕ) → Good g → c < g.settings.cpus → t < g.settings.slots → passive_at (with_cell g.passive t c m) c t ≡ m → Agrees z words g
     → Agrees z (set words (index z (passive_of c t)) m) (with_lists g (put g c t m))
-put_words z words g c t m good lt within is agrees = agrees_set z words g (with_lists g (put g c t m)) (passive_of c t) m agrees refl (lt, within) is (λ q there ne. other q ne)
-  where
-    other : (q : Spot) → (q ≡ passive_of c t → ⊥) → word_at (with_lists g (put g c t m)) q ≡ word_at g q
-    other (section_of d) ne = refl
-    other (passive_of d u) ne = cell_other 0 g.passive t c m u d (λ (one : u ≡ t) (two : d ≡ c). ne (ap (λ (k : ℕ). passive_of k u) two ∙ ap (passive_of c) one))
-    other (count_of d u) ne = refl
-    other head_word ne = refl
-    other (live_of u) ne = refl
-    other (next_of u) ne = refl
-    other (record_of u k) ne = refl
-    other (total_of u) ne = refl
+put_words z words g c t m good lt within is agrees = agrees_set z words g (with_lists g (put g c t m)) (passive_of c t) m agrees refl (lt, within) is
+    (elim [ passive_of d u ↦ λ _ ne. cell_other 0 g.passive t c m u d (λ a b. ne (λ i. passive_of (b i) (a i))) | _ ↦ λ _ _. refl ])
 
 -- the word is in the state
 pub put_here : (g : State) (x : CpuView) (t m : ℕ) → Good g → Seen g x → t < g.settings.slots → passive_at (with_cell g.passive t x.id m) x.id t ≡ m

@@ -16,7 +16,7 @@ use Rattle.protocol.proofs.runs.Fresh.{head_newest, honest_tells, live_is}
 use Rattle.protocol.proofs.Occupied.{in_within}
 use Rattle.cpu_words.specs.Common.{CpuView, View, Keeper, Cpu, head_word, live_of, index, cpu_view, cpu_of, depth_of, CpuShown, Good, Ruled, GoesOn, by_number, did, Makes, CpuMay, LivesShow, HasRefound, HasWholePass, IsLiveNumber, IsRefound, MayRecall, MayRefind, RecalledTold, RefindTold, event_by}
 use Rattle.cpu_words.proofs.shown.Seeing.{prefix_longer, take_whole, seen_of, known_attached}
-use Rattle.cpu_words.proofs.by_cpu.CpuSteps.{with_lists, same_counts, shown_on, good_after, cpu_makes}
+use Rattle.cpu_words.proofs.by_cpu.CpuSteps.{with_lists, same_counts, shown_on, good_after, cpu_makes, CpuDoes}
 use Rattle.cpu_words.proofs.by_cpu.Searching.{loaded_words}
 
 -- what the keeper's view tells of the live words
@@ -84,8 +84,7 @@ found_there g x good had a is = known_attached g x a (seen_of g x good had) (had
 
 -- a live word
 
-recall_at : (z : Settings) (x : CpuView) (t : ℕ) → MayRecall x t
-    → CpuMay z x (index z (live_of t)) (λ n. n) (λ n. did (Recall x.id t) (Word n)) (λ v n y. Makes (Recall x.id t) (Word n) (Cpu v) (Cpu y) × RecalledTold (Recall x.id t) v n y)
+recall_at : (z : Settings) (x : CpuView) (t : ℕ) → MayRecall x t → CpuDoes z x (live_of t) (λ n. n) (Recall x.id t) Word (RecalledTold (Recall x.id t))
 recall_at z x t may s r i at fits =
     let g = r.g in
     let m = slice_index s.words (index z (live_of t)) in
@@ -105,8 +104,7 @@ recall_at z x t may s r i at fits =
     (live_number g t m r.good (ap (λ (k : ℕ). is_honest k (slot_at g.slots t)) found ∙ honest)) in
     (Cpu saw.view, saw.goes_on, (refl, (saw.makes, (record { is = (saw.longer, saw.is); live = live }, saw.whole))))
 
-pub recall_may : (z : Settings) (x : CpuView) (c t : ℕ) → x.id ≡ c → MayRecall x t
-    → CpuMay z x (index z (live_of t)) (λ n. n) (λ n. did (Recall c t) (Word n)) (λ v n y. Makes (Recall c t) (Word n) (Cpu v) (Cpu y) × RecalledTold (Recall c t) v n y)
+pub recall_may : (z : Settings) (x : CpuView) (c t : ℕ) → x.id ≡ c → MayRecall x t → CpuDoes z x (live_of t) (λ n. n) (Recall c t) Word (RecalledTold (Recall c t))
 recall_may z x c t id may = rw (← id) (recall_at z x t may)
 
 -- The head
@@ -118,8 +116,7 @@ newest_few g (suc t) good is =
     let at = is.newest t refl in
     omega (arith, in_within g.slots at.0.slot at.0 (inl (good.holds.slots.placed at.0 at.1)), at.2, good.holds.shape.slots)
 
-recall_head_at : (z : Settings) (x : CpuView) → x.search ≡ None
-    → CpuMay z x (index z head_word) (λ n. n) (λ n. did (RecallHead x.id) (Word n)) (λ v n y. Makes (RecallHead x.id) (Word n) (Cpu v) (Cpu y) × RecalledTold (RecallHead x.id) v n y)
+recall_head_at : (z : Settings) (x : CpuView) → x.search ≡ None → CpuDoes z x head_word (λ n. n) (RecallHead x.id) Word (RecalledTold (RecallHead x.id))
 recall_head_at z x idle s r i at fits =
     let g = r.g in
     let m = slice_index s.words (index z head_word) in
@@ -134,8 +131,7 @@ recall_head_at z x idle s r i at fits =
     let few : m ≤ x.settings.slots = subst (λ (a : Settings). m ≤ a.slots) (sym seen.settings) (newest_few g m r.good leads) in
     (Cpu saw.view, saw.goes_on, (refl, (saw.makes, (record { is = (saw.longer, saw.is); newest = (subst (λ (p : List Change). IsNewestAt p m) (sym saw.history) leads); few = few }, saw.whole))))
 
-pub recall_head_may : (z : Settings) (x : CpuView) (c : ℕ) → x.id ≡ c → x.search ≡ None
-    → CpuMay z x (index z head_word) (λ n. n) (λ n. did (RecallHead c) (Word n)) (λ v n y. Makes (RecallHead c) (Word n) (Cpu v) (Cpu y) × RecalledTold (RecallHead c) v n y)
+pub recall_head_may : (z : Settings) (x : CpuView) (c : ℕ) → x.id ≡ c → x.search ≡ None → CpuDoes z x head_word (λ n. n) (RecallHead c) Word (RecalledTold (RecallHead c))
 recall_head_may z x c id idle = rw (← id) (recall_head_at z x idle)
 
 -- Found again

@@ -23,7 +23,7 @@ use Rattle.cpu_words.specs.Common.{CpuView, View, Cpu, Spot, section_of, passive
 use Rattle.cpu_words.proofs.shown.Showing.{goes_both, at_same}
 use Rattle.cpu_words.proofs.shown.Placing.{agrees_same}
 use Rattle.cpu_words.proofs.shown.Seeing.{attached_take, attached_prefix, taken_is_prefix, prefix_longer, take_whole, seen_of, idle_of}
-use Rattle.cpu_words.proofs.by_cpu.CpuSteps.{keeps_view, with_lists, same_counts, shown_on, found_on, cpu_makes}
+use Rattle.cpu_words.proofs.by_cpu.CpuSteps.{keeps_view, with_lists, same_counts, shown_on, found_on, cpu_makes, CpuDoes}
 
 -- a load leaves the words
 pub loaded_words : (z : Settings) (words : List ℕ) (g : State) (l : State) (i m : ℕ) → slice_index words i ≡ m → Agrees z words g → l.section ≡ g.section → l.passive ≡ g.passive → l.counts ≡ g.counts
@@ -219,8 +219,7 @@ follows z s r i x spot m n q at under found link tells leads at_head above =
 same_next : (s t : ℕ) → AtNext s ≡ AtNext t → s ≡ t
 same_next s t e = cc
 
-pub load_link_may : (z : Settings) (x : CpuView) (c t : ℕ) → x.id ≡ c → MayLoadLink x t
-    → CpuMay z x (index z (next_of t)) (λ n. n) (λ n. did (LoadLink c) (link_answer n)) (λ v n y. Makes (LoadLink c) (link_answer n) (Cpu v) (Cpu y) × HasLoadedLink v n y)
+pub load_link_may : (z : Settings) (x : CpuView) (c t : ℕ) → x.id ≡ c → MayLoadLink x t → CpuDoes z x (next_of t) (λ n. n) (LoadLink c) link_answer HasLoadedLink
 load_link_may z x c t id may = rw (← id)
     (λ s r i at fits.
     let g = r.g in
@@ -254,9 +253,6 @@ load_link_may z x c t id may = rw (← id)
 
 -- Seek touches no word: it is made with the load of the head
 
-abbrev pub begun_lists : State → ℕ → Search → State
-begun_lists g c q = record g { searches = set g.searches c (Some q) }
-
 begins_search : (z : Settings) (s : Table ℕ View) (r : Ruled z s) (i : ℕ) (x : CpuView) (spot m : ℕ) (kind : Kind) (name : Name) → get_elem? s.views i ≡ some (Cpu x) → MaySeek x
     → slice_index s.words spot ≡ m
     → GoesOn z s r (did (Seek x.id kind name) Done) (stepped s spot m i [] (Cpu (cpu_after_seek (key_with kind name) x)) keeps)
@@ -267,7 +263,7 @@ begins_search z s r i x spot m kind name at may found =
     let had : CpuShown g x = (r.shows.fits i (Cpu x) at).1 in
     let seen = seen_of g x r.good had in
     let q : Search = record { key = key; start = seen_at g x.id; place = AtHead } in
-    let l = begun_lists g x.id q in
+    let l : State = record g { searches = set g.searches x.id (Some q) } in
     let y = cpu_view (with_lists g l) x.id x in
     let made : step g (Seek x.id kind name) ≡ Some (record { state = with_lists g l; reply = Done }) = rw (idle_of g x seen had may.idle, sym seen.begin ∙ may.inside.1) refl in
     let leaves = same_counts g x.id l refl refl refl refl (λ d ne. refl) (λ d ne. refl) (λ d ne. refl) (λ d ne. refl) (λ d ne. get_or-set_other g.searches x.id d _ None ne) (λ d ne. refl) in

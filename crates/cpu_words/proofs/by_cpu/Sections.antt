@@ -6,26 +6,24 @@ use Rattle.std.specs.Prelude.{slice_index}
 use mathlib.Core.List.{IsPrefix}
 use Rattle.cpu_words.specs.Types.{Change, Settings, Enter, Exit, Done}
 use Rattle.protocol.specs.Common.{State, section_at, depth_at, seen_at, step}
-use Rattle.cpu_words.specs.Common.{CpuView, Cpu, Spot, section_of, passive_of, count_of, word_at, index, cpu_view, depth_of, CpuShown, Agrees, Good, did, Makes, CpuMay, MayEnter, HasEntered, MayExit, HasExited}
+use Rattle.cpu_words.specs.Common.{CpuView, Cpu, section_of, passive_of, count_of, word_at, index, cpu_view, depth_of, CpuShown, Agrees, Good, MayEnter, HasEntered, MayExit, HasExited}
 use Rattle.cpu_words.proofs.shown.Placing.{agrees_set}
 use Rattle.cpu_words.proofs.shown.Seeing.{prefix_longer, take_whole, Seen, seen_of, idle_of}
-use Rattle.cpu_words.proofs.by_cpu.CpuSteps.{with_lists, same_counts, shown_on, found_on, cpu_makes}
+use Rattle.cpu_words.proofs.by_cpu.CpuSteps.{with_lists, same_counts, shown_on, found_on, cpu_makes, CpuDoes}
 
 -- the words after a step on the CPU's section word
 pub section_words : (z : Settings) (words : List ℕ) (g : State) (x : CpuView) (l : State) (m : ℕ) → Seen g x → Good g → Agrees z words g → l.passive ≡ g.passive → l.counts ≡ g.counts
     → l.section ≡ set g.section x.id m → Agrees z (set words (index z (section_of x.id)) m) (with_lists g l)
 section_words z words g x l m seen good agrees passive counts is =
     agrees_set z words g (with_lists g l) (section_of x.id) m agrees refl seen.lt (ap (λ (s : List ℕ). get_or s x.id 0) is ∙ get_or-set_same g.section x.id m 0 seen.in_section)
-    (λ q there ne. other q ne)
-  where
-    other : (q : Spot) → (q ≡ section_of x.id → ⊥) → word_at (with_lists g l) q ≡ word_at g q
-    other (section_of d) ne = ap (λ (s : List ℕ). get_or s d 0) is ∙ get_or-set_other g.section x.id d m 0 (λ e. ne (ap section_of e))
-    other (passive_of d t) ne = ap (λ (p : List (List ℕ)). word_at (record g { passive = p }) (passive_of d t)) passive
-    other (count_of d t) ne = ap (λ (p : List (List ℕ)). word_at (record g { counts = p }) (count_of d t)) counts
-    other q ne = refl
+    (elim [
+      | section_of d ↦ λ _ ne. ap (λ (s : List ℕ). get_or s d 0) is ∙ get_or-set_other g.section x.id d m 0 (λ e. ne (ap section_of e))
+      | passive_of d t ↦ λ _ _. ap (λ (p : List (List ℕ)). word_at (record g { passive = p }) (passive_of d t)) passive
+      | count_of d t ↦ λ _ _. ap (λ (p : List (List ℕ)). word_at (record g { counts = p }) (count_of d t)) counts
+      | _ ↦ λ _ _. refl
+    ])
 
-pub enter_may : (z : Settings) (x : CpuView) (c : ℕ) → x.id ≡ c → MayEnter x
-    → CpuMay z x (index z (section_of c)) (λ n. (n + 1) % 2 ^ 64) (λ n. did (Enter c) Done) (λ v n y. Makes (Enter c) Done (Cpu v) (Cpu y) × HasEntered v y)
+pub enter_may : (z : Settings) (x : CpuView) (c : ℕ) → x.id ≡ c → MayEnter x → CpuDoes z x (section_of c) (λ n. (n + 1) % 2 ^ 64) (Enter c) (λ _. Done) (λ v _ y. HasEntered v y)
 enter_may z x c id may = rw (← id)
     (λ s r i at fits.
     let g = r.g in
@@ -57,8 +55,7 @@ enter_may z x c id may = rw (← id)
     (λ k. record y { section = section k; begin = begun k }) ∙ ap (λ (v : CpuView). record v { section = v.section + 1; begin = Some (length y.pass); pass = y.pass }) (sym had.is) in
     (Cpu y, done.0, (refl, (done.1, (longer, change)))))
 
-pub exit_may : (z : Settings) (x : CpuView) (c : ℕ) → x.id ≡ c → MayExit x
-    → CpuMay z x (index z (section_of c)) (λ n. (n + 1) % 2 ^ 64) (λ n. did (Exit c) Done) (λ v n y. Makes (Exit c) Done (Cpu v) (Cpu y) × HasExited v y)
+pub exit_may : (z : Settings) (x : CpuView) (c : ℕ) → x.id ≡ c → MayExit x → CpuDoes z x (section_of c) (λ n. (n + 1) % 2 ^ 64) (Exit c) (λ _. Done) (λ v _ y. HasExited v y)
 exit_may z x c id may = rw (← id)
     (λ s r i at fits.
     let g = r.g in

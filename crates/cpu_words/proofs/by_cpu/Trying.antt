@@ -16,11 +16,11 @@ use Rattle.protocol.proofs.runs.Fresh.{honest_tells, live_is}
 use Rattle.protocol.proofs.Cells.{cell_other}
 use Rattle.protocol.proofs.Occupied.{one_in, one_number}
 use Rattle.cpu_words.specs.declared.view.InHand.TheVariants.{Empty as NoEntry, Trying as TryingEntry}
-use Rattle.cpu_words.specs.Common.{InHand, CpuView, View, Cpu, passive_of, live_of, index, cpu_view, depth_of, SameHand, HandFits, trying_in, references_to, CpuShown, cpu_of, Agrees, Good, Ruled, GoesOn, did, Makes, CpuMay, IsIdle, EndTold, HasConfirmed, HasTakenBack, IsTrying, MayEndTry, MayTakeBack, MayTry, TriedTold, event_by}
+use Rattle.cpu_words.specs.Common.{InHand, CpuView, View, Cpu, passive_of, live_of, index, cpu_view, depth_of, SameHand, HandFits, trying_in, references_to, CpuShown, cpu_of, Agrees, Good, Ruled, GoesOn, did, CpuMay, IsIdle, EndTold, HasConfirmed, HasTakenBack, IsTrying, MayEndTry, MayTakeBack, MayTry, TriedTold, event_by}
 use Rattle.cpu_words.proofs.shown.Seeing.{attached_longer, number_within, prefix_longer, take_whole, Seen, seen_of, idle_of, empty_hand, idle_tries, trying_here, trying_elsewhere, known_attached}
 use Rattle.cpu_words.proofs.shown.Placing.{agrees_same}
 use Rattle.cpu_words.proofs.shown.ReferenceLists.{to_same, to_other, in_cons, some_of}
-use Rattle.cpu_words.proofs.by_cpu.CpuSteps.{with_lists, LeavesOthers, found_on, cpu_makes}
+use Rattle.cpu_words.proofs.by_cpu.CpuSteps.{with_lists, LeavesOthers, found_on, cpu_makes, CpuDoes}
 use Rattle.cpu_words.proofs.by_cpu.Hands.{handed, same_words, trying_hand}
 use Rattle.cpu_words.proofs.by_cpu.Passives.{held_known, known_in, alone, put, put_here, put_words}
 use Rattle.cpu_words.proofs.by_cpu.Recalling.{honest_in, recall_may}
@@ -112,8 +112,7 @@ tried_counts g x e m good had idle within is t f here =
 -- the step, for an entry
 try_at : (z : Settings) (x : CpuView) (e : Entry) → IsIdle x → e.slot < x.settings.slots → IsAttached x.pass e
     → ((f : Entry) → Contains x.references f → f.slot ≡ e.slot → references_to f.number x.references < x.settings.passive_limit)
-    → CpuMay z x (index z (passive_of x.id e.slot)) (λ m. (m + 1) % 2 ^ 64) (λ m. did (Try x.id e.slot e.number) (Word m))
-    (λ v m y. Makes (Try x.id e.slot e.number) (Word m) (Cpu v) (Cpu y) × TriedTold (Try x.id e.slot e.number) v y)
+    → CpuDoes z x (passive_of x.id e.slot) (λ m. (m + 1) % 2 ^ 64) (Try x.id e.slot e.number) Word (λ v _ y. TriedTold (Try x.id e.slot e.number) v y)
 try_at z x e idle inside attached room s r i at fits =
     let g = r.g in
     let had : CpuShown g x = (r.shows.fits i (Cpu x) at).1 in
@@ -142,8 +141,7 @@ try_at z x e idle inside attached room s r i at fits =
     (Cpu y, done.0, (refl, (done.1, (λ f is number. change ∙ ap (λ (j : Entry). record x { hand = TryingEntry j }) (one_entry x.pass e f attached is (sym number))))))
 
 -- the step, for a slot and a number
-pub try_may : (z : Settings) (x : CpuView) (c t n : ℕ) → x.id ≡ c → MayTry x t n
-    → CpuMay z x (index z (passive_of c t)) (λ m. (m + 1) % 2 ^ 64) (λ m. did (Try c t n) (Word m)) (λ v m y. Makes (Try c t n) (Word m) (Cpu v) (Cpu y) × TriedTold (Try c t n) v y)
+pub try_may : (z : Settings) (x : CpuView) (c t n : ℕ) → x.id ≡ c → MayTry x t n → CpuDoes z x (passive_of c t) (λ m. (m + 1) % 2 ^ 64) (Try c t n) Word (λ v _ y. TriedTold (Try c t n) v y)
 try_may z x c t n id may = rw (← id, ← may.at.slot, ← may.at.number) (try_at z x may.entry may.idle (subst (λ (u : ℕ). u < x.settings.slots) (sym may.at.slot) may.slot) may.attached (λ f among same. may.room f among (same ∙ may.at.slot)))
 
 -- Back
@@ -161,8 +159,7 @@ back_counts g x e m good had trying within is t f here =
     (cases_eq t e.slot)
 
 -- the step, for an entry
-back_at : (z : Settings) (x : CpuView) (e : Entry) → IsTrying x e
-    → CpuMay z x (index z (passive_of x.id e.slot)) (λ m. (m + (2 ^ 64 - 1)) % 2 ^ 64) (λ m. did (TakeBack x.id) (Word m)) (λ v m y. Makes (TakeBack x.id) (Word m) (Cpu v) (Cpu y) × HasTakenBack v y)
+back_at : (z : Settings) (x : CpuView) (e : Entry) → IsTrying x e → CpuDoes z x (passive_of x.id e.slot) (λ m. (m + (2 ^ 64 - 1)) % 2 ^ 64) (TakeBack x.id) Word (λ v _ y. HasTakenBack v y)
 back_at z x e trying s r i at fits =
     let g = r.g in
     let had : CpuShown g x = (r.shows.fits i (Cpu x) at).1 in
@@ -190,8 +187,7 @@ back_at z x e trying s r i at fits =
     (Cpu y, done.0, (refl, (done.1, change)))
 
 -- the step, for a slot
-pub back_may : (z : Settings) (x : CpuView) (c t : ℕ) → x.id ≡ c → MayTakeBack x t
-    → CpuMay z x (index z (passive_of c t)) (λ m. (m + (2 ^ 64 - 1)) % 2 ^ 64) (λ m. did (TakeBack c) (Word m)) (λ v m y. Makes (TakeBack c) (Word m) (Cpu v) (Cpu y) × HasTakenBack v y)
+pub back_may : (z : Settings) (x : CpuView) (c t : ℕ) → x.id ≡ c → MayTakeBack x t → CpuDoes z x (passive_of c t) (λ m. (m + (2 ^ 64 - 1)) % 2 ^ 64) (TakeBack c) Word (λ v _ y. HasTakenBack v y)
 back_may z x c t id may = rw (← id, ← may.slot) (back_at z x may.entry may.trying)
 
 -- The last load, where it finds the number of the entry

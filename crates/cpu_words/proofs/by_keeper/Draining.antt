@@ -13,8 +13,8 @@ use Rattle.protocol.specs.Common.{State, with_cell, cell, mark_at, count_at, tot
 use Rattle.protocol.proofs.Cells.{cell_cases, row_here, row_other, cell_here, cell_other}
 use Rattle.protocol.proofs.Occupied.{in_within}
 use Rattle.protocol.proofs.counts.Sums.{one_self, one_other}
-use Rattle.cpu_words.specs.Common.{KeeperView, number_at, keeper_view, KeeperShown, GivesUp, collected_net, collected_one, Good, Keeper, section_of, index, GoesOn, by_number, did, Makes, KeeperMay, MayGlance, MayLook, MaySnapshot, due_next, LookTold, keeper_after_look, Spot, passive_of, count_of, word_at, Agrees, MayPassiveLook, LookedPassiveTold, MayCollect, CollectTold}
-use Rattle.cpu_words.proofs.by_keeper.KeeperSteps.{with_keeper, leaves_all, keeper_makes, seen_by_keeper, loads, SeenByKeeper, shown_still}
+use Rattle.cpu_words.specs.Common.{KeeperView, number_at, keeper_view, KeeperShown, GivesUp, collected_net, collected_one, Good, Keeper, section_of, index, GoesOn, by_number, did, MayGlance, MayLook, MaySnapshot, due_next, LookTold, keeper_after_look, passive_of, count_of, Agrees, MayPassiveLook, LookedPassiveTold, MayCollect, CollectTold}
+use Rattle.cpu_words.proofs.by_keeper.KeeperSteps.{with_keeper, leaves_all, keeper_makes, seen_by_keeper, loads, SeenByKeeper, shown_still, KeeperDoes}
 use Rattle.cpu_words.proofs.shown.Placing.{agrees_set}
 
 -- A mark of one CPU changes: what was collected, and what the keeper's view shows of it.
@@ -100,8 +100,7 @@ shown_marked g k t c m due own good had lt same alike counts given_up noted_pass
 
 -- Looks and snapshots on the words.
 
-pub look_may : (z : Settings) (k : KeeperView) (t c : ℕ) → MayLook k t c
-    → KeeperMay z k (index z (section_of c)) (λ n. n) (λ n. did (Look (Some t) c) (Word n)) (λ v n l. Makes (Look (Some t) c) (Word n) (Keeper v) (Keeper l) × LookTold (Look (Some t) c) v n l)
+pub look_may : (z : Settings) (k : KeeperView) (t c : ℕ) → MayLook k t c → KeeperDoes z k (section_of c) (λ n. n) (Look (Some t) c) Word (LookTold (Look (Some t) c))
 look_may z k t c may s r i at fits =
     let g = r.g in
     let had : KeeperShown g k = (r.shows.fits i (Keeper k) at).1 in
@@ -126,7 +125,7 @@ look_may z k t c may s r i at fits =
 -- a load of a section word for no entry
 glance_may : (z : Settings) (k : KeeperView) (c : ℕ) (e : Event) → MayGlance k c
     → ((g : State) → at_rest g.due ≡ true → nat_lt c g.settings.cpus ≡ true → (step g e ≡ Some (record { state = g; reply = Word (section_at g c) })) × (by_number g e ≡ e))
-    → KeeperMay z k (index z (section_of c)) (λ n. n) (λ n. did e (Word n)) (λ v n l. Makes e (Word n) (Keeper v) (Keeper l) × (l ≡ keeper_after_look v e (Word n)))
+    → KeeperDoes z k (section_of c) (λ n. n) e Word (λ v n l. (l ≡ keeper_after_look v e (Word n)))
 glance_may z k c e may steps s r i at fits =
     let g = r.g in
     let had : KeeperShown g k = (r.shows.fits i (Keeper k) at).1 in
@@ -144,12 +143,10 @@ glance_may z k c e may steps s r i at fits =
       (refl, (done.1, ap (λ (v : KeeperView). keeper_after_look v e (Word w)) (sym had.is))),
     )
 
-pub look_now_may : (z : Settings) (k : KeeperView) (c : ℕ) → MayGlance k c
-    → KeeperMay z k (index z (section_of c)) (λ n. n) (λ n. did (Look None c) (Word n)) (λ v n l. Makes (Look None c) (Word n) (Keeper v) (Keeper l) × LookTold (Look None c) v n l)
+pub look_now_may : (z : Settings) (k : KeeperView) (c : ℕ) → MayGlance k c → KeeperDoes z k (section_of c) (λ n. n) (Look None c) Word (LookTold (Look None c))
 look_now_may z k c may = glance_may z k c (Look None c) may (λ g rest lt. (rw (rest, lt) refl, refl))
 
-pub snapshot_now_may : (z : Settings) (k : KeeperView) (c : ℕ) → MayGlance k c
-    → KeeperMay z k (index z (section_of c)) (λ n. n) (λ n. did (Snapshot None c) (Word n)) (λ v n l. Makes (Snapshot None c) (Word n) (Keeper v) (Keeper l) × LookTold (Snapshot None c) v n l)
+pub snapshot_now_may : (z : Settings) (k : KeeperView) (c : ℕ) → MayGlance k c → KeeperDoes z k (section_of c) (λ n. n) (Snapshot None c) Word (LookTold (Snapshot None c))
 snapshot_now_may z k c may = glance_may z k c (Snapshot None c) may (λ g rest lt. (rw (rest, lt) refl, refl))
 
 -- snapshots are due, or nothing: no total is to change
@@ -160,9 +157,7 @@ alike_after z t c due is = subst (DueAlike (due_next z t c)) (sym is) (from (nat
     from true u = (refl, refl, refl)
     from false u = (refl, refl, refl)
 
-pub snapshot_may : (z : Settings) (k : KeeperView) (t c : ℕ) → MaySnapshot k t c
-    → KeeperMay z k (index z (section_of c)) (λ n. n) (λ n. did (Snapshot (Some t) c) (Word n))
-    (λ v n l. Makes (Snapshot (Some t) c) (Word n) (Keeper v) (Keeper l) × LookTold (Snapshot (Some t) c) v n l)
+pub snapshot_may : (z : Settings) (k : KeeperView) (t c : ℕ) → MaySnapshot k t c → KeeperDoes z k (section_of c) (λ n. n) (Snapshot (Some t) c) Word (LookTold (Snapshot (Some t) c))
 snapshot_may z k t c may s r i at fits =
     let g = r.g in
     let had : KeeperShown g k = (r.shows.fits i (Keeper k) at).1 in
@@ -207,9 +202,7 @@ looking g k t c good seen may =
 row_told : (f : ℕ → List Mark → Bool) (g : State) (k : KeeperView) (t : ℕ) → SeenByKeeper g k → f k.settings.cpus (get_or k.marks t []) ≡ true → f g.settings.cpus (get_or g.marks t []) ≡ true
 row_told f g k t seen is = sym (λ i. f (seen.settings i).cpus (get_or (seen.marks i) t [])) ∙ is
 
-pub passive_look_may : (z : Settings) (k : KeeperView) (t c : ℕ) → MayPassiveLook k t c
-    → KeeperMay z k (index z (passive_of c t)) (λ n. n) (λ n. did (PassiveLook t c) (Word n))
-    (λ v n l. Makes (PassiveLook t c) (Word n) (Keeper v) (Keeper l) × LookedPassiveTold (PassiveLook t c) v n l)
+pub passive_look_may : (z : Settings) (k : KeeperView) (t c : ℕ) → MayPassiveLook k t c → KeeperDoes z k (passive_of c t) (λ n. n) (PassiveLook t c) Word (LookedPassiveTold (PassiveLook t c))
 passive_look_may z k t c may s r i at fits =
     let g = r.g in
     let had : KeeperShown g k = (r.shows.fits i (Keeper k) at).1 in
@@ -285,20 +278,12 @@ still_collected g t c u d =
 -- the words after it
 collect_words : (z : Settings) (words : List ℕ) (g : State) (t c : ℕ) → Good g → Looking g t c → Agrees z words g → Agrees z (set words (index z (count_of c t)) 0) (with_keeper g (collecting g t c))
 collect_words z words g t c good here agrees =
-    agrees_set z words g (with_keeper g (collecting g t c)) (count_of c t) 0 agrees refl (here.cpu, here.slot) (cell_here 0 g.counts t c 0 lt in_row) (λ q _ ne. other q ne)
-  where
-    lt : t < length g.counts
-    lt = omega (arith, here.slot, good.holds.shape.counts)
+    let lt : t < length g.counts = omega (arith, here.slot, good.holds.shape.counts) in
+    let in_row : c < length (get_or g.counts t []) = omega (arith, here.cpu, good.holds.shape.count_rows t lt, (ranges g.settings good.holds.fit).cpus) in
+    agrees_set z words g (with_keeper g (collecting g t c)) (count_of c t) 0 agrees refl (here.cpu, here.slot) (cell_here 0 g.counts t c 0 lt in_row)
+    (elim [ count_of d u ↦ λ _ ne. cell_other 0 g.counts t c 0 u d (λ a b. ne (λ i. count_of (b i) (a i))) | _ ↦ λ _ _. refl ])
 
-    in_row : c < length (get_or g.counts t [])
-    in_row = omega (arith, here.cpu, good.holds.shape.count_rows t lt, (ranges g.settings good.holds.fit).cpus)
-
-    other : (q : Spot) → (q ≡ count_of c t → ⊥) → word_at (with_keeper g (collecting g t c)) q ≡ word_at g q
-    other (count_of d u) ne = cell_other 0 g.counts t c 0 u d (λ a b. ne (λ i. count_of (b i) (a i)))
-    other q ne = refl
-
-pub collect_may : (z : Settings) (k : KeeperView) (t c : ℕ) → MayCollect k t c
-    → KeeperMay z k (index z (count_of c t)) (λ _. 0) (λ n. did (Collect t c) (Word n)) (λ v n l. Makes (Collect t c) (Word n) (Keeper v) (Keeper l) × CollectTold (Collect t c) v n l)
+pub collect_may : (z : Settings) (k : KeeperView) (t c : ℕ) → MayCollect k t c → KeeperDoes z k (count_of c t) (λ _. 0) (Collect t c) Word (CollectTold (Collect t c))
 collect_may z k t c may s r i at fits =
     let g = r.g in
     let had : KeeperShown g k = (r.shows.fits i (Keeper k) at).1 in

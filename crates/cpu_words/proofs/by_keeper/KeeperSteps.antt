@@ -1,22 +1,22 @@
 -- A step of the keeper's seat: what its view tells of the core, what the step changes, why the other views stay, and that it is its event.
 use Rattle.std.proofs.Common.{◌≡◌, ℕ, List, set, sym, ap, subst, ◌⊎◌, inl, ⊎_elim, ◌+◌, ◌≤◌, ◌<◌, [], ◌++◌, length, take, sum_by, Option, Some, true, refl, ◌∙◌, arith, length-append}
-use Rattle.std.proofs.lemmas.List.{set-get_or, append-nil}
+use Rattle.std.proofs.lemmas.List.{set-get_or, append-nil, take-append-le}
 use Rattle.std.specs.Prelude.{slice_index}
 use mathlib.Core.Option.{some}
 use mathlib.Core.List.{IsPrefix}
 use lib.ListN.{get_elem?}
 use Rattle.atomic_table.specs.Table.{State as Table, keeps, stepped}
-use Rattle.cpu_words.specs.Types.{Settings, Entry, Change, Event, Reply, Slot, Retired, Hand, Back, Due, LocalPlace}
+use Rattle.cpu_words.specs.Types.{Settings, Entry, Change, Event, Reply, Slot, Retired, Hand, Back, Due, LocalPlace, Done}
 use Rattle.registry_values.specs.Common.{bias, slot_at}
 use Rattle.registry_values.proofs.Fit.{Ranges, ranges}
 use Rattle.protocol.specs.Common.{State, IsAttached, hand_at, mark_at, passive_at, trying_at, count_at, seen_at, step, IsIn, Occupies, standing_of, HandHolds, Holds}
 use Rattle.protocol.proofs.Occupied.{fresh_unoccupied}
 use Rattle.protocol.proofs.keeps.Keeping.{step_holds}
-use Rattle.cpu_words.specs.Common.{KeeperView, Spot, IsSpot, word_at, KeeperShown, Agrees, Good, InHand, CpuView, View, Keeper, Cpu, Reference, Note, Spent, cpu_view, keeper_view, references_to, SameHand, HandFits, CpuShown, section_of, IsFresh, Ruled, GoesOn, by_number, did, Makes}
+use Rattle.cpu_words.specs.Common.{KeeperView, Spot, IsSpot, word_at, KeeperShown, Agrees, Good, InHand, CpuView, View, Keeper, Cpu, Reference, Note, Spent, cpu_view, keeper_view, references_to, SameHand, HandFits, CpuShown, section_of, IsFresh, Ruled, GoesOn, by_number, did, Makes, KeeperMay, KeeperStores, index}
 use Rattle.cpu_words.specs.declared.view.InHand.TheVariants.{Empty as NoEntry, Taking as TakingEntry, Giving as GivingEntry, Back as BackEntry, Trying as TryingEntry}
 use Rattle.cpu_words.proofs.shown.Placing.{agrees_same}
 use Rattle.cpu_words.proofs.shown.Showing.{goes_to, reference_place, standing_in, Stay, shows_set}
-use Rattle.cpu_words.proofs.shown.Seeing.{tries, attached_on, attached_prefix, prefix_on, take_on, occupied_or_not}
+use Rattle.cpu_words.proofs.shown.Seeing.{tries, attached_on, attached_prefix, prefix_on, occupied_or_not}
 
 -- What the keeper's view tells of the core that shows it.
 
@@ -108,7 +108,7 @@ cpu_shown_on g l y good after leaves had =
     let longer : length l.history ≡ length g.history + length zs = ap length more ∙ length-append g.history zs in
     let seats : l.seated ≡ g.seated = leaves.seated in
     let within : seen_at g y.id ≤ length g.history = good.holds.sections.prefix y.id in
-    let pass : take (seen_at g y.id) g.history ≡ take (seen_at g y.id) l.history = sym (take_on (seen_at g y.id) g.history zs within) ∙ ap (take (seen_at g y.id)) (sym more) in record {
+    let pass : take (seen_at g y.id) g.history ≡ take (seen_at g y.id) l.history = sym (take-append-le (seen_at g y.id) g.history zs within) ∙ ap (take (seen_at g y.id)) (sym more) in record {
       seated = omega arith;
       is = had.is ∙ (λ k. record (cpu_view g y.id y) { pass = pass k });
       hand = had.hand;
@@ -176,6 +176,13 @@ pub shown_still : (g : State) (k : KeeperView) (l : State) (own : KeeperView) �
     → KeeperShown (with_keeper g (record g { next = l.next; rows = l.rows }))
     (keeper_view (with_keeper g (record g { next = l.next; rows = l.rows })) (record k { looks = own.looks; last_look = own.last_look }))
 shown_still g k l own had = assumption had
+
+-- what the keeper's step at the word p does: exactly this event, with the reply for the word found, and what is told of that; and what a store of v does
+abbrev pub KeeperDoes : Settings → KeeperView → Spot → (ℕ → ℕ) → Event → (ℕ → Reply) → (KeeperView → ℕ → KeeperView → Type 0) → Type 0
+KeeperDoes z k p f e reply told = KeeperMay z k (index z p) f (λ n. did e (reply n)) (λ v n l. Makes e (reply n) (Keeper v) (Keeper l) × told v n l)
+
+abbrev pub KeeperPuts : Settings → KeeperView → Spot → ℕ → Event → (KeeperView → ℕ → KeeperView → Type 0) → Type 0
+KeeperPuts z k p v e told = KeeperStores z k (index z p) v (λ _. did e Done) (λ x n y. Makes e Done (Keeper x) (Keeper y) × told x n y)
 
 -- the keeper's step on a word keeps the rule, and is its event
 pub keeper_makes : (z : Settings) (s : Table ℕ View) (r : Ruled z s) (i : ℕ) (k : KeeperView) (word m : ℕ) (l : State) (e : Event) (rep : Reply) (own : KeeperView)

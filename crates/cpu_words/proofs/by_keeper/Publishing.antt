@@ -13,11 +13,11 @@ use Rattle.protocol.proofs.History.{one_entry, length-after_change}
 use Rattle.protocol.proofs.keeps.Linking.{before_leads, head_leads, link_to}
 use Rattle.protocol.proofs.Cells.{cell_in_new, cell_in_old, get_or_all, place_put}
 use Rattle.protocol.proofs.Occupied.{slot_cases, in_other, in_published, not_vacant, in_unpublished, in_within, live_one}
-use Rattle.cpu_words.specs.Common.{LeadsBelow, IsBefore, KeeperView, Keeper, Spot, head_word, next_of, IsSpot, word_at, index, keeper_view, KeeperShown, collected_net, collected_one, Agrees, Good, did, Makes, KeeperStores, MayPublish, HasPublished, PublishTold, GivesUp, MayUnpublish, HasUnpublished, UnpublishTold, keeper_after_unpublish, link_index, head_with, links_with, number_at}
+use Rattle.cpu_words.specs.Common.{LeadsBelow, IsBefore, KeeperView, Keeper, head_word, next_of, index, keeper_view, KeeperShown, collected_net, collected_one, Agrees, Good, did, Makes, KeeperStores, MayPublish, HasPublished, PublishTold, GivesUp, MayUnpublish, HasUnpublished, UnpublishTold, keeper_after_unpublish, link_index, head_with, links_with, number_at}
 use Rattle.cpu_words.specs.Publishing.{To_end, To_slot}
 use Rattle.cpu_words.proofs.shown.Seeing.{prefix_on, honest_vacant, honest_changed}
 use Rattle.cpu_words.proofs.shown.Placing.{agrees_set}
-use Rattle.cpu_words.proofs.by_keeper.KeeperSteps.{with_keeper, LeavesCpus, Came, keeper_makes, seen_by_keeper}
+use Rattle.cpu_words.proofs.by_keeper.KeeperSteps.{with_keeper, LeavesCpus, Came, keeper_makes, seen_by_keeper, KeeperPuts}
 use Rattle.cpu_words.proofs.by_keeper.Draining.{due_alike}
 
 -- What the live numbers of the keeper's view tell of the links: where they lead, and which of them leads to a slot.
@@ -180,22 +180,18 @@ shown_published g k t e good had may =
       noted_pass = prefix_on k.noted_pass g.history (Attach e ∷ []) had.noted_pass;
     }
 
-pub publish_may : (z : Settings) (k : KeeperView) (t : ℕ) (e : Entry) → MayPublish k t e
-    → KeeperStores z k (index z head_word) (t + 1) (λ n. did (Publish t) Done) (λ v n l. Makes (Publish t) Done (Keeper v) (Keeper l) × PublishTold (Publish t) v l)
+pub publish_may : (z : Settings) (k : KeeperView) (t : ℕ) (e : Entry) → MayPublish k t e → KeeperPuts z k head_word (t + 1) (Publish t) (λ v _ l. PublishTold (Publish t) v l)
 publish_may z k t e may s r i at fits =
     let g = r.g in
     let had : KeeperShown g k = (r.shows.fits i (Keeper k) at).1 in
     let does = publishes g k t e r.good had may in
     let l = publish_lists g t e in
     let done = keeper_makes z s r i k (index z head_word) (t + 1) l (Publish t) Done k at (made_publish g t e does) (leaves_published g t e r.good does) (λ n. refl) refl
-    (shown_published g k t e r.good had does) (agrees_set z s.words g (with_keeper g l) head_word (t + 1) r.words refl tt refl (others g)) in
+    (shown_published g k t e r.good had does) (agrees_set z s.words g (with_keeper g l) head_word (t + 1) r.words refl tt refl
+    (elim [ head_word ↦ λ _ off. absurd (off refl) | _ ↦ λ _ _. refl ])) in
     let change : HasPublished k t e (keeper_view (with_keeper g l) k) =
     ap (λ (v : KeeperView). record v { head = t + 1; history = after_change v.history (Attach e); slots = set v.slots t (Live e) }) (sym had.is) in
     (Keeper (keeper_view (with_keeper g l) k), done.0, (refl, (done.1, (e, may, change))))
-  where
-    others : (g : State) (q : Spot) → IsSpot g.settings q → (q ≡ head_word → ⊥) → word_at (with_keeper g (publish_lists g t e)) q ≡ word_at g q
-    others g head_word here off = absurd (off refl)
-    others g q here off = refl
 
 -- Unpublish on the words.
 
@@ -323,22 +319,13 @@ shown_unlinked g k t e p v good had may =
       noted_pass = prefix_on k.noted_pass g.history (Detach e.number ∷ []) had.noted_pass;
     }
 
--- no other word changes than the link of the slot before, or the head
-others_head : (g : State) (t : ℕ) (e : Entry) (v : ℕ) (q : Spot) → (q ≡ head_word → ⊥) → word_at (with_keeper g (unpublish_lists g t e None v)) q ≡ word_at g q
-others_head g t e v head_word off = absurd (off refl)
-others_head g t e v q off = refl
-
-others_link : (g : State) (t : ℕ) (e : Entry) (p v : ℕ) (q : Spot) → (q ≡ next_of p → ⊥) → word_at (with_keeper g (unpublish_lists g t e (Some p) v)) q ≡ word_at g q
-others_link g t e p v (next_of u) off = get_or-set_other g.next p u v 0 (λ same. off (ap next_of same))
-others_link g t e p v q off = refl
-
 link_words : (z : Settings) (words : List ℕ) (g : State) (t : ℕ) (e : Entry) (p : Option ℕ) (v : ℕ) → Good g → Agrees z words g → Unpublishes g t e p v
     → Agrees z (set words (link_index p) v) (with_keeper g (unpublish_lists g t e p v))
-link_words z words g t e None v good agrees may = agrees_set z words g (with_keeper g (unpublish_lists g t e None v)) head_word v agrees refl tt refl (λ q _ off. others_head g t e v q off)
+link_words z words g t e None v good agrees may = agrees_set z words g (with_keeper g (unpublish_lists g t e None v)) head_word v agrees refl tt refl (elim [ head_word ↦ λ _ off. absurd (off refl) | _ ↦ λ _ _. refl ])
 link_words z words g t e (Some p) v good agrees may =
     let lt : p < g.settings.slots = may.place p refl in
     agrees_set z words g (with_keeper g (unpublish_lists g t e (Some p) v)) (next_of p) v agrees refl lt
-    (get_or-set_same g.next p v 0 (omega (arith, lt, good.holds.shape.links))) (λ q _ off. others_link g t e p v q off)
+    (get_or-set_same g.next p v 0 (omega (arith, lt, good.holds.shape.links))) (elim [ next_of u ↦ λ _ off. get_or-set_other g.next p u v 0 (λ same. off (ap next_of same)) | _ ↦ λ _ _. refl ])
 
 -- one place is the link of one slot before
 one_place : (p q : Option ℕ) → link_index q ≡ link_index p → p ≡ q
@@ -371,6 +358,4 @@ unpublish_at z k t p v may s r i at fits =
 
 pub unpublish_may : (z : Settings) (k : KeeperView) (t : ℕ) (p : Option ℕ) (v w : ℕ) → w ≡ link_index p → MayUnpublish k t p v
     → KeeperStores z k w v (λ _. did (Unpublish t) Done) (λ y n l. Makes (Unpublish t) Done (Keeper y) (Keeper l) × UnpublishTold (Unpublish t) w v y l)
-unpublish_may z k t p v w is may =
-    subst (λ (x : ℕ). KeeperStores z k x v (λ _. did (Unpublish t) Done) (λ y n l. Makes (Unpublish t) Done (Keeper y) (Keeper l) × UnpublishTold (Unpublish t) x v y l)) (sym is)
-    (unpublish_at z k t p v may)
+unpublish_may z k t p v w is may = rw is (unpublish_at z k t p v may)

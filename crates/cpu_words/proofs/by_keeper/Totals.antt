@@ -1,9 +1,10 @@
 -- Totals on the words: what was collected is added, and a reference that is given up is subtracted.
-use Rattle.std.proofs.Common.{◌≡◌, ◌≢◌, inl, inr, ⊎_elim, ℕ, ◌+◌, ◌-◌, ◌%◌, ◌^◌, ◌≤◌, ◌<◌, ◌==◌, List, [], length, get_or, set, Some, Bool, true, false, cond, eq-eqb, ne_eqb, refl, sym, ap, ◌∙◌, subst, arith}
-use Rattle.std.proofs.lemmas.Bool.{cases_eq, cases_lt}
+use Rattle.std.proofs.Common.{◌≡◌, ◌≢◌, inl, inr, ⊎_elim, ℕ, ◌+◌, ◌-◌, ◌%◌, ◌^◌, ◌<◌, ◌==◌, List, [], length, get_or, set, Some, Bool, true, false, cond, eq-eqb, ne_eqb, refl, sym, ap, ◌∙◌, subst, arith, Option}
+use Rattle.std.proofs.Math.Nat.{lt_of_not-le}
+use Rattle.std.proofs.lemmas.Bool.{cases_eq}
 use Rattle.std.specs.Prelude.{slice_index}
 use Rattle.atomic_table.specs.Table.{Joins as TableJoins}
-use Rattle.cpu_words.specs.Types.{Entry, Attach, Settings, Mark, Slot, Live, Retired, LocalPlace, Free, Standing, Rest, Adding, Subtracting, TotalAdd, TotalSub, JoinKeeper, Done}
+use Rattle.cpu_words.specs.Types.{Entry, Attach, Settings, Mark, Slot, Live, Retired, LocalPlace, Free, Standing, Rest, Adding, Subtracting, TotalAdd, TotalSub, JoinKeeper, Done, Due}
 use Rattle.protocol.specs.Common.{State, mark_at, total_at, number_standing, step, total_add, total_sub, IsIn, one_if, subtraction_due_at, addition_due_at, is_adding_at}
 use Rattle.registry_values.specs.Common.{bias, no_mark, is_collected, is_some_collected, slot_at, slot_of}
 use Rattle.protocol.proofs.History.{at_within, one_entry}
@@ -13,12 +14,12 @@ use Rattle.protocol.proofs.counts.Sums.{one_self, one_other, local_changed, stan
 use Rattle.protocol.proofs.keeps.References.{due_adding, due_subtracting}
 use Rattle.protocol.proofs.keeps.MarkKeeps.{mark_place}
 use Rattle.protocol.proofs.counts.Bounds.{adding_range, adding_within, subtracting_range}
-use Rattle.cpu_words.specs.Common.{KeeperView, ReferenceView, Logged, View, Keeper, Reference, Spot, section_of, passive_of, count_of, head_word, live_of, next_of, record_of, total_of, word_at, index, keeper_view, number_at, one_more, IsCollectedFor, KeeperShown, ReferenceShown, GivesUp, keeper_of, reference_of, Agrees, Good, number_or_none, did, Makes, JoinsBy, KeeperMay, KeeperStores, MayTotalAdd, TotalAddTold, MayTotalSub, TotalSubTold, MayJoinKeeper, keeper_after_join, with_given_up, LoggedRuled, joined_seat, spent_seat, gives_up}
+use Rattle.cpu_words.specs.Common.{KeeperView, ReferenceView, Logged, View, Keeper, Reference, total_of, index, keeper_view, number_at, one_more, IsCollectedFor, KeeperShown, ReferenceShown, GivesUp, keeper_of, reference_of, Agrees, Good, number_or_none, did, JoinsBy, MayTotalAdd, TotalAddTold, MayTotalSub, TotalSubTold, MayJoinKeeper, keeper_after_join, with_given_up, LoggedRuled, joined_seat, spent_seat, gives_up}
 use Rattle.cpu_words.proofs.shown.Showing.{JoinsSo, joins_on, reference_place}
 use Rattle.cpu_words.proofs.logs.Logs.{seat_join}
 use Rattle.cpu_words.proofs.shown.Placing.{agrees_set}
 use Rattle.cpu_words.proofs.by_cpu.Locals.{one_more_same, one_more_other}
-use Rattle.cpu_words.proofs.by_keeper.KeeperSteps.{beside, beside_stays, beside_words, with_keeper, leaves_all, keeper_good_after, keeper_makes, seen_by_keeper}
+use Rattle.cpu_words.proofs.by_keeper.KeeperSteps.{beside, beside_stays, beside_words, with_keeper, leaves_all, keeper_good_after, keeper_makes, seen_by_keeper, KeeperDoes, KeeperPuts}
 use Rattle.cpu_words.proofs.by_keeper.Draining.{due_alike}
 
 -- Counts by number
@@ -33,20 +34,10 @@ one_more_at l n m = ⊎_elim
     (cases_eq m n)
 
 -- the words after a total was written
-pub total_words : (z : Settings) (words : List ℕ) (g : State) (l : State) (t v : ℕ) → Good g → t < g.settings.slots → Agrees z words g
-    → l.head ≡ g.head → l.lives ≡ g.lives → l.next ≡ g.next → l.rows ≡ g.rows → l.counts ≡ g.counts → l.totals ≡ set g.totals t v → Agrees z (set words (index z (total_of t)) v) (with_keeper g l)
-total_words z words g l t v good slot agrees head lives next rows counts totals = agrees_set z words g (with_keeper g l) (total_of t) v agrees refl slot
-    (ap (λ (x : List ℕ). total_at x t) totals ∙ total_here g.totals t v (omega (arith, slot, good.holds.shape.totals))) (λ q _ ne. other q ne)
-  where
-    other : (q : Spot) → (q ≡ total_of t → ⊥) → word_at (with_keeper g l) q ≡ word_at g q
-    other (section_of d) ne = refl
-    other (passive_of d u) ne = refl
-    other (count_of d u) ne = ap (λ (x : List (List ℕ)). word_at (record g { counts = x }) (count_of d u)) counts
-    other head_word ne = head
-    other (live_of u) ne = ap (λ (x : List ℕ). get_or x u 0) lives
-    other (next_of u) ne = ap (λ (x : List ℕ). get_or x u 0) next
-    other (record_of u j) ne = λ i. word_at (record g { rows = rows i }) (record_of u j)
-    other (total_of u) ne = ap (λ (x : List ℕ). total_at x u) totals ∙ total_other g.totals t v u (λ e. ne (ap total_of e))
+pub total_words : (z : Settings) (words : List ℕ) (g : State) (slots : List Slot) (keeps : List (Option ℕ)) (due : Due) (t v : ℕ) → Good g → t < g.settings.slots → Agrees z words g
+    → Agrees z (set words (index z (total_of t)) v) (with_keeper g (record g { totals = set g.totals t v; slots = slots; keeps = keeps; due = due }))
+total_words z words g slots keeps due t v good slot agrees = agrees_set z words g _ (total_of t) v agrees refl slot (total_here g.totals t v (omega (arith, slot, good.holds.shape.totals)))
+    (elim [ total_of u ↦ λ _ ne. total_other g.totals t v u (λ e. ne (ap total_of e)) | _ ↦ λ _ _. refl ])
 
 -- the total of the slot t is written, and the keeper is at rest
 abbrev totalling : State → ℕ → ℕ → State
@@ -84,8 +75,7 @@ shown_added g k t old good had due = assumption (
         omega (arith, was, total_other g.totals t v u off, ap (addition_due_at u) due ∙ ap (λ (b : Bool). cond b old 0) (ne_eqb t u ne), ap (is_adding_at u) due ∙ one_other t u ne, none))
         (cases_eq u t)
 
-pub total_add_may : (z : Settings) (k : KeeperView) (t old value : ℕ) → MayTotalAdd k t old value
-    → KeeperStores z k (index z (total_of t)) value (λ n. did (TotalAdd t) Done) (λ v n l. Makes (TotalAdd t) Done (Keeper v) (Keeper l) × TotalAddTold (TotalAdd t) v n l)
+pub total_add_may : (z : Settings) (k : KeeperView) (t old value : ℕ) → MayTotalAdd k t old value → KeeperPuts z k (total_of t) value (TotalAdd t) (TotalAddTold (TotalAdd t))
 total_add_may z k t old value may s r i at fits =
     let g = r.g in
     let had : KeeperShown g k = (r.shows.fits i (Keeper k) at).1 in
@@ -97,7 +87,7 @@ total_add_may z k t old value may s r i at fits =
     let made : step g (TotalAdd t) ≡ Some (record { state = with_keeper g l; reply = Done }) = ap (total_add g t) due ∙ rw (eq-eqb t t refl) refl in
     let words : Agrees z (set s.words (index z (total_of t)) value) (with_keeper g l) =
     subst (λ n. Agrees z (set s.words (index z (total_of t)) n) (with_keeper g l)) (sym is)
-    (total_words z s.words g l t v r.good (adding_within g t old r.good.holds due) r.words refl refl refl refl refl refl) in
+    (total_words z s.words g l.slots l.keeps l.due t v r.good (adding_within g t old r.good.holds due) r.words) in
     let done = keeper_makes z s r i k (index z (total_of t)) value l (TotalAdd t) Done k at made (leaves_all g l refl refl refl refl (λ u d on. on)) (λ n. refl) refl
     (shown_added g k t old r.good had due) words in
     let change : keeper_view (with_keeper g l) k ≡ record k { totals = set k.totals t value; due = Rest } =
@@ -159,7 +149,7 @@ shown_subtracted g k t e good had retired due =
     assumption (lives, given, had)
 
 pub total_sub_may : (z : Settings) (k : KeeperView) (t : ℕ) → MayTotalSub k t
-    → KeeperMay z k (index z (total_of t)) (λ n. (n + (2 ^ 64 - 1)) % 2 ^ 64) (λ n. did (TotalSub t) Done) (λ v n l. Makes (TotalSub t) Done (Keeper v) (Keeper l) × TotalSubTold (TotalSub t) v l)
+    → KeeperDoes z k (total_of t) (λ n. (n + (2 ^ 64 - 1)) % 2 ^ 64) (TotalSub t) (λ _. Done) (λ v _ l. TotalSubTold (TotalSub t) v l)
 total_sub_may z k t may s r i at fits =
     let g = r.g in
     let had : KeeperShown g k = (r.shows.fits i (Keeper k) at).1 in
@@ -174,7 +164,7 @@ total_sub_may z k t may s r i at fits =
     let l = totalling g t v in
     let made : step g (TotalSub t) ≡ Some (record { state = with_keeper g l; reply = Done }) = ap (total_sub g t) due ∙ rw (eq-eqb t t refl) refl in
     let words : Agrees z (set s.words (index z (total_of t)) ((w + (2 ^ 64 - 1)) % 2 ^ 64)) (with_keeper g l) =
-    subst (λ n. Agrees z (set s.words (index z (total_of t)) n) (with_keeper g l)) (sym next) (total_words z s.words g l t v r.good range.0 r.words refl refl refl refl refl refl) in
+    subst (λ n. Agrees z (set s.words (index z (total_of t)) n) (with_keeper g l)) (sym next) (total_words z s.words g l.slots l.keeps l.due t v r.good range.0 r.words) in
     let done = keeper_makes z s r i k (index z (total_of t)) ((w + (2 ^ 64 - 1)) % 2 ^ 64) l (TotalSub t) Done k at made (leaves_all g l refl refl refl refl (λ u d on. on)) (λ n. refl) refl
     (shown_subtracted g k t e r.good had gone.1 due) words in
     let change : keeper_view (with_keeper g l) k ≡ record k { totals = set k.totals t (total_at k.totals t - 1); due = Rest } =
@@ -182,10 +172,6 @@ total_sub_may z k t may s r i at fits =
     (Keeper (keeper_view (with_keeper g l) k), done.0, (refl, (done.1, (e, ap (λ (x : List Slot). slot_at x t) seen.slots ∙ gone.1, change))))
 
 -- References given up under the interlock
-
--- a reference is the keeper's, and is to be subtracted from the total of t
-abbrev joining : State → ℕ → ℕ → State
-joining g id t = beside g (set g.locals id Free) (Subtracting t) g.keeps
 
 -- a count word was collected for the reference's entry, which is retired
 record CollectedOf (g : State) (v : ReferenceView) : Type 0 where
@@ -201,10 +187,7 @@ collected_of g k v good had ref may = ⊎_elim
   where
     by_release : (c : ℕ) → IsCollectedFor g.slots g.marks v.entry c → CollectedOf g v
     by_release c is =
-        let lt : c < g.settings.cpus = ⊎_elim
-        (λ (low : c < g.settings.cpus). low)
-        (λ (past : g.settings.cpus ≤ c). absurd (let q : ◌≡◌ {A = Bool} false true = sym (had.beyond c v.entry.slot past) ∙ is.1 in cc))
-        (cases_lt c g.settings.cpus) in
+        let lt : c < g.settings.cpus = lt_of_not-le (λ past. let q : ◌≡◌ {A = Bool} false true = sym (had.beyond c v.entry.slot past) ∙ is.1 in cc) in
         let place = mark_place g v.entry.slot c v.entry good.holds is.0 lt in record {
           retired = is.0;
           some_one = any_within is_collected g.settings.cpus (get_or g.marks v.entry.slot []) no_mark c lt place.1 is.1;
@@ -231,7 +214,7 @@ keeper_joins k v may g good had ref backs =
     let place = reference_place g v backs in
     let id = place.0 in
     let of : slot_of g.slots n ≡ Some t = slot_number g.history g.slots v.entry t good.holds.slots (inr there.retired) in
-    let l = joining g id t in
+    let l = beside g (set g.locals id Free) (Subtracting t) g.keeps in
     let made : step g (JoinKeeper id) ≡ Some (record { state = with_keeper g l; reply = Done }) = rw (place.1, of, there.retired, rest, there.some_one) refl in
     let given = one_given g t v.entry k.given_up good (inr there.retired) in
     let lives : (u : ℕ) (e : Entry) → slot_at g.slots u ≡ Live e → total_at g.totals u + number_at (one_more k.given_up n) e.number ≡ bias = λ u e live.

@@ -16,7 +16,7 @@ use Rattle.protocol.proofs.Cells.{get_or_all, cell_in_old, slot_other}
 use Rattle.protocol.proofs.counts.Bounds.{driver_positive}
 use Rattle.protocol.proofs.keeps.ListKeeps.{rows_put}
 use Rattle.cpu_words.specs.Common.{KeeperView, KeeperShown, Good, IsDrained, Keeper, total_of, index, keeper_view, one_more, Agrees, did, Makes, KeeperMay, MayKeptSub, HasKeptSub, KeptSubTold, LogItem, View, keeper_of, KeeperHasHeard, Ruled, GoesOn, Moves, MayVacate, keeper_after_vacate, VacateTold, head_word}
-use Rattle.cpu_words.proofs.by_keeper.KeeperSteps.{LeavesCpus, seen_by_keeper, with_keeper, keeper_makes, loads}
+use Rattle.cpu_words.proofs.by_keeper.KeeperSteps.{LeavesCpus, seen_by_keeper, with_keeper, keeper_makes, loads, KeeperDoes}
 use Rattle.cpu_words.proofs.shown.Seeing.{honest_retired}
 use Rattle.cpu_words.proofs.by_keeper.Totals.{total_words, shown_less, later_less}
 use Rattle.cpu_words.proofs.shown.Showing.{goes_both, at_same}
@@ -170,7 +170,7 @@ shown_kept_sub g k t d u e good had x = record {
 }
 
 pub kept_sub_may : (z : Settings) (k : KeeperView) (t u : ℕ) → MayKeptSub k t u
-    → KeeperMay z k (index z (total_of u)) (λ n. (n + (2 ^ 64 - 1)) % 2 ^ 64) (λ n. did (KeptSub t) Done) (λ v n l. Makes (KeptSub t) Done (Keeper v) (Keeper l) × KeptSubTold (KeptSub t) v l)
+    → KeeperDoes z k (total_of u) (λ n. (n + (2 ^ 64 - 1)) % 2 ^ 64) (KeptSub t) (λ _. Done) (λ v _ l. KeptSubTold (KeptSub t) v l)
 kept_sub_may z k t u may s r i at fits =
     let g = r.g in
     let had : KeeperShown g k = (r.shows.fits i (Keeper k) at).1 in
@@ -185,7 +185,7 @@ kept_sub_may z k t u may s r i at fits =
     let own : KeeperView = own_after k t n in
     let made : step g (KeptSub t) ≡ Some (record { state = with_keeper g l; reply = Done }) = rw (x.kept, x.of, x.drained.is, x.drained.retired, ap is_iface may.kind) refl in
     let words : Agrees z (set s.words (index z (total_of u)) ((w + (2 ^ 64 - 1)) % 2 ^ 64)) (with_keeper g l) =
-    subst (λ m. Agrees z (set s.words (index z (total_of u)) m) (with_keeper g l)) (sym next) (total_words z s.words g l u v r.good x.slot r.words refl refl refl refl refl refl) in
+    subst (λ m. Agrees z (set s.words (index z (total_of u)) m) (with_keeper g l)) (sym next) (total_words z s.words g l.slots l.keeps l.due u v r.good x.slot r.words) in
     let done = keeper_makes z s r i k (index z (total_of u)) ((w + (2 ^ 64 - 1)) % 2 ^ 64) l (KeptSub t) Done own at made (vacated_leaves g t e (set g.totals u v) (set g.keeps t None) r.good x.drained)
     (λ m. refl) refl (shown_kept_sub g k t d u e r.good had x) words in
     let change : keeper_view (with_keeper g l) own ≡ record k {

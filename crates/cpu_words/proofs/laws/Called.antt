@@ -134,9 +134,6 @@ record Known {z : Settings} {s t : Table ℕ Logged} {i j : ℕ} (m : TwoMoments
   before : Follows (opening z) m.knower.list first (after (opening z) first)
   since : Follows (after (opening z) first) more rest (after (opening z) r.run.events)
 
-fit_of_run : (z : Settings) (t : Table ℕ Logged) (r : RunsAsLogged z t) → IsTrue (are_fit z)
-fit_of_run z t r = subst (λ (a : Settings). IsTrue (are_fit a)) r.run.settings r.run.good.holds.fit
-
 known_at : {z : Settings} {s t : Table ℕ Logged} {i j : ℕ} (m : TwoMoments z s t i j) (r : RunsAsLogged z t) → Known m r
 known_at {z} {s} {t} {i} {j} m r =
     let pre = known_later m r in
@@ -212,7 +209,7 @@ inside_at : (z : Settings) (t : Table ℕ Logged) (r : RunsAsLogged z t) (i : �
 inside_at z t r i l y at is a b acts es g run =
     let n = (after (opening z) r.run.events).seated in
     let sits : i ≡ r.run.seat y.id = subst (Sits r.run.seat i) is (r.run.shows.fits i l.view (at_map (λ (x : Logged). x.view) t.views i l at)).0 in
-    inside_run r.run.seat n i y.id (opening z) a es g run (opening_holds z (fit_of_run z t r)) (own_first r.run.seat n a b (subst (AreByOwn r.run.seat n) acts r.owners)) sits
+    inside_run r.run.seat n i y.id (opening z) a es g run (opening_holds z (subst (λ (a : Settings). IsTrue (are_fit a)) r.run.settings r.run.good.holds.fit)) (own_first r.run.seat n a b (subst (AreByOwn r.run.seat n) acts r.owners)) sits
     (one_cpu z t r i l y at is)
 
 -- at the first moment it was inside, by what its list has of it

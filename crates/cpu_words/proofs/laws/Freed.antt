@@ -22,7 +22,7 @@ use Rattle.protocol.proofs.keeps.ListKeeps.{may_publish_tells}
 use Rattle.protocol.proofs.Cells.{slot_here}
 use Rattle.protocol.proofs.keeps.CountKeeps.{live_tells}
 use Rattle.protocol.proofs.runs.Fresh.{honest_tells}
-use Rattle.cpu_words.specs.Common.{LogItem, Logged, View, Good, ShowsViews, IsDetachedFrom, IsFreedFrom, part, without_logs, AreByOwn, RunsAsLogged, IsGone, FreedIsGone, FreedByKeeper, Sits, IsStanding, KeeperView, Keeper, log_item, changes_in, keeping, IsAttachedKeeping, KeepsDriver, KeepsAsLong, AttachedKeeps, Agrees, EndedRuns, IsGoneFrom, KeeperShown, Shown, live_of}
+use Rattle.cpu_words.specs.Common.{LogItem, Logged, View, Good, ShowsViews, IsDetachedFrom, IsFreedFrom, part, without_logs, AreByOwn, RunsAsLogged, IsGone, FreedIsGone, FreedByKeeper, Sits, IsStanding, KeeperView, Keeper, log_item, changes_in, keeping, KeepsDriver, AttachedKeeps, Agrees, EndedRuns, IsGoneFrom, KeeperShown, Shown, live_of, KeepsAsLong, IsAttachedKeeping}
 use Rattle.cpu_words.proofs.logs.Loads.{run_as_logged, is_whole, same_event, place, halve}
 use Rattle.cpu_words.proofs.shown.Seeing.{attached_prefix, prefix_both}
 use Rattle.cpu_words.proofs.shown.Showing.{backed}

@@ -8,7 +8,7 @@ use mathlib.Core.Option.{some}
 use lib.ListN.{get_elem?}
 use Rattle.atomic_table.specs.Table.{State as Table}
 use Rattle.atomic_table.proofs.Lists.{at_map}
-use Rattle.cpu_words.specs.Types.{Key, Entry, Change, Settings, Event, Enter, Hear, Recall, RecallHead, Refind, Confirm, Word, LoadLink, LoadRecord, RecordOf, Passive, Local, Compared, Reply, Ref}
+use Rattle.cpu_words.specs.Types.{Key, Entry, Change, Settings, Event, Enter, Hear, Recall, RecallHead, Refind, Confirm, Word, LoadLink, LoadRecord, RecordOf, Reply, Ref}
 use Rattle.registry_values.specs.Common.{are_fit}
 use Rattle.protocol.specs.declared.event.RecordOf.TheVariants.{Search as OfSearch}
 use Rattle.protocol.specs.Common.{State, opening, Outcome, step, state_after, Holds, live_at, seen_at, may_recall, after_seeing, after, after_event, IsAllowed, IsLoadOf, answer_of, IsNoSeek, SeeksNone, IsFreshAnswer, seek_for, SeesAll}
@@ -16,7 +16,7 @@ use Rattle.protocol.proofs.keeps.Keeping.{opening_holds, step_keeps, after_keeps
 use Rattle.protocol.proofs.runs.Answers.{history_grows}
 use Rattle.protocol.proofs.runs.Fresh.{answers_freshly, one_word, recalls_live, recalls_newest, sees_all}
 use Rattle.protocol.proofs.runs.Steps.{after_more}
-use Rattle.cpu_words.specs.Common.{Cpu, CpuView, LogItem, Logged, by_number, reply_without_id, maker, IsSeatOf, AreByOwn, part, has_heard_from, IsStanding, RunsAsLogged, Sits, has_sought, until_reply, with_reply, HeadsAreNewest, LookupsAreFresh, history_length, PassesAreWhole, RecallsAreLive, RefindsAreLive, WholeInTheList, log_item}
+use Rattle.cpu_words.specs.Common.{Cpu, CpuView, LogItem, Logged, by_number, reply_without_id, maker, IsSeatOf, AreByOwn, part, has_heard_from, IsStanding, RunsAsLogged, Sits, has_sought, until_reply, with_reply, HeadsAreNewest, LookupsAreFresh, history_length, RecallsAreLive, RefindsAreLive, WholeInTheList, log_item, PassesAreWhole}
 use Rattle.cpu_words.proofs.laws.Waiting.{own_first, part_placed, fewer_acts, cut_at}
 use Rattle.cpu_words.proofs.logs.Loads.{run_as_logged, is_whole, same_event, part_same, part_off, place}
 use Rattle.cpu_words.proofs.logs.Runs.{part_append, Follows, after_append, follows_after, follows_holds, cut}
@@ -54,9 +54,7 @@ is_record e = false
 
 load_from : (s : State) (c : ℕ) (of : RecordOf) (d : Event) → d ≡ by_number s (LoadRecord of) → d ≡ LoadRecord (OfSearch c) → LoadRecord of ≡ LoadRecord (OfSearch c)
 load_from s c (OfSearch b) d is load = sym is ∙ load
-load_from s c (Passive b n k) d is load = absurd (let q : LoadRecord (Passive b n k) ≡ LoadRecord (OfSearch c) = sym is ∙ load in cc)
-load_from s c (Local id k) d is load = absurd (let q : by_number s (LoadRecord (Local id k)) ≡ LoadRecord (OfSearch c) = sym is ∙ load in cc)
-load_from s c (Compared b) d is load = absurd (let q : LoadRecord (Compared b) ≡ LoadRecord (OfSearch c) = sym is ∙ load in cc)
+load_from s c of d is load = absurd (let q : by_number s (LoadRecord of) ≡ LoadRecord (OfSearch c) = sym is ∙ load in cc)
 
 load_as : (s : State) (c : ℕ) (e d : Event) → d ≡ by_number s e → d ≡ LoadRecord (OfSearch c) → e ≡ LoadRecord (OfSearch c)
 load_as s c (LoadRecord of) d is load = load_from s c of d is load

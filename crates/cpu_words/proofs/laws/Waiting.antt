@@ -1,6 +1,6 @@
 -- Waiting: where the keeper took the section word of each CPU, and later found each even or another one, each section that was open before has ended.
 use Rattle.std.proofs.Common.{None, ◌≡◌, ◌⊎◌, inl, inr, ⊎_elim, ℕ, ◌+◌, ◌-◌, ◌%◌, ◌<◌, ◌≤◌, IsTrue, List, [], ◌∷◌, ◌++◌, length, take, drop, Some, refl, sym, ap, ◌∙◌, subst, length-append, append_assoc, arith}
-use Rattle.std.proofs.lemmas.Bool.{cases_lt}
+use Rattle.std.proofs.Math.Nat.{lt_of_not-le}
 use Rattle.std.proofs.lemmas.List.{append_cancel_left, append_cancel_right, take_at, take-append-drop, take-append-le, length-take-le}
 use Rattle.std.proofs.lemmas.Option.{none-some}
 use Rattle.std.proofs.Math.Seq.{take-append-add}
@@ -119,14 +119,8 @@ own_first seat n [] b own = tt
 own_first seat n (x ∷ rest) b own = (own.0, own_first seat n rest b own.1)
 
 -- a CPU past the last has no section
-beyond : (s : State) (c b : ℕ) → Holds s → s.settings.cpus ≤ c → begin_at s c ≡ Some b → ⊥
-beyond s c b on le is = none-some b (sym (on.seats.outside c (let w = on.seats.within in omega (arith, le, w))) ∙ is)
-
 within : (s : State) (c b : ℕ) (n : ℕ) → Holds s → s.settings.cpus ≡ n → begin_at s c ≡ Some b → c < n
-within s c b n on same is = ⊎_elim
-    (λ (lt : c < n). lt)
-    (λ (le : n ≤ c). absurd (beyond s c b on (omega (arith, same, le)) is))
-    (cases_lt c n)
+within s c b n on same is = lt_of_not-le (λ (le : n ≤ c). none-some b (sym (on.seats.outside c (omega (arith, same, le, on.seats.within))) ∙ is))
 
 -- of one CPU, over the whole run
 ended_on : (z : Settings) (s : Table ℕ Logged) (r : RunsAsLogged z s) (before since rest : List LogItem) (first second : List (ℕ × LogItem)) → r.acts ≡ first ++ second → part 0 first ≡ before
@@ -205,16 +199,13 @@ seen_past c first looks seen = record {
 
 -- A moment at which a CPU had made fewer events is before one at which it had made these.
 pub fewer_acts : (i n m : ℕ) (acts acts_then later : List (ℕ × LogItem)) → acts ≡ acts_then ++ later → n ≤ length (part i acts_then) → length (part i (take m acts)) < n → m < length acts_then
-fewer_acts i n m acts acts_then later are come few = ⊎_elim
-    (λ (lt : m < length acts_then). lt)
-    (λ (le : length acts_then ≤ m).
+fewer_acts i n m acts acts_then later are come few = lt_of_not-le (λ (le : length acts_then ≤ m).
     let j = m - length acts_then in
     let at : take m acts ≡ acts_then ++ take j later =
     ap (λ (n : ℕ). take n acts) (let q : m ≡ length acts_then + j = omega (arith, le) in q) ∙ (ap (take (length acts_then + j)) are ∙ take-append-add acts_then later j) in
     let size : length (part i (take m acts)) ≡ length (part i acts_then) + length (part i (take j later)) =
     ap (λ (l : List (ℕ × LogItem)). length (part i l)) at ∙ (ap (λ (l : List LogItem). length l) (part_append i acts_then (take j later)) ∙ length-append (part i acts_then) (part i (take j later))) in
     absurd (omega (arith, few, size, come)))
-    (cases_lt m (length acts_then))
 
 more_made : (i : ℕ) (first second : List (ℕ × LogItem)) → length (part i first) ≤ length (part i (first ++ second))
 more_made i first second = let size = ap (λ (l : List LogItem). length l) (part_append i first second) ∙ length-append (part i first) (part i second) in omega (arith, size)

@@ -160,9 +160,6 @@ IsQuiet due t = (addition_due_at t due ≡ 0) × (is_adding_at t due ≡ 0) × (
 quiet_rest : (due : Due) (t : ℕ) → due ≡ Rest → IsQuiet due t
 quiet_rest due t is = due_alike due Rest is t
 
-quiet_snapshots : (due : Due) (t u c : ℕ) → due ≡ Snapshots u c → IsQuiet due t
-quiet_snapshots due t u c is = due_alike due (Snapshots u c) is t
-
 quiet_if : (t u c : ℕ) (b : Bool) → IsQuiet (if b then Snapshots u c else Rest) t
 quiet_if t u c true = (refl, refl, refl)
 quiet_if t u c false = (refl, refl, refl)
@@ -296,7 +293,7 @@ total_next log s g _ _ h t n on (Publishes u e of may) is known = published_next
 total_next log s g e r h t n on (Unpublishes u head next f at rest past) is known = as_much log s e g r h t n (λ c. refl)
     (quietly log s e g t n refl refl (quiet_rest s.due t (at_rest_tells s.due rest)) (refl, refl, refl)) (known.totals.total t n is)
 total_next log s g e r h t n on (Snaps u c due) is known = as_much log s e g r h t n (λ d. refl)
-    (quietly log s e g t n refl refl (quiet_snapshots s.due t u c (snapshot_due_tells s.due u c due)) (quiet_if t u (c + 1) (nat_lt (c + 1) s.settings.cpus))) (known.totals.total t n is)
+    (quietly log s e g t n refl refl (due_alike s.due (Snapshots u c) (snapshot_due_tells s.due u c due) t) (quiet_if t u (c + 1) (nat_lt (c + 1) s.settings.cpus))) (known.totals.total t n is)
 total_next log s g _ _ h t n on (Collects u c may) is known = collected_next log s u c h t n on may is known
 total_next log s g e r h t n on (AddsTotal u old due) is known = as_much log s e g r h t n (λ c. refl) (added_much log s u old t n on due) (known.totals.total t n is)
 total_next log s g e r h t n on (SubsTotal u due) is known = as_much log s e g r h t n (λ c. refl) (subtracted_much log s u t n on due) (known.totals.total t n is)

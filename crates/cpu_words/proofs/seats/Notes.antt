@@ -5,17 +5,13 @@ use mathlib.Core.List.{IsPrefix}
 use Rattle.atomic_table.specs.Table.{Splits, Joins}
 use Rattle.cpu_words.specs.Types.{Change, Settings, Event, Tell, Hear, Done, Rest}
 use Rattle.protocol.specs.Common.{State, seen_at, step}
-use Rattle.cpu_words.specs.Common.{CpuView, KeeperView, Logged, View, Keeper, Cpu, Note, Spent, cpu_view, keeper_view, depth_of, CpuShown, KeeperShown, Shown, cpu_of, keeper_of, note_of, Sits, reference_to, Good, by_number, did, log_item, log_of_events, Makes, SplitsBy, CpuMay, KeeperMay, SplitsOn, JoinsOn, the_cpu, who, LoggedRuled, logged_after_split, known_log_of, whole_log, fresh, logged_with_note, spent_seat, tells_pass, tells_history, told_by_cpu, no_teller, IsIdle, as_before, pass_told, history_told, with_note, keeper_with_note, beside_cpu, beside_keeper, HasHeard, KeeperHasHeard, CpuHears, section_of, head_word, index}
+use Rattle.cpu_words.specs.Common.{CpuView, KeeperView, Logged, View, Keeper, Cpu, Note, Spent, cpu_view, keeper_view, depth_of, CpuShown, KeeperShown, Shown, cpu_of, keeper_of, note_of, Sits, reference_to, Good, by_number, did, log_item, log_of_events, Makes, SplitsBy, CpuMay, SplitsOn, JoinsOn, the_cpu, who, LoggedRuled, logged_after_split, known_log_of, whole_log, fresh, logged_with_note, spent_seat, tells_pass, tells_history, told_by_cpu, no_teller, IsIdle, as_before, pass_told, history_told, with_note, keeper_with_note, beside_cpu, beside_keeper, HasHeard, KeeperHasHeard, CpuHears, section_of, head_word, index}
 use Rattle.std.proofs.lemmas.List.{append-nil}
-use Rattle.cpu_words.proofs.shown.Showing.{more, Stay, shows_split, shows_join, was_there, goes_to}
+use Rattle.cpu_words.proofs.shown.Showing.{shows_split, shows_join, was_there, goes_to}
 use Rattle.cpu_words.proofs.logs.Logs.{tells_known, tells_whole, seat_cut, seat_with_note, names_nobody, names_cpu}
 use Rattle.cpu_words.proofs.shown.Seeing.{taken_is_prefix, prefix_longer, take_whole, seen_of, idle_of}
-use Rattle.cpu_words.proofs.by_cpu.CpuSteps.{with_lists, same_counts, shown_on, found_on, cpu_makes}
-use Rattle.cpu_words.proofs.by_keeper.KeeperSteps.{with_keeper, leaves_all, keeper_makes, seen_by_keeper, loads, shown_still}
-
--- where a seat's own view alone changes, the core stays, and each other view is shown as it was
-pub own_view_alone : (g : State) (seat : ℕ → ℕ) (i : ℕ) → Stay g g seat i
-own_view_alone g seat i j u ne sits shown backed = shown
+use Rattle.cpu_words.proofs.by_cpu.CpuSteps.{with_lists, same_counts, shown_on, found_on, cpu_makes, CpuDoes}
+use Rattle.cpu_words.proofs.by_keeper.KeeperSteps.{with_keeper, leaves_all, keeper_makes, seen_by_keeper, loads, shown_still, KeeperDoes}
 
 -- Telling
 
@@ -41,7 +37,7 @@ splits z i e v h tells s r at =
     let had = r.shows.fits i v at in
     let told = tells g r.good had.1 in
     goes_to z s r g r.seat e Done _ _ told.0 (ap (λ (f : Event). did f Done) told.2) r.good refl (omega arith) (λ c lt. refl) r.words
-    (shows_split g g r.seat s.views i v v (Note h) r.shows at (own_view_alone g r.seat i) had (tt, told.1) (λ c lt. inl lt) refl (λ n. omega arith))
+    (shows_split g g r.seat s.views i v v (Note h) r.shows at (λ j u ne sits shown backed. shown) had (tt, told.1) (λ c lt. inl lt) refl (λ n. omega arith))
 
 cpu_tells : (x : CpuView) (c : ℕ) → x.id ≡ c → IsIdle x → Tells (Tell (Some c)) (Cpu x) x.pass
 cpu_tells x c id idle = subst (λ d. Tells (Tell (Some d)) (Cpu x) x.pass) id (λ g good had.
@@ -51,10 +47,7 @@ cpu_tells x c id idle = subst (λ d. Tells (Tell (Some d)) (Cpu x) x.pass) id (�
 keeper_tells : (k : KeeperView) → k.due ≡ Rest → Tells (Tell None) (Keeper k) k.history
 keeper_tells k may g good had =
     let seen = seen_by_keeper g k good had in
-    (rw ((sym seen.due ∙ may)) refl, subst (λ h. IsPrefix h g.history) (sym seen.history) (whole g.history), refl)
-  where
-    whole : (h : List Change) → IsPrefix h h
-    whole h = subst (λ p. IsPrefix p h) (take_whole h) (taken_is_prefix (length h) h)
+    (rw (sym seen.due ∙ may) refl, subst (λ h. IsPrefix h g.history) (sym seen.history) ([], append-nil g.history), refl)
 
 -- the same of a seat
 
@@ -105,7 +98,7 @@ joins z i o v both h beside s r at apart there =
         good = r.good;
         reached = r.reached;
         words = r.words;
-        shows = shows_join g g r.seat s.views i v o (Note h) both r.shows at apart was (own_view_alone g r.seat i) (beside.sits r.seat i had.0, beside.shown g had.1 told) refl (beside.owner, refl)
+        shows = shows_join g g r.seat s.views i v o (Note h) both r.shows at apart was (λ j u ne sits shown backed. shown) (beside.sits r.seat i had.0, beside.shown g had.1 told) refl (beside.owner, refl)
             (λ n. let same = beside.references n in omega arith) there;
       };
     }
@@ -140,8 +133,7 @@ keeper_joins z i o l m is that = seat_with_note z i o l m (Keeper (keeper_of l.v
 
 -- The load that hears
 
-pub hear_may : (z : Settings) (x : CpuView) (c : ℕ) → x.id ≡ c → IsIdle x
-    → CpuMay z x (index z (section_of c)) (λ n. n) (λ n. did (Hear (Some c)) Done) (λ v n y. Makes (Hear (Some c)) Done (Cpu v) (Cpu y) × HasHeard v y)
+pub hear_may : (z : Settings) (x : CpuView) (c : ℕ) → x.id ≡ c → IsIdle x → CpuDoes z x (section_of c) (λ n. n) (Hear (Some c)) (λ _. Done) (λ v _ y. HasHeard v y)
 hear_may z x c id idle = rw (← id)
     (λ s r i at fits.
     let g = r.g in
@@ -165,11 +157,9 @@ hear_may z x c id idle = rw (← id)
 
 -- at the place of its section word
 pub own_hear_may : (z : Settings) (x : CpuView) (c i : ℕ) → x.id ≡ c → i ≡ index z (section_of c) → IsIdle x → CpuMay z x i (λ n. n) (λ n. did (Hear (Some x.id)) Done) (λ v n y. CpuHears v y)
-own_hear_may z x c i id place idle =
-    subst (λ j. CpuMay z x j (λ n. n) (λ n. did (Hear (Some x.id)) Done) (λ v n y. CpuHears v y)) (sym (place ∙ sym (ap (λ d. index z (section_of d)) id))) (hear_may z x x.id refl idle)
+own_hear_may z x c i id place idle = rw (place, ← id) (hear_may z x x.id refl idle)
 
-pub hear_keeper_may : (z : Settings) (k : KeeperView) → k.due ≡ Rest
-    → KeeperMay z k (index z head_word) (λ n. n) (λ n. did (Hear None) Done) (λ v n l. Makes (Hear None) Done (Keeper v) (Keeper l) × KeeperHasHeard v l)
+pub hear_keeper_may : (z : Settings) (k : KeeperView) → k.due ≡ Rest → KeeperDoes z k head_word (λ n. n) (Hear None) (λ _. Done) (λ v _ l. KeeperHasHeard v l)
 hear_keeper_may z k may s r i at fits =
     let g = r.g in
     let had : KeeperShown g k = (r.shows.fits i (Keeper k) at).1 in

@@ -22,7 +22,7 @@ use Rattle.cpu_words.specs.Common.{CpuView, Logged, View, Spot, section_of, pass
 use Rattle.cpu_words.specs.declared.view.InHand.TheVariants.{Empty as NoEntry}
 use Rattle.cpu_words.proofs.shown.Placing.{below_size, same_spot, agrees_same}
 use Rattle.cpu_words.proofs.logs.Told.{no_act}
-use Rattle.cpu_words.proofs.shown.Showing.{more, SeatsWith, shows_split, goes_to}
+use Rattle.cpu_words.proofs.shown.Showing.{SeatsWith, shows_split, goes_to}
 use Rattle.cpu_words.proofs.logs.Logs.{tells_nothing, names_nobody, seat_cut}
 use Rattle.cpu_words.proofs.by_keeper.KeeperSteps.{with_keeper, beside_stays, beside_words, seen_by_keeper}
 use Rattle.cpu_words.proofs.shown.Seeing.{take_whole, seen_of}
@@ -141,11 +141,8 @@ more_seats table z n seats new are is =
 -- A CPU gets its seat: the keeper's seat is cut in two, and the new view is shown since the CPU has made no step.
 
 -- the core with one more CPU seated
-abbrev pub seated_lists : State → State
-seated_lists g = record g { seated = g.seated + 1 }
-
 abbrev pub one_more_seated : State → State
-one_more_seated g = with_keeper g (seated_lists g)
+one_more_seated g = with_keeper g (record g { seated = g.seated + 1 })
 
 -- the CPUs that have no seat yet have made no step
 good_seated : (g : State) → Good g → step g (Seat g.seated) ≡ Some (record { state = one_more_seated g; reply = Done }) → Good (one_more_seated g)
@@ -178,10 +175,11 @@ new_is g c good unseated fresh n =
 new_shown : (g : State) → Good g → g.seated < g.settings.cpus → CpuShown (one_more_seated g) (new_cpu g.settings g.seated)
 new_shown g good lt =
     let c = g.seated in
-    let fresh = good.fresh c (self c) lt in record {
-      seated = more c;
-      is = new_is g c good (self c) fresh;
-      hand = subst (λ (h : Hand). SameHand h NoEntry) (sym (good.holds.seats.empty c (self c))) tt;
+    let self : c ≤ c = omega arith in
+    let fresh = good.fresh c self lt in record {
+      seated = omega arith;
+      is = new_is g c good self fresh;
+      hand = subst (λ (h : Hand). SameHand h NoEntry) (sym (good.holds.seats.empty c self)) tt;
       in_hand = tt;
       depth = fresh.depth;
       passive = λ t e here. fresh.passive t;
@@ -194,15 +192,6 @@ new_shown g good lt =
       references = λ e among. let lt : among.0 < 0 = among.1 in absurd (omega arith);
       noted_pass = (g.history, refl);
     }
-  where
-    self : (n : ℕ) → n ≤ n
-    self n = omega arith
-
-    more : (n : ℕ) → n < n + 1
-    more n = omega arith
-
-keeper_shown : (g : State) (k : KeeperView) → KeeperShown g k → KeeperShown (one_more_seated g) (one_seated k)
-keeper_shown g k had = assumption (ap one_seated had.is, had)
 
 -- the keeper's view tells that the event may be made
 pub record Seats (g : State) (k : KeeperView) : Type 0 where
@@ -229,7 +218,7 @@ seats_of g k may good had =
       made = made;
       good = good_seated g good made;
       new = subst (λ (p : Settings × ℕ). CpuShown (one_more_seated g) (new_cpu p.0 p.1)) (λ n. (sym seen.settings n, sym number n)) (new_shown g good lt);
-      keeper = keeper_shown g k had;
+      keeper = assumption (ap one_seated had.is, had);
     }
 
 pub seats_by : (k : KeeperView) → MaySeat k → SplitsBy (Seat k.seated) (Keeper k) (Keeper (one_seated k)) (Cpu (new_cpu k.settings k.seated))

@@ -54,10 +54,6 @@ prefix_both p q r first second = (first.0 ++ second.0, sym (append_assoc p first
 pub prefix_on : {X : Type 0} (p h zs : List X) → IsPrefix p h → IsPrefix p (h ++ zs)
 prefix_on p h zs pre = (pre.0 ++ zs, sym (append_assoc p pre.0 zs) ∙ ap (λ l. l ++ zs) pre.1)
 
--- a pass of the history stays as the history grows
-pub take_on : (n : ℕ) (h zs : List Change) → n ≤ length h → take n (h ++ zs) ≡ take n h
-take_on n h zs le = take-append-le n h zs le
-
 pub take_whole : (h : List Change) → take (length h) h ≡ h
 take_whole h = take_all (length h) h (omega arith)
 
