@@ -1,84 +1,53 @@
 -- What is in a CPU's hand changes, and the places of references: why the other views stay, and what a split or a join of the CPU's seat makes.
-use Rattle.std.proofs.Common.{◌++◌, ◌≡◌, ◌≢◌, inl, ⊎_elim, ℕ, ◌+◌, ◌<◌, ◌≤◌, ◌==◌, Bool, false, List, set, sum_by, Option, Some, None, refl, sym, ap, ◌∙◌, subst, arith, get_or-set_same, get_or-set_other}
-use mathlib.Core.Option.{some}
-use lib.ListN.{get_elem?}
+use Rattle.std.proofs.Common.{◌≡◌, ◌≢◌, inl, ℕ, ◌+◌, ◌==◌, Bool, false, List, set, sum_by, Option, Some, None, refl, sym, ap, ◌∙◌, subst, arith, get_or-set_same, get_or-set_other}
 use Rattle.atomic_table.specs.Table.{Splits, Joins}
-use Rattle.atomic_table.proofs.Lists.{at_set}
 use Rattle.cpu_words.specs.Types.{Entry, Settings, Event, SplitRef, JoinRef, SplitBack, Reply, Done, Ref, Hand, Empty, Taking, Giving, Back, Trying, LocalPlace, Standing, Lifted}
-use Rattle.protocol.specs.Common.{IsAttached, State, hand_at, local_at, step, number_standing, least_id, with_local, split_ref, split_back, one_if, standing_of}
+use Rattle.registry_values.specs.Common.{slot_at}
+use Rattle.protocol.specs.Common.{IsIn, IsAttached, State, hand_at, local_at, step, number_standing, least_id, with_local, split_ref, split_back, one_if, standing_of}
 use Rattle.protocol.proofs.counts.Bounds.{back_within}
 use Rattle.protocol.proofs.keeps.References.{back_holds}
-use Rattle.protocol.proofs.counts.Sums.{one_at, local_changed, local_added, standing_within}
-use Rattle.cpu_words.proofs.shown.Showing.{more, standing_place, standing_in, backed, shows_split, shows_join}
+use Rattle.protocol.proofs.counts.Sums.{local_changed, local_added, standing_within}
+use Rattle.cpu_words.proofs.shown.Showing.{standing_in, shows_split, JoinsSo, joins_on, reference_place, goes_to}
 use Rattle.cpu_words.proofs.logs.Logs.{tells_nothing, names_nobody, seat_cut, seat_join}
-use Rattle.cpu_words.specs.Common.{InHand, CpuView, ReferenceView, LogItem, Logged, View, Cpu, Reference, Spent, Spot, section_of, passive_of, count_of, head_word, live_of, next_of, record_of, total_of, word_at, is_to, SameHand, HandFits, IsCollectedFor, CpuShown, ReferenceShown, cpu_of, reference_of, reference_to, Good, number_or_none, number_of_id, by_number, did, log_of_events, the_cpu, maker, LoggedRuled, logged_after_split, no_log, no_teller, fresh, joined_seat, spent_seat, leaves_hand, cuts_off, takes_in, SplitsBy, JoinsBy, SplitsOn, JoinsOn, IsIdle, with_hand, reference_in, with_empty_hand, reference_of_hand, with_reference_in_hand, IsTaking, IsBack, IsTrying, trying_in, HasNone, is_border, is_hear}
+use Rattle.cpu_words.specs.Common.{InHand, CpuView, ReferenceView, Logged, View, Cpu, Reference, Spot, section_of, word_at, is_to, references_to, SameHand, HandFits, IsCollectedFor, CpuShown, ReferenceShown, cpu_of, reference_of, Good, number_or_none, by_number, did, the_cpu, maker, LoggedRuled, logged_after_split, no_log, no_teller, fresh, joined_seat, spent_seat, leaves_hand, cuts_off, takes_in, SplitsBy, JoinsBy, SplitsOn, IsIdle, with_hand, reference_in, with_empty_hand, reference_of_hand, with_reference_in_hand, IsTaking, IsBack, IsTrying, trying_in, HasNone, is_border, is_hear}
 use Rattle.cpu_words.specs.declared.view.InHand.TheVariants.{Empty as NoEntry, Taking as TakingEntry, Giving as GivingEntry, Back as BackEntry, Trying as TryingEntry}
 use Rattle.cpu_words.proofs.shown.Placing.{agrees_same}
-use Rattle.cpu_words.proofs.by_cpu.CpuSteps.{CpuLists, lists_of, with_lists, LeavesOthers, cpu_stays, good_after}
+use Rattle.cpu_words.proofs.by_cpu.CpuSteps.{with_lists, LeavesOthers, cpu_stays, good_after}
 use Rattle.cpu_words.proofs.shown.Seeing.{seen_of, idle_of, idle_tries}
+use Rattle.std.proofs.lemmas.Option.{same_Some}
 
 -- another hand of the CPU c, and other places of references
-abbrev pub hand_lists : State → ℕ → Hand → List LocalPlace → CpuLists
-hand_lists g c h locals = record (lists_of g) { hands = set g.hands c h; locals = locals }
+abbrev pub hand_lists : State → ℕ → Hand → List LocalPlace → State
+hand_lists g c h locals = record g { hands = set g.hands c h; locals = locals }
 
 abbrev pub handed : State → ℕ → Hand → List LocalPlace → State
 handed g c h locals = with_lists g (hand_lists g c h locals)
 
 pub leaves_hands : (g : State) (c : ℕ) (h : Hand) (locals : List LocalPlace) → LeavesOthers g c (hand_lists g c h locals)
-leaves_hands g c h locals = record {
-  section = λ d ne. refl;
-  begins = λ d ne. refl;
-  depths = λ d ne. refl;
-  seen = λ d ne. refl;
-  searches = λ d ne. refl;
-  found = λ d ne. refl;
-  hands = λ d ne. get_or-set_other g.hands c d h Empty ne;
-  passive = λ d t ne. refl;
-  nets = λ d t ne. refl;
-  vacant = λ d t vacant. refl;
-  gives_up = λ given_up t e gone p. p;
-}
+leaves_hands g c h locals = assumption (λ (d : ℕ) (ne : d ≢ c). get_or-set_other g.hands c d h Empty ne)
 
 -- no word is a hand's
 pub same_words : (g : State) (c : ℕ) (h : Hand) (locals : List LocalPlace) (q : Spot) → word_at (handed g c h locals) q ≡ word_at g q
 same_words g c h locals (section_of d) = refl
-same_words g c h locals (passive_of d t) = refl
-same_words g c h locals (count_of d t) = refl
-same_words g c h locals head_word = refl
-same_words g c h locals (live_of u) = refl
-same_words g c h locals (next_of t) = refl
-same_words g c h locals (record_of t k) = refl
-same_words g c h locals (total_of t) = refl
+same_words g c h locals q = refl
 
 -- the hands that are of one kind and one number
 
 pub same_taking : (h : Hand) (e : Entry) → SameHand h (TakingEntry e) → h ≡ Taking e.number
-same_taking Empty e same = absurd same
 same_taking (Taking n) e same = ap Taking same
-same_taking (Giving n id) e same = absurd same
-same_taking (Back n id) e same = absurd same
-same_taking (Trying t n) e same = absurd same
+same_taking h e same = absurd same
 
 pub same_giving : (h : Hand) (e : Entry) → SameHand h (GivingEntry e) → (id : ℕ) × (h ≡ Giving e.number id)
-same_giving Empty e same = absurd same
-same_giving (Taking n) e same = absurd same
 same_giving (Giving n id) e same = (id, ap (λ m. Giving m id) same)
-same_giving (Back n id) e same = absurd same
-same_giving (Trying t n) e same = absurd same
+same_giving h e same = absurd same
 
 pub same_back : (h : Hand) (e : Entry) → SameHand h (BackEntry e) → (id : ℕ) × (h ≡ Back e.number id)
-same_back Empty e same = absurd same
-same_back (Taking n) e same = absurd same
-same_back (Giving n id) e same = absurd same
 same_back (Back n id) e same = (id, ap (λ m. Back m id) same)
-same_back (Trying t n) e same = absurd same
+same_back h e same = absurd same
 
 pub same_trying : (h : Hand) (e : Entry) → SameHand h (TryingEntry e) → h ≡ Trying e.slot e.number
-same_trying Empty e same = absurd same
-same_trying (Taking n) e same = absurd same
-same_trying (Giving n id) e same = absurd same
-same_trying (Back n id) e same = absurd same
 same_trying (Trying t n) e same = λ k. Trying (same.0 k) (same.1 k)
+same_trying h e same = absurd same
 
 pub taking_hand : (g : State) (x : CpuView) (e : Entry) → CpuShown g x → IsTaking x e → hand_at g x.id ≡ Taking e.number
 taking_hand g x e had is = same_taking (hand_at g x.id) e (subst (SameHand (hand_at g x.id)) is had.hand)
@@ -92,58 +61,43 @@ back_hand g x e had is = same_back (hand_at g x.id) e (subst (SameHand (hand_at 
 pub trying_hand : (g : State) (x : CpuView) (e : Entry) → CpuShown g x → IsTrying x e → hand_at g x.id ≡ Trying e.slot e.number
 trying_hand g x e had is = same_trying (hand_at g x.id) e (subst (SameHand (hand_at g x.id)) is had.hand)
 
--- an event of the CPU that changes its hand, to k, and the places of references
-pub record HandStep (g : State) (x : CpuView) (e : Event) (r : Reply) (k : InHand) : Type 0 where
-  pub h : Hand
-  pub locals : List LocalPlace
-  pub made : step g e ≡ Some (record { state = handed g x.id h locals; reply = r })
-  pub same : SameHand h k
-  pub fits : HandFits g.history g.slots g.marks x.id k
-  pub tries : (t : ℕ) → trying_in t k ≡ trying_in t x.hand
-
 pub shown_hand : (g : State) (x : CpuView) (h : Hand) (locals : List LocalPlace) (k : InHand) → Good g → CpuShown g x → SameHand h k → HandFits g.history g.slots g.marks x.id k
     → ((t : ℕ) → trying_in t k ≡ trying_in t x.hand) → CpuShown (handed g x.id h locals) (with_hand x k)
 shown_hand g x h locals k good had same fits tries =
-    let seen = seen_of g x good had in record {
-      seated = had.seated;
-      is = ap (λ (v : CpuView). with_hand v k) had.is;
-      hand = subst (λ j. SameHand j k) (sym (get_or-set_same g.hands x.id h Empty seen.in_hands)) same;
-      in_hand = fits;
-      depth = had.depth;
-      passive = λ t e here. let was = had.passive t e here in let stays = tries t in omega (arith, was, stays);
-      gone = had.gone;
-      nets = had.nets;
-      later = had.later;
-      met = had.met;
-      there = had.there;
-      found = had.found;
-      references = had.references;
-      noted_pass = had.noted_pass;
-    }
+    let seen = seen_of g x good had in assumption (
+      ap (λ (v : CpuView). with_hand v k) had.is,
+      subst (λ j. SameHand j k) (sym (get_or-set_same g.hands x.id h Empty seen.in_hands)) same,
+      fits,
+      λ (t : ℕ) (e : Entry) (here : IsIn e (slot_at g.slots t)). had.passive t e here ∙ ap (λ n. references_to e.number x.references + n) (sym (tries t)),
+      had,
+    )
 
 -- A reference leaves the hand
 
 -- the event that takes the reference out of the CPU's hand, and what it leaves
 pub record Leaving (e : Event) (x : CpuView) (g : State) : Type 0 where
   pub r : Reply
-  pub step : HandStep g x e r NoEntry
+  pub h : Hand
+  pub locals : List LocalPlace
+  pub made : step g e ≡ Some (record { state = handed g x.id h locals; reply = r })
+  pub same : SameHand h NoEntry
+  pub tries : (t : ℕ) → trying_in t NoEntry ≡ trying_in t x.hand
   -- the reply is an id, which the seat isn't told
   pub told : did (by_number g e) r ≡ did e (Ref 0)
   pub right : ReferenceShown g (reference_in x.id x.hand)
-  pub count : (n : ℕ) → one_if (is_to n (reference_in x.id x.hand).entry) + standing_in n g ≡ sum_by (standing_of n) step.locals
+  pub count : (n : ℕ) → one_if (is_to n (reference_in x.id x.hand).entry) + standing_in n g ≡ sum_by (standing_of n) locals
 
 abbrev pub LeavesHand : Event → CpuView → Type 0
 LeavesHand e x = (g : State) → Good g → CpuShown g x → Leaving e x g
 
 splits_by : (x : CpuView) (e : Event) → LeavesHand e x → SplitsBy e (Cpu x) (with_empty_hand (Cpu x)) (reference_of_hand (Cpu x))
 splits_by x e leaves g good had =
-    let p = leaves g good had in
-    let m = p.step in record {
-      after = handed g x.id m.h m.locals;
+    let p = leaves g good had in record {
+      after = handed g x.id p.h p.locals;
       reply = p.r;
-      made = m.made;
-      good_after = good_after g (hand_lists g x.id m.h m.locals) x.id e p.r good (leaves_hands g x.id m.h m.locals) had.seated m.made;
-      shown = shown_hand g x m.h m.locals NoEntry good had m.same m.fits m.tries;
+      made = p.made;
+      good_after = good_after g (hand_lists g x.id p.h p.locals) x.id e p.r good (leaves_hands g x.id p.h p.locals) had.seated p.made;
+      shown = shown_hand g x p.h p.locals NoEntry good had p.same tt p.tries;
       shown_right = record { attached = p.right.attached; collected = p.right.collected };
       count = λ n. let h = p.count n in omega arith;
     }
@@ -153,32 +107,19 @@ splits z i x e leaves s r at =
     let g = r.g in
     let had = r.shows.fits i (Cpu x) at in
     let p = leaves g r.good had.1 in
-    let m = p.step in
-    let l = hand_lists g x.id m.h m.locals in
-    let after = leaves_hands g x.id m.h m.locals in record {
-      goes_on = (more z g (with_lists g l) e p.r r.reached m.made).1 ∙ ap (λ (ds : List LogItem). log_of_events z r.reached.events ++ ds) p.told;
-      seated = omega arith;
-      seats = λ c lt. refl;
-      ruled = record {
-        g = with_lists g l;
-        seat = r.seat;
-        settings = r.settings;
-        good = good_after g l x.id e p.r r.good after had.1.seated m.made;
-        reached = (more z g (with_lists g l) e p.r r.reached m.made).0;
-        words = agrees_same z s.words g (with_lists g l) r.words refl (λ q there. same_words g x.id m.h m.locals q);
-        shows = shows_split g (with_lists g l) r.seat s.views i (Cpu x) (with_empty_hand (Cpu x)) (reference_of_hand (Cpu x)) r.shows at (cpu_stays g l x.id r.seat i after had.0)
-            (had.0, shown_hand g x m.h m.locals NoEntry r.good had.1 m.same m.fits m.tries) (tt, record { attached = p.right.attached; collected = p.right.collected }) (λ c lt. inl lt) refl
-            (λ n. let h = p.count n in omega arith);
-      };
-    }
+    let l = hand_lists g x.id p.h p.locals in
+    let after = leaves_hands g x.id p.h p.locals in
+    goes_to z s r (with_lists g l) r.seat e p.r _ _ p.made p.told (good_after g l x.id e p.r r.good after had.1.seated p.made) refl (omega arith) (λ c lt. refl)
+    (agrees_same z s.words g (with_lists g l) r.words refl (λ q there. same_words g x.id p.h p.locals q))
+    (shows_split g (with_lists g l) r.seat s.views i (Cpu x) (with_empty_hand (Cpu x)) (reference_of_hand (Cpu x)) r.shows at (cpu_stays g l x.id r.seat i after had.0)
+    (had.0, shown_hand g x p.h p.locals NoEntry r.good had.1 p.same tt p.tries) (tt, record { attached = p.right.attached; collected = p.right.collected }) (λ c lt. inl lt) refl
+    (λ n. let h = p.count n in omega arith))
 
 -- what a hand leaves is a SplitRef or a SplitBack
 leaves_quietly : (of : Event → Bool) (c : ℕ) (h : InHand) → ((c : ℕ) → of (SplitRef c) ≡ false) → ((c : ℕ) → of (SplitBack c) ≡ false) → HasNone of (leaves_hand c h)
-leaves_quietly of c NoEntry split back = tt
 leaves_quietly of c (TakingEntry e) split back = (split c, tt)
-leaves_quietly of c (GivingEntry e) split back = tt
 leaves_quietly of c (BackEntry e) split back = (back c, tt)
-leaves_quietly of c (TryingEntry e) split back = tt
+leaves_quietly of c k split back = tt
 
 -- the same of a seat, whose view is a CPU's
 
@@ -209,19 +150,15 @@ pub split_ref_leaves : (x : CpuView) (c : ℕ) → x.id ≡ c → (e : Entry) ×
 split_ref_leaves x c id may = subst (λ d. LeavesHand (SplitRef d) x) id (λ g good had.
     let e = may.0 in
     let n = e.number in
-    let hand = taking_hand g x e had may.1 in
     let attached : IsAttached g.history e = subst (HandFits g.history g.slots g.marks x.id) may.1 had.in_hand in
     let there : reference_in x.id x.hand ≡ record { entry = e; collected = None } = ap (reference_in x.id) may.1 in record {
       r = Ref (least_id g.locals);
       told = refl;
-      step = record {
-        h = Empty;
-        locals = with_local g.locals (least_id g.locals) (Standing n);
-        made = ap (split_ref g x.id) hand;
-        same = tt;
-        fits = tt;
-        tries = λ t. sym (ap (trying_in t) may.1);
-      };
+      h = Empty;
+      locals = with_local g.locals (least_id g.locals) (Standing n);
+      made = ap (split_ref g x.id) (taking_hand g x e had may.1);
+      same = tt;
+      tries = λ t. sym (ap (trying_in t) may.1);
       right = subst (ReferenceShown g) (sym there) (record { attached = attached; collected = λ d no. absurd (let q : ◌≡◌ {A = Option ℕ} None (Some d) = no in cc) });
       count = λ k. let a = local_added k g.locals (Standing n) in
           let b : one_if (is_to k (reference_in x.id x.hand).entry) ≡ one_if (n == k) = ap (λ (v : ReferenceView). one_if (is_to k v.entry)) there in omega arith;
@@ -239,104 +176,43 @@ split_back_leaves x c id may = subst (λ d. LeavesHand (SplitBack d) x) id (λ g
     let there : reference_in x.id x.hand ≡ record { entry = e; collected = Some x.id } = ap (reference_in x.id) may.1 in record {
       r = Ref place;
       told = refl;
-      step = record {
-        h = Empty;
-        locals = set g.locals place (Standing n);
-        made = ap (split_back g x.id) was.1;
-        same = tt;
-        fits = tt;
-        tries = λ t. sym (ap (trying_in t) may.1);
-      };
-      right = subst (ReferenceShown g) (sym there) (record { attached = fits.0; collected = λ d is. subst (IsCollectedFor g.slots g.marks e) (some_same is) fits.1 });
-      count = λ k.
-          let a = local_changed k g.locals place (Lifted x.id) (Standing n) within lifted in
-          let b : one_if (is_to k (reference_in x.id x.hand).entry) ≡ one_if (n == k) = ap (λ (v : ReferenceView). one_if (is_to k v.entry)) there in
-          omega arith;
+      h = Empty;
+      locals = set g.locals place (Standing n);
+      made = ap (split_back g x.id) was.1;
+      same = tt;
+      tries = λ t. sym (ap (trying_in t) may.1);
+      right = subst (ReferenceShown g) (sym there) (record { attached = fits.0; collected = λ d is. subst (IsCollectedFor g.slots g.marks e) (same_Some x.id d is) fits.1 });
+      count = λ k. omega (arith, local_changed k g.locals place (Lifted x.id) (Standing n) within lifted, ap (λ (v : ReferenceView). one_if (is_to k v.entry)) there);
     })
-  where
-    some_same : {c d : ℕ} → ◌≡◌ {A = Option ℕ} (Some c) (Some d) → c ≡ d
-    some_same is = cc
 
 -- A reference goes into the hand
 
 -- the event that puts a reference into the CPU's hand, and what it leaves
-pub record Coming (c : ℕ) (x : CpuView) (e : Entry) (g : State) : Type 0 where
-  pub id : ℕ
-  pub names : number_of_id g id ≡ e.number
-  pub step : HandStep g x (JoinRef c id) Done (GivingEntry e)
-  pub count : (n : ℕ) → sum_by (standing_of n) step.locals + one_if (is_to n e) ≡ standing_in n g
-
-coming : (x : CpuView) (c : ℕ) → x.id ≡ c → IsIdle x → (e : Entry) (g : State) → Good g → CpuShown g x → IsAttached g.history e → 0 < standing_in e.number g → Coming c x e g
-coming x c id idle e g good had attached some_one =
-    let n = e.number in
-    let place = standing_place n g.locals some_one in
-    let p = place.0 in
-    let stands : number_standing (local_at g.locals p) ≡ Some n = ap number_standing place.1 in
-    let seen = seen_of g x good had in subst (λ d. Coming d x e g) id (record {
-      id = p;
-      names = ap number_or_none stands;
-      step = record {
-        h = Giving n p;
-        locals = set g.locals p (Lifted x.id);
-        made = rw (stands, idle_of g x seen had idle) refl;
-        same = refl;
-        fits = attached;
-        tries = λ t. sym (idle_tries x t idle);
-      };
-      count = λ k. let a = local_changed k g.locals p (Standing n) (Lifted x.id) (standing_within g.locals p n place.1) place.1 in omega arith;
-    })
-
--- the core has the reference of the seat
-stands_for : (g : State) (v : ReferenceView) → ((n : ℕ) → reference_to n (Reference v) ≤ standing_in n g) → 0 < standing_in v.entry.number g
-stands_for g v has =
+ref_joins : (x : CpuView) (c : ℕ) (v : ReferenceView) → x.id ≡ c → IsIdle x → JoinsSo (JoinRef c) (Cpu x) (Reference v) (with_reference_in_hand (Cpu x) (Reference v))
+ref_joins x c v id idle = subst (λ d. JoinsSo (JoinRef d) (Cpu x) (Reference v) (with_reference_in_hand (Cpu x) (Reference v))) id (λ g good had shown backs.
     let n = v.entry.number in
-    let one : one_if (is_to n v.entry) ≡ 1 = one_at n n refl in
-    let some_one : one_if (is_to n v.entry) ≤ standing_in n g = has n in
-    omega arith
-
-joins_by : (x : CpuView) (c : ℕ) (v : ReferenceView) → x.id ≡ c → IsIdle x → JoinsBy (JoinRef c) (Cpu x) (Reference v) (with_reference_in_hand (Cpu x) (Reference v))
-joins_by x c v id idle g good had shown has =
-    let p = coming x c id idle v.entry g good had shown.attached (stands_for g v has) in
-    let m = p.step in record {
-      id = p.id;
-      names = p.names;
-      after = handed g x.id m.h m.locals;
-      made = m.made;
-      good_after = good_after g (hand_lists g x.id m.h m.locals) x.id (JoinRef c p.id) Done good (leaves_hands g x.id m.h m.locals) had.seated m.made;
-      shown = shown_hand g x m.h m.locals (GivingEntry v.entry) good had m.same m.fits m.tries;
-      count = λ n. let h = p.count n in omega arith;
-    }
-
-joins : (z : Settings) (i o : ℕ) (x : CpuView) (v : ReferenceView) → IsIdle x
-    → JoinsOn z i (Cpu x) o (Reference v) (with_reference_in_hand (Cpu x) (Reference v)) Spent (did (JoinRef x.id v.entry.number) Done)
-joins z i o x v idle s r at apart there =
-    let g = r.g in
-    let both = with_reference_in_hand (Cpu x) (Reference v) in
-    let had = r.shows.fits i (Cpu x) at in
-    let was : get_elem? s.views o ≡ some (Reference v) = ⊎_elim
-    (λ (t : (o ≡ i) × (both ≡ Reference v)). absurd (apart t.0))
-    (λ (t : (o ≢ i) × (get_elem? s.views o ≡ some (Reference v))). t.1)
-    (at_set s.views i o both (Reference v) there) in
-    let shown : ReferenceShown g v = (r.shows.fits o (Reference v) was).1 in
-    let p = coming x x.id refl idle v.entry g r.good had.1 shown.attached (stands_for g v (backed g r.seat s.views o (Reference v) r.shows was)) in
-    let m = p.step in
-    let l = hand_lists g x.id m.h m.locals in
-    let after = leaves_hands g x.id m.h m.locals in
-    record {
-      goes_on = (more z g (with_lists g l) (JoinRef x.id p.id) Done r.reached m.made).1 ∙ ap (λ (n : ℕ). log_of_events z r.reached.events ++ did (JoinRef x.id n) Done) p.names;
-      seated = omega arith;
-      seats = λ c lt. refl;
-      ruled = record {
-        g = with_lists g l;
-        seat = r.seat;
-        settings = r.settings;
-        good = good_after g l x.id (JoinRef x.id p.id) Done r.good after had.1.seated m.made;
-        reached = (more z g (with_lists g l) (JoinRef x.id p.id) Done r.reached m.made).0;
-        words = agrees_same z s.words g (with_lists g l) r.words refl (λ q there. same_words g x.id m.h m.locals q);
-        shows = shows_join g (with_lists g l) r.seat s.views i (Cpu x) o (Reference v) both r.shows at apart was (cpu_stays g l x.id r.seat i after had.0)
-            (had.0, shown_hand g x m.h m.locals (GivingEntry v.entry) r.good had.1 m.same m.fits m.tries) refl (refl, refl) (λ n. let h = p.count n in omega arith) there;
+    let place = reference_place g v backs in
+    let p = place.0 in
+    let h = Giving n p in
+    let locals = set g.locals p (Lifted x.id) in
+    let leaves = leaves_hands g x.id h locals in
+    let stands : number_standing (local_at g.locals p) ≡ Some n = ap number_standing place.1 in
+    let made : step g (JoinRef x.id p) ≡ Some (record { state = handed g x.id h locals; reply = Done }) = rw (stands, idle_of g x (seen_of g x good had) had idle) refl in record {
+      named = refl;
+      settings = refl;
+      seated = refl;
+      words = same_words g x.id h locals;
+      stay = λ seat i sits. cpu_stays g (hand_lists g x.id h locals) x.id seat i leaves sits;
+      makes = record {
+        id = p;
+        names = ap number_or_none stands;
+        after = handed g x.id h locals;
+        made = made;
+        good_after = good_after g (hand_lists g x.id h locals) x.id (JoinRef x.id p) Done good leaves had.seated made;
+        shown = shown_hand g x h locals (GivingEntry v.entry) good had refl shown.attached (λ t. sym (idle_tries x t idle));
+        count = λ k. let a = local_changed k g.locals p (Standing n) (Lifted x.id) (standing_within g.locals p n place.1) place.1 in omega arith;
       };
-    }
+    })
 
 -- the same of two seats, whose views are a CPU's and a reference's
 
@@ -344,10 +220,11 @@ pub seat_joins : (z : Settings) (i o : ℕ) (l m : Logged) (x : CpuView) → l �
     → IsIdle x
     → Joins (LoggedRuled z) i l o m (joined_seat with_reference_in_hand takes_in l m) spent_seat
 seat_joins z i o l m x is view that idle = seat_join z i o l m (Cpu x) (Reference (reference_of m.view)) with_reference_in_hand takes_in (did (JoinRef x.id (reference_of m.view).entry.number) Done)
-    (is ∙ ap (λ (u : CpuView). record l { view = Cpu u }) view) that tt (refl, tt) (refl, tt) (refl, tt) refl (joins z i o x (reference_of m.view) idle)
+    (is ∙ ap (λ (u : CpuView). record l { view = Cpu u }) view) that tt (refl, tt) (refl, tt) (refl, tt) refl (joins_on z i (Cpu x) o (Reference (reference_of m.view))
+    (with_reference_in_hand (Cpu x) (Reference (reference_of m.view))) (JoinRef x.id) (ref_joins x x.id (reference_of m.view) refl idle) (refl, refl) (λ seat sits. sits))
 
 pub seat_joins_by : (v a : View) (x : CpuView) (c : ℕ) (u : View) (w : ReferenceView) → cpu_of v ≡ x → reference_of u ≡ w → a ≡ with_reference_in_hand v u → x.id ≡ c → IsIdle x
     → JoinsBy (JoinRef c) (Cpu x) (Reference w) (Cpu (cpu_of a))
 seat_joins_by v a x c u w view that both id idle =
     let p : cpu_of a ≡ with_hand x (GivingEntry w.entry) = ap cpu_of both ∙ (λ k. with_hand (view k) (GivingEntry (that k).entry)) in
-    subst (λ (y : CpuView). JoinsBy (JoinRef c) (Cpu x) (Reference w) (Cpu y)) (sym p) (joins_by x c w id idle)
+    subst (λ (y : CpuView). JoinsBy (JoinRef c) (Cpu x) (Reference w) (Cpu y)) (sym p) (λ g good had shown backs. (ref_joins x c w id idle g good had shown backs).makes)

@@ -1,5 +1,5 @@
 -- CountAdd and CountDown on the words: a count word of a CPU and its net count change, and the other views stay.
-use Rattle.std.proofs.Common.{◌≡◌, ◌≢◌, ⊎_elim, ℕ, zero, suc, ◌+◌, ◌*◌, ◌<◌, ◌≤◌, List, [], ◌∷◌, ◌++◌, length, replicate, get_or, set, sum_by, false, cond, refl, sym, ap, ◌∙◌, subst, arith, length-append, get_or-set_same, get_or-set_other, if◌then◌else◌, ◌-◌, ◌%◌, ◌^◌, ◌==◌, Option, Some, true}
+use Rattle.std.proofs.Common.{◌≡◌, ◌≢◌, ⊎_elim, ℕ, zero, suc, ◌+◌, ◌*◌, ◌<◌, ◌≤◌, List, [], ◌∷◌, ◌++◌, length, replicate, get_or, set, sum_by, false, cond, refl, sym, ap, ◌∙◌, subst, arith, length-append, get_or-set_same, get_or-set_other, if◌then◌else◌, ◌-◌, ◌%◌, ◌^◌, ◌==◌, Some, true}
 use Rattle.std.specs.List.{zip}
 use Rattle.std.proofs.lemmas.List.{length-replicate}
 use Rattle.std.proofs.lemmas.List.Sums.{sum_by-cons}
@@ -11,7 +11,7 @@ use mathlib.Core.Option.{some}
 use lib.ListN.{get_elem?}
 use prog.Atomic.{either}
 use Rattle.atomic_table.specs.Table.{State as Table, keeps, stepped}
-use Rattle.cpu_words.specs.Types.{Settings, MOST_CPUS, Entry, Change, Attach, Live, Retired, Mark, Hand, Empty, LocalPlace, MOST_COUNT, CountAdd, CountDown, Reply, Word, Collected, Taking, Giving, Back, Free, Lifted}
+use Rattle.cpu_words.specs.Types.{Settings, MOST_CPUS, Entry, Change, Attach, Vacant, Live, Retired, Mark, Hand, Empty, LocalPlace, MOST_COUNT, CountAdd, CountDown, Reply, Word, Collected, Taking, Giving, Back, Free, Lifted}
 use Rattle.registry_values.specs.Common.{bias, no_mark, slot_at, slot_of}
 use Rattle.registry_values.proofs.Fit.{ranges}
 use Rattle.protocol.specs.Common.{IsAttached, State, with_cell, mark_at, count_at, total_at, IsIn, IsCounting, subtraction_due_at, addition_due_at, is_adding_at, found_at, hand_at, step}
@@ -23,12 +23,13 @@ use Rattle.protocol.proofs.counts.Counts.{counting_cases, is_counting}
 use Rattle.protocol.proofs.keeps.CountKeeps.{held_counting}
 use Rattle.protocol.proofs.keeps.References.{giving_holds}
 use Rattle.protocol.proofs.counts.Sums.{local_changed}
-use Rattle.cpu_words.specs.Common.{InHand, CpuView, Spot, section_of, passive_of, count_of, head_word, live_of, next_of, record_of, total_of, word_at, index, number_at, with_number, one_more, cpu_view, SameHand, HandFits, depth_of, collected_net, collected_one, GivesUp, CpuShown, trying_in, Agrees, Good, IsNetCount, IsPlaceCount, IsMetAlone, View, Cpu, IsCollectedFor, cpu_of, Ruled, GoesOn, did, Makes, CpuMay, down_reply, MayCount, HasCounted, CountTold, MayCountDown, HasCountedDown, HasFoundCollected, DownTold, with_hand}
+use Rattle.cpu_words.specs.Common.{InHand, CpuView, count_of, index, number_at, with_number, one_more, cpu_view, SameHand, HandFits, depth_of, collected_net, collected_one, GivesUp, CpuShown, trying_in, Agrees, Good, IsNetCount, IsPlaceCount, IsMetAlone, View, Cpu, IsCollectedFor, cpu_of, Ruled, GoesOn, did, Makes, CpuMay, down_reply, MayCount, HasCounted, CountTold, MayCountDown, HasCountedDown, HasFoundCollected, DownTold, with_hand}
 use Rattle.cpu_words.specs.declared.view.InHand.TheVariants.{Empty as NoEntry, Taking as TakingEntry, Giving as GivingEntry, Back as BackEntry}
 use Rattle.cpu_words.proofs.shown.Placing.{agrees_set}
-use Rattle.cpu_words.proofs.by_cpu.CpuSteps.{CpuLists, lists_of, with_lists, LeavesOthers, cpu_makes}
-use Rattle.cpu_words.proofs.shown.Seeing.{seen_of, Seen, idle_of, idle_tries}
+use Rattle.cpu_words.proofs.by_cpu.CpuSteps.{with_lists, LeavesOthers, cpu_makes, CpuDoes}
+use Rattle.cpu_words.proofs.shown.Seeing.{seen_of, Seen, idle_of, idle_tries, its_slot}
 use Rattle.cpu_words.proofs.by_cpu.Hands.{giving_hand, hand_lists, leaves_hands, same_words, shown_hand}
+use Rattle.std.proofs.lemmas.Option.{same_Some}
 
 -- A count word of a CPU and its net count change: why the other views stay, and what the CPU's own view shows.
 
@@ -60,9 +61,8 @@ pub place_is : (g : State) (x : CpuView) (t : ℕ) (e : Entry) (w : ℕ) → Cpu
 place_is g x t e w had here place = dite (ℕ_discrete (number_at x.met t) e.number)
     (λ (same : number_at x.met t ≡ e.number). place.met same)
     (λ (off : number_at x.met t ≢ e.number).
-    let start : w ≡ bias = place.other off in
     let none : number_at x.acquired e.number + number_at x.released e.number ≡ 0 = not_above _ (λ some_one. off (had.met t e here some_one)) in
-    omega arith)
+    omega (arith, place.other off))
   where
     not_above : (n : ℕ) → (0 < n → ⊥) → n ≡ 0
     not_above zero none = refl
@@ -75,20 +75,12 @@ uncollected_sum : (f : Mark × ℕ → ℕ) (ms : List Mark) (ns : List ℕ) (c 
     → sum_by f (zip ms (set ns c v)) ≡ sum_by f (zip ms ns)
 uncollected_sum f [] ns c v same = refl
 uncollected_sum f (m ∷ ms) [] c v same = refl
-uncollected_sum f (m ∷ ms) (n ∷ ns) zero v same =
-    let a = sum_by-cons f (m, v) (zip ms ns) in
-    let b = sum_by-cons f (m, n) (zip ms ns) in
-    let h = same n in
-    omega arith
-uncollected_sum f (m ∷ ms) (n ∷ ns) (suc c) v same =
-    let a = sum_by-cons f (m, n) (zip ms (set ns c v)) in
-    let b = sum_by-cons f (m, n) (zip ms ns) in
-    let h = uncollected_sum f ms ns c v same in
-    omega arith
+uncollected_sum f (m ∷ ms) (n ∷ ns) zero v same = omega (arith, sum_by-cons f (m, v) (zip ms ns), sum_by-cons f (m, n) (zip ms ns), same n)
+uncollected_sum f (m ∷ ms) (n ∷ ns) (suc c) v same = omega (arith, sum_by-cons f (m, n) (zip ms (set ns c v)), sum_by-cons f (m, n) (zip ms ns), uncollected_sum f ms ns c v same)
 
 -- another count word and net count of the CPU c at the slot t, another hand of c, and other places of references
-abbrev pub count_lists : State → ℕ → ℕ → ℕ → ℕ → Hand → List LocalPlace → CpuLists
-count_lists g c t w v h locals = record (lists_of g) { hands = set g.hands c h; counts = with_cell g.counts t c w; nets = with_cell g.nets t c v; locals = locals }
+abbrev pub count_lists : State → ℕ → ℕ → ℕ → ℕ → Hand → List LocalPlace → State
+count_lists g c t w v h locals = record g { hands = set g.hands c h; counts = with_cell g.counts t c w; nets = with_cell g.nets t c v; locals = locals }
 
 gives_up_on : (g : State) (c t v : ℕ) (given_up : List ℕ) (u : ℕ) (e : Entry) → t < length g.nets → ((e : Entry) → slot_at g.slots t ≡ Retired e → (mark_at g.marks t c).collected ≡ false)
     → slot_at g.slots u ≡ Retired e
@@ -119,19 +111,12 @@ pub leaves_counts : (g : State) (c t w v : ℕ) (h : Hand) (locals : List LocalP
     → LeavesOthers g c (count_lists g c t w v h locals)
 leaves_counts g c t w v h locals e good here lt counting =
     let nets : length g.nets ≡ g.settings.slots = good.holds.shape.nets in
-    let within : t < length g.nets = omega arith in record {
-      section = λ d ne. refl;
-      begins = λ d ne. refl;
-      depths = λ d ne. refl;
-      seen = λ d ne. refl;
-      searches = λ d ne. refl;
-      found = λ d ne. refl;
-      hands = λ d ne. get_or-set_other g.hands c d h Empty ne;
-      passive = λ d u ne. refl;
-      nets = λ d u ne. cell_other 0 g.nets t c v u d (λ _ same. ne same);
-      vacant = λ d u vacant. cell_other 0 g.counts t c w u d (λ same _. not_vacant e (slot_at g.slots t) (ap (slot_at g.slots) (sym same) ∙ vacant) here);
-      gives_up = λ given_up u f gone p. gives_up_on g c t v given_up u f within (still_open g c t counting) gone p;
-    }
+    let within : t < length g.nets = omega arith in assumption (
+      λ (d : ℕ) (ne : d ≢ c). get_or-set_other g.hands c d h Empty ne,
+      λ (d u : ℕ) (ne : d ≢ c). cell_other 0 g.nets t c v u d (λ _ same. ne same),
+      λ (d u : ℕ) (vacant : slot_at g.slots u ≡ Vacant). cell_other 0 g.counts t c w u d (λ same _. not_vacant e (slot_at g.slots t) (ap (slot_at g.slots) (sym same) ∙ vacant) here),
+      λ (given_up : List ℕ) (u : ℕ) (f : Entry) (gone : slot_at g.slots u ≡ Retired f) (p : GivesUp g given_up u f.number). gives_up_on g c t v given_up u f within (still_open g c t counting) gone p,
+    )
 
 -- the words after a step on a count word
 pub count_words : (z : Settings) (words : List ℕ) (g : State) (c t w v : ℕ) (h : Hand) (locals : List LocalPlace) → Good g → Agrees z words g → c < g.settings.cpus → t < g.settings.slots
@@ -139,21 +124,10 @@ pub count_words : (z : Settings) (words : List ℕ) (g : State) (c t w v : ℕ) 
 count_words z words g c t w v h locals good agrees lt there =
     let size : length g.counts ≡ g.settings.slots = good.holds.shape.counts in
     let in_rows : t < length g.counts = omega arith in
-    let fit = ranges g.settings good.holds.fit in
-    let most : g.settings.cpus ≤ MOST_CPUS = fit.cpus in
+    let most : g.settings.cpus ≤ MOST_CPUS = (ranges g.settings good.holds.fit).cpus in
     let row : length (get_or g.counts t []) ≡ MOST_CPUS = good.holds.shape.count_rows t in_rows in
-    let in_row : c < length (get_or g.counts t []) = omega arith in
-    agrees_set z words g (with_lists g (count_lists g c t w v h locals)) (count_of c t) w agrees refl (lt, there) (cell_here 0 g.counts t c w in_rows in_row) (λ q is ne. other q ne)
-  where
-    other : (q : Spot) → (q ≡ count_of c t → ⊥) → word_at (with_lists g (count_lists g c t w v h locals)) q ≡ word_at g q
-    other (section_of d) ne = refl
-    other (passive_of d u) ne = refl
-    other (count_of d u) ne = cell_other 0 g.counts t c w u d (λ a b. ne (λ k. count_of (b k) (a k)))
-    other head_word ne = refl
-    other (live_of u) ne = refl
-    other (next_of u) ne = refl
-    other (record_of u k) ne = refl
-    other (total_of u) ne = refl
+    agrees_set z words g (with_lists g (count_lists g c t w v h locals)) (count_of c t) w agrees refl (lt, there) (cell_here 0 g.counts t c w in_rows (omega arith))
+    (elim [ count_of d u ↦ λ _ ne. cell_other 0 g.counts t c w u d (λ a b. ne (λ k. count_of (b k) (a k))) | _ ↦ λ _ _. refl ])
 
 -- what the CPU holds and counted after the step
 pub record Recount (x : CpuView) (e : Entry) (v : ℕ) (acquired released : List ℕ) : Type 0 where
@@ -161,7 +135,7 @@ pub record Recount (x : CpuView) (e : Entry) (v : ℕ) (acquired released : List
   pub same_acquired : (m : ℕ) → m ≢ e.number → number_at acquired m ≡ number_at x.acquired m
   pub same_released : (m : ℕ) → m ≢ e.number → number_at released m ≡ number_at x.released m
 
-abbrev pub recounted : State → CpuView → ℕ → ℕ → CpuLists → InHand → List ℕ → List ℕ → CpuView
+abbrev pub recounted : State → CpuView → ℕ → ℕ → State → InHand → List ℕ → List ℕ → CpuView
 recounted g x t n l k acquired released = cpu_view (with_lists g l) x.id (record x { hand = k; acquired = acquired; released = released; met = with_number x.met t n })
 
 -- after a count for e in the slot t, an occupant that was counted is the one met last in its slot
@@ -175,8 +149,7 @@ met_on g x e t v acquired released good had here count u f there some_one = dite
     let ne : f.number ≢ e.number = λ is. off (one_number g.history g.slots t u e f good.holds.slots here there is).0 in
     let a = count.same_acquired f.number ne in
     let b = count.same_released f.number ne in
-    let before : 0 < number_at x.acquired f.number + number_at x.released f.number = omega arith in
-    with_number_other x.met t e.number u off ∙ had.met u f there before)
+    with_number_other x.met t e.number u off ∙ had.met u f there (omega arith))
 
 -- after it, what was met in a slot was attached there
 there_on : (g : State) (x : CpuView) (e : Entry) (t : ℕ) → Good g → CpuShown g x → IsIn e (slot_at g.slots t)
@@ -195,8 +168,7 @@ pub met_alone : (g : State) (x : CpuView) (e : Entry) → CpuShown g x → IsAtt
 met_alone g x e had attached u same =
     let begun : 0 < e.number = (at_within g.history e.number (Attach e) attached).0 in
     let f = had.there u (λ none. absurd (omega arith)) in
-    let one : f.0 ≡ e = one_entry g.history f.0 e f.1 attached (f.2 ∙ same) in
-    sym f.3 ∙ ap (λ (o : Entry). o.slot) one
+    sym f.3 ∙ ap (λ (o : Entry). o.slot) (one_entry g.history f.0 e f.1 attached (f.2 ∙ same))
 
 pub shown_count : (g : State) (x : CpuView) (e : Entry) (t w v : ℕ) (h : Hand) (locals : List LocalPlace) (k : InHand) (acquired released : List ℕ) → Good g → CpuShown g x → IsIn e (slot_at g.slots t)
     → t < g.settings.slots
@@ -225,8 +197,7 @@ shown_count g x e t w v h locals k acquired released good had here lt count same
           ∙ ap (λ (j : Entry). v + number_at released j.number) one ∙ count.net ∙ ap (λ (j : Entry). bias + number_at acquired j.number) (sym one))
           (λ (off : u ≢ t).
           let ne : f.number ≢ e.number = λ is. off (one_number g.history g.slots t u e f good.holds.slots here there is).0 in
-          let a : count_at (with_cell g.nets t x.id v) x.id u ≡ count_at g.nets x.id u = cell_other 0 g.nets t x.id v u x.id (λ is _. off is) in
-          (λ i. a i + count.same_released f.number ne i) ∙ had.nets u f there ∙ ap (λ j. bias + j) (sym (count.same_acquired f.number ne)));
+          (λ i. (cell_other 0 g.nets t x.id v u x.id (λ is _. off is)) i + count.same_released f.number ne i) ∙ had.nets u f there ∙ ap (λ j. bias + j) (sym (count.same_acquired f.number ne)));
       later = λ n above.
           let ne : n ≢ e.number = λ is. absurd (omega arith) in
           let was = had.later n above in
@@ -249,8 +220,7 @@ found_counts g c e good found =
     let slot = slot_number g.history g.slots e e.slot holds.slots there in
     (slot, there, (held_counting g c e.slot e holds found slot).1)
 
-count_add_at : (z : Settings) (x : CpuView) (e : Entry) → MayCount x e.slot e.number → x.found ≡ Some e
-    → CpuMay z x (index z (count_of x.id e.slot)) (λ m. (m + 1) % 2 ^ 64) (λ m. did (CountAdd x.id) (Word m)) (λ v m y. Makes (CountAdd x.id) (Word m) (Cpu v) (Cpu y) × CountTold v m y)
+count_add_at : (z : Settings) (x : CpuView) (e : Entry) → MayCount x e.slot e.number → x.found ≡ Some e → CpuDoes z x (count_of x.id e.slot) (λ m. (m + 1) % 2 ^ 64) (CountAdd x.id) Word CountTold
 count_add_at z x e may is s r i at fits =
     let g = r.g in
     let c = x.id in
@@ -268,8 +238,8 @@ count_add_at z x e may is s r i at fits =
     let limit = ap (λ (a : Settings). a.count_limit) seen.settings in
     let is_net : may.count + number_at x.released n ≡ bias + number_at x.acquired n = place_is g x t e may.count had counts.1 may.place in
     let below : may.count < bias + x.settings.count_limit = may.room in
-    let room : count_at g.nets c t < bias + g.settings.count_limit = omega arith in
     let most : g.settings.count_limit ≤ MOST_COUNT = seen.fit.counts in
+    let room : count_at g.nets c t < bias + g.settings.count_limit = omega arith in
     let next : (word + 1) % 2 ^ 64 ≡ count_at g.counts c t + 1 = omega arith in
     let l = count_lists g c t (count_at g.counts c t + 1) (count_at g.nets c t + 1) (Taking n) g.locals in
     let acquired = one_more x.acquired n in
@@ -292,50 +262,30 @@ count_add_at z x e may is s r i at fits =
     let change : y ≡ record x { hand = TakingEntry e; acquired = acquired; met = with_number x.met t n } =
     ap (λ (v : CpuView). record v { hand = TakingEntry e; acquired = acquired; met = with_number x.met t n }) (sym had.is) in
     let told : CountTold x word y = λ u m other.
-    let one : e ≡ other.entry = some_same (sym is ∙ other.found) in
+    let one : e ≡ other.entry = same_Some e other.entry (sym is ∙ other.found) in
     let slot : t ≡ u = ap (λ (f : Entry). f.slot) one ∙ other.slot in
     let number : n ≡ m = ap (λ (f : Entry). f.number) one ∙ other.number in
     let low : word < bias + x.settings.count_limit = omega arith in
+    let word_net : word + number_at x.released n ≡ bias + number_at x.acquired n = omega (arith, has, same, net) in
     subst (λ (p : ℕ × ℕ). HasCounted x p.0 p.1 y × IsNetCount x p.1 word × (word < bias + x.settings.count_limit) × IsMetAlone x p.0 p.1) (λ k. (slot k, number k))
-    ((e, is, refl, refl, change), has_net word (count_at g.counts c t) (count_at g.nets c t) (number_at x.released n) (bias + number_at x.acquired n) has same net, low, met_alone g x e had attached) in
+    ((e, is, refl, refl, change), word_net, low, met_alone g x e had attached) in
     (Cpu y, done.0, (refl, (done.1, told)))
-  where
-    some_same : {a b : Entry} → ◌≡◌ {A = Option Entry} (Some a) (Some b) → a ≡ b
-    some_same eq = cc
-
-    has_net : (a b d p q : ℕ) → a ≡ b → b ≡ d → d + p ≡ q → a + p ≡ q
-    has_net a b d p q u v w = omega arith
 
 -- the place of an entry's slot, where the slot and the number are the entry's
 place_at : (x : CpuView) (e : Entry) (t n w : ℕ) → e.slot ≡ t → e.number ≡ n → IsPlaceCount x t n w → IsPlaceCount x e.slot e.number w
 place_at x e t n w slot number place = subst (λ (p : ℕ × ℕ). IsPlaceCount x p.0 p.1 w) (λ k. (sym slot k, sym number k)) place
 
-pub count_add_may : (z : Settings) (x : CpuView) (c t n : ℕ) → x.id ≡ c → MayCount x t n
-    → CpuMay z x (index z (count_of c t)) (λ m. (m + 1) % 2 ^ 64) (λ m. did (CountAdd c) (Word m)) (λ v m y. Makes (CountAdd c) (Word m) (Cpu v) (Cpu y) × CountTold v m y)
-count_add_may z x c t n id may = subst (λ (p : ℕ × ℕ). CpuMay z x (index z (count_of p.0 p.1)) (λ m. (m + 1) % 2 ^ 64) (λ m. did (CountAdd p.0) (Word m))
-    (λ v m y. Makes (CountAdd p.0) (Word m) (Cpu v) (Cpu y) × CountTold v m y)) (λ k. (id k, may.slot k))
-    (count_add_at z x may.entry (record {
-      idle = may.idle;
-      entry = may.entry;
-      found = may.found;
-      slot = refl;
-      number = refl;
-      count = may.count;
-      place = place_at x may.entry t n may.count may.slot may.number may.place;
-      room = may.room;
-    }) may.found)
-
--- an entry in a hand that gives it up has its slot
-in_hand_there : (g : State) (c id : ℕ) (e : Entry) → Good g → IsAttached g.history e → hand_at g c ≡ Giving e.number id → IsIn e (slot_at g.slots e.slot)
-in_hand_there g c id e good attached hand =
-    let holds = good.holds in
-    let o = (giving_holds g.settings.cpus g.slots g.hands g.due g.locals c e.number id hand holds.references).0 in
-    let u = o.0 in
-    let f = o.1 in
-    let here : IsIn f (slot_at g.slots u) = o.2 in
-    let shows = attached_in g.history g.slots u f holds.slots here in
-    let one : f ≡ e = one_entry g.history f e shows.0 attached o.3 in
-    subst (λ (h : Entry). IsIn h (slot_at g.slots h.slot)) one (subst (λ k. IsIn f (slot_at g.slots k)) (sym shows.1) here)
+pub count_add_may : (z : Settings) (x : CpuView) (c t n : ℕ) → x.id ≡ c → MayCount x t n → CpuDoes z x (count_of c t) (λ m. (m + 1) % 2 ^ 64) (CountAdd c) Word CountTold
+count_add_may z x c t n id may = rw (← id, ← may.slot) (count_add_at z x may.entry (record {
+  idle = may.idle;
+  entry = may.entry;
+  found = may.found;
+  slot = refl;
+  number = refl;
+  count = may.count;
+  place = place_at x may.entry t n may.count may.slot may.number may.place;
+  room = may.room;
+}) may.found)
 
 -- what a CPU with a reference to e to be given up sees of its word, where its place says `old`
 record Giver (g : State) (x : CpuView) (e : Entry) (old : ℕ) : Type 0 where
@@ -356,9 +306,9 @@ giver g x e old good had is place =
     let seen = seen_of g x good had in
     let attached : IsAttached g.history e = subst (HandFits g.history g.slots g.marks x.id) is had.in_hand in
     let hand = giving_hand g x e had is in
-    let here = in_hand_there g x.id hand.0 e good attached hand.1 in
-    let low : old + number_at x.released e.number ≡ bias + number_at x.acquired e.number = place_is g x e.slot e old had here place in
+    let here = its_slot g e good attached (giving_holds g.settings.cpus g.slots g.hands g.due g.locals x.id e.number hand.0 hand.1 good.holds.references).0 in
     let net : count_at g.nets x.id e.slot + number_at x.released e.number ≡ bias + number_at x.acquired e.number = had.nets e.slot e here in
+    let low : old + number_at x.released e.number ≡ bias + number_at x.acquired e.number = place_is g x e.slot e old had here place in
     let same : count_at g.nets x.id e.slot ≡ old = omega arith in
     let some_one : 0 < count_at g.nets x.id e.slot = good.holds.balance.used x.id e.slot e seen.lt here in record {
       had = had;
@@ -391,8 +341,6 @@ down_counted z s r i x e old at is p found =
     let word = slice_index s.words (index z (count_of c t)) in
     let has : word ≡ count_at g.counts c t = r.words.at (count_of c t) (p.seen.lt, p.there) in
     let same : count_at g.counts c t ≡ count_at g.nets c t = sym has ∙ found ∙ sym p.net in
-    let counting = is_counting r.good.holds.balance c t e p.seen.lt p.here same in
-    let net : count_at g.nets c t ≡ old = p.net in
     let floor : 0 < old = p.floor in
     let lifted = (giving_holds g.settings.cpus g.slots g.hands g.due g.locals c n p.id p.hand r.good.holds.references).1 in
     let within = (giving_within g c n p.id r.good.holds p.hand).1 in
@@ -408,11 +356,10 @@ down_counted z s r i x e old at is p found =
     let shown = shown_count g x e t (count_at g.counts c t - 1) (count_at g.nets c t - 1) Empty locals NoEntry x.acquired released r.good p.had p.here p.there after tt tt
     (λ u. sym (ap (trying_in u) is)) in
     let made : step g (CountDown c) ≡ Some (record { state = with_lists g l; reply = Word word }) = rw (p.hand, p.slot, eq-eqb (count_at g.counts c t) (count_at g.nets c t) same, has) refl in
-    let next : count_at g.counts c t - 1 ≡ old - 1 = ap (λ k. k - 1) (same ∙ net) in
-    let words = subst (λ m. Agrees z (set s.words (index z (count_of c t)) m) (with_lists g l)) next
+    let words = subst (λ m. Agrees z (set s.words (index z (count_of c t)) m) (with_lists g l)) (ap (λ k. k - 1) (same ∙ p.net))
     (count_words z s.words g c t (count_at g.counts c t - 1) (count_at g.nets c t - 1) Empty locals r.good r.words p.seen.lt p.there) in
     let done = cpu_makes z s r i x (index z (count_of c t)) (old - 1) l (CountDown c) (Word word) (record x { hand = NoEntry; released = released; met = with_number x.met t n }) at made
-    (leaves_counts g c t (count_at g.counts c t - 1) (count_at g.nets c t - 1) Empty locals e r.good p.here p.there counting)
+    (leaves_counts g c t (count_at g.counts c t - 1) (count_at g.nets c t - 1) Empty locals e r.good p.here p.there (is_counting r.good.holds.balance c t e p.seen.lt p.here same))
     (λ k. let a = local_changed k g.locals p.id (Lifted c) Free within lifted in omega arith) refl shown words in
     let y = recounted g x t n l NoEntry x.acquired released in
     let change : y ≡ record x { hand = NoEntry; released = released; met = with_number x.met t n } =
@@ -440,12 +387,11 @@ down_collected z s r i x e old at is p off =
     (λ (gone : (slot_at g.slots t ≡ Retired e) × ((mark_at g.marks t c).collected ≡ true)). gone)
     (counting_cases g.slots g.marks c t e p.here) in
     let l = hand_lists g c (Back n p.id) g.locals in
-    let shown = shown_hand g x (Back n p.id) g.locals (BackEntry e) r.good p.had refl (p.attached, gone) (λ u. sym (ap (trying_in u) is)) in
     let view : with_hand x (BackEntry e) ≡ cpu_view (with_lists g l) c (record x { hand = BackEntry e }) = ap (λ (v : CpuView). with_hand v (BackEntry e)) p.had.is in
     let made : step g (CountDown c) ≡ Some (record { state = with_lists g l; reply = Collected }) = rw (p.hand, p.slot, ne_eqb (count_at g.counts c t) (count_at g.nets c t) differs) refl in
     let words = agrees_set z s.words g (with_lists g l) (count_of c t) word r.words refl (p.seen.lt, p.there) (sym has) (λ q there ne. same_words g c (Back n p.id) g.locals q) in
     let done = cpu_makes z s r i x (index z (count_of c t)) word l (CountDown c) Collected (record x { hand = BackEntry e }) at made (leaves_hands g c (Back n p.id) g.locals) (λ k. refl) refl
-    (subst (CpuShown (with_lists g l)) view shown) words in
+    (subst (CpuShown (with_lists g l)) view (shown_hand g x (Back n p.id) g.locals (BackEntry e) r.good p.had refl (p.attached, gone) (λ u. sym (ap (trying_in u) is)))) words in
     let replied : Collected ≡ down_reply old word = sym (ap (λ b. if b then Word word else Collected) (ne_eqb word old off)) in
     let y = cpu_view (with_lists g l) c (record x { hand = BackEntry e }) in (
       y,
@@ -496,6 +442,4 @@ count_down_at z x e old new is place fits is_new s r i at within =
 
 pub count_down_may : (z : Settings) (x : CpuView) (c t n old new : ℕ) → x.id ≡ c → MayCountDown x t n old → old < 2 ^ 64 → new ≡ (old + (2 ^ 64 - 1)) % 2 ^ 64
     → CpuMay z x (index z (count_of c t)) (λ m. either (m == old) new m) (λ m. did (CountDown c) (down_reply old m)) (DownTold (CountDown c) old)
-count_down_may z x c t n old new id may fits is_new =
-    subst (λ (p : ℕ × ℕ). CpuMay z x (index z (count_of p.0 p.1)) (λ m. either (m == old) new m) (λ m. did (CountDown p.0) (down_reply old m)) (DownTold (CountDown p.0) old)) (λ k. (id k, may.slot k))
-    (count_down_at z x may.entry old new may.giving (place_at x may.entry t n old may.slot may.number may.place) fits is_new)
+count_down_may z x c t n old new id may fits is_new = rw (← id, ← may.slot) (count_down_at z x may.entry old new may.giving (place_at x may.entry t n old may.slot may.number may.place) fits is_new)

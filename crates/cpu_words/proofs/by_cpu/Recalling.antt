@@ -7,16 +7,16 @@ use mathlib.Core.Option.{some}
 use mathlib.Core.List.{IsPrefix}
 use lib.ListN.{get_elem?}
 use Rattle.atomic_table.specs.Table.{State as Table, keeps, stepped}
-use Rattle.cpu_words.specs.Types.{Entry, Change, Settings, Event, Recall, RecallHead, Refind, Word, Live}
-use Rattle.protocol.specs.Common.{IsAttached, IsLiveAt, IsNewestAt, State, guard, some_outcome, after_refind, after_seeing, is_honest, is_inside, live_at, may_recall, may_recall_head, may_refind, refind, begin_at, found_at, seen_at, search_at, step}
+use Rattle.cpu_words.specs.Types.{Entry, Change, Settings, Event, Recall, RecallHead, Refind, Word}
+use Rattle.protocol.specs.Common.{IsAttached, IsLiveAt, IsNewestAt, State, guard, some_outcome, after_refind, after_seeing, is_honest, is_inside, live_at, may_recall, may_recall_head, may_refind, refind, found_at, seen_at, search_at, step}
 use Rattle.registry_values.specs.Common.{slot_at}
 use Rattle.protocol.proofs.History.{at_within, one_entry}
 use Rattle.protocol.proofs.keeps.CountKeeps.{live_tells}
 use Rattle.protocol.proofs.runs.Fresh.{head_newest, honest_tells, live_is}
 use Rattle.protocol.proofs.Occupied.{in_within}
 use Rattle.cpu_words.specs.Common.{CpuView, View, Keeper, Cpu, head_word, live_of, index, cpu_view, cpu_of, depth_of, CpuShown, Good, Ruled, GoesOn, by_number, did, Makes, CpuMay, LivesShow, HasRefound, HasWholePass, IsLiveNumber, IsRefound, MayRecall, MayRefind, RecalledTold, RefindTold, event_by}
-use Rattle.cpu_words.proofs.shown.Seeing.{attached_prefix, prefix_longer, take_whole, taken_is_prefix, seen_of}
-use Rattle.cpu_words.proofs.by_cpu.CpuSteps.{CpuLists, lists_of, with_lists, same_counts, shown_on, good_after, cpu_makes}
+use Rattle.cpu_words.proofs.shown.Seeing.{prefix_longer, take_whole, seen_of, known_attached}
+use Rattle.cpu_words.proofs.by_cpu.CpuSteps.{with_lists, same_counts, shown_on, good_after, cpu_makes, CpuDoes}
 use Rattle.cpu_words.proofs.by_cpu.Searching.{loaded_words}
 
 -- what the keeper's view tells of the live words
@@ -37,8 +37,8 @@ live_number g t n good honest = record {
 
 -- A load by which the CPU x sees all of the history, and has found f last; beside that nothing changes
 
-abbrev seeing_lists : State → ℕ → List (Option Entry) → CpuLists
-seeing_lists g c found = record (lists_of g) { seen = set g.seen c (length g.history); found = found }
+abbrev seeing_lists : State → ℕ → List (Option Entry) → State
+seeing_lists g c found = record g { seen = set g.seen c (length g.history); found = found }
 
 -- what such a load of m leaves and tells
 record Sees {z : Settings} {s : Table ℕ View} (r : Ruled z s) (i : ℕ) (x : CpuView) (word m : ℕ) (e : Event) (f : Option Entry) : Type 0 where
@@ -58,7 +58,7 @@ sees z s r i x word m e found f at loaded own made others finds there =
     let had : CpuShown g x = (r.shows.fits i (Cpu x) at).1 in
     let seen = seen_of g x r.good had in
     let n = length g.history in
-    let l : CpuLists = seeing_lists g x.id found in
+    let l = seeing_lists g x.id found in
     let y = cpu_view (with_lists g l) x.id x in
     let all : get_or l.seen x.id 0 ≡ n = get_or-set_same g.seen x.id n 0 seen.in_seen in
     let more : seen_at g x.id ≤ get_or l.seen x.id 0 = omega (arith, seen.within, all) in
@@ -80,16 +80,11 @@ sees z s r i x word m e found f at loaded own made others finds there =
 
 -- what the CPU had found last is in the history
 found_there : (g : State) (x : CpuView) → Good g → CpuShown g x → (a : Entry) → x.found ≡ Some a → IsAttached g.history a
-found_there g x good had a is = passed_on g x a good had (had.found a is)
-  where
-    passed_on : (g : State) (x : CpuView) (a : Entry) → Good g → CpuShown g x → IsAttached x.pass a → IsAttached g.history a
-    passed_on g x a good had there = let seen = seen_of g x good had in
-        attached_prefix x.pass g.history a (subst (λ (p : List Change). IsPrefix p g.history) (sym seen.pass) (taken_is_prefix (seen_at g x.id) g.history)) there
+found_there g x good had a is = known_attached g x a (seen_of g x good had) (had.found a is)
 
 -- a live word
 
-recall_at : (z : Settings) (x : CpuView) (t : ℕ) → MayRecall x t
-    → CpuMay z x (index z (live_of t)) (λ n. n) (λ n. did (Recall x.id t) (Word n)) (λ v n y. Makes (Recall x.id t) (Word n) (Cpu v) (Cpu y) × RecalledTold (Recall x.id t) v n y)
+recall_at : (z : Settings) (x : CpuView) (t : ℕ) → MayRecall x t → CpuDoes z x (live_of t) (λ n. n) (Recall x.id t) Word (RecalledTold (Recall x.id t))
 recall_at z x t may s r i at fits =
     let g = r.g in
     let m = slice_index s.words (index z (live_of t)) in
@@ -98,10 +93,9 @@ recall_at z x t may s r i at fits =
     let lt : t < g.settings.slots = subst (λ (a : Settings). t < a.slots) seen.settings may.slot in
     let found : m ≡ live_at g.lives t = r.words.at (live_of t) lt in
     let honest : is_honest (live_at g.lives t) (slot_at g.slots t) ≡ true = honest_in z s r t in
-    let none : search_at g x.id ≡ None = sym seen.search ∙ may.search in
     let test : may_recall g x.id t ≡ true =
     and_from (nat_lt x.id g.seated) (is_none (search_at g x.id) && (nat_lt t g.settings.slots && is_honest (live_at g.lives t) (slot_at g.slots t))) (lt-ltb x.id g.seated seen.seated)
-    (and_from (is_none (search_at g x.id)) (nat_lt t g.settings.slots && is_honest (live_at g.lives t) (slot_at g.slots t)) (ap is_none none)
+    (and_from (is_none (search_at g x.id)) (nat_lt t g.settings.slots && is_honest (live_at g.lives t) (slot_at g.slots t)) (ap is_none (sym seen.search ∙ may.search))
     (and_from (nat_lt t g.settings.slots) (is_honest (live_at g.lives t) (slot_at g.slots t)) (lt-ltb t g.settings.slots lt) honest)) in
     let made : step g (Recall x.id t) ≡ Some (record { state = with_lists g (seeing_lists g x.id g.found); reply = Word m }) =
     ap (λ (b : Bool). guard b (some_outcome (after_seeing g x.id) (Word (live_at g.lives t)))) test ∙ (λ k. Some (record { state = with_lists g (seeing_lists g x.id g.found); reply = Word (sym found k) })) in
@@ -110,10 +104,8 @@ recall_at z x t may s r i at fits =
     (live_number g t m r.good (ap (λ (k : ℕ). is_honest k (slot_at g.slots t)) found ∙ honest)) in
     (Cpu saw.view, saw.goes_on, (refl, (saw.makes, (record { is = (saw.longer, saw.is); live = live }, saw.whole))))
 
-pub recall_may : (z : Settings) (x : CpuView) (c t : ℕ) → x.id ≡ c → MayRecall x t
-    → CpuMay z x (index z (live_of t)) (λ n. n) (λ n. did (Recall c t) (Word n)) (λ v n y. Makes (Recall c t) (Word n) (Cpu v) (Cpu y) × RecalledTold (Recall c t) v n y)
-recall_may z x c t id may =
-    subst (λ d. CpuMay z x (index z (live_of t)) (λ n. n) (λ n. did (Recall d t) (Word n)) (λ v n y. Makes (Recall d t) (Word n) (Cpu v) (Cpu y) × RecalledTold (Recall d t) v n y)) id (recall_at z x t may)
+pub recall_may : (z : Settings) (x : CpuView) (c t : ℕ) → x.id ≡ c → MayRecall x t → CpuDoes z x (live_of t) (λ n. n) (Recall c t) Word (RecalledTold (Recall c t))
+recall_may z x c t id may = rw (← id) (recall_at z x t may)
 
 -- The head
 
@@ -122,31 +114,25 @@ newest_few : (g : State) (w : ℕ) → Good g → IsNewestAt g.history w → w �
 newest_few g zero good is = omega arith
 newest_few g (suc t) good is =
     let at = is.newest t refl in
-    let low = in_within g.slots at.0.slot at.0 (inl (good.holds.slots.placed at.0 at.1)) in
-    omega (arith, low, at.2, good.holds.shape.slots)
+    omega (arith, in_within g.slots at.0.slot at.0 (inl (good.holds.slots.placed at.0 at.1)), at.2, good.holds.shape.slots)
 
-recall_head_at : (z : Settings) (x : CpuView) → x.search ≡ None
-    → CpuMay z x (index z head_word) (λ n. n) (λ n. did (RecallHead x.id) (Word n)) (λ v n y. Makes (RecallHead x.id) (Word n) (Cpu v) (Cpu y) × RecalledTold (RecallHead x.id) v n y)
+recall_head_at : (z : Settings) (x : CpuView) → x.search ≡ None → CpuDoes z x head_word (λ n. n) (RecallHead x.id) Word (RecalledTold (RecallHead x.id))
 recall_head_at z x idle s r i at fits =
     let g = r.g in
     let m = slice_index s.words (index z head_word) in
     let had : CpuShown g x = (r.shows.fits i (Cpu x) at).1 in
     let seen = seen_of g x r.good had in
     let found : m ≡ g.head = r.words.at head_word tt in
-    let none : search_at g x.id ≡ None = sym seen.search ∙ idle in
-    let test : may_recall_head g x.id ≡ true = and_from (nat_lt x.id g.seated) (is_none (search_at g x.id)) (lt-ltb x.id g.seated seen.seated) (ap is_none none) in
+    let test : may_recall_head g x.id ≡ true = and_from (nat_lt x.id g.seated) (is_none (search_at g x.id)) (lt-ltb x.id g.seated seen.seated) (ap is_none (sym seen.search ∙ idle)) in
     let made : step g (RecallHead x.id) ≡ Some (record { state = with_lists g (seeing_lists g x.id g.found); reply = Word m }) =
     ap (λ (b : Bool). guard b (some_outcome (after_seeing g x.id) (Word g.head))) test ∙ (λ k. Some (record { state = with_lists g (seeing_lists g x.id g.found); reply = Word (sym found k) })) in
     let saw = sees z s r i x (index z head_word) m (RecallHead x.id) g.found x.found at refl refl made (λ d ne. refl) (sym seen.found) (found_there g x r.good had) in
     let leads : IsNewestAt g.history m = subst (IsNewestAt g.history) (sym found) (head_newest g.history g.head r.good.holds.list.first) in
-    let newest : IsNewestAt saw.view.pass m = subst (λ (p : List Change). IsNewestAt p m) (sym saw.history) leads in
     let few : m ≤ x.settings.slots = subst (λ (a : Settings). m ≤ a.slots) (sym seen.settings) (newest_few g m r.good leads) in
-    (Cpu saw.view, saw.goes_on, (refl, (saw.makes, (record { is = (saw.longer, saw.is); newest = newest; few = few }, saw.whole))))
+    (Cpu saw.view, saw.goes_on, (refl, (saw.makes, (record { is = (saw.longer, saw.is); newest = (subst (λ (p : List Change). IsNewestAt p m) (sym saw.history) leads); few = few }, saw.whole))))
 
-pub recall_head_may : (z : Settings) (x : CpuView) (c : ℕ) → x.id ≡ c → x.search ≡ None
-    → CpuMay z x (index z head_word) (λ n. n) (λ n. did (RecallHead c) (Word n)) (λ v n y. Makes (RecallHead c) (Word n) (Cpu v) (Cpu y) × RecalledTold (RecallHead c) v n y)
-recall_head_may z x c id idle =
-    subst (λ d. CpuMay z x (index z head_word) (λ n. n) (λ n. did (RecallHead d) (Word n)) (λ v n y. Makes (RecallHead d) (Word n) (Cpu v) (Cpu y) × RecalledTold (RecallHead d) v n y)) id (recall_head_at z x idle)
+pub recall_head_may : (z : Settings) (x : CpuView) (c : ℕ) → x.id ≡ c → x.search ≡ None → CpuDoes z x head_word (λ n. n) (RecallHead c) Word (RecalledTold (RecallHead c))
+recall_head_may z x c id idle = rw (← id) (recall_head_at z x idle)
 
 -- Found again
 
@@ -164,23 +150,18 @@ refinds z s r i x e idle inside attached low at same =
     let m = slice_index s.words (index z (live_of t)) in
     let had : CpuShown g x = (r.shows.fits i (Cpu x) at).1 in
     let seen = seen_of g x r.good had in
-    let within : t < g.settings.slots = subst (λ (a : Settings). t < a.slots) seen.settings low in
-    let stands : m ≡ live_at g.lives t = r.words.at (live_of t) within in
-    let known : IsAttached g.history e = attached_prefix x.pass g.history e (subst (λ (p : List Change). IsPrefix p g.history) (sym seen.pass) (taken_is_prefix (seen_at g x.id) g.history)) attached in
+    let stands : m ≡ live_at g.lives t = r.words.at (live_of t) (subst (λ (a : Settings). t < a.slots) seen.settings low) in
+    let known : IsAttached g.history e = known_attached g x e seen attached in
     let word : live_at g.lives t ≡ e.number = sym stands ∙ same in
-    let honest : is_honest e.number (slot_at g.slots t) ≡ true = ap (λ (k : ℕ). is_honest k (slot_at g.slots t)) (sym word) ∙ honest_in z s r t in
-    let live : IsLiveAt g.history (length g.history) e = ((live_number g t e.number r.good honest).only e known refl).0 in
-    let placed : slot_at g.slots t ≡ Live e = r.good.holds.slots.placed e live in
-    let none : search_at g x.id ≡ None = sym seen.search ∙ idle in
-    let begun : begin_at g x.id ≡ Some inside.0 = sym seen.begin ∙ inside.1 in
+    let live : IsLiveAt g.history (length g.history) e = ((live_number g t e.number r.good (ap (λ (k : ℕ). is_honest k (slot_at g.slots t)) (sym word) ∙ honest_in z s r t)).only e known refl).0 in
     let test : may_refind g x.id t e.number e ≡ true =
     and_from (nat_lt x.id g.seated) _ (lt-ltb x.id g.seated seen.seated)
-    (and_from (is_none (search_at g x.id)) _ (ap is_none none)
-    (and_from (is_inside g x.id) _ (ap is_some begun)
+    (and_from (is_none (search_at g x.id)) _ (ap is_none (sym seen.search ∙ idle))
+    (and_from (is_inside g x.id) _ (ap is_some (sym seen.begin ∙ inside.1))
     (and_from (e.number == e.number) (live_at g.lives t == e.number) (eq-eqb e.number e.number refl) (eq-eqb (live_at g.lives t) e.number word)))) in
     let found : List (Option Entry) = set g.found x.id (Some e) in
     let made : step g (Refind x.id t e.number) ≡ Some (record { state = with_lists g (seeing_lists g x.id found); reply = Word m }) =
-    ap (refind g x.id t e.number) placed ∙ (ap (λ (b : Bool). guard b (some_outcome (after_refind g x.id e) (Word (live_at g.lives t)))) test
+    ap (refind g x.id t e.number) (r.good.holds.slots.placed e live) ∙ (ap (λ (b : Bool). guard b (some_outcome (after_refind g x.id e) (Word (live_at g.lives t)))) test
     ∙ (λ k. Some (record { state = with_lists g (seeing_lists g x.id found); reply = Word (sym stands k) }))) in
     let saw = sees z s r i x (index z (live_of t)) m (Refind x.id t e.number) found (Some e) at refl refl made (λ d ne. get_or-set_other g.found x.id d (Some e) None ne)
     (get_or-set_same g.found x.id (Some e) None seen.in_found) (λ a is. subst (IsAttached g.history) (same_Some e a is) known) in
@@ -213,6 +194,4 @@ refind_at z x e idle inside attached low s r i at fits =
 
 pub refind_may : (z : Settings) (x : CpuView) (c t n : ℕ) → x.id ≡ c → MayRefind x t n
     → CpuMay z x (index z (live_of t)) (λ m. m) (λ m. did (event_by n (Refind c t n) (Recall c t) m) (Word m)) (RefindTold n (Refind c t n) (Recall c t))
-refind_may z x c t n id may =
-    subst (λ (p : ℕ × ℕ × ℕ). CpuMay z x (index z (live_of p.1)) (λ m. m) (λ m. did (event_by p.2 (Refind p.0 p.1 p.2) (Recall p.0 p.1) m) (Word m)) (RefindTold p.2 (Refind p.0 p.1 p.2) (Recall p.0 p.1)))
-    (λ k. (id k, may.at.slot k, may.at.number k)) (refind_at z x may.entry may.search may.inside may.attached (subst (λ (u : ℕ). u < x.settings.slots) (sym may.at.slot) may.slot))
+refind_may z x c t n id may = rw (← id, ← may.at.slot, ← may.at.number) (refind_at z x may.entry may.search may.inside may.attached (subst (λ (u : ℕ). u < x.settings.slots) (sym may.at.slot) may.slot))

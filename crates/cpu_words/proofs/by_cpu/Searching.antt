@@ -1,10 +1,10 @@
 -- The loads of a search on the words.
-use Rattle.std.proofs.Common.{◌++◌, ◌≡◌, ◌≢◌, ℕ, zero, suc, ◌≤◌, ◌<◌, ⊎_elim, List, [], ◌∷◌, length, take, drop, get_or, set, Option, Some, None, refl, sym, ap, ◌∙◌, subst, arith, get_or-set_same, get_or-set_other, set-set}
+use Rattle.std.proofs.Common.{◌++◌, ◌≡◌, ◌≢◌, ℕ, zero, suc, ◌≤◌, ◌<◌, ⊎_elim, List, [], length, take, drop, get_or, set, Option, Some, None, refl, sym, ap, ◌∙◌, subst, arith, get_or-set_same, get_or-set_other, set-set}
 use Rattle.std.proofs.lemmas.List.{set-get_or, length-take-le, take-append-drop}
 use Rattle.std.proofs.lemmas.Bool.{cases_lt}
 use Rattle.std.proofs.lemmas.Option.{none-some, same_Some}
 use Rattle.std.specs.Prelude.{slice_index}
-use mathlib.Core.Option.{some, some-ne-none}
+use mathlib.Core.Option.{some}
 use mathlib.Core.List.{IsPrefix}
 use lib.ListN.{get_elem?}
 use Rattle.atomic_table.specs.Table.{State as Table, keeps, stepped}
@@ -19,14 +19,14 @@ use Rattle.protocol.proofs.History.{at_within, at_prefix}
 use Rattle.protocol.proofs.keeps.SearchKeeps.{IsAnswer, AnswersLookup, record_answers}
 use Rattle.protocol.proofs.Cells.{one_in}
 use Rattle.protocol.proofs.keeps.Searching.{Walks, stands_in, words_stand, search_walks, LinkTells, link_tells, head_ahead, at_next_ahead}
-use Rattle.cpu_words.specs.Common.{CpuView, View, Cpu, Spot, section_of, passive_of, count_of, head_word, live_of, next_of, record_of, total_of, word_at, index, cpu_view, cpu_of, depth_of, CpuShown, Agrees, Good, Ruled, GoesOn, did, Makes, CpuMay, sought, MaySeek, key_with, search_for, cpu_after_seek, search_with_place, MayLoadLink, link_answer, cpu_after_link, LinkHolds, MayStandOn, Descends, SkipsNone, PassTells, HasFollowed, HasLoadedLink, HasSought, IsAtWord, MayLoadSearched, every_word, loaded_of, loaded_answer, cpu_after_record_word, FoundHolds, HasSearched, HasLoadedWord, tells_compared}
-use Rattle.cpu_words.proofs.shown.Showing.{goes_both}
+use Rattle.cpu_words.specs.Common.{CpuView, View, Cpu, Spot, section_of, passive_of, count_of, head_word, next_of, record_of, word_at, index, cpu_view, cpu_of, depth_of, CpuShown, Agrees, Good, Ruled, GoesOn, did, Makes, CpuMay, sought, MaySeek, key_with, search_for, cpu_after_seek, search_with_place, MayLoadLink, link_answer, cpu_after_link, LinkHolds, MayStandOn, Descends, SkipsNone, PassTells, HasFollowed, HasLoadedLink, HasSought, IsAtWord, MayLoadSearched, every_word, loaded_of, loaded_answer, cpu_after_record_word, FoundHolds, HasSearched, HasLoadedWord, tells_compared}
+use Rattle.cpu_words.proofs.shown.Showing.{goes_both, at_same}
 use Rattle.cpu_words.proofs.shown.Placing.{agrees_same}
 use Rattle.cpu_words.proofs.shown.Seeing.{attached_take, attached_prefix, taken_is_prefix, prefix_longer, take_whole, seen_of, idle_of}
-use Rattle.cpu_words.proofs.by_cpu.CpuSteps.{keeps_view, CpuLists, lists_of, with_lists, same_counts, shown_on, found_on, cpu_makes}
+use Rattle.cpu_words.proofs.by_cpu.CpuSteps.{keeps_view, with_lists, same_counts, shown_on, found_on, cpu_makes, CpuDoes}
 
 -- a load leaves the words
-pub loaded_words : (z : Settings) (words : List ℕ) (g : State) (l : CpuLists) (i m : ℕ) → slice_index words i ≡ m → Agrees z words g → l.section ≡ g.section → l.passive ≡ g.passive → l.counts ≡ g.counts
+pub loaded_words : (z : Settings) (words : List ℕ) (g : State) (l : State) (i m : ℕ) → slice_index words i ≡ m → Agrees z words g → l.section ≡ g.section → l.passive ≡ g.passive → l.counts ≡ g.counts
     → Agrees z (set words i m) (with_lists g l)
 loaded_words z words g l i m found agrees section passive counts =
     subst (λ (ws : List ℕ). Agrees z ws (with_lists g l)) (sym (set-get_or words i 0) ∙ ap (set words i) found) (agrees_same z words g (with_lists g l) agrees refl (λ q there. same q))
@@ -35,11 +35,7 @@ loaded_words z words g l i m found agrees section passive counts =
     same (section_of d) = ap (λ (s : List ℕ). get_or s d 0) section
     same (passive_of d t) = ap (λ (p : List (List ℕ)). word_at (record g { passive = p }) (passive_of d t)) passive
     same (count_of d t) = ap (λ (p : List (List ℕ)). word_at (record g { counts = p }) (count_of d t)) counts
-    same head_word = refl
-    same (live_of u) = refl
-    same (next_of t) = refl
-    same (record_of t k) = refl
-    same (total_of t) = refl
+    same q = refl
 
 -- Where a search is, by the pass and by the history
 
@@ -81,8 +77,7 @@ descends : (g : State) (c n m s : ℕ) (q : Search) (p r : List Change) → Hold
     → ((e : Entry) → MayStandOn p q s e → n ≤ e.number) → Descends p q s m r
 descends g c n zero s q p r on walk whole tells above = tt
 descends g c n (suc t) s q p r on walk whole tells above = λ e f old new.
-    let stands : StandsOn g.history q.start (length g.history) t f = subst (λ h. MayStandOn h q t f) whole new in
-    omega (arith, one_stands g c q.start (length g.history) (length g.history) t tells.0 f on walk tells.1 stands, tells.3, above e old)
+    omega (arith, one_stands g c q.start (length g.history) (length g.history) t tells.0 f on walk tells.1 (subst (λ h. MayStandOn h q t f) whole new), tells.3, above e old)
 
 -- What a link leads past
 
@@ -158,8 +153,8 @@ found_before : (old : Option Entry) (m : ℕ) (e : Entry) → next_found old m �
 found_before old zero e is = absurd (none-some e is)
 found_before old (suc t) e is = is
 
-abbrev pub link_lists : State → ℕ → Search → ℕ → CpuLists
-link_lists g c q m = record (lists_of g) { seen = set g.seen c (length g.history); searches = set g.searches c (next_search q m); found = found_lists g.found c m }
+abbrev pub link_lists : State → ℕ → Search → ℕ → State
+link_lists g c q m = record g { seen = set g.seen c (length g.history); searches = set g.searches c (next_search q m); found = found_lists g.found c m }
 
 link_made : (g : State) (c : ℕ) (q : Search) (m : ℕ) → link_loaded g c q m ≡ Some (record { state = with_lists g (link_lists g c q m); reply = link_answer m })
 link_made g c q zero = refl
@@ -183,7 +178,7 @@ follows z s r i x spot m n q at under found link tells leads at_head above =
     let had : CpuShown g x = (r.shows.fits i (Cpu x) at).1 in
     let seen = seen_of g x r.good had in
     let size = length g.history in
-    let l : CpuLists = link_lists g x.id q m in
+    let l = link_lists g x.id q m in
     let y = cpu_view (with_lists g l) x.id x in
     let sees : get_or l.seen x.id 0 ≡ size = get_or-set_same g.seen x.id size 0 seen.in_seen in
     let passes : y.pass ≡ g.history = ap (λ k. take k g.history) sees ∙ take_whole g.history in
@@ -202,10 +197,7 @@ follows z s r i x spot m n q at under found link tells leads at_head above =
     (λ k. record y { search = searches k; found = finds k }) ∙ ap (λ (v : CpuView). record v { pass = y.pass; search = next_search q m; found = next_found v.found m }) (sym had.is)
     ∙ followed_is x q m y.pass in
     let longer : IsPrefix x.pass y.pass = subst (λ p. IsPrefix p y.pass) (sym seen.pass) (prefix_longer g.history (seen_at g x.id) (get_or l.seen x.id 0) more within) in
-    let holds : LinkHolds x.settings q m y.pass = subst (λ (a : Settings). LinkHolds a q m y.pass) (sym seen.settings) (link_holds g q n m y.pass r.good passes tells) in
     let walk : Walks g x.id q.start = search_walks g x.id q r.good.holds (sym seen.search ∙ under) in
-    let down : (t : ℕ) → q.place ≡ AtNext t → Descends x.pass q t m y.pass =
-    λ t place. descends g x.id n m t q x.pass y.pass r.good.holds walk passes tells (λ e stands. omega (arith, above t e place stands)) in
     let skips : SkipsNone y.pass q.start n m = subst (λ (p : List Change). SkipsNone p q.start n m) (sym passes) (skips_none g x.id q.start n m r.good.holds walk leads) in
     let told : PassTells x.begin q.start y.pass = subst (λ (p : List Change). PassTells x.begin q.start p) (sym passes)
     (subst (λ (b : Option ℕ). PassTells b q.start g.history) (sym seen.begin) (pass_tells g x.id q.start r.good.holds walk)) in
@@ -216,8 +208,8 @@ follows z s r i x spot m n q at under found link tells leads at_head above =
       record {
         pass = longer;
         is = change;
-        holds = holds;
-        descends = down;
+        holds = subst (λ (a : Settings). LinkHolds a q m y.pass) (sym seen.settings) (link_holds g q n m y.pass r.good passes tells);
+        descends = λ t place. descends g x.id n m t q x.pass y.pass r.good.holds walk passes tells (λ e stands. omega (arith, above t e place stands));
         tells = told;
         first = λ place. subst (λ k. SkipsNone y.pass q.start k m) (at_head place ∙ ap suc (sym size)) skips;
         next = λ t e place stands. subst (λ k. SkipsNone y.pass q.start k m) (sym (above t e place stands)) skips;
@@ -227,10 +219,8 @@ follows z s r i x spot m n q at under found link tells leads at_head above =
 same_next : (s t : ℕ) → AtNext s ≡ AtNext t → s ≡ t
 same_next s t e = cc
 
-pub load_link_may : (z : Settings) (x : CpuView) (c t : ℕ) → x.id ≡ c → MayLoadLink x t
-    → CpuMay z x (index z (next_of t)) (λ n. n) (λ n. did (LoadLink c) (link_answer n)) (λ v n y. Makes (LoadLink c) (link_answer n) (Cpu v) (Cpu y) × HasLoadedLink v n y)
-load_link_may z x c t id may =
-    subst (λ d. CpuMay z x (index z (next_of t)) (λ n. n) (λ n. did (LoadLink d) (link_answer n)) (λ v n y. Makes (LoadLink d) (link_answer n) (Cpu v) (Cpu y) × HasLoadedLink v n y)) id
+pub load_link_may : (z : Settings) (x : CpuView) (c t : ℕ) → x.id ≡ c → MayLoadLink x t → CpuDoes z x (next_of t) (λ n. n) (LoadLink c) link_answer HasLoadedLink
+load_link_may z x c t id may = rw (← id)
     (λ s r i at fits.
     let g = r.g in
     let q = may.search in
@@ -241,16 +231,14 @@ load_link_may z x c t id may =
     let walk : Walks g x.id q.start = search_walks g x.id q on searching in
     let stands = subst (PlaceHolds g.history q.start (seen_at g x.id) q.key) may.place (on.searches x.id q searching).stands in
     let ahead = at_next_ahead g x.id q.start (seen_at g x.id) t q.key on walk seen.within stands in
-    let lt : t < g.settings.slots = omega (arith, ahead.0, on.shape.links) in
-    let found : slice_index s.words (index z (next_of t)) ≡ get_or g.next t 0 = r.words.at (next_of t) lt in
+    let found : slice_index s.words (index z (next_of t)) ≡ get_or g.next t 0 = r.words.at (next_of t) (omega (arith, ahead.0, on.shape.links)) in
     let tells = link_tells g x.id q.start stands.0.number (get_or g.next t 0) q.key on walk ahead.1 in
     let link : load_link g x.id q q.place ≡ link_loaded g x.id q (slice_index s.words (index z (next_of t))) = ap (load_link g x.id q) may.place ∙ ap (link_loaded g x.id q) (sym found) in
     let leads = next_leads g x.id q.start (seen_at g x.id) t stands.0 on walk stands.1 in
     let at_head : q.place ≡ AtHead → stands.0.number ≡ suc (length g.history) = λ place. absurd (let wrong : AtHead ≡ AtNext t = sym place ∙ may.place in cc) in
     let above : (u : ℕ) (e : Entry) → q.place ≡ AtNext u → MayStandOn x.pass q u e → e.number ≡ stands.0.number = λ u e place on_e.
-    let same : u ≡ t = same_next u t (sym place ∙ may.place) in
     let by_pass : MayStandOn (take (seen_at g x.id) g.history) q t e =
-    subst (λ (v : ℕ). MayStandOn (take (seen_at g x.id) g.history) q v e) same (subst (λ (p : List Change). MayStandOn p q u e) seen.pass on_e) in
+    subst (λ (v : ℕ). MayStandOn (take (seen_at g x.id) g.history) q v e) (same_next u t (sym place ∙ may.place)) (subst (λ (p : List Change). MayStandOn p q u e) seen.pass on_e) in
     let by_history = stands_by_history g.history (seen_at g x.id) t q e seen.within (on.searches x.id q searching).started by_pass in
     one_stands g x.id q.start (seen_at g x.id) (seen_at g x.id) t stands.0 e on walk stands.1 by_history in
     told z s r i x (index z (next_of t)) (slice_index s.words (index z (next_of t))) q may.under_way
@@ -265,14 +253,6 @@ load_link_may z x c t id may =
 
 -- Seek touches no word: it is made with the load of the head
 
-at_same : (l : List View) (i : ℕ) (v w : View) → get_elem? l i ≡ some v → get_elem? (set l i w) i ≡ some w
-at_same [] i v w e = absurd (some-ne-none v (sym e))
-at_same (u ∷ us) zero v w e = refl
-at_same (u ∷ us) (suc i) v w e = at_same us i v w e
-
-abbrev pub begun_lists : State → ℕ → Search → CpuLists
-begun_lists g c q = record (lists_of g) { searches = set g.searches c (Some q) }
-
 begins_search : (z : Settings) (s : Table ℕ View) (r : Ruled z s) (i : ℕ) (x : CpuView) (spot m : ℕ) (kind : Kind) (name : Name) → get_elem? s.views i ≡ some (Cpu x) → MaySeek x
     → slice_index s.words spot ≡ m
     → GoesOn z s r (did (Seek x.id kind name) Done) (stepped s spot m i [] (Cpu (cpu_after_seek (key_with kind name) x)) keeps)
@@ -283,10 +263,9 @@ begins_search z s r i x spot m kind name at may found =
     let had : CpuShown g x = (r.shows.fits i (Cpu x) at).1 in
     let seen = seen_of g x r.good had in
     let q : Search = record { key = key; start = seen_at g x.id; place = AtHead } in
-    let l : CpuLists = begun_lists g x.id q in
+    let l : State = record g { searches = set g.searches x.id (Some q) } in
     let y = cpu_view (with_lists g l) x.id x in
-    let inside : begin_at g x.id ≡ Some may.inside.0 = sym seen.begin ∙ may.inside.1 in
-    let made : step g (Seek x.id kind name) ≡ Some (record { state = with_lists g l; reply = Done }) = rw (idle_of g x seen had may.idle, inside) refl in
+    let made : step g (Seek x.id kind name) ≡ Some (record { state = with_lists g l; reply = Done }) = rw (idle_of g x seen had may.idle, sym seen.begin ∙ may.inside.1) refl in
     let leaves = same_counts g x.id l refl refl refl refl (λ d ne. refl) (λ d ne. refl) (λ d ne. refl) (λ d ne. refl) (λ d ne. get_or-set_other g.searches x.id d _ None ne) (λ d ne. refl) in
     let shown = shown_on g x l had refl refl refl (had.depth ∙ ap depth_of seen.begin) (omega arith) seen.within (found_on g x (seen_at g x.id) had (omega arith) seen.within) in
     let done = cpu_makes z s r i x spot m l (Seek x.id kind name) Done x at made leaves (λ k. refl) refl shown (loaded_words z _ _ l _ _ found r.words refl refl refl) in
@@ -303,10 +282,8 @@ seek_at z x kind name may s r i at fits =
     let begun = begins_search z s r i x (index z head_word) m kind name at may refl in
     let v = cpu_after_seek key x in
     let t : Table ℕ View = stepped s (index z head_word) m i [] (Cpu v) keeps in
-    let here : get_elem? t.views i ≡ some (Cpu v) = at_same s.views i (Cpu x) (Cpu v) at in
-    let stays : t.words ≡ s.words = set-get_or s.words (index z head_word) 0 in
-    let found : slice_index t.words (index z head_word) ≡ m = ap (λ (ws : List ℕ). slice_index ws (index z head_word)) stays in
-    let after = seek_link z t begun.0.ruled i v m (search_for key x) here refl refl found in
+    let found : slice_index t.words (index z head_word) ≡ m = ap (λ (ws : List ℕ). slice_index ws (index z head_word)) (set-get_or s.words (index z head_word) 0) in
+    let after = seek_link z t begun.0.ruled i v m (search_for key x) (at_same s.views i (Cpu x) (Cpu v) at) refl refl found in
     let same : stepped t (index z head_word) m i [] (Cpu after.0) keeps ≡ stepped s (index z head_word) m i [] (Cpu after.0) keeps =
     λ k. record { words = set-set s.words (index z head_word) m m k; homes = s.homes; views = set-set s.views i (Cpu v) (Cpu after.0) k } in (
       Cpu after.0,
@@ -322,10 +299,8 @@ seek_at z x kind name may s r i at fits =
     seek_link z t r i v m q at under place is =
         let g = r.g in
         let had : CpuShown g v = (r.shows.fits i (Cpu v) at).1 in
-        let seen = seen_of g v r.good had in
         let on = r.good.holds in
-        let searching : search_at g v.id ≡ Some q = sym seen.search ∙ under in
-        let walk : Walks g v.id q.start = search_walks g v.id q on searching in
+        let walk : Walks g v.id q.start = search_walks g v.id q on (sym (seen_of g v r.good had).search ∙ under) in
         let head : g.head ≡ m = sym (r.words.at head_word tt) ∙ is in
         let tells = link_tells g v.id q.start (suc (length g.history)) g.head q.key on walk (head_ahead g q.start q.key on walk.by_now) in
         let link : load_link g v.id q q.place ≡ link_loaded g v.id q m = ap (load_link g v.id q) place ∙ ap (link_loaded g v.id q) head in
@@ -336,7 +311,7 @@ seek_at z x kind name may s r i at fits =
 
 pub seek_may : (z : Settings) (x : CpuView) (c : ℕ) (kind : Kind) (name : Name) → x.id ≡ c → MaySeek x
     → CpuMay z x (index z head_word) (λ n. n) (sought (Seek c kind name)) (HasSought (Seek c kind name))
-seek_may z x c kind name id may = subst (λ d. CpuMay z x (index z head_word) (λ n. n) (sought (Seek d kind name)) (HasSought (Seek d kind name))) id (seek_at z x kind name may)
+seek_may z x c kind name id may = rw (← id) (seek_at z x kind name may)
 
 -- Record words
 
@@ -345,12 +320,11 @@ pub found_in_pass : (h : List Change) (from to : ℕ) (key : Key) (e : Entry) �
     → IsLawful (take to h) from (length (take to h)) key (Some e) × IsAttached (take to h) e
 found_in_pass h from to key e le lawful =
     let live : IsLiveAt h lawful.point e = lawful.answered.0 in
-    let size : length (take to h) ≡ to = length-take-le to h le in
     let there : IsAttached (take to h) e = attached_take h to e le live.attached (omega (arith, live.begun, lawful.up_to)) in (
       record {
         point = lawful.point;
         from_on = lawful.from_on;
-        up_to = omega (arith, lawful.up_to, size);
+        up_to = omega (arith, lawful.up_to, length-take-le to h le);
         answered = (record { attached = there; begun = live.begun; unended = λ p ends. live.unended p (ends_prefix (take to h) h e.number p (taken_is_prefix to h) ends) }, lawful.answered.1);
       },
       there,
@@ -360,11 +334,7 @@ found_in_pass h from to key e le lawful =
 at_word_within : (p : SearchPlace) (t k size : ℕ) → IsAtWord p t k → SlotWithin p size → (t < size) × (k < 5)
 at_word_within AtHead t k size at within = absurd at
 at_word_within (AtNext s) t k size at within = absurd at
-at_word_within (AtNumber s) t k size at within = (omega (arith, at.0), omega (arith, at.1))
-at_word_within (AtKind s n) t k size at within = (omega (arith, at.0), omega (arith, at.1))
-at_word_within (AtHigh s n w) t k size at within = (omega (arith, at.0), omega (arith, at.1))
-at_word_within (AtLow s n w h) t k size at within = (omega (arith, at.0), omega (arith, at.1))
-at_word_within (AtValue s n) t k size at within = (omega (arith, at.0), omega (arith, at.1))
+at_word_within p t k size at within = (omega (arith, at.0), omega (arith, at.1))
 
 -- the word found at the place
 word_there : (rows : List RecordWords) (s t k j n : ℕ) → (s ≡ t) × (k ≡ j) → n ≡ word (row_at rows t) k → word (row_at rows s) j ≡ n
@@ -374,11 +344,7 @@ word_there rows s t k j n at is = ap (λ u. word (row_at rows u) j) at.0 ∙ ap 
 one_spot : (p : SearchPlace) (u j t k : ℕ) → IsAtWord p u j → IsAtWord p t k → (u ≡ t) × (j ≡ k)
 one_spot AtHead u j t k first second = absurd first
 one_spot (AtNext s) u j t k first second = absurd first
-one_spot (AtNumber s) u j t k first second = (sym first.0 ∙ second.0, first.1 ∙ sym second.1)
-one_spot (AtKind s n) u j t k first second = (sym first.0 ∙ second.0, first.1 ∙ sym second.1)
-one_spot (AtHigh s n w) u j t k first second = (sym first.0 ∙ second.0, first.1 ∙ sym second.1)
-one_spot (AtLow s n w h) u j t k first second = (sym first.0 ∙ second.0, first.1 ∙ sym second.1)
-one_spot (AtValue s n) u j t k first second = (sym first.0 ∙ second.0, first.1 ∙ sym second.1)
+one_spot p u j t k first second = (sym first.0 ∙ second.0, first.1 ∙ sym second.1)
 
 -- of the record words a search takes only the one at its place
 one_word : (q : Search) (p : SearchPlace) (rows : List RecordWords) (t k n : ℕ) → IsAtWord p t k → n ≡ word (row_at rows t) k → loaded_at q p (row_of_place rows p) ≡ loaded_at q p (every_word n)
@@ -420,8 +386,8 @@ founds_there : (found : List (Option Entry)) (c d : ℕ) (o : Loaded) → d ≢ 
 founds_there found c d (On p w) ne = refl
 founds_there found c d (Over e) ne = get_or-set_other found c d (Some e) None ne
 
-abbrev pub loaded_lists : State → ℕ → Search → Loaded → CpuLists
-loaded_lists g c q o = record (lists_of g) { searches = set g.searches c (loaded_search q o); found = loaded_founds g.found c o }
+abbrev pub loaded_lists : State → ℕ → Search → Loaded → State
+loaded_lists g c q o = record g { searches = set g.searches c (loaded_search q o); found = loaded_founds g.found c o }
 
 loaded_made : (g : State) (c : ℕ) (q : Search) (o : Loaded) → outcome_of g c q (Some o) ≡ Some (record { state = with_lists g (loaded_lists g c q o); reply = loaded_answer (Some o) })
 loaded_made g c q (On p w) = refl
@@ -450,7 +416,7 @@ searches_word z s r i x spot m q o at under found makes load worded =
     let had : CpuShown g x = (r.shows.fits i (Cpu x) at).1 in
     let seen = seen_of g x r.good had in
     let sees = seen_at g x.id in
-    let l : CpuLists = loaded_lists g x.id q o in
+    let l = loaded_lists g x.id q o in
     let y = cpu_view (with_lists g l) x.id x in
     let searching : search_at g x.id ≡ Some q = sym seen.search ∙ under in
     let searches : y.search ≡ loaded_search q o = get_or-set_same g.searches x.id (loaded_search q o) None seen.in_searches in
@@ -489,24 +455,21 @@ searches_word z s r i x spot m q o at under found makes load worded =
 pub load_searched_may : (z : Settings) (x : CpuView) (c t k : ℕ) → x.id ≡ c → MayLoadSearched x t k
     → CpuMay z x (index z (record_of t k)) (λ n. n) (λ n. did (LoadRecord (OfSearch c)) (loaded_answer (loaded_of x.search n)))
     (λ v n y. Makes (LoadRecord (OfSearch c)) (loaded_answer (loaded_of v.search n)) (Cpu v) (Cpu y) × HasLoadedWord v n y)
-load_searched_may z x c t k id may = subst (λ d. CpuMay z x (index z (record_of t k)) (λ n. n) (λ n. did (LoadRecord (OfSearch d)) (loaded_answer (loaded_of x.search n)))
-    (λ v n y. Makes (LoadRecord (OfSearch d)) (loaded_answer (loaded_of v.search n)) (Cpu v) (Cpu y) × HasLoadedWord v n y)) id
+load_searched_may z x c t k id may = rw (← id)
     (λ s r i at fits.
     let g = r.g in
     let q = may.search in
     let place : ℕ = index z (record_of t k) in
     let m = slice_index s.words place in
     let had : CpuShown g x = (r.shows.fits i (Cpu x) at).1 in
-    let seen = seen_of g x r.good had in
     let on = r.good.holds in
-    let within = at_word_within q.place t k (length g.slots) may.place (search_within g x.id q on (sym seen.search ∙ may.under_way)) in
+    let within = at_word_within q.place t k (length g.slots) may.place (search_within g x.id q on (sym (seen_of g x r.good had).search ∙ may.under_way)) in
     let found : m ≡ word (row_at g.rows t) k = r.words.at (record_of t k) (omega (arith, within.0, on.shape.slots), within.1) in
     let some = makes_some q q.place t k m may.place in
-    let load = one_word q q.place g.rows t k m may.place found ∙ some.1 in
     let worded : (u j : ℕ) → IsAtWord q.place u j → word (row_at g.rows u) j ≡ m = λ u j there.
     let same = one_spot q.place u j t k there may.place in
     ap (λ v. word (row_at g.rows v) j) same.0 ∙ ap (word (row_at g.rows t)) same.1 ∙ sym found in
-    let done = searches_word z s r i x place m q some.0 at may.under_way refl some.1 load worded in
+    let done = searches_word z s r i x place m q some.0 at may.under_way refl some.1 (one_word q q.place g.rows t k m may.place found ∙ some.1) worded in
     let answer : loaded_answer (Some some.0) ≡ loaded_answer (loaded_of x.search m) = ap loaded_answer (sym some.1 ∙ ap (λ (p : Option Search). loaded_of p m) (sym may.under_way)) in (
       Cpu done.0,
       subst (λ (a : Reply). GoesOn z s r (did (LoadRecord (OfSearch x.id)) a) (stepped s place m i [] (Cpu done.0) keeps)) answer done.1,
@@ -523,8 +486,7 @@ load_searched_may z x c t k id may = subst (λ d. CpuMay z x (index z (record_of
 
 pub load_compared_may : (z : Settings) (x : CpuView) (c t : ℕ) → x.id ≡ c → MayLoadLink x t
     → CpuMay z x (index z (record_of t 4)) (λ n. n) (λ n. did (LoadRecord (Compared c)) (Word n)) (tells_compared (LoadRecord (Compared c)) (index z (record_of t 4)))
-load_compared_may z x c t id may = subst (λ d. CpuMay z x (index z (record_of t 4)) (λ n. n) (λ n. did (LoadRecord (Compared d)) (Word n))
-    (tells_compared (LoadRecord (Compared d)) (index z (record_of t 4)))) id
+load_compared_may z x c t id may = rw (← id)
     (λ s r i at fits.
     let g = r.g in
     let q = may.search in
@@ -534,8 +496,7 @@ load_compared_may z x c t id may = subst (λ d. CpuMay z x (index z (record_of t
     let sees = seen_at g x.id in
     let searching : search_at g x.id ≡ Some q = sym seen.search ∙ may.under_way in
     let walk : Walks g x.id q.start = search_walks g x.id q on searching in
-    let within = subst (λ (p : SearchPlace). SlotWithin p (length g.slots)) may.place (search_within g x.id q on searching) in
-    let lt : t < g.settings.slots = omega (arith, within, on.shape.slots) in
+    let lt : t < g.settings.slots = omega (arith, subst (λ (p : SearchPlace). SlotWithin p (length g.slots)) may.place (search_within g x.id q on searching), on.shape.slots) in
     let found = slice_index s.words (index z (record_of t 4)) in
     let stands : found ≡ (row_at g.rows t).value = r.words.at (record_of t 4) (lt, omega arith) in
     let made : step g (LoadRecord (Compared x.id)) ≡ Some (record { state = g; reply = Word found }) =
@@ -551,11 +512,9 @@ load_compared_may z x c t id may = subst (λ d. CpuMay z x (index z (record_of t
           done.1,
           refl,
           λ u place p e under stood.
-              let same : u ≡ t = omega (arith, place) in
               let one : p ≡ q = same_Some p q (sym under ∙ may.under_way) in
-              let there : MayStandOn x.pass q t e = subst (λ (v : ℕ). MayStandOn x.pass q v e) same (subst (λ (w : Search). MayStandOn x.pass w u e) one stood) in
-              let by_pass : MayStandOn (take sees g.history) q t e = subst (λ (l : List Change). MayStandOn l q t e) seen.pass there in
-              let by_history = stands_by_history g.history sees t q e seen.within (on.searches x.id q searching).started by_pass in
+              let there : MayStandOn x.pass q t e = subst (λ (v : ℕ). MayStandOn x.pass q v e) (omega (arith, place)) (subst (λ (w : Search). MayStandOn x.pass w u e) one stood) in
+              let by_history = stands_by_history g.history sees t q e seen.within (on.searches x.id q searching).started (subst (λ (l : List Change). MayStandOn l q t e) seen.pass there) in
               sym (stands ∙ ap (λ (w : RecordWords). w.value) (words_stand g x.id q.start sees t e on walk by_history)),
         ),
       ),

@@ -1,5 +1,5 @@
 -- Passive references without a section, on the words.
-use Rattle.std.proofs.Common.{◌≡◌, ◌≢◌, inl, inr, ⊎_elim, ℕ, ◌+◌, ◌-◌, ◌%◌, ◌^◌, ◌<◌, ◌≤◌, ◌&&◌, ◌==◌, nat_le, Bool, true, if◌then◌else◌, List, [], ◌∷◌, length, set, take, get_or, Some, None, is_none, IsTrue, refl, sym, ap, ◌∙◌, subst, arith, leb-true, get_or-set_same, get_or-set_other}
+use Rattle.std.proofs.Common.{◌≡◌, ◌≢◌, inl, inr, ⊎_elim, ℕ, ◌+◌, ◌-◌, ◌%◌, ◌^◌, ◌<◌, ◌≤◌, ◌&&◌, nat_le, Bool, true, if◌then◌else◌, List, [], ◌∷◌, length, set, take, get_or, Some, None, is_none, IsTrue, refl, sym, ap, ◌∙◌, subst, arith, leb-true, get_or-set_same, get_or-set_other}
 use Rattle.std.proofs.lemmas.Bool.{and_from, and_parts, le-leb, lt-ltb, eq-eqb, ne_eqb, cases_eq, cases_lt}
 use Rattle.std.specs.List.{Contains}
 use Rattle.std.specs.Prelude.{slice_index}
@@ -9,18 +9,18 @@ use lib.ListN.{get_elem?}
 use Rattle.atomic_table.specs.Table.{State as Table, keeps, stepped}
 use Rattle.cpu_words.specs.Types.{MOST_COUNT, MOST_SECTIONS, Entry, Change, Settings, Slot, Vacant, Live, Retired, Event, Try, Confirm, TakeBack, Recall, Word, Hand, Empty, Trying}
 use Rattle.registry_values.specs.Common.{are_fit, are_limits_fit, are_sizes_fit, is_within, slot_at}
-use Rattle.protocol.specs.Common.{IsAttached, IsLiveAt, State, with_cell, seen_at, search_at, hand_at, passive_at, trying_of, step, guard, some_outcome, IsIn, Occupies, after_confirm, confirm, is_honest, has_live, live_at, may_confirm, take_back}
+use Rattle.protocol.specs.Common.{IsAttached, IsLiveAt, State, with_cell, seen_at, search_at, found_at, passive_at, trying_of, step, guard, some_outcome, IsIn, Occupies, after_confirm, confirm, is_honest, has_live, live_at, may_confirm, take_back}
 use Rattle.protocol.proofs.History.{at_within, one_entry}
 use Rattle.protocol.proofs.keeps.CountKeeps.{trying_tells}
 use Rattle.protocol.proofs.runs.Fresh.{honest_tells, live_is}
 use Rattle.protocol.proofs.Cells.{cell_other}
 use Rattle.protocol.proofs.Occupied.{one_in, one_number}
 use Rattle.cpu_words.specs.declared.view.InHand.TheVariants.{Empty as NoEntry, Trying as TryingEntry}
-use Rattle.cpu_words.specs.Common.{InHand, CpuView, View, Cpu, passive_of, live_of, index, cpu_view, depth_of, SameHand, HandFits, trying_in, references_to, CpuShown, cpu_of, Agrees, Good, Ruled, GoesOn, did, Makes, CpuMay, IsIdle, EndTold, HasConfirmed, HasTakenBack, HasTried, IsTrying, MayEndTry, MayTakeBack, MayTry, TriedTold, event_by}
-use Rattle.cpu_words.proofs.shown.Seeing.{attached_longer, attached_prefix, number_within, prefix_longer, take_whole, taken_is_prefix, Seen, seen_of, idle_of, empty_hand, idle_tries, trying_here, trying_elsewhere}
+use Rattle.cpu_words.specs.Common.{InHand, CpuView, View, Cpu, passive_of, live_of, index, cpu_view, depth_of, SameHand, HandFits, trying_in, references_to, CpuShown, cpu_of, Agrees, Good, Ruled, GoesOn, did, CpuMay, IsIdle, EndTold, HasConfirmed, HasTakenBack, IsTrying, MayEndTry, MayTakeBack, MayTry, TriedTold, event_by}
+use Rattle.cpu_words.proofs.shown.Seeing.{attached_longer, number_within, prefix_longer, take_whole, Seen, seen_of, idle_of, empty_hand, idle_tries, trying_here, trying_elsewhere, known_attached}
 use Rattle.cpu_words.proofs.shown.Placing.{agrees_same}
 use Rattle.cpu_words.proofs.shown.ReferenceLists.{to_same, to_other, in_cons, some_of}
-use Rattle.cpu_words.proofs.by_cpu.CpuSteps.{CpuLists, lists_of, with_lists, LeavesOthers, found_on, cpu_makes}
+use Rattle.cpu_words.proofs.by_cpu.CpuSteps.{with_lists, LeavesOthers, found_on, cpu_makes, CpuDoes}
 use Rattle.cpu_words.proofs.by_cpu.Hands.{handed, same_words, trying_hand}
 use Rattle.cpu_words.proofs.by_cpu.Passives.{held_known, known_in, alone, put, put_here, put_words}
 use Rattle.cpu_words.proofs.by_cpu.Recalling.{honest_in, recall_may}
@@ -28,24 +28,12 @@ use Rattle.cpu_words.proofs.by_cpu.Searching.{loaded_words}
 
 -- Other passive words of the CPU c, and another hand of it
 
-abbrev try_lists : State → ℕ → List (List ℕ) → Hand → CpuLists
-try_lists g c passive h = record (lists_of g) { hands = set g.hands c h; passive = passive }
+abbrev try_lists : State → ℕ → List (List ℕ) → Hand → State
+try_lists g c passive h = record g { hands = set g.hands c h; passive = passive }
 
 -- of the other CPUs nothing changes
 tries_leave : (g : State) (c : ℕ) (passive : List (List ℕ)) (h : Hand) → ((d t : ℕ) → d ≢ c → passive_at passive d t ≡ passive_at g.passive d t) → LeavesOthers g c (try_lists g c passive h)
-tries_leave g c passive h others = record {
-  section = λ d ne. refl;
-  begins = λ d ne. refl;
-  depths = λ d ne. refl;
-  seen = λ d ne. refl;
-  searches = λ d ne. refl;
-  found = λ d ne. refl;
-  hands = λ d ne. get_or-set_other g.hands c d h Empty ne;
-  passive = others;
-  nets = λ d t ne. refl;
-  vacant = λ d t vacant. refl;
-  gives_up = λ given_up t e here p. p;
-}
+tries_leave g c passive h others = assumption (λ (d : ℕ) (ne : d ≢ c). get_or-set_other g.hands c d h Empty ne, others)
 
 -- one word changes
 tried_words : (z : Settings) (words : List ℕ) (g : State) (x : CpuView) (t m : ℕ) (h : Hand) → Good g → Seen g x → t < g.settings.slots → Agrees z words g
@@ -62,22 +50,16 @@ retried : (g : State) (x : CpuView) (passive : List (List ℕ)) (h : Hand) (k : 
     → ((n : ℕ) → (Occupies g.slots n → ⊥) → references_to n references ≡ 0) → ((f : Entry) → Contains references f → IsAttached x.pass f)
     → CpuShown (with_lists g (try_lists g x.id passive h)) (cpu_view (with_lists g (try_lists g x.id passive h)) x.id (record x { hand = k; references = references }))
 retried g x passive h k references good had same fits counts gone attached =
-    let seen = seen_of g x good had in record {
-      seated = had.seated;
-      is = refl;
-      hand = subst (λ j. SameHand j k) (sym (get_or-set_same g.hands x.id h Empty seen.in_hands)) same;
-      in_hand = fits;
-      depth = had.depth ∙ ap depth_of seen.begin;
-      passive = counts;
-      gone = gone;
-      nets = had.nets;
-      later = had.later;
-      met = had.met;
-      there = had.there;
-      found = λ f found. subst (λ (p : List Change). IsAttached p f) seen.pass (had.found f (seen.found ∙ found));
-      references = λ f among. subst (λ (p : List Change). IsAttached p f) seen.pass (attached f among);
-      noted_pass = had.noted_pass;
-    }
+    let seen = seen_of g x good had in assumption (
+      subst (λ j. SameHand j k) (sym (get_or-set_same g.hands x.id h Empty seen.in_hands)) same,
+      fits,
+      had.depth ∙ ap depth_of seen.begin,
+      counts,
+      gone,
+      λ (f : Entry) (found : found_at g x.id ≡ Some f). subst (λ (p : List Change). IsAttached p f) seen.pass (had.found f (seen.found ∙ found)),
+      λ (f : Entry) (among : Contains references f). subst (λ (p : List Change). IsAttached p f) seen.pass (attached f among),
+      had,
+    )
 
 -- The begin
 
@@ -86,9 +68,7 @@ some_limit z fit =
     let p = and_parts (are_sizes_fit z) (are_limits_fit z) fit in
     let limits = and_parts (is_within 1 MOST_SECTIONS z.section_limit && is_within 1 MOST_COUNT z.passive_limit) (is_within 1 MOST_COUNT z.count_limit) p.1 in
     let first = and_parts (is_within 1 MOST_SECTIONS z.section_limit) (is_within 1 MOST_COUNT z.passive_limit) limits.0 in
-    let both = and_parts (nat_le 1 z.passive_limit) (nat_le z.passive_limit MOST_COUNT) first.1 in
-    let least = leb-true 1 z.passive_limit both.0 in
-    omega (arith, least)
+    omega (arith, leb-true 1 z.passive_limit (and_parts (nat_le 1 z.passive_limit) (nat_le z.passive_limit MOST_COUNT) first.1).0)
 
 -- an idle CPU's word of a slot counts its references into that slot, and these are to one entry
 word_room : (g : State) (x : CpuView) (t : ℕ) → Good g → CpuShown g x → IsIdle x → ((f : Entry) → Contains x.references f → f.slot ≡ t → references_to f.number x.references < x.settings.passive_limit)
@@ -107,18 +87,13 @@ word_room g x t good had idle room = by (slot_at g.slots t) refl
         let none = idle_tries x t idle in ⊎_elim
         (λ (some_one : 0 < references_to e.number x.references).
         let one = some_of e.number x.references some_one in
-        let known = held_known g x one.entry good had one.among in
-        let same = one_number g.history g.slots t one.entry.slot e one.entry good.holds.slots here known.here one.number in
-        let few : references_to e.number x.references < x.settings.passive_limit = subst (λ (n : ℕ). references_to n x.references < x.settings.passive_limit) one.number (room one.entry one.among same.0) in
-        omega (arith, count, none, few, most))
+        let same = one_number g.history g.slots t one.entry.slot e one.entry good.holds.slots here (held_known g x one.entry good had one.among).here one.number in
+        omega (arith, count, none, subst (λ (n : ℕ). references_to n x.references < x.settings.passive_limit) one.number (room one.entry one.among same.0), most))
         (λ (no_one : references_to e.number x.references ≤ 0). omega (arith, count, none, no_one, least))
         (cases_lt 0 (references_to e.number x.references))
 
     by : (o : Slot) → slot_at g.slots t ≡ o → passive_at g.passive x.id t < g.settings.passive_limit
-    by Vacant is =
-        let empty = good.holds.passive.vacant x.id t is in
-        let none : trying_of t (hand_at g x.id) ≡ 0 = ap (trying_of t) (empty_hand g x had idle.hand) in
-        omega (arith, empty, none, least)
+    by Vacant is = omega (arith, good.holds.passive.vacant x.id t is, ap (trying_of t) (empty_hand g x had idle.hand), least)
     by (Live e) is = counted e (inl is)
     by (Retired e) is = counted e (inr is)
 
@@ -129,22 +104,15 @@ tried_counts g x e m good had idle within is t f here =
     let count = had.passive t f here in
     let none = idle_tries x t idle in ⊎_elim
     (λ (same : t ≡ e.slot).
-    let word : passive_at (with_cell g.passive e.slot x.id m) x.id t ≡ m =
-    ap (passive_at (with_cell g.passive e.slot x.id m) x.id) same ∙ put_here g x e.slot m good (seen_of g x good had) within in
     let was : passive_at g.passive x.id t ≡ passive_at g.passive x.id e.slot = ap (passive_at g.passive x.id) same in
-    let one = trying_here t e (sym same) in
-    omega (arith, count, none, word, was, one, is))
-    (λ (off : t ≡ e.slot → ⊥).
-    let word = cell_other 0 g.passive e.slot x.id m t x.id (λ same _. off same) in
-    let zero_ = trying_elsewhere t e (λ same. off (sym same)) in
-    omega (arith, count, none, word, zero_))
+    omega (arith, count, none, ap (passive_at (with_cell g.passive e.slot x.id m) x.id) same ∙ put_here g x e.slot m good (seen_of g x good had) within, was, trying_here t e (sym same), is))
+    (λ (off : t ≡ e.slot → ⊥). omega (arith, count, none, cell_other 0 g.passive e.slot x.id m t x.id (λ same _. off same), trying_elsewhere t e (λ same. off (sym same))))
     (cases_eq t e.slot)
 
 -- the step, for an entry
 try_at : (z : Settings) (x : CpuView) (e : Entry) → IsIdle x → e.slot < x.settings.slots → IsAttached x.pass e
     → ((f : Entry) → Contains x.references f → f.slot ≡ e.slot → references_to f.number x.references < x.settings.passive_limit)
-    → CpuMay z x (index z (passive_of x.id e.slot)) (λ m. (m + 1) % 2 ^ 64) (λ m. did (Try x.id e.slot e.number) (Word m))
-    (λ v m y. Makes (Try x.id e.slot e.number) (Word m) (Cpu v) (Cpu y) × TriedTold (Try x.id e.slot e.number) v y)
+    → CpuDoes z x (passive_of x.id e.slot) (λ m. (m + 1) % 2 ^ 64) (Try x.id e.slot e.number) Word (λ v _ y. TriedTold (Try x.id e.slot e.number) v y)
 try_at z x e idle inside attached room s r i at fits =
     let g = r.g in
     let had : CpuShown g x = (r.shows.fits i (Cpu x) at).1 in
@@ -170,15 +138,11 @@ try_at z x e idle inside attached room s r i at fits =
     let done = cpu_makes z s r i x (index z (passive_of x.id e.slot)) m l (Try x.id e.slot e.number) (Word word) own at made leaves (λ k. refl) refl shown words in
     let y = cpu_view (with_lists g l) x.id own in
     let change : y ≡ record x { hand = TryingEntry e } = ap (λ (v : CpuView). record v { hand = TryingEntry e }) (sym had.is) in
-    let told : HasTried x e.number y = λ f is number. change ∙ ap (λ (j : Entry). record x { hand = TryingEntry j }) (one_entry x.pass e f attached is (sym number)) in
-    (Cpu y, done.0, (refl, (done.1, told)))
+    (Cpu y, done.0, (refl, (done.1, (λ f is number. change ∙ ap (λ (j : Entry). record x { hand = TryingEntry j }) (one_entry x.pass e f attached is (sym number))))))
 
 -- the step, for a slot and a number
-pub try_may : (z : Settings) (x : CpuView) (c t n : ℕ) → x.id ≡ c → MayTry x t n
-    → CpuMay z x (index z (passive_of c t)) (λ m. (m + 1) % 2 ^ 64) (λ m. did (Try c t n) (Word m)) (λ v m y. Makes (Try c t n) (Word m) (Cpu v) (Cpu y) × TriedTold (Try c t n) v y)
-try_may z x c t n id may = subst (λ (p : ℕ × ℕ × ℕ). CpuMay z x (index z (passive_of p.0 p.1)) (λ m. (m + 1) % 2 ^ 64) (λ m. did (Try p.0 p.1 p.2) (Word m))
-    (λ v m y. Makes (Try p.0 p.1 p.2) (Word m) (Cpu v) (Cpu y) × TriedTold (Try p.0 p.1 p.2) v y)) (λ k. (id k, may.at.slot k, may.at.number k))
-    (try_at z x may.entry may.idle (subst (λ (u : ℕ). u < x.settings.slots) (sym may.at.slot) may.slot) may.attached (λ f among same. may.room f among (same ∙ may.at.slot)))
+pub try_may : (z : Settings) (x : CpuView) (c t n : ℕ) → x.id ≡ c → MayTry x t n → CpuDoes z x (passive_of c t) (λ m. (m + 1) % 2 ^ 64) (Try c t n) Word (λ v _ y. TriedTold (Try c t n) v y)
+try_may z x c t n id may = rw (← id, ← may.at.slot, ← may.at.number) (try_at z x may.entry may.idle (subst (λ (u : ℕ). u < x.settings.slots) (sym may.at.slot) may.slot) may.attached (λ f among same. may.room f among (same ∙ may.at.slot)))
 
 -- Back
 
@@ -189,20 +153,13 @@ back_counts g x e m good had trying within is t f here =
     let count = had.passive t f here in
     let tried : trying_in t x.hand ≡ trying_in t (TryingEntry e) = ap (trying_in t) trying in ⊎_elim
     (λ (same : t ≡ e.slot).
-    let word : passive_at (with_cell g.passive e.slot x.id m) x.id t ≡ m =
-    ap (passive_at (with_cell g.passive e.slot x.id m) x.id) same ∙ put_here g x e.slot m good (seen_of g x good had) within in
     let was : passive_at g.passive x.id t ≡ passive_at g.passive x.id e.slot = ap (passive_at g.passive x.id) same in
-    let one = trying_here t e (sym same) in
-    omega (arith, count, tried, word, was, one, is))
-    (λ (off : t ≡ e.slot → ⊥).
-    let word = cell_other 0 g.passive e.slot x.id m t x.id (λ same _. off same) in
-    let zero_ = trying_elsewhere t e (λ same. off (sym same)) in
-    omega (arith, count, tried, word, zero_))
+    omega (arith, count, tried, ap (passive_at (with_cell g.passive e.slot x.id m) x.id) same ∙ put_here g x e.slot m good (seen_of g x good had) within, was, trying_here t e (sym same), is))
+    (λ (off : t ≡ e.slot → ⊥). omega (arith, count, tried, cell_other 0 g.passive e.slot x.id m t x.id (λ same _. off same), trying_elsewhere t e (λ same. off (sym same))))
     (cases_eq t e.slot)
 
 -- the step, for an entry
-back_at : (z : Settings) (x : CpuView) (e : Entry) → IsTrying x e
-    → CpuMay z x (index z (passive_of x.id e.slot)) (λ m. (m + (2 ^ 64 - 1)) % 2 ^ 64) (λ m. did (TakeBack x.id) (Word m)) (λ v m y. Makes (TakeBack x.id) (Word m) (Cpu v) (Cpu y) × HasTakenBack v y)
+back_at : (z : Settings) (x : CpuView) (e : Entry) → IsTrying x e → CpuDoes z x (passive_of x.id e.slot) (λ m. (m + (2 ^ 64 - 1)) % 2 ^ 64) (TakeBack x.id) Word (λ v _ y. HasTakenBack v y)
 back_at z x e trying s r i at fits =
     let g = r.g in
     let had : CpuShown g x = (r.shows.fits i (Cpu x) at).1 in
@@ -212,19 +169,17 @@ back_at z x e trying s r i at fits =
     let within : e.slot < g.settings.slots = told.1 in
     let old = passive_at g.passive x.id e.slot in
     let some_one : 1 ≤ old = told.2 in
-    let limited = r.good.holds.passive.limited x.id e.slot in
     let word = slice_index s.words (index z (passive_of x.id e.slot)) in
     let m = (word + (2 ^ 64 - 1)) % 2 ^ 64 in
     let stands : word ≡ old = r.words.at (passive_of x.id e.slot) (seen.lt, within) in
-    let next : m ≡ old - 1 = omega (arith, stands, some_one, limited, seen.fit.passive) in
+    let next : m ≡ old - 1 = omega (arith, stands, some_one, r.good.holds.passive.limited x.id e.slot, seen.fit.passive) in
     let passive = with_cell g.passive e.slot x.id m in
     let l = try_lists g x.id passive Empty in
     let own : CpuView = record x { hand = NoEntry } in
     let made : step g (TakeBack x.id) ≡ Some (record { state = with_lists g l; reply = Word word }) =
     ap (take_back g x.id) hand ∙ (λ k. Some (record { state = with_lists g (try_lists g x.id (with_cell g.passive e.slot x.id (sym next k)) Empty); reply = Word (sym stands k) })) in
     let leaves = tries_leave g x.id passive Empty (λ d t ne. cell_other 0 g.passive e.slot x.id m t d (λ _ same. ne same)) in
-    let counts = back_counts g x e m r.good had trying within (omega (arith, next, some_one)) in
-    let shown = retried g x passive Empty NoEntry x.references r.good had tt tt counts had.gone had.references in
+    let shown = retried g x passive Empty NoEntry x.references r.good had tt tt (back_counts g x e m r.good had trying within (omega (arith, next, some_one))) had.gone had.references in
     let words = tried_words z s.words g x e.slot m Empty r.good seen within r.words in
     let done = cpu_makes z s r i x (index z (passive_of x.id e.slot)) m l (TakeBack x.id) (Word word) own at made leaves (λ k. refl) refl shown words in
     let y = cpu_view (with_lists g l) x.id own in
@@ -232,11 +187,8 @@ back_at z x e trying s r i at fits =
     (Cpu y, done.0, (refl, (done.1, change)))
 
 -- the step, for a slot
-pub back_may : (z : Settings) (x : CpuView) (c t : ℕ) → x.id ≡ c → MayTakeBack x t
-    → CpuMay z x (index z (passive_of c t)) (λ m. (m + (2 ^ 64 - 1)) % 2 ^ 64) (λ m. did (TakeBack c) (Word m)) (λ v m y. Makes (TakeBack c) (Word m) (Cpu v) (Cpu y) × HasTakenBack v y)
-back_may z x c t id may = subst (λ (p : ℕ × ℕ). CpuMay z x (index z (passive_of p.0 p.1)) (λ m. (m + (2 ^ 64 - 1)) % 2 ^ 64) (λ m. did (TakeBack p.0) (Word m))
-    (λ v m y. Makes (TakeBack p.0) (Word m) (Cpu v) (Cpu y) × HasTakenBack v y)) (λ k. (id k, may.slot k))
-    (back_at z x may.entry may.trying)
+pub back_may : (z : Settings) (x : CpuView) (c t : ℕ) → x.id ≡ c → MayTakeBack x t → CpuDoes z x (passive_of c t) (λ m. (m + (2 ^ 64 - 1)) % 2 ^ 64) (TakeBack c) Word (λ v _ y. HasTakenBack v y)
+back_may z x c t id may = rw (← id, ← may.slot) (back_at z x may.entry may.trying)
 
 -- The last load, where it finds the number of the entry
 
@@ -248,33 +200,18 @@ confirmed_counts g x e good had trying here t f there =
     let tried : trying_in t x.hand ≡ trying_in t (TryingEntry e) = ap (trying_in t) trying in ⊎_elim
     (λ (same : t ≡ e.slot).
     let one : f ≡ e = one_in f e (slot_at g.slots e.slot) here (subst (λ (u : ℕ). IsIn f (slot_at g.slots u)) same there) in
-    let more = to_same f.number e x.references (sym (ap (λ (j : Entry). j.number) one)) in
-    let unit = trying_here t e (sym same) in
-    omega (arith, count, tried, more, unit))
+    omega (arith, count, tried, to_same f.number e x.references (sym (ap (λ (j : Entry). j.number) one)), trying_here t e (sym same)))
     (λ (off : t ≡ e.slot → ⊥).
-    let other = to_other f.number e x.references (λ is. off (one_number g.history g.slots e.slot t e f good.holds.slots here there (sym is)).0) in
     let zero_ = trying_elsewhere t e (λ same. off (sym same)) in
-    omega (arith, count, tried, other, zero_))
+    omega (arith, count, tried, to_other f.number e x.references (λ is. off (one_number g.history g.slots e.slot t e f good.holds.slots here there (sym is)).0), zero_))
     (cases_eq t e.slot)
 
 -- the hand is empty, and all is seen
-abbrev confirm_lists : State → ℕ → CpuLists
-confirm_lists g c = record (lists_of g) { hands = set g.hands c Empty; seen = set g.seen c (length g.history) }
+abbrev confirm_lists : State → ℕ → State
+confirm_lists g c = record g { hands = set g.hands c Empty; seen = set g.seen c (length g.history) }
 
 confirms_leave : (g : State) (c : ℕ) → LeavesOthers g c (confirm_lists g c)
-confirms_leave g c = record {
-  section = λ d ne. refl;
-  begins = λ d ne. refl;
-  depths = λ d ne. refl;
-  seen = λ d ne. get_or-set_other g.seen c d _ 0 ne;
-  searches = λ d ne. refl;
-  found = λ d ne. refl;
-  hands = λ d ne. get_or-set_other g.hands c d Empty Empty ne;
-  passive = λ d t ne. refl;
-  nets = λ d t ne. refl;
-  vacant = λ d t vacant. refl;
-  gives_up = λ given_up t e here p. p;
-}
+confirms_leave g c = assumption (λ (d : ℕ) (ne : d ≢ c). get_or-set_other g.seen c d (length g.history) 0 ne, λ (d : ℕ) (ne : d ≢ c). get_or-set_other g.hands c d Empty Empty ne)
 
 -- what the CPU's view shows then
 confirmed_shown : (g : State) (x : CpuView) (e : Entry) → Good g → CpuShown g x → IsTrying x e → IsIn e (slot_at g.slots e.slot) → IsAttached x.pass e → seen_at g x.id ≤ get_or (confirm_lists g x.id).seen x.id 0
@@ -283,25 +220,18 @@ confirmed_shown : (g : State) (x : CpuView) (e : Entry) → Good g → CpuShown 
 confirmed_shown g x e good had trying here attached more within =
     let seen = seen_of g x good had in
     let on : (f : Entry) → IsAttached x.pass f → IsAttached (take (get_or (confirm_lists g x.id).seen x.id 0) g.history) f = λ f was.
-    attached_longer g.history (seen_at g x.id) (get_or (confirm_lists g x.id).seen x.id 0) f more within (subst (λ (p : List Change). IsAttached p f) seen.pass was) in record {
-      seated = had.seated;
-      is = refl;
-      hand = subst (λ j. SameHand j NoEntry) (sym (get_or-set_same g.hands x.id Empty Empty seen.in_hands)) tt;
-      in_hand = tt;
-      depth = had.depth ∙ ap depth_of seen.begin;
-      passive = confirmed_counts g x e good had trying here;
-      gone = λ k none. to_other k e x.references (λ is. none (e.slot, e, here, is)) ∙ had.gone k none;
-      nets = had.nets;
-      later = had.later;
-      met = had.met;
-      there = had.there;
-      found = found_on g x (get_or (confirm_lists g x.id).seen x.id 0) had more within;
-      references = λ f among. ⊎_elim
+    attached_longer g.history (seen_at g x.id) (get_or (confirm_lists g x.id).seen x.id 0) f more within (subst (λ (p : List Change). IsAttached p f) seen.pass was) in assumption (
+      subst (λ j. SameHand j NoEntry) (sym (get_or-set_same g.hands x.id Empty Empty seen.in_hands)) tt,
+      had.depth ∙ ap depth_of seen.begin,
+      confirmed_counts g x e good had trying here,
+      λ (k : ℕ) (none : Occupies g.slots k → ⊥). to_other k e x.references (λ is. none (e.slot, e, here, is)) ∙ had.gone k none,
+      found_on g x (get_or (confirm_lists g x.id).seen x.id 0) had more within,
+      λ (f : Entry) (among : Contains (e ∷ x.references) f). ⊎_elim
           (λ (first : e ≡ f). on f (subst (IsAttached x.pass) first attached))
           (λ (later : Contains x.references f). on f (had.references f later))
-          (in_cons e f x.references among);
-      noted_pass = had.noted_pass;
-    }
+          (in_cons e f x.references among),
+      had,
+    )
 
 -- what the last load must leave and tell, where it found m and made the event
 abbrev Ends : (z : Settings) (s : Table ℕ View) → Ruled z s → ℕ → CpuView → ℕ → ℕ → ℕ → Event → Type 0
@@ -316,18 +246,15 @@ confirms z s r i x e idle trying attached inside at same =
     let m = slice_index s.words (index z (live_of t)) in
     let had : CpuShown g x = (r.shows.fits i (Cpu x) at).1 in
     let seen = seen_of g x r.good had in
-    let within : t < g.settings.slots = subst (λ (a : Settings). t < a.slots) seen.settings inside in
-    let stands : m ≡ live_at g.lives t = r.words.at (live_of t) within in
-    let known : IsAttached g.history e = attached_prefix x.pass g.history e (subst (λ (p : List Change). IsPrefix p g.history) (sym seen.pass) (taken_is_prefix (seen_at g x.id) g.history)) attached in
+    let stands : m ≡ live_at g.lives t = r.words.at (live_of t) (subst (λ (a : Settings). t < a.slots) seen.settings inside) in
+    let known : IsAttached g.history e = known_attached g x e seen attached in
     let some_one : 0 < e.number = (at_within g.history e.number _ known).0 in
-    let number : live_at g.lives t ≡ e.number = sym stands ∙ same in
-    let honest : is_honest e.number (slot_at g.slots t) ≡ true = ap (λ (k : ℕ). is_honest k (slot_at g.slots t)) (sym number) ∙ honest_in z s r t in
+    let honest : is_honest e.number (slot_at g.slots t) ≡ true = ap (λ (k : ℕ). is_honest k (slot_at g.slots t)) (sym (sym stands ∙ same)) ∙ honest_in z s r t in
     let still : has_live e.number (slot_at g.slots t) ≡ true = honest_tells e.number (slot_at g.slots t) some_one honest in
     let live : IsLiveAt g.history (length g.history) e = (live_is g t e.number e r.good.holds still known refl).0 in
     let here : IsIn e (slot_at g.slots t) = inl (r.good.holds.slots.placed e live) in
-    let none : search_at g x.id ≡ None = sym seen.search ∙ idle in
-    let test : may_confirm g x.id e.number (slot_at g.slots t) ≡ true = and_from (is_none (search_at g x.id)) (has_live e.number (slot_at g.slots t)) (ap is_none none) still in
-    let l : CpuLists = confirm_lists g x.id in
+    let test : may_confirm g x.id e.number (slot_at g.slots t) ≡ true = and_from (is_none (search_at g x.id)) (has_live e.number (slot_at g.slots t)) (ap is_none (sym seen.search ∙ idle)) still in
+    let l = confirm_lists g x.id in
     let fresh : CpuView = record x { hand = NoEntry; references = e ∷ x.references } in
     let y = cpu_view (with_lists g l) x.id fresh in
     let n = length g.history in
@@ -374,6 +301,4 @@ end_at z x e idle trying attached inside s r i at fits =
 
 pub end_try_may : (z : Settings) (x : CpuView) (c t n : ℕ) → x.id ≡ c → MayEndTry x t n
     → CpuMay z x (index z (live_of t)) (λ m. m) (λ m. did (event_by n (Confirm c) (Recall c t) m) (Word m)) (EndTold n (Confirm c) (Recall c t))
-end_try_may z x c t n id may =
-    subst (λ (p : ℕ × ℕ × ℕ). CpuMay z x (index z (live_of p.1)) (λ m. m) (λ m. did (event_by p.2 (Confirm p.0) (Recall p.0 p.1) m) (Word m)) (EndTold p.2 (Confirm p.0) (Recall p.0 p.1)))
-    (λ k. (id k, may.at.slot k, may.at.number k)) (end_at z x may.entry may.search may.trying may.attached (subst (λ (u : ℕ). u < x.settings.slots) (sym may.at.slot) may.slot))
+end_try_may z x c t n id may = rw (← id, ← may.at.slot, ← may.at.number) (end_at z x may.entry may.search may.trying may.attached (subst (λ (u : ℕ). u < x.settings.slots) (sym may.at.slot) may.slot))

@@ -11,13 +11,13 @@ use Rattle.protocol.specs.Common.{SlotsShow, ListShows, Leads, To_entry, after_c
 use Rattle.protocol.specs.Invariant.{To_end as No_entry}
 use Rattle.protocol.proofs.History.{one_entry, length-after_change}
 use Rattle.protocol.proofs.keeps.Linking.{before_leads, head_leads, link_to}
-use Rattle.protocol.proofs.Cells.{cell_in_new, cell_in_old, get_or_all}
-use Rattle.protocol.proofs.Occupied.{slot_cases, in_other, in_published, not_vacant, place_cases, in_unpublished, in_within, live_one}
-use Rattle.cpu_words.specs.Common.{LeadsBelow, IsBefore, KeeperView, Keeper, Spot, section_of, passive_of, count_of, head_word, live_of, next_of, record_of, total_of, IsSpot, word_at, index, keeper_view, KeeperShown, number_at, collected_net, collected_one, Agrees, Good, did, Makes, KeeperStores, MayPublish, HasPublished, PublishTold, GivesUp, MayUnpublish, HasUnpublished, UnpublishTold, keeper_after_unpublish, link_index, head_with, links_with}
+use Rattle.protocol.proofs.Cells.{cell_in_new, cell_in_old, get_or_all, place_put}
+use Rattle.protocol.proofs.Occupied.{slot_cases, in_other, in_published, not_vacant, in_unpublished, in_within, live_one}
+use Rattle.cpu_words.specs.Common.{LeadsBelow, IsBefore, KeeperView, Keeper, head_word, next_of, index, keeper_view, KeeperShown, collected_net, collected_one, Agrees, Good, did, Makes, KeeperStores, MayPublish, HasPublished, PublishTold, GivesUp, MayUnpublish, HasUnpublished, UnpublishTold, keeper_after_unpublish, link_index, head_with, links_with, number_at}
 use Rattle.cpu_words.specs.Publishing.{To_end, To_slot}
 use Rattle.cpu_words.proofs.shown.Seeing.{prefix_on, honest_vacant, honest_changed}
 use Rattle.cpu_words.proofs.shown.Placing.{agrees_set}
-use Rattle.cpu_words.proofs.by_keeper.KeeperSteps.{KeeperLists, keeper_lists, with_keeper, LeavesCpus, Came, keeper_makes, seen_by_keeper}
+use Rattle.cpu_words.proofs.by_keeper.KeeperSteps.{with_keeper, LeavesCpus, Came, keeper_makes, seen_by_keeper, KeeperPuts}
 use Rattle.cpu_words.proofs.by_keeper.Draining.{due_alike}
 
 -- What the live numbers of the keeper's view tell of the links: where they lead, and which of them leads to a slot.
@@ -29,10 +29,7 @@ one_link h slots n zero _ show (To_end none) (To_entry e live lt most) = absurd 
 one_link h slots n _ zero show (To_slot t f at lt most) (No_entry empty) = absurd (empty f (show.live t f at).0 lt)
 one_link h slots n _ _ show (To_slot t f at lt most) (To_entry e live low top) =
     let lf = show.live t f at in
-    let above : e.number ≤ f.number = most e.slot e (show.placed e live) low in
-    let below : f.number ≤ e.number = top f lf.0 lt in
-    let one : f ≡ e = one_entry h f e lf.0.attached live.attached (omega (arith, above, below)) in
-    ap suc (sym lf.1 ∙ ap (λ (i : Entry). i.slot) one)
+    ap suc (sym lf.1 ∙ ap (λ (i : Entry). i.slot) (one_entry h f e lf.0.attached live.attached (omega (arith, most e.slot e (show.placed e live) low, top f lf.0 lt))))
 
 -- the one before a live entry is what the live numbers tell
 own_before : (h : List Change) (slots : List Slot) (head : ℕ) (next : List ℕ) (e : Entry) (p o : Option ℕ) → SlotsShow h slots → ListShows h slots head next → length next ≡ length slots
@@ -40,13 +37,11 @@ own_before : (h : List Change) (slots : List Slot) (head : ℕ) (next : List ℕ
 own_before h slots head next e None None show list size at before is = refl
 own_before h slots head next e None (Some r) show list size at before is =
     let g = before_leads slots next e.slot r size is in
-    let top = link_to h slots e g.0.number (get_or next r 0) show at g.2 (list.links r g.0 g.1) in
-    absurd (omega (arith, top.0, before r g.0 g.1))
+    absurd (omega (arith, (link_to h slots e g.0.number (get_or next r 0) show at g.2 (list.links r g.0 g.1)).0, before r g.0 g.1))
 own_before h slots head next e (Some q) None show list size at before is =
     let f = before.0 in
     let lf = show.live q f before.1 in
-    let top = link_to h slots e (suc (length h)) head show at (head_leads h slots head next e show list size at is) list.first in
-    absurd (omega (arith, top.1 f lf.0 (omega (arith, lf.0.begun)), before.2))
+    absurd (omega (arith, (link_to h slots e (suc (length h)) head show at (head_leads h slots head next e show list size at is) list.first).1 f lf.0 (omega (arith, lf.0.begun)), before.2))
 own_before h slots head next e (Some q) (Some r) show list size at before is =
     let f = before.0 in
     let lf = show.live q f before.1 in
@@ -58,8 +53,7 @@ own_before h slots head next e (Some q) (Some r) show list size at before is =
     (λ (lt : f.number < g.0.number). absurd (omega (arith, top.1 f lf.0 lt, before.2)))
     (λ (ge : g.0.number ≤ f.number). ge)
     (cases_lt f.number g.0.number) in
-    let one : g.0 ≡ f = one_entry h g.0 f lg.0.attached lf.0.attached (omega (arith, least, most)) in
-    ap Some (sym lg.1 ∙ ap (λ (i : Entry). i.slot) one ∙ lf.1)
+    ap Some (sym lg.1 ∙ ap (λ (i : Entry). i.slot) (one_entry h g.0 f lg.0.attached lf.0.attached (omega (arith, least, most))) ∙ lf.1)
 
 -- the same of the entry in the slot t
 pub slot_before_is : (h : List Change) (slots : List Slot) (head : ℕ) (next : List ℕ) (t : ℕ) (e : Entry) (p : Option ℕ) → SlotsShow h slots → ListShows h slots head next → length next ≡ length slots
@@ -71,8 +65,8 @@ slot_before_is h slots head next t e p show list size at before =
 -- Publish on the words.
 
 -- what a publishing changes
-abbrev pub publish_lists : State → ℕ → Entry → KeeperLists
-publish_lists g t e = record (keeper_lists g) { head = t + 1; history = after_change g.history (Attach e); slots = set g.slots t (Live e); nets = set g.nets t (replicate MOST_CPUS bias) }
+abbrev pub publish_lists : State → ℕ → Entry → State
+publish_lists g t e = record g { head = t + 1; history = after_change g.history (Attach e); slots = set g.slots t (Live e); nets = set g.nets t (replicate MOST_CPUS bias) }
 
 -- what may be published, as the core that shows the keeper's view has it
 pub record Publishes (g : State) (t : ℕ) (e : Entry) : Type 0 where
@@ -93,11 +87,8 @@ pub publishes : (g : State) (k : KeeperView) (t : ℕ) (e : Entry) → Good g �
 publishes g k t e good had may =
     let seen = seen_by_keeper g k good had in
     let long : length k.history ≡ length g.history = ap (λ (h : List Change). length h) seen.history in
-    let live : live_count k.slots ≡ live_count g.slots = ap live_count seen.slots in
     let limit = ap (λ (a : Settings). a.change_limit) seen.settings in
-    let slots = ap (λ (a : Settings). a.slots) seen.settings in
-    let cpus = ap (λ (a : Settings). a.cpus) seen.settings in
-    let slot : t < g.settings.slots = omega (arith, may.slot, slots) in
+    let slot : t < g.settings.slots = omega (arith, may.slot, ap (λ (a : Settings). a.slots) seen.settings) in
     let vacant : slot_at g.slots t ≡ Vacant = ap (λ (x : List Slot). slot_at x t) (sym seen.slots) ∙ may.vacant in
     let below : LeadsBelow g.slots (suc (length g.history)) (get_or g.next t 0) =
     subst (λ (v : KeeperView). LeadsBelow v.slots (suc (length v.history)) (get_or v.next t 0)) had.is may.link in
@@ -109,9 +100,9 @@ publishes g k t e good had may =
       entry = ap (λ (x : List RecordWords). entry_of t (row_at x t)) (sym seen.rows) ∙ may.entry;
       number = may.number ∙ ap suc long;
       free = ap (is_taken (key_of e)) (sym seen.slots) ∙ may.free;
-      room = omega (arith, may.room, long, live, limit);
+      room = omega (arith, may.room, long, ap live_count seen.slots, limit);
       link = one_link g.history g.slots (suc (length g.history)) (get_or g.next t 0) g.head good.holds.slots below good.holds.list.first;
-      counts = λ c lt. had.counts c t vacant ∙ may.counts c (omega (arith, lt, cpus));
+      counts = λ c lt. had.counts c t vacant ∙ may.counts c (omega (arith, lt, ap (λ (a : Settings). a.cpus) seen.settings));
       total = ap (λ (x : List ℕ). total_at x t) (sym seen.totals) ∙ may.total;
       keeps = ap (λ (x : List (Option ℕ)). keeps_rightly (kept_at x t) e.rec.kind) (sym seen.keeps) ∙ may.keeps;
     }
@@ -125,16 +116,14 @@ all_bias (suc n) (x ∷ row) each = and_from (is_bias x) (list_all is_bias (take
 -- the core makes the event
 made_publish : (g : State) (t : ℕ) (e : Entry) → Publishes g t e → step g (Publish t) ≡ Some (record { state = with_keeper g (publish_lists g t e); reply = Done })
 made_publish g t e may =
-    let number = eq-eqb e.number (length g.history + 1) (omega (arith, may.number)) in
-    let room = le-leb (length g.history + live_count g.slots + 2) g.settings.change_limit may.room in
     rw (
       may.entry,
       may.rest,
       lt-ltb t g.settings.slots may.slot,
       may.vacant,
-      number,
+      eq-eqb e.number (length g.history + 1) (omega (arith, may.number)),
       may.free,
-      room,
+      le-leb (length g.history + live_count g.slots + 2) g.settings.change_limit may.room,
       eq-eqb (get_or g.next t 0) g.head may.link,
       all_bias g.settings.cpus (get_or g.counts t []) may.counts,
       eq-eqb (total_at g.totals t) bias may.total,
@@ -144,7 +133,6 @@ made_publish g t e may =
 -- who was there stays, and who comes is new
 pub leaves_published : (g : State) (t : ℕ) (e : Entry) → Good g → Publishes g t e → LeavesCpus g (publish_lists g t e)
 leaves_published g t e good may =
-    let fit = ranges g.settings good.holds.fit in
     let in_nets : t < length g.nets = omega (arith, may.slot, good.holds.shape.nets) in
     record {
       seated = omega arith;
@@ -153,7 +141,7 @@ leaves_published g t e good may =
           (λ (new : (u ≡ t) × (f ≡ e)). inr (subst (λ (p : ℕ × Entry). Came g (publish_lists g t e) p.0 p.1) (λ i. (sym new.0 i, sym new.1 i)) (
             omega (arith, may.number),
             λ c. good.holds.passive.vacant c t may.vacant,
-            λ c lt. cell_in_new 0 g.nets t (replicate MOST_CPUS bias) c in_nets ∙ get_or-replicate MOST_CPUS c bias 0 (omega (arith, lt, fit.cpus)),
+            λ c lt. cell_in_new 0 g.nets t (replicate MOST_CPUS bias) c in_nets ∙ get_or-replicate MOST_CPUS c bias 0 (omega (arith, lt, (ranges g.settings good.holds.fit).cpus)),
           )))
           (λ (old : IsIn f (slot_at g.slots u)). inl (old, λ c. cell_in_old 0 g.nets t (replicate MOST_CPUS bias) u c (apart u f old)))
           (in_published g.slots t u e f may.within here);
@@ -173,27 +161,18 @@ shown_published g k t e good had may =
       is = refl;
       sized = had.sized;
       rows = had.rows;
-      counts = λ c u vacant. ⊎_elim
-          (λ (same : (u ≡ t) × (slot_at (set g.slots t (Live e)) u ≡ Live e)). absurd (let q : Live e ≡ Vacant = sym same.1 ∙ vacant in cc))
-          (λ (off : (u ≡ t → ⊥) × (slot_at (set g.slots t (Live e)) u ≡ slot_at g.slots u)). had.counts c u (sym off.1 ∙ vacant))
-          (slot_cases g.slots t (Live e) u may.within);
-      live_total = λ u f live. ⊎_elim
-          (λ (same : (u ≡ t) × (slot_at (set g.slots t (Live e)) u ≡ Live e)).
-          let one : f ≡ e = let q : Live f ≡ Live e = sym live ∙ same.1 in cc in
-          let total : total_at g.totals u ≡ bias = ap (total_at g.totals) same.0 ∙ may.total in
-          let number : f.number ≡ suc (length g.history) = ap (λ (i : Entry). i.number) one ∙ may.number in
-          let none : number_at k.given_up f.number ≡ 0 = had.later f.number (omega (arith, number)) in
-          omega (arith, total, none))
-          (λ (off : (u ≡ t → ⊥) × (slot_at (set g.slots t (Live e)) u ≡ slot_at g.slots u)). had.live_total u f (sym off.1 ∙ live))
-          (slot_cases g.slots t (Live e) u may.within);
+      counts = λ c u. place_put Vacant g.slots t (Live e) (λ v x. x ≡ Vacant → count_at g.counts c v ≡ count_at k.counts c v) u (λ vacant. absurd (let q : Live e ≡ Vacant = vacant in cc)) (had.counts c u);
+      live_total = λ u f. place_put Vacant g.slots t (Live e) (λ v x. x ≡ Live f → total_at g.totals v + number_at k.given_up f.number ≡ bias) u
+          (λ live.
+          let one : f ≡ e = let q : Live e ≡ Live f = live in cc in
+          omega (arith, may.total, had.later f.number (omega (arith, ap (λ (i : Entry). i.number) one ∙ may.number))))
+          (had.live_total u f);
       gives_up = λ u f retired. ⊎_elim
           (λ (same : (u ≡ t) × (slot_at (set g.slots t (Live e)) u ≡ Live e)). absurd (let q : Retired f ≡ Live e = sym retired ∙ same.1 in cc))
           (λ (off : (u ≡ t → ⊥) × (slot_at (set g.slots t (Live e)) u ≡ slot_at g.slots u)).
-          let was = had.gives_up u f (sym off.1 ∙ retired) in
           let row = get_or-set_other g.nets t u (replicate MOST_CPUS bias) [] off.0 in
           let net = ap (λ (ns : List ℕ). sum_by collected_net (zip (get_or g.marks u []) ns)) row in
-          let one = ap (λ (ns : List ℕ). sum_by collected_one (zip (get_or g.marks u []) ns)) row in
-          omega (arith, was, net, one))
+          omega (arith, had.gives_up u f (sym off.1 ∙ retired), net, ap (λ (ns : List ℕ). sum_by collected_one (zip (get_or g.marks u []) ns)) row))
           (slot_cases g.slots t (Live e) u may.within);
       later = λ n above. had.later n (omega (arith, above, longer));
       beyond = had.beyond;
@@ -201,35 +180,24 @@ shown_published g k t e good had may =
       noted_pass = prefix_on k.noted_pass g.history (Attach e ∷ []) had.noted_pass;
     }
 
-pub publish_may : (z : Settings) (k : KeeperView) (t : ℕ) (e : Entry) → MayPublish k t e
-    → KeeperStores z k (index z head_word) (t + 1) (λ n. did (Publish t) Done) (λ v n l. Makes (Publish t) Done (Keeper v) (Keeper l) × PublishTold (Publish t) v l)
+pub publish_may : (z : Settings) (k : KeeperView) (t : ℕ) (e : Entry) → MayPublish k t e → KeeperPuts z k head_word (t + 1) (Publish t) (λ v _ l. PublishTold (Publish t) v l)
 publish_may z k t e may s r i at fits =
     let g = r.g in
     let had : KeeperShown g k = (r.shows.fits i (Keeper k) at).1 in
     let does = publishes g k t e r.good had may in
     let l = publish_lists g t e in
-    let words : Agrees z (set s.words (index z head_word) (t + 1)) (with_keeper g l) = agrees_set z s.words g (with_keeper g l) head_word (t + 1) r.words refl tt refl (others g) in
     let done = keeper_makes z s r i k (index z head_word) (t + 1) l (Publish t) Done k at (made_publish g t e does) (leaves_published g t e r.good does) (λ n. refl) refl
-    (shown_published g k t e r.good had does) words in
+    (shown_published g k t e r.good had does) (agrees_set z s.words g (with_keeper g l) head_word (t + 1) r.words refl tt refl
+    (elim [ head_word ↦ λ _ off. absurd (off refl) | _ ↦ λ _ _. refl ])) in
     let change : HasPublished k t e (keeper_view (with_keeper g l) k) =
     ap (λ (v : KeeperView). record v { head = t + 1; history = after_change v.history (Attach e); slots = set v.slots t (Live e) }) (sym had.is) in
     (Keeper (keeper_view (with_keeper g l) k), done.0, (refl, (done.1, (e, may, change))))
-  where
-    others : (g : State) (q : Spot) → IsSpot g.settings q → (q ≡ head_word → ⊥) → word_at (with_keeper g (publish_lists g t e)) q ≡ word_at g q
-    others g (section_of c) here off = refl
-    others g (passive_of c u) here off = refl
-    others g (count_of c u) here off = refl
-    others g head_word here off = absurd (off refl)
-    others g (live_of u) here off = refl
-    others g (next_of u) here off = refl
-    others g (record_of u j) here off = refl
-    others g (total_of u) here off = refl
 
 -- Unpublish on the words.
 
 -- what an unpublishing changes
-abbrev pub unpublish_lists : State → ℕ → Entry → Option ℕ → ℕ → KeeperLists
-unpublish_lists g t e p v = record (keeper_lists g) {
+abbrev pub unpublish_lists : State → ℕ → Entry → Option ℕ → ℕ → State
+unpublish_lists g t e p v = record g {
   head = head_with g.head p v;
   next = links_with g.next p v;
   history = after_change g.history (Detach e.number);
@@ -295,9 +263,7 @@ leaves_unlinked g t e p v may = record {
   more = (Detach e.number ∷ [], refl);
   stay = λ u f here. inl (in_unpublished g.slots t u e f may.live here, λ c. refl);
   go = λ u f here. inl (⊎_elim
-      (λ (same : (u ≡ t) × (slot_at (set g.slots t (Retired e)) u ≡ Retired e)).
-      let one : f ≡ e = live_one f e (slot_at g.slots u) (ap (slot_at g.slots) same.0 ∙ may.live) here in
-      inr (same.1 ∙ ap Retired (sym one)))
+      (λ (same : (u ≡ t) × (slot_at (set g.slots t (Retired e)) u ≡ Retired e)). inr (same.1 ∙ ap Retired (sym (live_one f e (slot_at g.slots u) (ap (slot_at g.slots) same.0 ∙ may.live) here))))
       (λ (off : (u ≡ t → ⊥) × (slot_at (set g.slots t (Retired e)) u ≡ slot_at g.slots u)). subst (IsIn f) (sym off.1) here)
       (slot_cases g.slots t (Retired e) u may.within));
   collected = λ u c f retired is there.
@@ -309,11 +275,7 @@ leaves_unlinked g t e p v may = record {
 none_collected : (f : Mark × ℕ → ℕ) → ((n : ℕ) → f (no_mark, n) ≡ 0) → (m : ℕ) (row : List ℕ) → sum_by f (zip (replicate m no_mark) row) ≡ 0
 none_collected f none zero row = refl
 none_collected f none (suc m) [] = refl
-none_collected f none (suc m) (n ∷ row) =
-    let a = sum_by-cons f (no_mark, n) (zip (replicate m no_mark) row) in
-    let b = none n in
-    let h = none_collected f none m row in
-    omega arith
+none_collected f none (suc m) (n ∷ row) = omega (arith, sum_by-cons f (no_mark, n) (zip (replicate m no_mark) row), none n, none_collected f none m row)
 
 -- the totals of the entries that are retired now
 gives_up_unlinked : (g : State) (k : KeeperView) (t : ℕ) (e : Entry) (p : Option ℕ) (v : ℕ) → KeeperShown g k → Unpublishes g t e p v
@@ -323,21 +285,18 @@ gives_up_unlinked g k t e p v had may u f retired = ⊎_elim
     let one : f ≡ e = let q : Retired f ≡ Retired e = sym retired ∙ same.1 in cc in
     subst (λ (x : ℕ × ℕ). GivesUp (with_keeper g (unpublish_lists g t e p v)) k.given_up x.0 x.1) (λ i. (sym same.0 i, ap (λ (x : Entry). x.number) (sym one) i)) here)
     (λ (off : (u ≡ t → ⊥) × (slot_at (set g.slots t (Retired e)) u ≡ slot_at g.slots u)).
-    let was = had.gives_up u f (sym off.1 ∙ retired) in
     let row = get_or-set_other g.marks t u (replicate MOST_CPUS no_mark) [] off.0 in
     let net = ap (λ (ms : List Mark). sum_by collected_net (zip ms (get_or g.nets u []))) row in
-    let one = ap (λ (ms : List Mark). sum_by collected_one (zip ms (get_or g.nets u []))) row in
     let rest = due_alike g.due Rest may.rest u in
-    omega (arith, was, net, one, rest.0, rest.1, rest.2))
+    omega (arith, had.gives_up u f (sym off.1 ∙ retired), net, ap (λ (ms : List Mark). sum_by collected_one (zip ms (get_or g.nets u []))) row, rest.0, rest.1, rest.2))
     (slot_cases g.slots t (Retired e) u may.within)
   where
     here : GivesUp (with_keeper g (unpublish_lists g t e p v)) k.given_up t e.number
     here =
-        let total = had.live_total t e may.live in
         let row = get_or-set_same g.marks t (replicate MOST_CPUS no_mark) [] may.in_marks in
         let net = ap (λ (ms : List Mark). sum_by collected_net (zip ms (get_or g.nets t []))) row ∙ none_collected collected_net (λ n. refl) MOST_CPUS (get_or g.nets t []) in
         let one = ap (λ (ms : List Mark). sum_by collected_one (zip ms (get_or g.nets t []))) row ∙ none_collected collected_one (λ n. refl) MOST_CPUS (get_or g.nets t []) in
-        omega (arith, total, net, one)
+        omega (arith, had.live_total t e may.live, net, one)
 
 -- what the keeper's view shows after it
 pub shown_unlinked : (g : State) (k : KeeperView) (t : ℕ) (e : Entry) (p : Option ℕ) (v : ℕ) → Good g → KeeperShown g k → Unpublishes g t e p v
@@ -348,54 +307,25 @@ shown_unlinked g k t e p v good had may =
       is = refl;
       sized = had.sized;
       rows = had.rows;
-      counts = λ c u vacant. ⊎_elim
-          (λ (same : (u ≡ t) × (slot_at (set g.slots t (Retired e)) u ≡ Retired e)). absurd (let q : Retired e ≡ Vacant = sym same.1 ∙ vacant in cc))
-          (λ (off : (u ≡ t → ⊥) × (slot_at (set g.slots t (Retired e)) u ≡ slot_at g.slots u)). had.counts c u (sym off.1 ∙ vacant))
-          (slot_cases g.slots t (Retired e) u may.within);
-      live_total = λ u f live. ⊎_elim
-          (λ (same : (u ≡ t) × (slot_at (set g.slots t (Retired e)) u ≡ Retired e)). absurd (let q : Live f ≡ Retired e = sym live ∙ same.1 in cc))
-          (λ (off : (u ≡ t → ⊥) × (slot_at (set g.slots t (Retired e)) u ≡ slot_at g.slots u)). had.live_total u f (sym off.1 ∙ live))
-          (slot_cases g.slots t (Retired e) u may.within);
+      counts = λ c u.
+          place_put Vacant g.slots t (Retired e) (λ v x. x ≡ Vacant → count_at g.counts c v ≡ count_at k.counts c v) u (λ vacant. absurd (let q : Retired e ≡ Vacant = vacant in cc)) (had.counts c u);
+      live_total = λ u f. place_put Vacant g.slots t (Retired e) (λ v x. x ≡ Live f → total_at g.totals v + number_at k.given_up f.number ≡ bias) u
+          (λ live. absurd (let q : Retired e ≡ Live f = live in cc)) (had.live_total u f);
       gives_up = gives_up_unlinked g k t e p v had may;
       later = λ n above. had.later n (omega (arith, above, longer));
-      beyond = λ c u past. ⊎_elim
-          (λ (same : (u ≡ t) × (get_or (set g.marks t (replicate MOST_CPUS no_mark)) u [] ≡ replicate MOST_CPUS no_mark)).
-          ap (λ (row : List Mark). (get_or row c no_mark).collected) same.1 ∙ ap (λ (m : Mark). m.collected) (get_or_all MOST_CPUS no_mark c))
-          (λ (off : (u ≡ t → ⊥) × (get_or (set g.marks t (replicate MOST_CPUS no_mark)) u [] ≡ get_or g.marks u [])).
-          ap (λ (row : List Mark). (get_or row c no_mark).collected) off.1 ∙ had.beyond c u past)
-          (place_cases [] g.marks t (replicate MOST_CPUS no_mark) u may.in_marks);
+      beyond = λ c u past. place_put [] g.marks t (replicate MOST_CPUS no_mark) (λ v row. (get_or row c no_mark).collected ≡ false) u
+          (ap (λ (m : Mark). m.collected) (get_or_all MOST_CPUS no_mark c)) (had.beyond c u past);
       honest = honest_changed g.slots g.lives t (Retired e) may.hidden had.honest;
       noted_pass = prefix_on k.noted_pass g.history (Detach e.number ∷ []) had.noted_pass;
     }
 
--- no other word changes than the link of the slot before, or the head
-others_head : (g : State) (t : ℕ) (e : Entry) (v : ℕ) (q : Spot) → (q ≡ head_word → ⊥) → word_at (with_keeper g (unpublish_lists g t e None v)) q ≡ word_at g q
-others_head g t e v (section_of c) off = refl
-others_head g t e v (passive_of c u) off = refl
-others_head g t e v (count_of c u) off = refl
-others_head g t e v head_word off = absurd (off refl)
-others_head g t e v (live_of u) off = refl
-others_head g t e v (next_of u) off = refl
-others_head g t e v (record_of u j) off = refl
-others_head g t e v (total_of u) off = refl
-
-others_link : (g : State) (t : ℕ) (e : Entry) (p v : ℕ) (q : Spot) → (q ≡ next_of p → ⊥) → word_at (with_keeper g (unpublish_lists g t e (Some p) v)) q ≡ word_at g q
-others_link g t e p v (section_of c) off = refl
-others_link g t e p v (passive_of c u) off = refl
-others_link g t e p v (count_of c u) off = refl
-others_link g t e p v head_word off = refl
-others_link g t e p v (live_of u) off = refl
-others_link g t e p v (next_of u) off = get_or-set_other g.next p u v 0 (λ same. off (ap next_of same))
-others_link g t e p v (record_of u j) off = refl
-others_link g t e p v (total_of u) off = refl
-
 link_words : (z : Settings) (words : List ℕ) (g : State) (t : ℕ) (e : Entry) (p : Option ℕ) (v : ℕ) → Good g → Agrees z words g → Unpublishes g t e p v
     → Agrees z (set words (link_index p) v) (with_keeper g (unpublish_lists g t e p v))
-link_words z words g t e None v good agrees may = agrees_set z words g (with_keeper g (unpublish_lists g t e None v)) head_word v agrees refl tt refl (λ q _ off. others_head g t e v q off)
+link_words z words g t e None v good agrees may = agrees_set z words g (with_keeper g (unpublish_lists g t e None v)) head_word v agrees refl tt refl (elim [ head_word ↦ λ _ off. absurd (off refl) | _ ↦ λ _ _. refl ])
 link_words z words g t e (Some p) v good agrees may =
     let lt : p < g.settings.slots = may.place p refl in
     agrees_set z words g (with_keeper g (unpublish_lists g t e (Some p) v)) (next_of p) v agrees refl lt
-    (get_or-set_same g.next p v 0 (omega (arith, lt, good.holds.shape.links))) (λ q _ off. others_link g t e p v q off)
+    (get_or-set_same g.next p v 0 (omega (arith, lt, good.holds.shape.links))) (elim [ next_of u ↦ λ _ off. get_or-set_other g.next p u v 0 (λ same. off (ap next_of same)) | _ ↦ λ _ _. refl ])
 
 -- one place is the link of one slot before
 one_place : (p q : Option ℕ) → link_index q ≡ link_index p → p ≡ q
@@ -412,9 +342,8 @@ unpublish_at z k t p v may s r i at fits =
     let had : KeeperShown g k = (r.shows.fits i (Keeper k) at).1 in
     let does = unpublishes g k t p v r.good had may in
     let l = unpublish_lists g t e p v in
-    let words = link_words z s.words g t e p v r.good r.words does in
     let done = keeper_makes z s r i k (link_index p) v l (Unpublish t) Done k at (made_unpublish g t e p v does) (leaves_unlinked g t e p v does) (λ n. refl) refl
-    (shown_unlinked g k t e p v r.good had does) words in
+    (shown_unlinked g k t e p v r.good had does) (link_words z s.words g t e p v r.good r.words does) in
     let change : keeper_view (with_keeper g l) k ≡ keeper_after_unpublish k t e p v = ap (λ (y : KeeperView). keeper_after_unpublish y t e p v) (sym had.is) in (
       Keeper (keeper_view (with_keeper g l) k),
       done.0,
@@ -429,6 +358,4 @@ unpublish_at z k t p v may s r i at fits =
 
 pub unpublish_may : (z : Settings) (k : KeeperView) (t : ℕ) (p : Option ℕ) (v w : ℕ) → w ≡ link_index p → MayUnpublish k t p v
     → KeeperStores z k w v (λ _. did (Unpublish t) Done) (λ y n l. Makes (Unpublish t) Done (Keeper y) (Keeper l) × UnpublishTold (Unpublish t) w v y l)
-unpublish_may z k t p v w is may =
-    subst (λ (x : ℕ). KeeperStores z k x v (λ _. did (Unpublish t) Done) (λ y n l. Makes (Unpublish t) Done (Keeper y) (Keeper l) × UnpublishTold (Unpublish t) x v y l)) (sym is)
-    (unpublish_at z k t p v may)
+unpublish_may z k t p v w is may = rw is (unpublish_at z k t p v may)

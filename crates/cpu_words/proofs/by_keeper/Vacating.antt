@@ -1,9 +1,9 @@
 -- The end of a drain on the words: a slot becomes vacant, and an interface gives its driver up.
-use Rattle.std.proofs.Common.{◌≡◌, ◌≢◌, ◌⊎◌, inl, inr, ⊎_elim, ℕ, ◌≤◌, ◌<◌, List, [], length, replicate, get_or, set, Option, true, eq-eqb, refl, sym, ap, ◌∙◌, subst, arith, length-set, ◌+◌, ◌-◌, ◌%◌, ◌^◌, Some, None, zero, suc, ◌∷◌, ◌++◌}
+use Rattle.std.proofs.Common.{◌≡◌, ◌≢◌, ◌⊎◌, inl, inr, ⊎_elim, ℕ, ◌≤◌, ◌<◌, List, [], length, replicate, get_or, set, Option, true, eq-eqb, refl, sym, ap, ◌∙◌, subst, arith, length-set, ◌+◌, ◌-◌, ◌%◌, ◌^◌, Some, None, ◌++◌, set-set}
 use Rattle.std.proofs.lemmas.Bool.{cases_eq, cases_lt}
 use Rattle.std.proofs.lemmas.List.{append-nil, get_or_past, set-get_or}
 use Rattle.std.specs.Prelude.{slice_index}
-use mathlib.Core.Option.{some, some-ne-none}
+use mathlib.Core.Option.{some}
 use lib.ListN.{get_elem?}
 use Rattle.atomic_table.specs.Table.{State as Table}
 use Rattle.cpu_words.specs.Types.{MOST_CPUS, Entry, Slot, Vacant, Retired, Mark, Rest, Settings, Live, KeptSub, Done, Hear, Vacate}
@@ -15,11 +15,11 @@ use Rattle.protocol.proofs.Occupied.{written_cases, in_other, in_vacated, one_nu
 use Rattle.protocol.proofs.Cells.{get_or_all, cell_in_old, slot_other}
 use Rattle.protocol.proofs.counts.Bounds.{driver_positive}
 use Rattle.protocol.proofs.keeps.ListKeeps.{rows_put}
-use Rattle.cpu_words.specs.Common.{KeeperView, KeeperShown, Good, IsDrained, Keeper, total_of, index, keeper_view, one_more, GivesUp, Agrees, did, Makes, KeeperMay, MayKeptSub, HasKeptSub, KeptSubTold, LogItem, View, keeper_of, KeeperHasHeard, Ruled, GoesOn, Moves, MayVacate, keeper_after_vacate, VacateTold, head_word}
-use Rattle.cpu_words.proofs.by_keeper.KeeperSteps.{KeeperLists, keeper_lists, LeavesCpus, seen_by_keeper, with_keeper, keeper_makes, loads}
+use Rattle.cpu_words.specs.Common.{KeeperView, KeeperShown, Good, IsDrained, Keeper, total_of, index, keeper_view, one_more, Agrees, did, Makes, KeeperMay, MayKeptSub, HasKeptSub, KeptSubTold, LogItem, View, keeper_of, KeeperHasHeard, Ruled, GoesOn, Moves, MayVacate, keeper_after_vacate, VacateTold, head_word}
+use Rattle.cpu_words.proofs.by_keeper.KeeperSteps.{LeavesCpus, seen_by_keeper, with_keeper, keeper_makes, loads, KeeperDoes}
 use Rattle.cpu_words.proofs.shown.Seeing.{honest_retired}
 use Rattle.cpu_words.proofs.by_keeper.Totals.{total_words, shown_less, later_less}
-use Rattle.cpu_words.proofs.shown.Showing.{goes_both}
+use Rattle.cpu_words.proofs.shown.Showing.{goes_both, at_same}
 use Rattle.cpu_words.proofs.seats.Notes.{hear_keeper_may}
 
 -- The end of a drain on the words: a slot becomes vacant, and what it kept is given up.
@@ -45,8 +45,7 @@ drained_of g k t good had drained =
     let passed : have_passed g.settings.cpus row ≡ true = sym (λ i. have_passed (seen.settings i).cpus (get_or (seen.marks i) t [])) ∙ drained.passed in
     let clear : are_clear g.settings.cpus row ≡ true = sym (λ i. are_clear (seen.settings i).cpus (get_or (seen.marks i) t [])) ∙ drained.clear in
     let all : are_collected g.settings.cpus row ≡ true = sym (λ i. are_collected (seen.settings i).cpus (get_or (seen.marks i) t [])) ∙ drained.collected in
-    let total : total_at g.totals t ≡ bias = sym (ap (λ (x : List ℕ). total_at x t) seen.totals) ∙ drained.total in
-    let is : is_drained g t ≡ true = rw (rest, retired, passed, clear, all, eq-eqb (total_at g.totals t) bias total) refl in
+    let is : is_drained g t ≡ true = rw (rest, retired, passed, clear, all, eq-eqb (total_at g.totals t) bias (sym (ap (λ (x : List ℕ). total_at x t) seen.totals) ∙ drained.total)) refl in
     let told = is_drained_tells g t good.holds is in
     record {
       rest = rest;
@@ -55,10 +54,7 @@ drained_of g k t good had drained =
       clear = told.3 0 (ranges g.settings good.holds.fit).some_cpu;
       passive = λ c. ⊎_elim
           (λ (lt : c < g.settings.cpus). (good.holds.passive.clear c t e retired (told.3 c lt)).1)
-          (λ (past : g.settings.cpus ≤ c).
-          let none = good.holds.passive.beyond c t past in
-          let counted = good.holds.passive.counted c t in
-          omega (arith, none, counted))
+          (λ (past : g.settings.cpus ≤ c). omega (arith, good.holds.passive.beyond c t past, good.holds.passive.counted c t))
           (cases_lt c g.settings.cpus);
       counts = λ c. ⊎_elim
           (λ (lt : c < g.settings.cpus). good.holds.balance.emptied c t e retired (told.4 c lt))
@@ -67,8 +63,8 @@ drained_of g k t good had drained =
     }
 
 -- the slot t is vacant; totals and what slots keep may change beside it
-abbrev pub vacating : State → ℕ → List ℕ → List (Option ℕ) → KeeperLists
-vacating g t totals keeps = record (keeper_lists g) { totals = totals; slots = set g.slots t Vacant; keeps = keeps }
+abbrev pub vacating : State → ℕ → List ℕ → List (Option ℕ) → State
+vacating g t totals keeps = record g { totals = totals; slots = set g.slots t Vacant; keeps = keeps }
 
 -- the CPUs' views stay
 pub vacated_leaves : (g : State) (t : ℕ) (e : Entry) (totals : List ℕ) (keeps : List (Option ℕ)) → Good g → Drained g t e → LeavesCpus g (vacating g t totals keeps)
@@ -148,7 +144,7 @@ kept_of g k t u may good had =
     }
 
 -- the state after it, and the view's own counts
-abbrev giving_back : State → ℕ → ℕ → KeeperLists
+abbrev giving_back : State → ℕ → ℕ → State
 giving_back g t u = vacating g t (set g.totals u (total_at g.totals u - 1)) (set g.keeps t None)
 
 abbrev own_after : KeeperView → ℕ → ℕ → KeeperView
@@ -166,9 +162,7 @@ shown_kept_sub g k t d u e good had x = record {
       shown_less g k u x.driver good x.here x.some_left v f (inl was) ∙ had.live_total v f was;
   gives_up = λ v f gone.
       let there = stood g t v e f (Retired f) x.drained gone (inr refl) in
-      let was : GivesUp g k.given_up v f.number = had.gives_up v f there in
-      let less = shown_less g k u x.driver good x.here x.some_left v f (inr there) in
-      omega (arith, was, less);
+      omega (arith, had.gives_up v f there, shown_less g k u x.driver good x.here x.some_left v f (inr there));
   later = later_less g k u x.driver good had x.here;
   beyond = had.beyond;
   honest = honest_retired g.slots g.lives t e Vacant x.drained.retired had.honest;
@@ -176,7 +170,7 @@ shown_kept_sub g k t d u e good had x = record {
 }
 
 pub kept_sub_may : (z : Settings) (k : KeeperView) (t u : ℕ) → MayKeptSub k t u
-    → KeeperMay z k (index z (total_of u)) (λ n. (n + (2 ^ 64 - 1)) % 2 ^ 64) (λ n. did (KeptSub t) Done) (λ v n l. Makes (KeptSub t) Done (Keeper v) (Keeper l) × KeptSubTold (KeptSub t) v l)
+    → KeeperDoes z k (total_of u) (λ n. (n + (2 ^ 64 - 1)) % 2 ^ 64) (KeptSub t) (λ _. Done) (λ v _ l. KeptSubTold (KeptSub t) v l)
 kept_sub_may z k t u may s r i at fits =
     let g = r.g in
     let had : KeeperShown g k = (r.shows.fits i (Keeper k) at).1 in
@@ -186,14 +180,12 @@ kept_sub_may z k t u may s r i at fits =
     let n = x.driver.number in
     let v = total_at g.totals u - 1 in
     let w = slice_index s.words (index z (total_of u)) in
-    let found : w ≡ total_at g.totals u = r.words.at (total_of u) x.slot in
-    let next : (w + (2 ^ 64 - 1)) % 2 ^ 64 ≡ v = omega (arith, found, x.some_left, fits) in
-    let l : KeeperLists = giving_back g t u in
+    let next : (w + (2 ^ 64 - 1)) % 2 ^ 64 ≡ v = omega (arith, r.words.at (total_of u) x.slot, x.some_left, fits) in
+    let l = giving_back g t u in
     let own : KeeperView = own_after k t n in
-    let kind : is_iface e.rec.kind ≡ true = ap is_iface may.kind in
-    let made : step g (KeptSub t) ≡ Some (record { state = with_keeper g l; reply = Done }) = rw (x.kept, x.of, x.drained.is, x.drained.retired, kind) refl in
+    let made : step g (KeptSub t) ≡ Some (record { state = with_keeper g l; reply = Done }) = rw (x.kept, x.of, x.drained.is, x.drained.retired, ap is_iface may.kind) refl in
     let words : Agrees z (set s.words (index z (total_of u)) ((w + (2 ^ 64 - 1)) % 2 ^ 64)) (with_keeper g l) =
-    subst (λ m. Agrees z (set s.words (index z (total_of u)) m) (with_keeper g l)) (sym next) (total_words z s.words g l u v r.good x.slot r.words refl refl refl refl refl refl) in
+    subst (λ m. Agrees z (set s.words (index z (total_of u)) m) (with_keeper g l)) (sym next) (total_words z s.words g l.slots l.keeps l.due u v r.good x.slot r.words) in
     let done = keeper_makes z s r i k (index z (total_of u)) ((w + (2 ^ 64 - 1)) % 2 ^ 64) l (KeptSub t) Done own at made (vacated_leaves g t e (set g.totals u v) (set g.keeps t None) r.good x.drained)
     (λ m. refl) refl (shown_kept_sub g k t d u e r.good had x) words in
     let change : keeper_view (with_keeper g l) own ≡ record k {
@@ -230,7 +222,7 @@ kept_sub_change k l t u may told =
 -- Vacate by the keeper's seat: it changes no word, so it is made right before the load of the head that lets the keeper hear.
 
 -- the state after it, and the keeper's view
-abbrev emptied : State → ℕ → KeeperLists
+abbrev emptied : State → ℕ → State
 emptied g t = vacating g t g.totals g.keeps
 
 shown_vacated : (g : State) (k : KeeperView) (t : ℕ) (e : Entry) → KeeperShown g k → Drained g t e
@@ -262,7 +254,7 @@ vacates z k t may s r i at =
     let e = may.drained.retired.0 in
     let keeps_none : kept_at g.keeps t ≡ None = ap (λ (x : List (Option ℕ)). kept_at x t) (sym (seen_by_keeper g k r.good had).keeps) ∙ may.keeps_nothing in
     let made : step g (Vacate t) ≡ Some (record { state = after_vacate g t; reply = Done }) = rw (keeps_none, drained.is) refl in
-    let l : KeeperLists = emptied g t in
+    let l = emptied g t in
     let own = (keeper_after_vacate k t) in
     let w = keeper_view (with_keeper g l) own in
     let n = slice_index s.words 0 in
@@ -274,27 +266,16 @@ vacates z k t may s r i at =
       subst (λ (v : KeeperView). Makes (Vacate t) Done (Keeper k) (Keeper v)) is done.1,
     )
 
--- a seat's view that is written twice
-views_again : (views : List View) (i : ℕ) (v w : View) → set (set views i v) i w ≡ set views i w
-views_again [] i v w = refl
-views_again (x ∷ xs) zero v w = refl
-views_again (x ∷ xs) (suc i) v w = ap (λ l. x ∷ l) (views_again xs i v w)
-
-view_here : (views : List View) (i : ℕ) (v w : View) → get_elem? views i ≡ some v → get_elem? (set views i w) i ≡ some w
-view_here [] i v w e = absurd (some-ne-none v (sym e))
-view_here (x ∷ xs) zero v w e = refl
-view_here (x ∷ xs) (suc i) v w e = view_here xs i v w e
-
 -- a step that may be made by the view with a change that touches no word may be made by the view before it
 moves_after : (z : Settings) (v u : View) (i : ℕ) (f : ℕ → ℕ) (before : List LogItem) (es : ℕ → List LogItem) (tells : ℕ → View → Type 0) (T : Type 0)
     → ((s : Table ℕ View) (r : Ruled z s) (id : ℕ) → get_elem? s.views id ≡ some v → GoesOn z s r before (with_view s id u) × T) → Moves z u i f es tells
     → Moves z v i f (λ n. before ++ es n) (λ n w. T × tells n w)
 moves_after z v u i f before es tells T first then s r id at fits =
     let a = first s r id at in
-    let b = then (with_view s id u) a.0.ruled id (view_here s.views id v u at) fits in (
+    let b = then (with_view s id u) a.0.ruled id (at_same s.views id v u at) fits in (
       b.0,
       subst (λ (views : List View). GoesOn z s r (before ++ es (slice_index s.words i)) (record { words = set s.words i (f (slice_index s.words i)); homes = s.homes; views = views }))
-          (views_again s.views id u b.0) (goes_both z s (with_view s id u) _ r before (es (slice_index s.words i)) a.0 b.1),
+          (set-set s.views id u b.0) (goes_both z s (with_view s id u) _ r before (es (slice_index s.words i)) a.0 b.1),
       (a.1, b.2),
     )
 

@@ -9,21 +9,11 @@ use Rattle.registry_values.specs.Common.{bias, slot_at}
 use Rattle.protocol.specs.declared.state.Hand.TheVariants.{Empty as EmptyHand, Taking as TakingHand, Giving as GivingHand, Back as BackHand, Trying as TryingHand}
 use Rattle.protocol.specs.Common.{State, hand_at, count_at, total_at, IsIn, one_if_used, itself, in_hand, kept_of, addition_due_at, is_adding_at, subtraction_due_at}
 use Rattle.protocol.proofs.Occupied.{in_within}
-use Rattle.cpu_words.specs.Common.{InHand, Empty, Taking, Giving, Back, Trying, KeeperView, View, Keeper, Cpu, Reference, Note, Spent, count_of, total_of, SameHand, CpuShown, Shown, Agrees, Sits, ShowsViews, Good, sum_below, count_word, total_word, in_hand_to, hand_to, held_by_seats, HasOneSeat, IsBalanced, SeatsBalance}
+use Rattle.cpu_words.specs.Common.{InHand, Empty, Taking, Giving, Back, Trying, KeeperView, View, Keeper, Cpu, count_of, total_of, SameHand, CpuShown, Shown, Agrees, Sits, ShowsViews, Good, sum_below, count_word, total_word, in_hand_to, hand_to, held_by_seats, HasOneSeat, IsBalanced, SeatsBalance}
 use Rattle.cpu_words.proofs.by_keeper.KeeperSteps.{SeenByKeeper, seen_by_keeper}
+use Rattle.cpu_words.proofs.logs.Totalled.{sum_first, sum_other}
 
 -- Sums over numbers
-
-below_first : (f : ℕ → ℕ) (n : ℕ) → sum_below f (suc n) ≡ f 0 + sum_below (λ c. f (suc c)) n
-below_first f zero = omega arith
-below_first f (suc n) = let rest = below_first f n in omega (arith, rest)
-
-below_same : (f g : ℕ → ℕ) (n : ℕ) → ((c : ℕ) → c < n → f c ≡ g c) → sum_below f n ≡ sum_below g n
-below_same f g zero same = refl
-below_same f g (suc n) same =
-    let rest = below_same f g n (λ c lt. same c (omega (arith, lt))) in
-    let last = same n (omega arith) in
-    omega (arith, rest, last)
 
 below_none : (f : ℕ → ℕ) (n : ℕ) → ((c : ℕ) → f c ≡ 0) → sum_below f n ≡ 0
 below_none f zero none = refl
@@ -32,24 +22,15 @@ below_none f (suc n) none = omega (arith, below_none f n none, none n)
 -- the sum over a list in which nothing counts from m on
 list_below : {X : Type 0} (f : X → ℕ) (d : X) (xs : List X) (m : ℕ) → f d ≡ 0 → ((i : ℕ) → m ≤ i → f (get_or xs i d) ≡ 0) → sum_by f xs ≡ sum_below (λ c. f (get_or xs c d)) m
 list_below f d [] m none past = sym (below_none (λ c. f d) m (λ c. none))
-list_below f d (x ∷ xs) zero none past =
-    let rest = list_below f d xs zero none (λ i le. past (suc i) (omega arith)) in
-    let here : f x ≡ 0 = past 0 (omega arith) in
-    omega (arith, sum_by-cons f x xs, rest, here)
-list_below f d (x ∷ xs) (suc m) none past =
-    let rest = list_below f d xs m none (λ i le. past (suc i) (omega (arith, le))) in
-    let first = below_first (λ c. f (get_or (x ∷ xs) c d)) m in
-    omega (arith, sum_by-cons f x xs, rest, first)
+list_below f d (x ∷ xs) zero none past = omega (arith, sum_by-cons f x xs, list_below f d xs zero none (λ i le. past (suc i) (omega arith)), past 0 (omega arith))
+list_below f d (x ∷ xs) (suc m) none past = omega (arith, sum_by-cons f x xs, list_below f d xs m none (λ i le. past (suc i) (omega (arith, le))), sum_first (λ c. f (get_or (x ∷ xs) c d)) m)
 
 -- Sums over views
 
 -- two sums of the same terms
 views_same : (f g : View → ℕ) (views : List View) → ((j : ℕ) (u : View) → get_elem? views j ≡ some u → g u ≡ f u) → sum_by g views ≡ sum_by f views
 views_same f g [] same = refl
-views_same f g (x ∷ xs) same =
-    let rest = views_same f g xs (λ j u at. same (suc j) u at) in
-    let here = same 0 x refl in
-    omega (arith, sum_by-cons f x xs, sum_by-cons g x xs, rest, here)
+views_same f g (x ∷ xs) same = omega (arith, sum_by-cons f x xs, sum_by-cons g x xs, views_same f g xs (λ j u at. same (suc j) u at), same 0 x refl)
 
 -- of the same terms but at one place
 views_but_one : (f g : View → ℕ) (views : List View) (i : ℕ) (v : View) → get_elem? views i ≡ some v → ((j : ℕ) (u : View) → j ≢ i → get_elem? views j ≡ some u → g u ≡ f u)
@@ -57,50 +38,30 @@ views_but_one : (f g : View → ℕ) (views : List View) (i : ℕ) (v : View) �
 views_but_one f g [] i v at same = absurd (some-ne-none v (sym at))
 views_but_one f g (x ∷ xs) zero v at same =
     let is : x ≡ v = some-injective x v at in
-    let rest = views_same f g xs (λ j u there. same (suc j) u (λ e. absurd (omega (arith, e))) there) in
-    omega (arith, sum_by-cons f x xs, sum_by-cons g x xs, rest, ap f is, ap g is)
+    omega (arith, sum_by-cons f x xs, sum_by-cons g x xs, views_same f g xs (λ j u there. same (suc j) u (λ e. absurd (omega (arith, e))) there), ap f is, ap g is)
 views_but_one f g (x ∷ xs) (suc i) v at same =
     let rest = views_but_one f g xs i v at (λ j u ne there. same (suc j) u (λ e. ne (omega (arith, e))) there) in
-    let here = same 0 x (λ e. absurd (omega (arith, e))) refl in
-    omega (arith, sum_by-cons f x xs, sum_by-cons g x xs, rest, here)
+    omega (arith, sum_by-cons f x xs, sum_by-cons g x xs, rest, same 0 x (λ e. absurd (omega (arith, e))) refl)
 
 -- Hands
 
 -- what is in a view's hand is in the core's
 same_in_hand : (n : ℕ) (h : Hand) (k : InHand) → SameHand h k → in_hand_to n k ≡ in_hand n h
 same_in_hand n EmptyHand Empty same = refl
-same_in_hand n EmptyHand (Taking e) same = absurd same
-same_in_hand n EmptyHand (Giving e) same = absurd same
-same_in_hand n EmptyHand (Back e) same = absurd same
-same_in_hand n (TakingHand m) Empty same = absurd same
 same_in_hand n (TakingHand m) (Taking e) same = ap (λ (a : ℕ). in_hand n (TakingHand a)) (sym same)
-same_in_hand n (TakingHand m) (Giving e) same = absurd same
-same_in_hand n (TakingHand m) (Back e) same = absurd same
-same_in_hand n (GivingHand m id) Empty same = absurd same
-same_in_hand n (GivingHand m id) (Taking e) same = absurd same
 same_in_hand n (GivingHand m id) (Giving e) same = ap (λ (a : ℕ). in_hand n (TakingHand a)) (sym same)
-same_in_hand n (GivingHand m id) (Back e) same = absurd same
-same_in_hand n (BackHand m id) Empty same = absurd same
-same_in_hand n (BackHand m id) (Taking e) same = absurd same
-same_in_hand n (BackHand m id) (Giving e) same = absurd same
 same_in_hand n (BackHand m id) (Back e) same = ap (λ (a : ℕ). in_hand n (TakingHand a)) (sym same)
 same_in_hand n (TryingHand t m) (Trying e) same = refl
 same_in_hand n h k same = absurd same
 
 -- the hands of the CPUs below m alone
 abbrev hand_below : ℕ → ℕ → View → ℕ
-hand_below n m (Keeper k) = 0
 hand_below n m (Cpu x) = cond (ltb x.id m) (in_hand_to n x.hand) 0
-hand_below n m (Reference v) = 0
-hand_below n m (Note h) = 0
-hand_below n m Spent = 0
+hand_below n m v = 0
 
 none_below : (n : ℕ) (u : View) → hand_below n 0 u ≡ 0
-none_below n (Keeper k) = refl
 none_below n (Cpu x) = ap (λ (b : Bool). cond b (in_hand_to n x.hand) 0) (le-ltb x.id 0 (omega arith))
-none_below n (Reference v) = refl
-none_below n (Note h) = refl
-none_below n Spent = refl
+none_below n v = refl
 
 none_of_all : (n : ℕ) (views : List View) → sum_by (hand_below n 0) views ≡ 0
 none_of_all n [] = refl
@@ -108,7 +69,6 @@ none_of_all n (x ∷ xs) = omega (arith, sum_by-cons (hand_below n 0) x xs, none
 
 -- one CPU more changes no other view's
 other_below : (seat : ℕ → ℕ) (n m j : ℕ) (u : View) → Sits seat j u → j ≢ seat m → hand_below n (suc m) u ≡ hand_below n m u
-other_below seat n m j (Keeper k) sits ne = refl
 other_below seat n m j (Cpu x) sits ne = ap (λ (b : Bool). cond b (in_hand_to n x.hand) 0) (⊎_elim
     (λ (less : x.id < m). lt-ltb x.id (suc m) (omega (arith, less)) ∙ sym (lt-ltb x.id m less))
     (λ (more : m ≤ x.id).
@@ -118,9 +78,7 @@ other_below seat n m j (Cpu x) sits ne = ap (λ (b : Bool). cond b (in_hand_to n
     (λ (apart : x.id ≢ m). le-ltb x.id (suc m) (omega (arith, more, apart)) ∙ sym (le-ltb x.id m more))
     (cases_eq x.id m))
     (cases_lt x.id m))
-other_below seat n m j (Reference v) sits ne = refl
-other_below seat n m j (Note h) sits ne = refl
-other_below seat n m j Spent sits ne = refl
+other_below seat n m j v sits ne = refl
 
 -- the hands of the first m CPUs
 hands_below : (g : State) (seat : ℕ → ℕ) (views : List View) (n m : ℕ) → ShowsViews g seat views → m ≤ g.seated → sum_by (hand_below n m) views ≡ sum_below (λ c. in_hand n (hand_at g c)) m
@@ -133,17 +91,12 @@ hands_below g seat views n (suc m) shows le =
     let before : hand_below n m (Cpu x) ≡ 0 = ap (λ (b : Bool). cond b (in_hand_to n x.hand) 0) (le-ltb x.id m (omega (arith, id))) in
     let after : hand_below n (suc m) (Cpu x) ≡ in_hand_to n x.hand = ap (λ (b : Bool). cond b (in_hand_to n x.hand) 0) (lt-ltb x.id (suc m) (omega (arith, id))) in
     let shown : CpuShown g x = (shows.fits (seat m) (Cpu x) own.1).1 in
-    let hand : in_hand_to n x.hand ≡ in_hand n (hand_at g m) = same_in_hand n (hand_at g x.id) x.hand shown.hand ∙ ap (λ (c : ℕ). in_hand n (hand_at g c)) id in
-    let rest = hands_below g seat views n m shows (omega (arith, le)) in
-    omega (arith, one, before, after, hand, rest)
+    omega (arith, one, before, after, same_in_hand n (hand_at g x.id) x.hand shown.hand ∙ ap (λ (c : ℕ). in_hand n (hand_at g c)) id, hands_below g seat views n m shows (omega (arith, le)))
 
 -- each CPU that has a view is below the seated ones
 all_below : (g : State) (n : ℕ) (u : View) → Shown g u → hand_to n u ≡ hand_below n g.seated u
-all_below g n (Keeper k) shown = refl
 all_below g n (Cpu x) shown = sym (ap (λ (b : Bool). cond b (in_hand_to n x.hand) 0) (lt-ltb x.id g.seated shown.seated))
-all_below g n (Reference v) shown = refl
-all_below g n (Note h) shown = refl
-all_below g n Spent shown = refl
+all_below g n v shown = refl
 
 -- the hands of all seats are those of the core: a CPU without a seat has an empty one
 hands_of_all : (g : State) (seat : ℕ → ℕ) (views : List View) (n : ℕ) → Good g → ShowsViews g seat views → sum_by (hand_to n) views ≡ sum_by (in_hand n) g.hands
@@ -158,7 +111,7 @@ counts_of_all : (z : Settings) (words : List ℕ) (g : State) (t : ℕ) (f : ℕ
     → sum_by f (get_or g.counts t []) ≡ sum_below (λ c. f (count_word z words t c)) g.settings.cpus
 counts_of_all z words g t f good agrees slot none =
     list_below f 0 (get_or g.counts t []) g.settings.cpus none (λ c le. ap f (good.holds.balance.beyond c t le) ∙ none)
-    ∙ below_same (λ c. f (count_at g.counts c t)) (λ c. f (count_word z words t c)) g.settings.cpus (λ c lt. ap f (sym (agrees.at (count_of c t) (lt, slot))))
+    ∙ sum_other (λ c. f (count_word z words t c)) (λ c. f (count_at g.counts c t)) g.settings.cpus (λ c lt. ap f (sym (agrees.at (count_of c t) (lt, slot))))
 
 -- Seats
 
@@ -195,15 +148,12 @@ balanced z g seat words views k t e good agrees shows seen here = record {
         let slot : t < g.settings.slots = omega (arith, in_within g.slots t e here, good.holds.shape.slots) in
         let even = (good.holds.balance.balance t e here).even in
         let counts : sum_by itself row ≡ sum_below (count_word z words t) g.settings.cpus = counts_of_all z words g t itself good agrees slot refl in
-        let used = counts_of_all z words g t one_if_used good agrees slot refl in
         let total : total_word z words t ≡ total_at g.totals t = agrees.at (total_of t) slot in
-        let references = shows.references e.number in
         let hands = hands_of_all g seat views e.number good shows in
         let kept = ap (λ (l : List (Option ℕ)). sum_by (kept_of e.number) l) seen.keeps in
         let adding = ap (addition_due_at t) seen.due in
-        let is_adding = ap (is_adding_at t) seen.due in
         let subtracting = ap (subtraction_due_at t) seen.due in
-        omega (arith, even, counts, used, total, references, hands, kept, adding, is_adding, subtracting)
+        omega (arith, even, counts, counts_of_all z words g t one_if_used good agrees slot refl, total, shows.references e.number, hands, kept, adding, ap (is_adding_at t) seen.due, subtracting)
 
 pub seats_balance : SeatsBalance
 seats_balance z s i t k e r at here =

@@ -12,13 +12,13 @@ use Rattle.cpu_words.specs.Types.{Settings, Event, Exit}
 use Rattle.registry_values.specs.Common.{are_fit}
 use Rattle.protocol.specs.Common.{State, opening, begin_at, Outcome, state_after, after, after_event, HasExit, IsAllowed}
 use Rattle.protocol.proofs.keeps.Keeping.{opening_holds}
-use Rattle.cpu_words.specs.Common.{LogItem, Logged, part, TwoMoments, OrderedInTime, CpuView, HasNone, RunsAsLogged, Teller, View, Cpu, changes_in, has_heard_from, is_border, by_number, maker, AreByOwn, HasEndedSince, HasItsSections, IsBeforeTelling, IsSeatOf, IsStanding, Shown, Sits, cpu_of, without_logs, CpuHearsLater, EndsOpenSections, HasLeft, HasLeftSince, HasToldSince, KeeperHearsLater}
+use Rattle.cpu_words.specs.Common.{LogItem, Logged, part, TwoMoments, OrderedInTime, CpuView, HasNone, RunsAsLogged, Teller, View, Cpu, changes_in, has_heard_from, is_border, by_number, maker, AreByOwn, HasEndedSince, HasItsSections, IsSeatOf, IsStanding, Shown, Sits, cpu_of, without_logs, CpuHearsLater, EndsOpenSections, HasLeft, HasLeftSince, HasToldSince, KeeperHearsLater}
 use Rattle.cpu_words.proofs.laws.Safety.{running_headline}
 use Rattle.cpu_words.proofs.laws.Waiting.{part_placed, own_first, told_ended}
 use Rattle.cpu_words.proofs.logs.Loads.{part_same, place, run_as_logged, inside_after, inside_by, inside_run, inside_still, is_open, part_off}
 use Rattle.cpu_words.proofs.logs.Runs.{part_append, Follows, cut, follows_after, same_first, same_rest}
 use Rattle.cpu_words.proofs.laws.Fresh.{own_last}
-use Rattle.cpu_words.proofs.shown.Seeing.{seen_of}
+use Rattle.cpu_words.proofs.shown.Seeing.{seen_of, prefix_both}
 
 -- One list that only grows: of two prefixes of it one begins the other, and what a seat hadn't done at a moment isn't in what another knew then.
 
@@ -39,22 +39,16 @@ longer_has j d p first rest all pre are lt =
     sym (take_at p pre.0 n refl) ∙ (ap (take n) (pre.1 ∙ are) ∙ (ap (λ (m : ℕ). take m (first ++ end)) (let q : n ≡ length first + suc k = omega (arith, lt) in q) ∙ take-append-add first end (suc k))) in
     let own : part j p ≡ part j first ++ d ∷ part j (take k rest) =
     ap (part j) is ∙ (part_append j first (take (suc k) end) ∙ ap (λ (l : List LogItem). part j first ++ l) (part_same j (j, d) (take k rest) refl)) in
-    let size : length (part j p) ≡ length (part j first) + length (d ∷ part j (take k rest)) = ap (λ (l : List LogItem). length l) own ∙ length-append (part j first) (d ∷ part j (take k rest)) in
-    omega (arith, size)
+    omega (arith, ap (λ (l : List LogItem). length l) own ∙ length-append (part j first) (d ∷ part j (take k rest)))
 
 -- what the one knew has no more of the other's items than the other had done
 pub few_known : {z : Settings} {s t : Table ℕ Logged} {i j : ℕ} (m : TwoMoments z s t i j) → length (part j m.knower.list) ≤ length m.doer.log
 few_known {z} {s} {t} {i} {j} m =
     let r = running_headline z s m.earlier in
     let pre = r.lists i m.knower m.knew in
-    let own : m.doer.log ≡ part j r.acts = r.logs j m.doer m.did m.stood in
-    let both : part j r.acts ≡ part j m.knower.list ++ part j pre.0 = ap (part j) (sym pre.1) ∙ part_append j m.knower.list pre.0 in
     let size : length m.doer.log ≡ length (part j m.knower.list) + length (part j pre.0) =
-    ap (λ (l : List LogItem). length l) (own ∙ both) ∙ length-append (part j m.knower.list) (part j pre.0) in
+    ap (λ (l : List LogItem). length l) ((r.logs j m.doer m.did m.stood) ∙ (ap (part j) (sym pre.1) ∙ part_append j m.knower.list pre.0)) ∙ length-append (part j m.knower.list) (part j pre.0) in
     omega (arith, size)
-
-pub prefix_both : (p q r : List (ℕ × LogItem)) → IsPrefix p q → IsPrefix q r → IsPrefix p r
-prefix_both p q r first second = (first.0 ++ second.0, sym (append_assoc p first.0 second.0) ∙ (ap (λ (l : List (ℕ × LogItem)). l ++ second.0) first.1 ∙ second.1))
 
 pub ordered_in_time : OrderedInTime
 ordered_in_time z s t i j m r before after d is =
@@ -70,10 +64,7 @@ ordered_in_time z s t i j m r before after d is =
       own = own;
       past = ⊎_elim
           (λ (lt : length p.first < length m.knower.list).
-          let more = longer_has j d m.knower.list p.first p.second r.acts known p.are lt in
-          let few = few_known m in
-          let size : length (part j p.first) ≡ length m.doer.log + length before = ap (λ (l : List LogItem). length l) own ∙ length-append m.doer.log before in
-          absurd (omega (arith, more, few, size)))
+          absurd (omega (arith, longer_has j d m.knower.list p.first p.second r.acts known p.are lt, few_known m, ap (λ (l : List LogItem). length l) own ∙ length-append m.doer.log before)))
           (λ (le : length m.knower.list ≤ length p.first). shorter m.knower.list p.first ((j, d) ∷ p.second) r.acts known p.are le)
           (cases_lt (length p.first) (length m.knower.list));
     }
@@ -91,15 +82,12 @@ part_prefix i p l pre = (part i pre.0, sym (part_append i p pre.0) ∙ ap (part 
 more_than : (i : ℕ) (p l : List (ℕ × LogItem)) → IsPrefix p l → length (part i p) ≤ length (part i l)
 more_than i p l pre =
     let q = part_prefix i p l pre in
-    let size : length (part i p) + length q.0 ≡ length (part i l) = sym (length-append (part i p) q.0) ∙ ap (λ (d : List LogItem). length d) q.1 in
-    omega (arith, size)
+    omega (arith, sym (length-append (part i p) q.0) ∙ ap (λ (d : List LogItem). length d) q.1)
 
 -- the seat of the CPU that told
 teller_seat : {z : Settings} {s t : Table ℕ Logged} {i j : ℕ} (m : TwoMoments z s t i j) (r : RunsAsLogged z t) (h : Teller) → HasToldSince m h → r.run.seat h.cpu ≡ j
 teller_seat {z} {s} {t} {i} {j} m r h told =
-    let at = at_map (λ (l : Logged). l.view) t.views j m.does m.done in
-    let sits : Sits r.run.seat j (Cpu told.cpu) = subst (Sits r.run.seat j) told.is (r.run.shows.fits j m.does.view at).0 in
-    ap r.run.seat told.teller ∙ sym sits
+    ap r.run.seat told.teller ∙ sym (subst (Sits r.run.seat j) told.is (r.run.shows.fits j m.does.view (at_map (λ (l : Logged). l.view) t.views j m.does m.done)).0)
 
 -- The keeper heard
 
@@ -114,10 +102,7 @@ keeper_hears_later z s t i j m r h before after told is =
     let past : IsPrefix m.knower.list p.first = ⊎_elim
     (λ (lt : length p.first < length m.knower.list).
     let back : IsPrefix p.first m.knower.list = shorter p.first m.knower.list pre.0 r.acts ((0, item) ∷ p.second, sym p.are) (sym pre.1) (omega (arith, lt)) in
-    let more = more_than j p.first m.knower.list back in
-    let few = few_known m in
-    let late = told.since in
-    absurd (omega (arith, more, few, late, come, here)))
+    absurd (omega (arith, more_than j p.first m.knower.list back, few_known m, told.since, come, here)))
     (λ (le : length m.knower.list ≤ length p.first). shorter m.knower.list p.first ((0, item) ∷ p.second) r.acts pre p.are le)
     (cases_lt (length p.first) (length m.knower.list)) in
     record {
@@ -131,13 +116,10 @@ keeper_hears_later z s t i j m r h before after told is =
 
 -- A CPU heard
 
-prefix_of_log : (a b c : List LogItem) → IsPrefix a b → IsPrefix b c → IsPrefix a c
-prefix_of_log a b c first second = (first.0 ++ second.0, sym (append_assoc a first.0 second.0) ∙ (ap (λ (l : List LogItem). l ++ second.0) first.1 ∙ second.1))
-
 pub cpu_hears_later : CpuHearsLater
 cpu_hears_later z s t i j m r d before after is hears =
     let p = ordered_in_time z s t i j m r before after d is in
-    prefix_of_log (part 0 m.knower.list) (part 0 p.first) m.does.known_log (part_prefix 0 m.knower.list p.first p.past) (r.heard j m.does m.done m.stands d p.first p.rest p.are hears)
+    prefix_both (part 0 m.knower.list) (part 0 p.first) m.does.known_log (part_prefix 0 m.knower.list p.first p.past) (r.heard j m.does m.done m.stands d p.first p.rest p.are hears)
 
 -- Sections that were open
 
@@ -152,15 +134,11 @@ record Known {z : Settings} {s t : Table ℕ Logged} {i j : ℕ} (m : TwoMoments
   before : Follows (opening z) m.knower.list first (after (opening z) first)
   since : Follows (after (opening z) first) more rest (after (opening z) r.run.events)
 
-fit_of_run : (z : Settings) (t : Table ℕ Logged) (r : RunsAsLogged z t) → IsTrue (are_fit z)
-fit_of_run z t r = subst (λ (a : Settings). IsTrue (are_fit a)) r.run.settings r.run.good.holds.fit
-
 known_at : {z : Settings} {s t : Table ℕ Logged} {i j : ℕ} (m : TwoMoments z s t i j) (r : RunsAsLogged z t) → Known m r
 known_at {z} {s} {t} {i} {j} m r =
     let pre = known_later m r in
-    let whole = run_as_logged z t r in
     let k = cut (opening z) m.knower.list pre.0 r.run.events (after (opening z) r.run.events)
-    (subst (λ (l : List (ℕ × LogItem)). Follows (opening z) l r.run.events (after (opening z) r.run.events)) (sym pre.1) whole) in
+    (subst (λ (l : List (ℕ × LogItem)). Follows (opening z) l r.run.events (after (opening z) r.run.events)) (sym pre.1) (run_as_logged z t r)) in
     let there : k.between ≡ after (opening z) k.earlier = follows_after (opening z) m.knower.list k.earlier k.between k.before in
     record {
       first = k.earlier;
@@ -199,9 +177,7 @@ left_by_seat seat n i c s (a ∷ more) (e ∷ es) t run own at has = ⊎_elim
 -- an exit isn't among items that are no borders
 
 left_at : (c : ℕ) (d : LogItem) (ds : List LogItem) (item : LogItem) (before after : List LogItem) → is_border d.event ≡ false → item.event ≡ Exit c → d ∷ ds ≡ before ++ item ∷ after → HasLeft c ds
-left_at c d ds item [] after none exit are =
-    let same : is_border item.event ≡ false = ap (λ (x : LogItem). is_border x.event) (sym (same_first d item ds after are)) ∙ none in
-    absurd (let q : true ≡ false = sym (ap is_border exit) ∙ same in cc)
+left_at c d ds item [] after none exit are = absurd (let q : true ≡ false = sym (ap is_border exit) ∙ (ap (λ (x : LogItem). is_border x.event) (sym (same_first d item ds after are)) ∙ none) in cc)
 left_at c d ds item (x ∷ before) after none exit are = record { before = before; item = item; after = after; are = same_rest d x ds (before ++ item ∷ after) are; exit = exit }
 
 left_past : (c : ℕ) (a b : List LogItem) → HasNone is_border a → HasLeft c (a ++ b) → HasLeft c b
@@ -233,7 +209,7 @@ inside_at : (z : Settings) (t : Table ℕ Logged) (r : RunsAsLogged z t) (i : �
 inside_at z t r i l y at is a b acts es g run =
     let n = (after (opening z) r.run.events).seated in
     let sits : i ≡ r.run.seat y.id = subst (Sits r.run.seat i) is (r.run.shows.fits i l.view (at_map (λ (x : Logged). x.view) t.views i l at)).0 in
-    inside_run r.run.seat n i y.id (opening z) a es g run (opening_holds z (fit_of_run z t r)) (own_first r.run.seat n a b (subst (AreByOwn r.run.seat n) acts r.owners)) sits
+    inside_run r.run.seat n i y.id (opening z) a es g run (opening_holds z (subst (λ (a : Settings). IsTrue (are_fit a)) r.run.settings r.run.good.holds.fit)) (own_first r.run.seat n a b (subst (AreByOwn r.run.seat n) acts r.owners)) sits
     (one_cpu z t r i l y at is)
 
 -- at the first moment it was inside, by what its list has of it
@@ -243,18 +219,15 @@ was_inside {z} {s} {t} {i} {j} m x b is within own =
     let e = running_headline z s m.earlier in
     let g = after (opening z) e.run.events in
     let start = is_open (begin_at (opening z) x.id) in
-    let view = e.run.shows.fits i m.knower.view (at_map (λ (l : Logged). l.view) s.views i m.knower m.knew) in
-    let begin : x.begin ≡ begin_at g x.id = (seen_of g x e.run.good (subst (Shown g) is view.1)).begin in
+    let begin : x.begin ≡ begin_at g x.id = (seen_of g x e.run.good (subst (Shown g) is (e.run.shows.fits i m.knower.view (at_map (λ (l : Logged). l.view) s.views i m.knower m.knew)).1)).begin in
     let pre = e.lists i m.knower m.knew in
-    let stands : IsStanding m.knower.view = subst IsStanding (sym is) tt in
     let log : part i m.knower.list ++ part i pre.0 ≡ part i m.knower.list ++ own.lacks =
-    sym (part_append i m.knower.list pre.0) ∙ (ap (part i) pre.1 ∙ (sym (e.logs i m.knower m.knew stands) ∙ own.are)) in
+    sym (part_append i m.knower.list pre.0) ∙ (ap (part i) pre.1 ∙ (sym (e.logs i m.knower m.knew (subst IsStanding (sym is) tt)) ∙ own.are)) in
     let lacks : part i pre.0 ≡ own.lacks = append_cancel_left (part i m.knower.list) (part i pre.0) own.lacks log in
-    let whole = inside_at z s e i m.knower x m.knew is e.acts [] (sym (append-nil e.acts)) e.run.events g (run_as_logged z s e) in
     let both : inside_by start (part i e.acts) ≡ inside_by start (part i m.knower.list) =
     ap (inside_by start) (ap (part i) (sym pre.1) ∙ (part_append i m.knower.list pre.0 ∙ ap (λ (l : List LogItem). part i m.knower.list ++ l) lacks))
     ∙ (inside_both start (part i m.knower.list) own.lacks ∙ inside_still (inside_by start (part i m.knower.list)) own.lacks own.none) in
-    sym both ∙ (sym whole ∙ (ap is_open (sym begin) ∙ ap is_open within))
+    sym both ∙ (sym (inside_at z s e i m.knower x m.knew is e.acts [] (sym (append-nil e.acts)) e.run.events g (run_as_logged z s e)) ∙ (ap is_open (sym begin) ∙ ap is_open within))
 
 left_since : {z : Settings} {s t : Table ℕ Logged} {i j : ℕ} (m : TwoMoments z s t i j) (r : RunsAsLogged z t) (k : Known m r) (most : ℕ) → HasEndedSince z k.first k.rest most → HasLeftSince m
 left_since {z} {s} {t} {i} {j} m r k most ended x y b more is is_now same within goes =
@@ -286,8 +259,5 @@ ends_open_sections z s t i j k m r l h before since told at are heard waited =
     ap (λ (n : ℕ). take n r.acts) q.size ∙ (ap (take (length m.knower.list)) q.acts ∙ take_at m.knower.list q.more (length m.knower.list) refl) in
     let here : length (part (r.run.seat h.cpu) (take (length q.first) r.acts)) ≡ length (part j m.knower.list) =
     ap (λ (n : ℕ). length (part n (take (length q.first) r.acts))) (teller_seat m r h told) ∙ ap (λ (a : List (ℕ × LogItem)). length (part j a)) taken in
-    let few = few_known m in
-    let late = told.since in
-    let telling : IsBeforeTelling r h q.first = omega (arith, here, few, late) in
-    let ended = told_ended z t k l before since r at are waited h q.first q.rest heard q.are telling in
+    let ended = told_ended z t k l before since r at are waited h q.first q.rest heard q.are (omega (arith, here, few_known m, told.since)) in
     record { left = left_since m r q (changes_in before) ended; first = q.first; rest = q.rest; are = q.are; size = q.size; ended = ended }

@@ -9,7 +9,7 @@ use Rattle.atomic_table.specs.Table.{State as Table}
 use Rattle.atomic_table.proofs.Lists.{at_map}
 use Rattle.cpu_words.specs.Types.{Entry, Change, Attach, Detach, Settings, Vacant, Retired, Event, Vacate, KeptSub, Reply, Live, Publish, Done}
 use Rattle.registry_values.specs.Common.{are_fit, slot_at}
-use Rattle.protocol.specs.Common.{IsAttached, EndsAt, State, opening, Outcome, step, state_after, Holds, Occupies, IsUnheld, number_in, picture, after, occupant_of, destroyed_slot, IsAllowed, kept_at, is_honest, live_at}
+use Rattle.protocol.specs.Common.{IsAttached, EndsAt, State, opening, Outcome, step, state_after, Holds, Occupies, IsUnheld, number_in, picture, after, occupant_of, destroyed_slot, kept_at, is_honest, live_at}
 use Rattle.protocol.proofs.Made.{Made, Vacates, SubsKept, made, Publishes}
 use Rattle.protocol.proofs.History.{one_entry, at_within, at_prefix}
 use Rattle.protocol.proofs.keeps.Keeping.{opening_holds, step_holds}
@@ -22,9 +22,9 @@ use Rattle.protocol.proofs.keeps.ListKeeps.{may_publish_tells}
 use Rattle.protocol.proofs.Cells.{slot_here}
 use Rattle.protocol.proofs.keeps.CountKeeps.{live_tells}
 use Rattle.protocol.proofs.runs.Fresh.{honest_tells}
-use Rattle.cpu_words.specs.Common.{LogItem, Logged, View, Good, ShowsViews, IsDetachedFrom, IsFreedFrom, part, without_logs, AreByOwn, RunsAsLogged, IsGone, FreedIsGone, FreedByKeeper, Sits, IsStanding, KeeperView, Keeper, log_item, changes_in, keeping, IsAttachedKeeping, KeepsDriver, KeepsAsLong, AttachedKeeps, Agrees, EndedRuns, IsGoneFrom, KeeperShown, Shown, live_of}
+use Rattle.cpu_words.specs.Common.{LogItem, Logged, View, Good, ShowsViews, IsDetachedFrom, IsFreedFrom, part, without_logs, AreByOwn, RunsAsLogged, IsGone, FreedIsGone, FreedByKeeper, Sits, IsStanding, KeeperView, Keeper, log_item, changes_in, keeping, KeepsDriver, AttachedKeeps, Agrees, EndedRuns, IsGoneFrom, KeeperShown, Shown, live_of, KeepsAsLong, IsAttachedKeeping}
 use Rattle.cpu_words.proofs.logs.Loads.{run_as_logged, is_whole, same_event, place, halve}
-use Rattle.cpu_words.proofs.shown.Seeing.{attached_prefix}
+use Rattle.cpu_words.proofs.shown.Seeing.{attached_prefix, prefix_both}
 use Rattle.cpu_words.proofs.shown.Showing.{backed}
 use Rattle.cpu_words.proofs.laws.Safety.{running_headline, seat_has_slot}
 use Rattle.cpu_words.proofs.laws.Waiting.{own_first}
@@ -59,8 +59,7 @@ record Freed (m n : State) (t k : ℕ) : Type 0 where
 freed_now : (cpus : ℕ) (log : List LogItem) (m : State) (e : Event) (o : Outcome) (t k : ℕ) → Holds m → step m e ≡ Some o → destroyed_slot e ≡ Some t → Known cpus log m → IsDetachedFrom t k log
     → Freed m o.state t k
 freed_now cpus log m e o t k on is of known gone =
-    let allowed : IsAllowed m e = subst (λ (p : Option Outcome). IsSome p) (sym is) refl in
-    let told = is_drained_tells m t on (destroyed_drained m e t of allowed) in
+    let told = is_drained_tells m t on (destroyed_drained m e t of (subst (λ (p : Option Outcome). IsSome p) (sym is) refl)) in
     let f : Entry = told.1.0 in
     let here : slot_at m.slots t ≡ Retired f = told.1.1 in
     let was = on.slots.retired t f here in
@@ -78,15 +77,11 @@ freed_now cpus log m e o t k on is of known gone =
           (λ (old : (u ≡ t → ⊥) × (slot_at (set m.slots t Vacant) u ≡ slot_at m.slots u)).
           let has = number_is (slot_at m.slots u) k (ap number_in (sym (ap (λ l. slot_at l u) slots ∙ old.1)) ∙ at) in
           let there = attached_in m.history m.slots u has.0 on.slots has.1 in
-          let one : has.0 ≡ f = one_entry m.history has.0 f there.0 its.0 (has.2 ∙ sym same) in
-          old.0 (sym there.1 ∙ (ap (λ (g : Entry). g.slot) one ∙ its.1)))
+          old.0 (sym there.1 ∙ (ap (λ (g : Entry). g.slot) (one_entry m.history has.0 f there.0 its.0 (has.2 ∙ sym same)) ∙ its.1)))
           (slot_cases m.slots t Vacant u (in_within m.slots t f (inr here)));
     }
 
 -- The run
-
-prefix_both : (p q r : List Change) → IsPrefix p q → IsPrefix q r → IsPrefix p r
-prefix_both p q r first second = (first.0 ++ second.0, sym (append_assoc p first.0 second.0) ∙ (ap (λ l. l ++ second.0) first.1 ∙ second.1))
 
 histories : (s : State) (acts : List (ℕ × LogItem)) (es : List Event) (t : State) → Follows s acts es t → Holds s → IsPrefix s.history t.history
 histories s [] [] t is on = ([], append-nil s.history ∙ sym (ap (λ (g : State). g.history) is))
@@ -103,13 +98,11 @@ since_freed : (cpus : ℕ) (log : List LogItem) (m : State) (d : LogItem) (more 
 since_freed cpus log m d more [] g t k run on known gone of = absurd run
 since_freed cpus log m d more (e ∷ es) g t k run on known gone of =
     let o = run.0 in
-    let same : d.event ≡ e = same_event m e d.event (ap (λ (x : LogItem). x.event) run.2) (whole d.event t of) in
-    let its : destroyed_slot e ≡ Some t = ap destroyed_slot (sym same) ∙ of in
+    let its : destroyed_slot e ≡ Some t = ap destroyed_slot (sym (same_event m e d.event (ap (λ (x : LogItem). x.event) run.2) (whole d.event t of))) ∙ of in
     let f : Freed m o.state t k = freed_now cpus log m e o t k on run.1 its known gone in
     let holds : Holds o.state = step_holds m o.state e o.reply on run.1 in
     let grows = (obeys_laws m on).answers.history e in
-    let next : o.state.history ≡ m.history ++ grows.0 = subst (λ (p : Option Outcome). (state_after m p).history ≡ m.history ++ grows.0) run.1 grows.1 in
-    let size = ap (λ (h : List Change). length h) next ∙ length-append m.history grows.0 in
+    let size = ap (λ (h : List Change). length h) (subst (λ (p : Option Outcome). (state_after m p).history ≡ m.history ++ grows.0) run.1 grows.1) ∙ length-append m.history grows.0 in
     let low = (at_within m.history f.e.number (Attach f.e) f.attached).1 in
     let number = f.number in
     record {
@@ -162,16 +155,14 @@ at_item z s log before after_it item r known log_is =
     let run = r.run in
     let g = after (opening z) run.events in
     let later : List LogItem = after_it ++ known.0 in
-    let mine : part 0 r.acts ≡ before ++ item ∷ later = sym known.1 ∙ (ap (λ (d : List LogItem). d ++ known.0) log_is ∙ append_assoc before (item ∷ after_it) known.0) in
-    let h = halve 0 r.acts before (item ∷ later) mine in
+    let h = halve 0 r.acts before (item ∷ later) (sym known.1 ∙ (ap (λ (d : List LogItem). d ++ known.0) log_is ∙ append_assoc before (item ∷ after_it) known.0)) in
     let p = place 0 h.second [] later item h.rest in
     let end : List (ℕ × LogItem) = (0, item) ∷ p.second in
     let first : List (ℕ × LogItem) = h.first ++ p.first in
     let are : r.acts ≡ first ++ end = h.are ∙ (ap (λ (x : List (ℕ × LogItem)). h.first ++ x) p.are ∙ sym (append_assoc h.first p.first end)) in
     let quiet : part 0 p.first ≡ [] = none_before (part 0 p.first) item later (part 0 p.second) (sym (part_append 0 p.first end) ∙ (ap (part 0) (sym p.are) ∙ h.rest)) p.rest in
     let did : part 0 first ≡ before = part_append 0 h.first p.first ∙ ((λ k. h.mine k ++ quiet k) ∙ append-nil before) in
-    let whole : Follows (opening z) r.acts run.events g = run_as_logged z s r in
-    let k = cut (opening z) first end run.events g (subst (λ (x : List (ℕ × LogItem)). Follows (opening z) x run.events g) are whole) in
+    let k = cut (opening z) first end run.events g (subst (λ (x : List (ℕ × LogItem)). Follows (opening z) x run.events g) are (run_as_logged z s r)) in
     let fit : IsTrue (are_fit z) = subst (λ (a : Settings). IsTrue (are_fit a)) run.settings run.good.holds.fit in
     let own = own_first run.seat g.seated first end (subst (AreByOwn run.seat g.seated) are r.owners) in
     record {
@@ -199,8 +190,7 @@ freed_is_gone z s i l t n r at f = let run = running_headline z s r in record { 
 -- the keeper has the first seat, and its log is all that it did
 pub keeper_did : (z : Settings) (s : Table ℕ Logged) (i : ℕ) (l : Logged) (k : KeeperView) → (r : RunsAsLogged z s) → get_elem? s.views i ≡ some l → l.view ≡ Keeper k → l.log ≡ part 0 r.acts
 keeper_did z s i l k r at is =
-    let first : i ≡ 0 = subst (Sits r.run.seat i) is (r.run.shows.fits i l.view (at_map (λ (d : Logged). d.view) s.views i l at)).0 in
-    r.logs i l at (subst IsStanding (sym is) tt) ∙ ap (λ (j : ℕ). part j r.acts) first
+    r.logs i l at (subst IsStanding (sym is) tt) ∙ ap (λ (j : ℕ). part j r.acts) (subst (Sits r.run.seat i) is (r.run.shows.fits i l.view (at_map (λ (d : Logged). d.view) s.views i l at)).0)
 
 pub freed_by_keeper : FreedByKeeper
 freed_by_keeper z s i l k t n r at is f =
@@ -225,12 +215,10 @@ kept_since : (cpus : ℕ) (log : List LogItem) (m : State) (more : List (ℕ × 
 kept_since cpus log m more [] g t n d run on known number keeps is = absurd run
 kept_since cpus log m more (e ∷ es) g t n d run on known number keeps is =
     let o = run.0 in
-    let same : Publish t ≡ e = same_event m e (Publish t) (ap (λ (x : LogItem). x.event) run.2) refl in
-    let attach : step m (Publish t) ≡ Some o = ap (step m) same ∙ run.1 in
-    let holds : Holds o.state = step_holds m o.state e o.reply on run.1 in
+    let attach : step m (Publish t) ≡ Some o = ap (step m) (same_event m e (Publish t) (ap (λ (x : LogItem). x.event) run.2) refl) ∙ run.1 in
     let has : occupant_of o.state t ≡ Some n = made_numbers m o.state (Publish t) o.reply on (made m (Publish t) o attach) ∙ ap (λ (k : ℕ). Some (suc k)) known.changes ∙ ap (λ (k : ℕ). Some k) (sym number) in
     let kept : kept_at o.state.keeps t ≡ Some d = keeps_on t m (Publish t) o on attach ∙ (known.kept t ∙ keeps) in
-    let laws = (obeys_laws o.state holds).drivers in
+    let laws = (obeys_laws o.state (step_holds m o.state e o.reply on run.1)).drivers in
     let stands = laws.stands t d kept in
     let there : occupant_of o.state stands.0 ≡ Some d = number_of (slot_at o.state.slots stands.0) stands.1 stands.2 ∙ ap (λ (k : ℕ). Some k) stands.3 in
     let leads : g ≡ after o.state es = follows_after o.state more es g run.3 in
@@ -259,8 +247,7 @@ gone_from z g k last s t n words shown gone = record {
   unlisted = λ u lt is.
       let here : live_at g.lives u ≡ n = sym (words.at (live_of u) (subst (λ (a : Settings). u < a.slots) (sym words.settings) lt)) ∙ is in
       let some_one : 0 < n = subst (λ (m : ℕ). 0 < m) gone.number (at_within g.history gone.e.number (Attach gone.e) gone.attached).0 in
-      let honest : is_honest n (slot_at g.slots u) ≡ true = subst (λ (m : ℕ). is_honest m (slot_at g.slots u) ≡ true) here (shown.honest u) in
-      let live = live_tells n (slot_at g.slots u) (honest_tells n (slot_at g.slots u) some_one honest) in
+      let live = live_tells n (slot_at g.slots u) (honest_tells n (slot_at g.slots u) some_one (subst (λ (m : ℕ). is_honest m (slot_at g.slots u) ≡ true) here (shown.honest u))) in
       gone.slotless u (ap number_in live.2 ∙ ap (λ (m : ℕ). Some m) live.1);
 }
 

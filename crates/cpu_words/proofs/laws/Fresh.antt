@@ -8,15 +8,15 @@ use mathlib.Core.Option.{some}
 use lib.ListN.{get_elem?}
 use Rattle.atomic_table.specs.Table.{State as Table}
 use Rattle.atomic_table.proofs.Lists.{at_map}
-use Rattle.cpu_words.specs.Types.{Key, Entry, Change, Settings, Event, Enter, Hear, Recall, RecallHead, Refind, Confirm, Word, LoadLink, LoadRecord, RecordOf, Passive, Local, Compared, Reply, Ref}
+use Rattle.cpu_words.specs.Types.{Key, Entry, Change, Settings, Event, Enter, Hear, Recall, RecallHead, Refind, Confirm, Word, LoadLink, LoadRecord, RecordOf, Reply, Ref}
 use Rattle.registry_values.specs.Common.{are_fit}
 use Rattle.protocol.specs.declared.event.RecordOf.TheVariants.{Search as OfSearch}
-use Rattle.protocol.specs.Common.{State, opening, Outcome, step, state_after, Holds, live_at, seen_at, may_recall, after_seeing, after, after_event, IsAllowed, IsLoadOf, answer_of, IsNoSeek, SeeksNone, IsFreshAnswer, seek_for}
+use Rattle.protocol.specs.Common.{State, opening, Outcome, step, state_after, Holds, live_at, seen_at, may_recall, after_seeing, after, after_event, IsAllowed, IsLoadOf, answer_of, IsNoSeek, SeeksNone, IsFreshAnswer, seek_for, SeesAll}
 use Rattle.protocol.proofs.keeps.Keeping.{opening_holds, step_keeps, after_keeps}
 use Rattle.protocol.proofs.runs.Answers.{history_grows}
 use Rattle.protocol.proofs.runs.Fresh.{answers_freshly, one_word, recalls_live, recalls_newest, sees_all}
 use Rattle.protocol.proofs.runs.Steps.{after_more}
-use Rattle.cpu_words.specs.Common.{Cpu, CpuView, LogItem, Logged, by_number, reply_without_id, maker, IsSeatOf, AreByOwn, part, has_heard_from, IsStanding, RunsAsLogged, Sits, has_sought, until_reply, with_reply, HeadsAreNewest, LookupsAreFresh, history_length, PassesAreWhole, RecallsAreLive, RefindsAreLive, WholeInTheList, log_item}
+use Rattle.cpu_words.specs.Common.{Cpu, CpuView, LogItem, Logged, by_number, reply_without_id, maker, IsSeatOf, AreByOwn, part, has_heard_from, IsStanding, RunsAsLogged, Sits, has_sought, until_reply, with_reply, HeadsAreNewest, LookupsAreFresh, history_length, RecallsAreLive, RefindsAreLive, WholeInTheList, log_item, PassesAreWhole}
 use Rattle.cpu_words.proofs.laws.Waiting.{own_first, part_placed, fewer_acts, cut_at}
 use Rattle.cpu_words.proofs.logs.Loads.{run_as_logged, is_whole, same_event, part_same, part_off, place}
 use Rattle.cpu_words.proofs.logs.Runs.{part_append, Follows, after_append, follows_after, follows_holds, cut}
@@ -54,9 +54,7 @@ is_record e = false
 
 load_from : (s : State) (c : ℕ) (of : RecordOf) (d : Event) → d ≡ by_number s (LoadRecord of) → d ≡ LoadRecord (OfSearch c) → LoadRecord of ≡ LoadRecord (OfSearch c)
 load_from s c (OfSearch b) d is load = sym is ∙ load
-load_from s c (Passive b n k) d is load = absurd (let q : LoadRecord (Passive b n k) ≡ LoadRecord (OfSearch c) = sym is ∙ load in cc)
-load_from s c (Local id k) d is load = absurd (let q : by_number s (LoadRecord (Local id k)) ≡ LoadRecord (OfSearch c) = sym is ∙ load in cc)
-load_from s c (Compared b) d is load = absurd (let q : LoadRecord (Compared b) ≡ LoadRecord (OfSearch c) = sym is ∙ load in cc)
+load_from s c of d is load = absurd (let q : by_number s (LoadRecord of) ≡ LoadRecord (OfSearch c) = sym is ∙ load in cc)
 
 load_as : (s : State) (c : ℕ) (e d : Event) → d ≡ by_number s e → d ≡ LoadRecord (OfSearch c) → e ≡ LoadRecord (OfSearch c)
 load_as s c (LoadRecord of) d is load = load_from s c of d is load
@@ -80,7 +78,6 @@ replies : (s : State) (i c : ℕ) (d : LogItem) (answer : Option Entry) (more : 
 replies s i c d answer more [] t run of is = absurd run
 replies s i c d answer more (e ∷ es) t run of is =
     let event : d.event ≡ by_number s e = ap (λ (x : LogItem). x.event) run.2 in
-    let reply : d.reply ≡ reply_without_id run.0.reply = ap (λ (x : LogItem). x.reply) run.2 in
     record {
       load = e;
       later = es;
@@ -91,7 +88,7 @@ replies s i c d answer more (e ∷ es) t run of is =
           (λ (link : d.event ≡ LoadLink c). inl (sym (same_event s e (LoadLink c) (sym link ∙ event) refl)))
           (λ (rec : d.event ≡ LoadRecord (OfSearch c)). inr (load_as s c e d.event event rec))
           of;
-      replied = replied_as run.0.reply answer (ap answer_of (sym reply) ∙ is);
+      replied = replied_as run.0.reply answer (ap answer_of (sym (ap (λ (x : LogItem). x.reply) run.2)) ∙ is);
     }
 
 -- among the events between the CPU began no search: one of its own is in its log, and another seat's isn't its Seek
@@ -121,9 +118,7 @@ replied_after : (z : Settings) (first : List Event) (c : ℕ) (key : Key) (since
     → n ≡ after (after_event m (seek_for c key)) since → step n load ≡ Some o → o.state ≡ after (opening z) (with_reply first c key since load)
 replied_after z first c key since load m n o start there made =
     let last : o.state ≡ after n (load ∷ []) = ap (λ (x : Option Outcome). state_after n x) (sym made) ∙ sym (one_after n load) in
-    let middle : after n (load ∷ []) ≡ after (after_event m (seek_for c key)) (since ++ load ∷ []) =
-    ap (λ (x : State). after x (load ∷ [])) there ∙ sym (after_append (after_event m (seek_for c key)) since (load ∷ [])) in
-    last ∙ (middle ∙ (sym (after_more m (seek_for c key) (since ++ load ∷ []))
+    last ∙ ((ap (λ (x : State). after x (load ∷ [])) there ∙ sym (after_append (after_event m (seek_for c key)) since (load ∷ []))) ∙ (sym (after_more m (seek_for c key) (since ++ load ∷ []))
     ∙ (ap (λ (x : State). after x (seek_for c key ∷ (since ++ load ∷ []))) start ∙ sym (after_append (opening z) first (seek_for c key ∷ (since ++ load ∷ []))))))
 
 pub lookups_are_fresh : LookupsAreFresh
@@ -143,8 +138,7 @@ lookups_are_fresh z s r i l x key answer at is a =
     let j = cut (opening z) p.first middle k.earlier k.between k.before in
     let b = begins j.between i c key q.first j.later k.between j.since in
     let e = replies k.between i c a.load answer q.second k.later g k.since a.loads a.replied in
-    let fit : IsTrue (are_fit z) = subst (λ (w : Settings). IsTrue (are_fit w)) run.settings run.good.holds.fit in
-    let on : Holds j.between = follows_holds (opening z) p.first j.earlier j.between j.before (opening_holds z fit) in
+    let on : Holds j.between = follows_holds (opening z) p.first j.earlier j.between j.before (opening_holds z (subst (λ (w : Settings). IsTrue (are_fit w)) run.settings run.good.holds.fit)) in
     let owners : AreByOwn run.seat g.seated q.first =
     own_first run.seat g.seated q.first end (subst (AreByOwn run.seat g.seated) q.are (own_last run.seat g.seated (p.first ++ (i, begin) ∷ []) p.second
     (subst (AreByOwn run.seat g.seated) (p.are ∙ sym (append_assoc p.first ((i, begin) ∷ []) p.second)) r.owners))) in
@@ -190,8 +184,7 @@ longer s [] on = omega arith
 longer s (e ∷ es) on =
     let grows = history_grows s e in
     let size : length (after_event s e).history ≡ length s.history + length grows.0 = ap (λ (h : List Change). length h) grows.1 ∙ length-append s.history grows.0 in
-    let rest = longer (after_event s e) es (after_keeps s (step s e) on (step_keeps s e on)) in
-    subst (λ (n : State). length s.history ≤ length n.history) (sym (after_more s e es)) (omega (arith, size, rest))
+    subst (λ (n : State). length s.history ≤ length n.history) (sym (after_more s e es)) (omega (arith, size, longer (after_event s e) es (after_keeps s (step s e) on (step_keeps s e on))))
 
 -- the state at a moment, and what goes on from it
 record AtMoment (z : Settings) (first rest : List Event) : Type 0 where
@@ -209,32 +202,22 @@ at_moment z s r first rest are =
     let k = cut_at z run.seat g.seated r.acts r.acts [] run.events first rest g fit r.owners (run_as_logged z s r) (sym (append-nil r.acts)) are (omega (arith, size)) in
     record { acts = k.since ++ k.later; t = g; run = k.run; on = k.on }
 
+-- after an event that lets the CPU see all
+passes_at : (z : Settings) (s : Table ℕ Logged) (r : RunsAsLogged z s) (c : ℕ) (e : Event) → ((n : State) → SeesAll n → IsAllowed n e → seen_at (after_event n e) c ≡ length n.history)
+    → (first rest : List Event) → r.run.events ≡ first ++ e ∷ rest → seen_at (after (opening z) (first ++ e ∷ [])) c ≡ history_length z first
+passes_at z s r c e law first rest are =
+    let m = at_moment z s r first (e ∷ rest) are in
+    let g = after (opening z) first in
+    ap (λ (n : State). seen_at n c) (after_append (opening z) first (e ∷ []) ∙ one_after g e) ∙ law g (sees_all g m.on) (first_made g m.acts e rest m.t m.run)
+
 passes_are_whole : (z : Settings) (s : Table ℕ Logged) (r : RunsAsLogged z s) → PassesAreWhole r
 passes_are_whole z s r = record {
-  entered = λ c first rest are.
-      let m = at_moment z s r first (Enter c ∷ rest) are in
-      ap (λ (n : State). seen_at n c) (after_append (opening z) first (Enter c ∷ []) ∙ one_after (after (opening z) first) (Enter c))
-      ∙ (sees_all (after (opening z) first) m.on).entered c (first_made (after (opening z) first) m.acts (Enter c) rest m.t m.run);
-  heard = λ c first rest are.
-      let m = at_moment z s r first (Hear (Some c) ∷ rest) are in
-      ap (λ (n : State). seen_at n c) (after_append (opening z) first (Hear (Some c) ∷ []) ∙ one_after (after (opening z) first) (Hear (Some c)))
-      ∙ (sees_all (after (opening z) first) m.on).heard c (first_made (after (opening z) first) m.acts (Hear (Some c)) rest m.t m.run);
-  recalled = λ c t first rest are.
-      let m = at_moment z s r first (Recall c t ∷ rest) are in
-      ap (λ (n : State). seen_at n c) (after_append (opening z) first (Recall c t ∷ []) ∙ one_after (after (opening z) first) (Recall c t))
-      ∙ (sees_all (after (opening z) first) m.on).recalled c t (first_made (after (opening z) first) m.acts (Recall c t) rest m.t m.run);
-  headed = λ c first rest are.
-      let m = at_moment z s r first (RecallHead c ∷ rest) are in
-      ap (λ (n : State). seen_at n c) (after_append (opening z) first (RecallHead c ∷ []) ∙ one_after (after (opening z) first) (RecallHead c))
-      ∙ (sees_all (after (opening z) first) m.on).headed c (first_made (after (opening z) first) m.acts (RecallHead c) rest m.t m.run);
-  refound = λ c t n first rest are.
-      let m = at_moment z s r first (Refind c t n ∷ rest) are in
-      ap (λ (g : State). seen_at g c) (after_append (opening z) first (Refind c t n ∷ []) ∙ one_after (after (opening z) first) (Refind c t n))
-      ∙ (sees_all (after (opening z) first) m.on).refound c t n (first_made (after (opening z) first) m.acts (Refind c t n) rest m.t m.run);
-  confirmed = λ c first rest are.
-      let m = at_moment z s r first (Confirm c ∷ rest) are in
-      ap (λ (n : State). seen_at n c) (after_append (opening z) first (Confirm c ∷ []) ∙ one_after (after (opening z) first) (Confirm c))
-      ∙ (sees_all (after (opening z) first) m.on).confirmed c (first_made (after (opening z) first) m.acts (Confirm c) rest m.t m.run);
+  entered = λ c. passes_at z s r c (Enter c) (λ n all. all.entered c);
+  heard = λ c. passes_at z s r c (Hear (Some c)) (λ n all. all.heard c);
+  recalled = λ c t. passes_at z s r c (Recall c t) (λ n all. all.recalled c t);
+  headed = λ c. passes_at z s r c (RecallHead c) (λ n all. all.headed c);
+  refound = λ c t k. passes_at z s r c (Refind c t k) (λ n all. all.refound c t k);
+  confirmed = λ c. passes_at z s r c (Confirm c) (λ n all. all.confirmed c);
   told = λ c i h first rest earlier later are cut_is few.
       let item = has_heard_from (Some c) (Some h) in
       let come : h.events ≤ length (part (r.run.seat h.cpu) first) = (r.told i item first rest are).before.events in
@@ -267,12 +250,11 @@ loads : (s : State) (i n : ℕ) (e : Event) (more : List (ℕ × LogItem)) (es :
 loads s i n e more [] u whole run = absurd run
 loads s i n e more (d ∷ es) u whole run =
     let same : e ≡ d = same_event s d e (ap (λ (k : LogItem). k.event) run.2) whole in
-    let reply : run.0.reply ≡ Word n = replied_by run.0.reply n (ap (λ (k : LogItem). k.reply) run.2) in
     record {
       later = es;
       are = ap (λ (f : Event). f ∷ es) (sym same);
       left = run.0.state;
-      made = ap (step s) same ∙ (run.1 ∙ ap (λ (r : Reply). Some (record { state = run.0.state; reply = r })) reply);
+      made = ap (step s) same ∙ (run.1 ∙ ap (λ (r : Reply). Some (record { state = run.0.state; reply = r })) (replied_by run.0.reply n (ap (λ (k : LogItem). k.reply) run.2)));
     }
 
 -- the load's place in the list of all events: the CPU c had done just so much before it
@@ -296,7 +278,6 @@ loaded z s r i l x e n before after_it at is are whole =
     let p = place i r.acts before after_it item mine in
     let k = cut (opening z) p.first ((i, item) ∷ p.second) run.events g (subst (λ (d : List (ℕ × LogItem)). Follows (opening z) d run.events g) p.are (run_as_logged z s r)) in
     let b = loads k.between i n e p.second k.later g whole k.since in
-    let fit : IsTrue (are_fit z) = subst (λ (w : Settings). IsTrue (are_fit w)) run.settings run.good.holds.fit in
     let there : k.between ≡ after (opening z) k.earlier = follows_after (opening z) p.first k.earlier k.between k.before in
     let own : part i (take (length k.earlier) r.acts) ≡ before =
     ap (part i) (ap (take (length k.earlier)) p.are ∙ take_at p.first ((i, item) ∷ p.second) (length k.earlier) (sym k.size)) ∙ part_placed i r.acts before after_it item mine p in
@@ -305,7 +286,7 @@ loaded z s r i l x e n before after_it at is are whole =
       later = b.later;
       are = k.are ∙ ap (λ (d : List Event). k.earlier ++ d) b.are;
       own = subst (λ (m : ℕ). part m (take (length k.earlier) r.acts) ≡ before) sits own;
-      on = subst Holds there (follows_holds (opening z) p.first k.earlier k.between k.before (opening_holds z fit));
+      on = subst Holds there (follows_holds (opening z) p.first k.earlier k.between k.before (opening_holds z (subst (λ (w : Settings). IsTrue (are_fit w)) run.settings run.good.holds.fit)));
       left = b.left;
       made = subst (λ (m : State). step m e ≡ Some (record { state = b.left; reply = Word n })) there b.made;
     }
@@ -334,8 +315,7 @@ refinds_are_live z s r i l x t n at is a =
       are = b.are;
       own = b.own;
       live = λ e attached number.
-          let allowed : IsAllowed g (Refind x.id t e.number) = subst (λ (m : ℕ). IsAllowed g (Refind x.id t m)) (sym number) (is_allowed g b.left (Refind x.id t n) (Word n) b.made) in
-          let live = (recalls_live g b.on).refound x.id t e allowed attached in
+          let live = (recalls_live g b.on).refound x.id t e (subst (λ (m : ℕ). IsAllowed g (Refind x.id t m)) (sym number) (is_allowed g b.left (Refind x.id t n) (Word n) b.made)) attached in
           (live.0, live.1);
     }
 

@@ -1,22 +1,21 @@
 -- The headline of the running words: what the protocol's laws say of the state that the table shows, of what seats hold, and of the keeper's marks.
-use Rattle.std.proofs.Common.{◌≡◌, ℕ, List, IsTrue, length, sym, ap, ◌∙◌, subst, ◌≤◌, ◌<◌, ◌==◌, ◌⊎◌, inl, inr, ⊎_elim, Option, Some, None, refl, arith}
+use Rattle.std.proofs.Common.{◌≡◌, ℕ, List, IsTrue, length, sym, ap, ◌∙◌, subst, ◌<◌, ◌⊎◌, inr, ⊎_elim, Option, Some, refl, arith}
 use Rattle.std.proofs.lemmas.List.{length-map}
 use Rattle.std.proofs.lemmas.Option.{none-some, same_Some}
 use Rattle.atomic_table.specs.Table.{State as Table}
 use Rattle.cpu_words.specs.Types.{Settings, Entry, Change, Slot, Hand, LocalPlace, Mark, Retired}
-use Rattle.registry_values.specs.Common.{are_fit, slot_at, slot_of}
-use Rattle.protocol.specs.Common.{State, IsAttached, hand_at, kept_at, IsIn, Occupies, HandHolds, one_if, MayHold, opening, mark_at, IsUnheld, picture, number_in, after}
+use Rattle.registry_values.specs.Common.{are_fit, slot_at}
+use Rattle.protocol.specs.Common.{State, IsAttached, hand_at, kept_at, IsIn, Occupies, HandHolds, MayHold, opening, mark_at, IsUnheld, picture, number_in, after}
 use Rattle.protocol.specs.declared.state.Hand.TheVariants.{Empty as EmptyHand, Taking as TakingHand, Giving as GivingHand, Back as BackHand, Trying as TryingHand}
 use Rattle.protocol.proofs.runs.Reuse.{every_run_keeps}
 use Rattle.protocol.proofs.runs.Headline.{obeys_laws}
 use Rattle.protocol.proofs.model.Refining.{every_run_is_model_run}
-use Rattle.protocol.proofs.History.{one_entry}
 use Rattle.protocol.proofs.counts.Sums.{number_of, no_standing, one_self, none_in_hand}
-use Rattle.protocol.proofs.Occupied.{attached_in, slot_occupied, slot_found, in_within}
+use Rattle.protocol.proofs.Occupied.{in_within}
 use Rattle.protocol.proofs.model.RefiningEntries.{unheld_when_drained}
 use Rattle.cpu_words.specs.Common.{LogItem, View, without_logs, untold, AreByOwn, AreToldBefore, Agrees, ShowsViews, Good, Ruled, RunsLawfully, RunningHeadline, InHand, Empty, Taking, Giving, Back, Trying, CpuView, Keeper, Cpu, Reference, Note, Spent, SameHand, references_to, CpuShown, Shown, SectionMayHold, IsInHand, SeatHolds, HeldHaveSlots, passive_of, count_of, KeeperShown, MarkTells, DrainedIsFree, MarksAreHonest, FoundIsHeld}
-use Rattle.cpu_words.proofs.shown.Showing.{standing_in, IsBacked, backed}
-use Rattle.cpu_words.proofs.shown.Seeing.{seen_of, Seen, tries}
+use Rattle.cpu_words.proofs.shown.Showing.{IsBacked, backed}
+use Rattle.cpu_words.proofs.shown.Seeing.{seen_of, Seen, tries, occupies, its_slot}
 use Rattle.cpu_words.proofs.by_keeper.KeeperSteps.{SeenByKeeper, seen_by_keeper}
 use Rattle.cpu_words.proofs.by_keeper.Vacating.{Drained, drained_of}
 
@@ -56,20 +55,11 @@ running_headline z s r = record {
 -- what is in the view's hand is in the core's
 pub same_number : (h : Hand) (k : InHand) (n : ℕ) → SameHand h k → IsInHand n k → number_of h ≡ Some n
 same_number EmptyHand Empty n same is = absurd is
-same_number EmptyHand (Taking e) n same is = absurd same
-same_number EmptyHand (Giving e) n same is = absurd same
-same_number EmptyHand (Back e) n same is = absurd same
 same_number (TakingHand m) Empty n same is = absurd is
 same_number (TakingHand m) (Taking e) n same is = ap (λ (x : ℕ). Some x) (same ∙ is)
-same_number (TakingHand m) (Giving e) n same is = absurd same
-same_number (TakingHand m) (Back e) n same is = absurd same
 same_number (GivingHand m id) Empty n same is = absurd is
-same_number (GivingHand m id) (Taking e) n same is = absurd same
 same_number (GivingHand m id) (Giving e) n same is = ap (λ (x : ℕ). Some x) (same ∙ is)
-same_number (GivingHand m id) (Back e) n same is = absurd same
 same_number (BackHand m id) Empty n same is = absurd is
-same_number (BackHand m id) (Taking e) n same is = absurd same
-same_number (BackHand m id) (Giving e) n same is = absurd same
 same_number (BackHand m id) (Back e) n same is = ap (λ (x : ℕ). Some x) (same ∙ is)
 same_number (TryingHand t m) (Trying e) n same is = absurd is
 same_number h k n same is = absurd same
@@ -81,27 +71,6 @@ hand_occupies slots locals c (TakingHand m) n holds is = subst (Occupies slots) 
 hand_occupies slots locals c (GivingHand m id) n holds is = subst (Occupies slots) (same_Some m n is) holds.0
 hand_occupies slots locals c (BackHand m id) n holds is = subst (Occupies slots) (same_Some m n is) holds.0
 hand_occupies slots locals c (TryingHand t m) n holds is = absurd (none-some n is)
-
--- Slots
-
-occupied : (slots : List Slot) (n : ℕ) (o : Option ℕ) → slot_of slots n ≡ o → Occupies slots n ⊎ (Occupies slots n → ⊥)
-occupied slots n None is = inr (λ there. let found = slot_found slots n there in none-some found.0 (sym is ∙ found.1))
-occupied slots n (Some t) is = inl (slot_occupied slots n t is)
-
--- what can't be without a slot has one
-occupies : (slots : List Slot) (n : ℕ) → ((Occupies slots n → ⊥) → ⊥) → Occupies slots n
-occupies slots n off = ⊎_elim
-    (λ (is : Occupies slots n). is)
-    (λ (none : Occupies slots n → ⊥). absurd (off none))
-    (occupied slots n (slot_of slots n) refl)
-
--- the slot that has an entry's number is its own
-its_slot : (g : State) (e : Entry) → Good g → IsAttached g.history e → Occupies g.slots e.number → IsIn e (slot_at g.slots e.slot)
-its_slot g e good attached has =
-    let its = attached_in g.history g.slots has.0 has.1 good.holds.slots has.2 in
-    let one : e ≡ has.1 = one_entry g.history e has.1 attached its.0 (sym has.3) in
-    let at : has.0 ≡ e.slot = sym its.1 ∙ sym (ap (λ (f : Entry). f.slot) one) in
-    subst (λ (t : ℕ). IsIn e (slot_at g.slots t)) at (subst (λ (f : Entry). IsIn f (slot_at g.slots has.0)) (sym one) has.2)
 
 -- Seats
 
@@ -122,10 +91,7 @@ seat_has_slot g e (Cpu x) good shown has attached holds = ⊎_elim
     (λ (rest : (0 < references_to e.number x.references) ⊎ IsInHand e.number x.hand). its_slot g e good attached (cpu_has g e x good shown rest))
     holds
 seat_has_slot g e (Reference v) good shown has attached is = its_slot g e good attached (occupies g.slots e.number (λ off.
-    let some_one : one_if (v.entry.number == e.number) ≤ standing_in e.number g = has e.number in
-    let one = one_self v.entry.number e.number is in
-    let none = no_standing e.number g.locals (λ id stands. off (good.holds.references.standing id e.number stands)) in
-    omega (arith, some_one, one, none)))
+    omega (arith, has e.number, one_self v.entry.number e.number is, no_standing e.number g.locals (λ id stands. off (good.holds.references.standing id e.number stands)))))
 seat_has_slot g e (Note h) good shown has attached holds = absurd holds
 seat_has_slot g e Spent good shown has attached holds = absurd holds
 
@@ -149,11 +115,7 @@ holds_none g t e (Cpu x) good drained free shown has holds = ⊎_elim
     (λ (is : IsInHand e.number x.hand). none_in_hand e.number g.hands (omega (arith, free.locals)) x.id (same_number (hand_at g x.id) x.hand e.number shown.hand is))
     rest)
     holds
-holds_none g t e (Reference v) good drained free shown has is =
-    let some_one : one_if (v.entry.number == e.number) ≤ standing_in e.number g = has e.number in
-    let one = one_self v.entry.number e.number is in
-    let none = free.locals in
-    omega (arith, some_one, one, none)
+holds_none g t e (Reference v) good drained free shown has is = omega (arith, has e.number, one_self v.entry.number e.number is, free.locals)
 holds_none g t e (Note h) good drained free shown has holds = holds
 holds_none g t e Spent good drained free shown has holds = holds
 
@@ -179,16 +141,11 @@ mark_tells z words g t e x good agrees shown retired =
     let seen : Seen g x = seen_of g x good shown in
     let slot : t < g.settings.slots = omega (arith, in_within g.slots t e (inr retired), good.holds.shape.slots) in
     let ended = (good.holds.slots.retired t e retired).2 in record {
-      passed = λ passed m.
-          let later = good.holds.grace.passed t ended.0 x.id m.0 e retired ended.1 (sym seen.begin ∙ m.1) passed in
-          let before = m.2.unended ended.0 ended.1 in
-          absurd (omega (arith, later, before));
+      passed = λ passed m. absurd (omega (arith, good.holds.grace.passed t ended.0 x.id m.0 e retired ended.1 (sym seen.begin ∙ m.1) passed, m.2.unended ended.0 ended.1));
       clear = λ clear.
           let none = good.holds.passive.clear x.id t e retired clear in
-          let counts = shown.passive t e (inr retired) in
           let tried = tries g x t shown in
-          let word = none.1 in
-          (none.0, omega (arith, counts, tried, word), agrees.at (passive_of x.id t) (seen.lt, slot) ∙ (none.1 ∙ sym tried));
+          (none.0, omega (arith, shown.passive t e (inr retired), tried, none.1), agrees.at (passive_of x.id t) (seen.lt, slot) ∙ (none.1 ∙ sym tried));
       collected = λ collected.
           (good.holds.passive.collected x.id t e retired collected, agrees.at (count_of x.id t) (seen.lt, slot) ∙ good.holds.balance.emptied x.id t e retired collected);
     }
@@ -197,14 +154,12 @@ pub marks_are_honest : MarksAreHonest
 marks_are_honest z s i j t k x e r at there retired =
     let g = r.g in
     let seen : SeenByKeeper g k = seen_by_keeper g k r.good (r.shows.fits i (Keeper k) at).1 in
-    let is : slot_at g.slots t ≡ Retired e = sym (ap (λ (l : List Slot). slot_at l t) seen.slots) ∙ retired in
-    let told = mark_tells z s.words g t e x r.good r.words (r.shows.fits j (Cpu x) there).1 is in
+    let told = mark_tells z s.words g t e x r.good r.words (r.shows.fits j (Cpu x) there).1 (sym (ap (λ (l : List Slot). slot_at l t) seen.slots) ∙ retired) in
     subst (λ (p : List Change × List (List Mark)). MarkTells z s.words p.0 t e (mark_at p.1 t x.id) x) (λ q. (sym seen.history q, sym seen.marks q)) told
 
 pub found_is_held : FoundIsHeld
 found_is_held z s i j k x e r at there is =
     let g = r.g in
-    let seen : SeenByKeeper g k = seen_by_keeper g k r.good (r.shows.fits i (Keeper k) at).1 in
     let own : Seen g x = seen_of g x r.good (r.shows.fits j (Cpu x) there).1 in
     let held = r.good.holds.last_found x.id e (sym own.found ∙ is) in
-    (held.0, own.begin ∙ held.1, subst (λ (h : List Change). MayHold h held.0 e) (sym seen.history) held.2)
+    (held.0, own.begin ∙ held.1, subst (λ (h : List Change). MayHold h held.0 e) (sym (seen_by_keeper g k r.good (r.shows.fits i (Keeper k) at).1).history) held.2)

@@ -1,6 +1,6 @@
 -- Waiting: where the keeper took the section word of each CPU, and later found each even or another one, each section that was open before has ended.
 use Rattle.std.proofs.Common.{None, ◌≡◌, ◌⊎◌, inl, inr, ⊎_elim, ℕ, ◌+◌, ◌-◌, ◌%◌, ◌<◌, ◌≤◌, IsTrue, List, [], ◌∷◌, ◌++◌, length, take, drop, Some, refl, sym, ap, ◌∙◌, subst, length-append, append_assoc, arith}
-use Rattle.std.proofs.lemmas.Bool.{cases_lt}
+use Rattle.std.proofs.Math.Nat.{lt_of_not-le}
 use Rattle.std.proofs.lemmas.List.{append_cancel_left, append_cancel_right, take_at, take-append-drop, take-append-le, length-take-le}
 use Rattle.std.proofs.lemmas.Option.{none-some}
 use Rattle.std.proofs.Math.Seq.{take-append-add}
@@ -119,14 +119,8 @@ own_first seat n [] b own = tt
 own_first seat n (x ∷ rest) b own = (own.0, own_first seat n rest b own.1)
 
 -- a CPU past the last has no section
-beyond : (s : State) (c b : ℕ) → Holds s → s.settings.cpus ≤ c → begin_at s c ≡ Some b → ⊥
-beyond s c b on le is = none-some b (sym (on.seats.outside c (let w = on.seats.within in omega (arith, le, w))) ∙ is)
-
 within : (s : State) (c b : ℕ) (n : ℕ) → Holds s → s.settings.cpus ≡ n → begin_at s c ≡ Some b → c < n
-within s c b n on same is = ⊎_elim
-    (λ (lt : c < n). lt)
-    (λ (le : n ≤ c). absurd (beyond s c b on (omega (arith, same, le)) is))
-    (cases_lt c n)
+within s c b n on same is = lt_of_not-le (λ (le : n ≤ c). none-some b (sym (on.seats.outside c (omega (arith, same, le, on.seats.within))) ∙ is))
 
 -- of one CPU, over the whole run
 ended_on : (z : Settings) (s : Table ℕ Logged) (r : RunsAsLogged z s) (before since rest : List LogItem) (first second : List (ℕ × LogItem)) → r.acts ≡ first ++ second → part 0 first ≡ before
@@ -173,11 +167,9 @@ cut_at z seat n acts acts_then later events first rest t fit owners run are cut_
     let both : acts_then ≡ a ++ b = sym (take-append-drop m acts_then) in
     let all : acts ≡ a ++ (b ++ later) = are ∙ (ap (λ (l : List (ℕ × LogItem)). l ++ later) both ∙ append_assoc a b later) in
     let k = cut (opening z) a (b ++ later) events t (subst (λ (l : List (ℕ × LogItem)). Follows (opening z) l events t) all run) in
-    let size : length k.earlier ≡ m = k.size ∙ length-take-le m acts_then le in
-    let same : first ≡ k.earlier = sym (take_at first rest m refl) ∙ (ap (take m) (sym cut_is ∙ k.are) ∙ take_at k.earlier k.later m size) in
+    let same : first ≡ k.earlier = sym (take_at first rest m refl) ∙ (ap (take m) (sym cut_is ∙ k.are) ∙ take_at k.earlier k.later m (k.size ∙ length-take-le m acts_then le)) in
     let end : rest ≡ k.later = append_cancel_left first rest k.later (sym cut_is ∙ (k.are ∙ ap (λ (l : List Event). l ++ k.later) (sym same))) in
     let there : k.between ≡ after (opening z) first = follows_after (opening z) a k.earlier k.between k.before ∙ ap (after (opening z)) (sym same) in
-    let on : Holds k.between = follows_holds (opening z) a k.earlier k.between k.before (opening_holds z fit) in
     let own = own_first seat n a (b ++ later) (subst (AreByOwn seat n) all owners) in
     let long : length k.between.history ≡ changes_in (part 0 a) + 0 = counted seat n (opening z) a k.earlier k.between k.before (opening_holds z fit) own in
     let more : changes_in (part 0 acts_then) ≡ changes_in (part 0 a) + changes_in (part 0 b) =
@@ -189,7 +181,7 @@ cut_at z seat n acts acts_then later events first rest t fit owners run are cut_
       are = both;
       all = all;
       run = subst (λ (s : State). Follows s (b ++ later) rest t) there (subst (λ (es : List Event). Follows k.between (b ++ later) es t) (sym end) k.since);
-      on = subst Holds there on;
+      on = subst Holds there (follows_holds (opening z) a k.earlier k.between k.before (opening_holds z fit));
       changes = let same_length : length k.between.history ≡ length (after (opening z) first).history = ap (λ (s : State). length s.history) there in omega (arith, long, more, same_length);
     }
 
@@ -207,16 +199,13 @@ seen_past c first looks seen = record {
 
 -- A moment at which a CPU had made fewer events is before one at which it had made these.
 pub fewer_acts : (i n m : ℕ) (acts acts_then later : List (ℕ × LogItem)) → acts ≡ acts_then ++ later → n ≤ length (part i acts_then) → length (part i (take m acts)) < n → m < length acts_then
-fewer_acts i n m acts acts_then later are come few = ⊎_elim
-    (λ (lt : m < length acts_then). lt)
-    (λ (le : length acts_then ≤ m).
+fewer_acts i n m acts acts_then later are come few = lt_of_not-le (λ (le : length acts_then ≤ m).
     let j = m - length acts_then in
     let at : take m acts ≡ acts_then ++ take j later =
     ap (λ (n : ℕ). take n acts) (let q : m ≡ length acts_then + j = omega (arith, le) in q) ∙ (ap (take (length acts_then + j)) are ∙ take-append-add acts_then later j) in
     let size : length (part i (take m acts)) ≡ length (part i acts_then) + length (part i (take j later)) =
     ap (λ (l : List (ℕ × LogItem)). length (part i l)) at ∙ (ap (λ (l : List LogItem). length l) (part_append i acts_then (take j later)) ∙ length-append (part i acts_then) (part i (take j later))) in
     absurd (omega (arith, few, size, come)))
-    (cases_lt m (length acts_then))
 
 more_made : (i : ℕ) (first second : List (ℕ × LogItem)) → length (part i first) ≤ length (part i (first ++ second))
 more_made i first second = let size = ap (λ (l : List LogItem). length l) (part_append i first second) ∙ length-append (part i first) (part i second) in omega (arith, size)
@@ -230,10 +219,8 @@ few_acts z s r h log acts_then later first are mine heard few =
     let p = place 0 acts_then heard.before heard.after item (mine ∙ heard.are) in
     let whole : r.acts ≡ p.first ++ (0, item) ∷ (p.second ++ later) = are ∙ (ap (λ (l : List (ℕ × LogItem)). l ++ later) p.are ∙ append_assoc p.first ((0, item) ∷ p.second) later) in
     let come : h.events ≤ length (part i p.first) = (r.told 0 item p.first (p.second ++ later) whole).before.events in
-    let more = more_made i p.first ((0, item) ∷ p.second) in
     let size : length (part i acts_then) ≡ length (part i (p.first ++ (0, item) ∷ p.second)) = ap (λ (l : List (ℕ × LogItem)). length (part i l)) p.are in
-    let lt = fewer_acts i h.events (length first) r.acts acts_then later are (omega (arith, come, more, size)) few in
-    omega (arith, lt)
+    omega (arith, fewer_acts i h.events (length first) r.acts acts_then later are (omega (arith, come, more_made i p.first ((0, item) ∷ p.second), size)) few)
 
 -- A moment before a note was told is one before whoever heard it told on.
 before_heard : (z : Settings) (s : Table ℕ Logged) (r : RunsAsLogged z s) (h k : Teller) (first : List Event) → HadHeard r h k → IsBeforeTelling r k first → IsBeforeTelling r h first
@@ -245,18 +232,14 @@ before_heard z s r h k first had few =
     had.own ∙ (ap (λ (l : List LogItem). l ++ had.more) had.heard.are ∙ append_assoc had.heard.before (item ∷ had.heard.after) had.more) in
     let p = place i r.acts had.heard.before (had.heard.after ++ had.more) item flat in
     let come : k.events ≤ length (part (r.run.seat k.cpu) p.first) = (r.told i item p.first p.second p.are).before.events in
-    let lt = fewer_acts (r.run.seat k.cpu) k.events n r.acts p.first ((i, item) ∷ p.second) p.are come few in
-    let le : n ≤ length p.first = omega (arith, lt) in
+    let le : n ≤ length p.first = omega (arith, fewer_acts (r.run.seat k.cpu) k.events n r.acts p.first ((i, item) ∷ p.second) p.are come few) in
     let at : take n r.acts ≡ take n p.first = ap (take n) p.are ∙ take-append-le n p.first ((i, item) ∷ p.second) le in
-    let more = more_made i (take n p.first) (drop n p.first) in
     let both : length (part i (take n p.first ++ drop n p.first)) ≡ length had.heard.before =
     ap (λ (l : List (ℕ × LogItem)). length (part i l)) (take-append-drop n p.first)
     ∙ ap (λ (l : List LogItem). length l) (part_placed i r.acts had.heard.before (had.heard.after ++ had.more) item flat p) in
     let size : length had.log ≡ length had.heard.before + length (item ∷ had.heard.after) =
     ap (λ (l : List LogItem). length l) had.heard.are ∙ length-append had.heard.before (item ∷ had.heard.after) in
-    let here : length (part i (take n r.acts)) ≡ length (part i (take n p.first)) = ap (λ (l : List (ℕ × LogItem)). length (part i l)) at in
-    let low = had.few in
-    omega (arith, here, more, both, size, low)
+    omega (arith, ap (λ (l : List (ℕ × LogItem)). length (part i l)) at, more_made i (take n p.first) (drop n p.first), both, size, had.few)
 
 -- so each section that was open at that moment has ended
 ended_since : (z : Settings) (s : Table ℕ Logged) (r : RunsAsLogged z s) (before since known : List LogItem) (acts_then later : List (ℕ × LogItem)) (h : Teller) (first rest : List Event)
@@ -284,8 +267,7 @@ pub told_ended : (z : Settings) (s : Table ℕ Logged) (i : ℕ) (l : Logged) (b
     → HasEndedSince z first rest (changes_in before)
 told_ended z s i l before since r at are waited h first rest heard cut_is few =
     let known = (r.known i l at).0 in
-    let mine : part 0 r.acts ≡ before ++ (since ++ known.0) = sym known.1 ∙ (ap (λ (d : List LogItem). d ++ known.0) are ∙ append_assoc before since known.0) in
-    let p = halve 0 r.acts before (since ++ known.0) mine in
+    let p = halve 0 r.acts before (since ++ known.0) (sym known.1 ∙ (ap (λ (d : List LogItem). d ++ known.0) are ∙ append_assoc before since known.0)) in
     let fit : IsTrue (are_fit z) = subst (λ (a : Settings). IsTrue (are_fit a)) r.run.settings r.run.good.holds.fit in
     ended_since z s r before since known.0 p.first p.second h first rest fit p.are p.mine p.rest waited heard cut_is few
 
@@ -295,10 +277,8 @@ have_ended z s i l before since r at are waited =
     let run = r.run in
     let g = after (opening z) run.events in
     let known = (r.known i l at).0 in
-    let mine : part 0 r.acts ≡ before ++ (since ++ known.0) = sym known.1 ∙ (ap (λ (d : List LogItem). d ++ known.0) are ∙ append_assoc before since known.0) in
-    let h = halve 0 r.acts before (since ++ known.0) mine in
-    let whole : Follows (opening z) r.acts run.events g = run_as_logged z s r in
-    let k = cut (opening z) h.first h.second run.events g (subst (λ (l : List (ℕ × LogItem)). Follows (opening z) l run.events g) h.are whole) in
+    let h = halve 0 r.acts before (since ++ known.0) (sym known.1 ∙ (ap (λ (d : List LogItem). d ++ known.0) are ∙ append_assoc before since known.0)) in
+    let k = cut (opening z) h.first h.second run.events g (subst (λ (l : List (ℕ × LogItem)). Follows (opening z) l run.events g) h.are (run_as_logged z s r)) in
     let fit : IsTrue (are_fit z) = subst (λ (a : Settings). IsTrue (are_fit a)) run.settings run.good.holds.fit in
     let on : Holds k.between = follows_holds (opening z) h.first k.earlier k.between k.before (opening_holds z fit) in
     let there : k.between ≡ after (opening z) k.earlier = follows_after (opening z) h.first k.earlier k.between k.before in
@@ -322,9 +302,7 @@ have_ended z s i l before since r at are waited =
       begun = begun;
       none = λ i j p k x e keeper cpu ends le may.
           let shown = (run.shows.fits j (Cpu x) cpu).1 in
-          let low = begun x.id may.0 (sym (seen_of g x run.good shown).begin ∙ may.1) in
-          let high = may.2.unended p ends in
-          omega (arith, low, high, le);
+          omega (arith, begun x.id may.0 (sym (seen_of g x run.good shown).begin ∙ may.1), may.2.unended p ends, le);
     }
 
 pub waiting_ends : WaitingEnds

@@ -11,12 +11,13 @@ use Rattle.protocol.proofs.keeps.ListKeeps.{may_publish_tells, false_from}
 use Rattle.protocol.proofs.keeps.MarkKeeps.{is_drained_tells, mark_place, may_examine_tells}
 use Rattle.protocol.proofs.keeps.References.{snapshot_due_tells}
 use Rattle.protocol.proofs.keeps.Linking.{within_live, within_retired}
-use Rattle.protocol.proofs.Cells.{by_cell, cell_cases, cell_here, cell_in_old, cell_other, get_or_all}
+use Rattle.protocol.proofs.Cells.{by_cell, cell_cases, cell_here, cell_in_old, cell_other, get_or_all, place_put}
 use Rattle.protocol.proofs.Occupied.{is_retired_tells, slot_cases, slot_has}
 use Rattle.cpu_words.specs.Common.{LogItem, Teller, by_number, reply_without_id, changes_of, changes_in, occupant_after, occupant_from, occupant, replied, word_after, word_from, word_collected, occupant_of, word_if, is_drawn, word_in, AreCountsOf, maker, IsSeatOf}
 use Rattle.cpu_words.proofs.logs.Loads.{moves_past}
 use Rattle.cpu_words.proofs.logs.Marks.{fresh}
 use Rattle.cpu_words.proofs.logs.Runs.{item_of}
+use Rattle.cpu_words.proofs.by_keeper.Draining.{cell_put}
 
 -- One event
 
@@ -46,17 +47,10 @@ undrawn_mark s u d is = by (is_retired (slot_at s.slots u)) refl
     by true at = λ k. at k && is k
     by false at = undrawn_slot s u d at
 
--- a mark whose flag stays
-flag_cell : (marks : List (List Mark)) (t c : ℕ) (m : Mark) → m.collected ≡ (mark_at marks t c).collected → (u j : ℕ) → (mark_at (with_cell marks t c m) u j).collected ≡ (mark_at marks u j).collected
-flag_cell marks t c m same u j = ⊎_elim
-    (λ (p : (u ≡ t) × (j ≡ c) × (mark_at (with_cell marks t c m) u j ≡ m)). ap (λ (x : Mark). x.collected) p.2 ∙ (same ∙ sym (λ k. (mark_at marks (p.0 k) (p.1 k)).collected)))
-    (λ (old : mark_at (with_cell marks t c m) u j ≡ mark_at marks u j). ap (λ (x : Mark). x.collected) old)
-    (cell_cases no_mark marks t c m u j)
-
 marked_word : (s n : State) (t c : ℕ) (m : Mark) → n.slots ≡ s.slots → n.nets ≡ s.nets → n.marks ≡ with_cell s.marks t c m → m.collected ≡ (mark_at s.marks t c).collected → (u d : ℕ)
     → word_in n u d ≡ word_in s u d
 marked_word s n t c m slots nets marks same u d =
-    let flag = ap (λ (x : List (List Mark)). (mark_at x u d).collected) marks ∙ flag_cell s.marks t c m same u d in
+    let flag = ap (λ (x : List (List Mark)). (mark_at x u d).collected) marks ∙ cell_put no_mark s.marks t c m (λ v e x. x.collected ≡ (mark_at s.marks v e).collected) u d same refl in
     same_word s n u d (λ k. is_retired (slot_at (slots k) u) && flag k) (λ on. ap (λ (x : List (List ℕ)). count_at x d u) nets)
 
 -- Attach, detach, and the end of a slot's use
@@ -69,10 +63,8 @@ retired_does : (s n : State) (t : ℕ) (e : Entry) → n.slots ≡ set s.slots t
     → Does s (Unpublish t) Done n
 retired_does s n t e slots marks nets live =
     let lt = within_live s.slots t e live in (
-      λ u. ap (λ (x : List Slot). occupant_of (slot_at x u)) slots ∙ ⊎_elim
-          (λ (here : (u ≡ t) × (slot_at (set s.slots t (Retired e)) u ≡ Retired e)). ap occupant_of here.1 ∙ sym (ap occupant_of (ap (slot_at s.slots) here.0 ∙ live)))
-          (λ (old : (u ≡ t → ⊥) × (slot_at (set s.slots t (Retired e)) u ≡ slot_at s.slots u)). ap occupant_of old.1)
-          (slot_cases s.slots t (Retired e) u lt),
+      λ u. ap (λ (x : List Slot). occupant_of (slot_at x u)) slots
+          ∙ place_put Vacant s.slots t (Retired e) (λ v x. occupant_of x ≡ occupant_of (slot_at s.slots v)) u (sym (ap occupant_of live)) refl,
       λ u d. ⊎_elim
           (λ (here : (u ≡ t) × (slot_at (set s.slots t (Retired e)) u ≡ Retired e)).
           let new : mark_at n.marks u d ≡ no_mark =
@@ -157,9 +149,8 @@ apart t c u d off = ⊎_elim
 collected_does : (s : State) (t c : ℕ) → Holds s → may_collect s t c ≡ true → Does s (Collect t c) (Word (count_at s.counts c t)) (after_collect s t c)
 collected_does s t c on may =
     let p = and_parts (may_examine s t c) (is_drainable s t && not (mark_at s.marks t c).collected) may in
-    let q = and_parts (is_drainable s t) (not (mark_at s.marks t c).collected) p.1 in
     let told = may_examine_tells s t c p.0 in
-    let still : (mark_at s.marks t c).collected ≡ false = false_from (mark_at s.marks t c).collected q.1 in
+    let still : (mark_at s.marks t c).collected ≡ false = false_from (mark_at s.marks t c).collected (and_parts (is_drainable s t) (not (mark_at s.marks t c).collected) p.1).1 in
     let gone : slot_at s.slots t ≡ Retired told.2.0 = told.2.1 in
     let place = mark_place s t c told.2.0 on gone told.1 in
     let net : count_at s.counts c t ≡ count_at s.nets c t = (on.balance.counted c t told.1 (told.2.0, inr (gone, still))).0 in
@@ -171,9 +162,7 @@ collected_does s t c on may =
       λ u d. by_cell (λ i j. word_in n i j ≡ word_after i j (Collect t c) (Word w) (word_in s i j)) t c u d
           (
           let drawn : is_drawn n t c ≡ true = λ k. is_retired (gone k) && (here k).collected in
-          let same = eq-eqb t t refl in
-          let too = eq-eqb c c refl in
-          ap (λ (b : Bool). word_if b (count_at s.nets c t)) drawn ∙ (ap (λ (k : ℕ). Some k) (sym net) ∙ sym (λ k. if same k && too k then Some w else word_in s t c))
+          ap (λ (b : Bool). word_if b (count_at s.nets c t)) drawn ∙ (ap (λ (k : ℕ). Some k) (sym net) ∙ sym (λ k. if (eq-eqb t t refl) k && (eq-eqb c c refl) k then Some w else word_in s t c))
           )
           (λ off.
           let flag : (mark_at n.marks u d).collected ≡ (mark_at s.marks u d).collected = ap (λ (x : Mark). x.collected) (cell_other no_mark s.marks t c m u d off) in
@@ -192,8 +181,7 @@ made_does s n _ _ on (Counts c t e found of may) = (λ u. refl, counted_word s n
 made_does s n _ _ on (CountsDown c m id t hand of same) =
     let lt = hand_within s c on (λ empty. let q : Giving m id ≡ Empty = sym hand ∙ empty in cc) in
     let has = slot_has s.slots m t of in
-    let counting = is_counting on.balance c t has.1.0 lt has.1.1 (eqb-true (count_at s.counts c t) (count_at s.nets c t) same) in
-    (λ u. refl, counted_word s n c t (count_at s.nets c t - 1) counting refl refl refl)
+    (λ u. refl, counted_word s n c t (count_at s.nets c t - 1) (is_counting on.balance c t has.1.0 lt has.1.1 (eqb-true (count_at s.counts c t) (count_at s.nets c t) same)) refl refl refl)
 made_does s n _ _ on (Collects t c may) = collected_does s t c on may
 made_does s n _ _ on (SubsKept t d u keeps of may) = vacated_does s n t on (and_parts _ (is_drained s t) may).1 refl refl refl
 made_does s n _ _ on (Vacates t may) = vacated_does s n t on (and_parts _ (is_drained s t) may).1 refl refl refl

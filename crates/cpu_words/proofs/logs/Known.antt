@@ -14,7 +14,7 @@ use Rattle.protocol.proofs.keeps.ListKeeps.{may_write_tells}
 use Rattle.protocol.proofs.keeps.Searching.{within_some}
 use Rattle.protocol.proofs.keeps.References.{snapshot_due_tells}
 use Rattle.protocol.proofs.keeps.Linking.{within_retired}
-use Rattle.protocol.proofs.Cells.{cell_cases, cell_other, mark_there}
+use Rattle.protocol.proofs.Cells.{cell_other, mark_there}
 use Rattle.protocol.proofs.keeps.Keeping.{opening_holds}
 use Rattle.cpu_words.specs.Common.{LogItem, Teller, number_or_none, by_number, keeps_next, keeping_from, keeping, word_in, changes_of, changes_in, AreCountsOf, AreTotalsOf, AreMarksOf, AreSlotsOf, maker, IsSeatOf, CpuView, KeeperView, Logged, View, Keeper, Cpu, log_item, FindsWord, WordsGrow, IsFreedFrom, IsAttachedKeeping, IsShownAfter, IsOwnLog, part, LoggedRuled, with_note, keeper_with_note}
 use Rattle.cpu_words.proofs.logs.Runs.{item_of, Stays, walked, Follows, follows_holds, cut}
@@ -23,6 +23,7 @@ use Rattle.cpu_words.proofs.logs.Counted.{counts_own, words_off, no_counts}
 use Rattle.cpu_words.proofs.logs.Marks.{IsFirst, fresh, more_marks, no_marks}
 use Rattle.cpu_words.proofs.logs.Slots.{slots_own, no_slots, changes_last}
 use Rattle.cpu_words.proofs.logs.Totalled.{totals_own, no_totals}
+use Rattle.cpu_words.proofs.by_keeper.Draining.{cell_put}
 
 -- What the keeper's log says of kept drivers.
 
@@ -79,10 +80,7 @@ same_snapshots : (due later : Due) (marks new : List (List Mark)) → ((u d : �
 same_snapshots due later marks new stays same none t c j is le = same t j ∙ none t c j (stays t c is) le
 
 cell_snapshot : (marks : List (List Mark)) (t c : ℕ) (m : Mark) → m.snapshot ≡ (mark_at marks t c).snapshot → (u j : ℕ) → (mark_at (with_cell marks t c m) u j).snapshot ≡ (mark_at marks u j).snapshot
-cell_snapshot marks t c m same u j = ⊎_elim
-    (λ (p : (u ≡ t) × (j ≡ c) × (mark_at (with_cell marks t c m) u j ≡ m)). ap (λ (x : Mark). x.snapshot) p.2 ∙ (same ∙ sym (λ k. (mark_at marks (p.0 k) (p.1 k)).snapshot)))
-    (λ (old : mark_at (with_cell marks t c m) u j ≡ mark_at marks u j). ap (λ (x : Mark). x.snapshot) old)
-    (cell_cases no_mark marks t c m u j)
+cell_snapshot marks t c m same u j = cell_put no_mark marks t c m (λ v e x. x.snapshot ≡ (mark_at marks v e).snapshot) u j same refl
 
 next_snapshots : (cpus t c u d : ℕ) (b : Bool) → (if b then Snapshots t (c + 1) else Rest) ≡ Snapshots u d → (u ≡ t) × (d ≡ c + 1)
 next_snapshots cpus t c u d true is = (let q : Snapshots t (c + 1) ≡ Snapshots u d = is in cc, let q : Snapshots t (c + 1) ≡ Snapshots u d = is in cc)
@@ -118,8 +116,7 @@ ahead_after s n _ _ _ none = none
 first_due : (s : State) (t c : ℕ) → Holds s → NoneAhead s.due s.marks → s.due ≡ Snapshots t c → IsFirst s t c
 first_due s t c on none due =
     let at : (c < s.settings.cpus) × ((e : Entry) × (slot_at s.slots t ≡ Retired e)) = subst (DueHolds s.settings.cpus s.slots) due on.references.due_at in
-    let lt : t < s.settings.slots = omega (arith, within_retired s.slots t at.1.0 at.1.1, on.shape.slots) in
-    (none t c c due (omega arith), mark_there s t c (snapshot_mark (section_at s c)) on lt at.0)
+    (none t c c due (omega arith), mark_there s t c (snapshot_mark (section_at s c)) on (omega (arith, within_retired s.slots t at.1.0 at.1.1, on.shape.slots)) at.0)
 
 -- The walk
 
@@ -241,12 +238,10 @@ words_grow : (s : State) (acts : List (ℕ × LogItem)) (es : List Event) (t : S
 words_grow s acts es t run on c v w d e before between after are first second =
     let p = place 0 acts before (between ++ e ∷ after) d are in
     let x = cut s p.first ((0, d) ∷ p.second) es t (subst (λ (a : List (ℕ × LogItem)). Follows s a es t) p.are run) in
-    let taken : section_at x.between c ≡ v = starts_word x.between d c v p.second x.later t x.since first in
     let q = place 0 p.second between after e p.rest in
     let y = cut x.between ((0, d) ∷ q.first) ((0, e) ∷ q.second) x.later t (subst (λ (a : List (ℕ × LogItem)). Follows x.between ((0, d) ∷ a) x.later t) q.are x.since) in
-    let found : section_at y.between c ≡ w = starts_word y.between e c w q.second y.later t y.since second in
     let up = (run_since c x.between ((0, d) ∷ q.first) y.earlier y.between y.before (follows_holds s p.first x.earlier x.between x.before on)).0.0 in
-    omega (arith, taken, found, up)
+    omega (arith, starts_word x.between d c v p.second x.later t x.since first, starts_word y.between e c w q.second y.later t y.since second, up)
 
 -- The keeper's log
 
@@ -258,11 +253,10 @@ log_known z s r = subst (Known z.cpus (part 0 r.acts)) (sym r.run.reached.run)
 -- a state that shows a seat's view is one in which the keeper had done just what it did
 pub shown_after : (z : Settings) (v : View) (l : Logged) (s : Table ℕ Logged) (r : LoggedRuled z s) (i : ℕ) → get_elem? s.views i ≡ some (record l { view = v }) → IsShownAfter (part 0 r.acts) v
 shown_after z v l s r i at =
-    let its = r.run.shows.fits i v (at_map (λ (x : Logged). x.view) s.views i (record l { view = v }) at) in
     let known = log_known z s r in record {
       g = r.run.g;
       good = r.run.good;
-      shown = its.1;
+      shown = (r.run.shows.fits i v (at_map (λ (x : Logged). x.view) s.views i (record l { view = v }) at)).1;
       counts = known.counts;
       totals = known.totals;
     }
@@ -270,8 +264,7 @@ shown_after z v l s r i at =
 pub own_log : (z : Settings) (k : KeeperView) (l : Logged) (s : Table ℕ Logged) (r : LoggedRuled z s) (i : ℕ) → get_elem? s.views i ≡ some (record l { view = Keeper k }) → IsOwnLog l.log l.noted_log k
 own_log z k l s r i at =
     let its = r.run.shows.fits i (Keeper k) (at_map (λ (x : Logged). x.view) s.views i (record l { view = Keeper k }) at) in
-    let here : i ≡ 0 = its.0 in
-    let whole : l.log ≡ part 0 r.acts = r.logs i (record l { view = Keeper k }) at tt ∙ ap (λ (m : ℕ). part m r.acts) here in
+    let whole : l.log ≡ part 0 r.acts = r.logs i (record l { view = Keeper k }) at tt ∙ ap (λ (m : ℕ). part m r.acts) its.0 in
     let history : k.history ≡ r.run.g.history = ap (λ (x : KeeperView). x.history) its.1.is in
     let marks : k.marks ≡ r.run.g.marks = ap (λ (x : KeeperView). x.marks) its.1.is in
     let slots : k.slots ≡ r.run.g.slots = ap (λ (x : KeeperView). x.slots) its.1.is in

@@ -30,7 +30,6 @@ step_grows s e o is = made_grows s o.state e o.reply (made s e o is)
 
 pub changes_up : (e : Event) (n : ℕ) → n ≤ changes_of e n
 changes_up (Publish t) n = omega arith
-changes_up (Unpublish t) n = omega arith
 changes_up e n = omega arith
 
 -- A run
@@ -113,8 +112,7 @@ moved_since c j s n x on is words begins late =
     (λ same.
     let here = ap (λ (d : ℕ). get_or (set s.section j (section_at s j + 1)) d 0) same ∙ get_or-set_same s.section j (section_at s j + 1) 0 (omega (arith, idle.0, on.seats.within, on.shape.sections)) in
     let began = ap (λ (d : ℕ). get_or (set s.begins j x) d None) same ∙ get_or-set_same s.begins j x None (omega (arith, idle.0, on.seats.within, on.shape.begins)) in
-    let was = ap (section_at s) same in
-    (omega (arith, word, here, was), inr (λ b at. late b (sym (begin ∙ began) ∙ at))))
+    (omega (arith, word, here, ap (section_at s) same), inr (λ b at. late b (sym (begin ∙ began) ∙ at))))
     (λ off. since_same c s n (word ∙ get_or-set_other s.section j c (section_at s j + 1) 0 off, begin ∙ get_or-set_other s.begins j c x None off))
 
 made_since : (c : ℕ) (s n : State) (e : Event) (r : Reply) → Holds s → Made s e n r → Since c s n
@@ -153,13 +151,11 @@ run_since c s [] (e ∷ es) t run on = absurd run
 run_since c s (a ∷ more) [] t run on = absurd run
 run_since c s (a ∷ more) (e ∷ es) t run on =
     let o = run.0 in
-    let first : Since c s o.state = made_since c s o.state e o.reply on (made s e o run.1) in
     let grows = step_grows s e o run.1 in
     let up = changes_up e (length s.history) in
-    let le : length s.history ≤ length o.state.history = omega arith in
     let rest = run_since c o.state more es t run.3 (step_holds s o.state e o.reply on run.1) in
     let le' = rest.1 in
-    (since_on c s o.state t le first rest.0, omega arith)
+    (since_on c s o.state t (omega arith) (made_since c s o.state e o.reply on (made s e o run.1)) rest.0, omega arith)
 
 -- Where an item of a seat stands among all acts
 
@@ -263,14 +259,12 @@ loaded false s w o is = absurd (none-some o is)
 -- the state stays, and its word of c is the one found
 pub word_taken : (s : State) (e : Event) (o : Outcome) (c w : ℕ) → step s e ≡ Some o → has_taken c w ≡ item_of s e o.reply None → (o.state ≡ s) × (section_at s c ≡ w)
 word_taken s e o c w made is =
-    let same : Snapshot None c ≡ e = same_event s e (Snapshot None c) (ap (λ (d : LogItem). d.event) is) refl in
-    let p = loaded (may_glance s c) s (section_at s c) o (ap (step s) same ∙ made) in
+    let p = loaded (may_glance s c) s (section_at s c) o (ap (step s) (same_event s e (Snapshot None c) (ap (λ (d : LogItem). d.event) is) refl) ∙ made) in
     (p.0, sym (replied_word o.reply w (ap (λ (d : LogItem). d.reply) is) ∙ p.1))
 
 pub word_found : (s : State) (e : Event) (o : Outcome) (c w : ℕ) → step s e ≡ Some o → has_found c w ≡ item_of s e o.reply None → (o.state ≡ s) × (section_at s c ≡ w)
 word_found s e o c w made is =
-    let same : Look None c ≡ e = same_event s e (Look None c) (ap (λ (d : LogItem). d.event) is) refl in
-    let p = loaded (may_glance s c) s (section_at s c) o (ap (step s) same ∙ made) in
+    let p = loaded (may_glance s c) s (section_at s c) o (ap (step s) (same_event s e (Look None c) (ap (λ (d : LogItem). d.event) is) refl) ∙ made) in
     (p.0, sym (replied_word o.reply w (ap (λ (d : LogItem). d.reply) is) ∙ p.1))
 
 -- A run that begins with such an item
@@ -340,7 +334,6 @@ other s n c _ _ off _ = refl
 
 unnamed : (s : State) (e : Event) (b : Bool) → inside_after (by_number s e) b ≡ inside_after e b
 unnamed s (Enter c) b = refl
-unnamed s (Exit c) b = refl
 unnamed s e b = refl
 
 pub inside_run : (seat : ℕ → ℕ) (n i c : ℕ) (s : State) (acts : List (ℕ × LogItem)) (es : List Event) (t : State) → Follows s acts es t → Holds s → AreByOwn seat n acts → i ≡ seat c
@@ -352,8 +345,7 @@ inside_run seat n i c s (a ∷ more) (e ∷ es) t run on own_acts at only =
     let o = run.0 in
     let event : a.1.event ≡ by_number s e = ap (λ (x : LogItem). x.event) run.2 in
     let made_by : maker a.1.event ≡ maker (by_number s e) = ap maker event in
-    let rest = inside_run seat n i c o.state more es t run.3 (step_holds s o.state e o.reply on run.1) own_acts.1 at only in
-    rest ∙ ⊎_elim
+    (inside_run seat n i c o.state more es t run.3 (step_holds s o.state e o.reply on run.1) own_acts.1 at only) ∙ ⊎_elim
     (λ (same : a.0 ≡ i).
     let mine = own s o.state c e o.reply on (λ d of. let seated = subst (IsSeatOf seat n a.0) (made_by ∙ of) own_acts.0 in only d seated.1 (sym same ∙ seated.0)) (made s e o run.1) in
     ap (λ (b : Bool). inside_by b (part i more)) (mine ∙ sym (ap (λ (f : Event). inside_after f (is_open (begin_at s c))) event ∙ unnamed s e (is_open (begin_at s c))))

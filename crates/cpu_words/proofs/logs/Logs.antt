@@ -1,8 +1,8 @@
 -- Steps, cuts and joins over the table with logs.
-use Rattle.std.proofs.Common.{◌≡◌, ◌≢◌, ◌⊎◌, inl, inr, ⊎_elim, ℕ, zero, suc, ◌<◌, ◌≤◌, List, [], ◌∷◌, ◌++◌, map, length, Option, None, set, length-set, length-append, refl, sym, ap, ◌∙◌, subst, append_assoc, arith, Some}
+use Rattle.std.proofs.Common.{◌≡◌, ◌≢◌, ◌⊎◌, inl, inr, ⊎_elim, ℕ, zero, suc, ◌<◌, ◌≤◌, List, [], ◌∷◌, ◌++◌, map, length, Option, None, set, length-set, length-append, refl, sym, ap, ◌∙◌, subst, arith, Some}
 use Rattle.std.proofs.lemmas.List.{map-set, append-nil, map-append}
 use Rattle.std.specs.Prelude.{slice_index}
-use mathlib.Core.Option.{some, some-injective, some-ne-none}
+use mathlib.Core.Option.{some, some-ne-none}
 use mathlib.Core.List.{IsPrefix}
 use lib.ListN.{get_elem?}
 use Rattle.atomic_table.specs.Table.{State as Table, Splits, Joins, keeps, stepped}
@@ -10,19 +10,15 @@ use Rattle.atomic_table.proofs.Lists.{at_set, at_map}
 use Rattle.cpu_words.specs.Types.{Settings, Hear, Done}
 use Rattle.protocol.specs.Common.{State, opening, empty_run}
 use Rattle.cpu_words.specs.Common.{LogItem, Teller, Logged, View, Keeper, Cpu, Reference, Note, Spent, Shown, Sits, Ruled, GoesOn, did, log_of_events, Moves, SplitsOn, JoinsOn, without_logs, part, events_of, untold, IsStanding, Maker, the_keeper, the_cpu, another, maker, maker_of_note, who, AreBy, IsSeatOf, AreByOwn, Knows, HasComeIf, AreToldBefore, ListGoesOn, spent_seat, LoggedRuled, KnownLogGrows, heard_from, HasHeardAll, HasItsSections, HasNone, is_border, is_hear, CpuView, logged_after_split, fresh, teller_of, joined_seat, logged_with_note}
+use Rattle.cpu_words.proofs.shown.Showing.{was_there, at_end}
 use Rattle.cpu_words.proofs.logs.Runs.{by_seat, part_append, part_own, part_other, events_of_seat}
 use Rattle.cpu_words.proofs.logs.Told.{HearsWith, deaf_with, hear_with, heard_own, heard_other, heard_none, sections_more, sections_whole, AreToldPast, come_more, come_seats, told_more, plain_of_end, plain_from, plain_past, heard_past}
+use Rattle.cpu_words.proofs.shown.Seeing.{prefix_on}
 
 at_within : (l : List Logged) (i : ℕ) (a : Logged) → get_elem? l i ≡ some a → i < length l
 at_within [] i a e = absurd (some-ne-none a (sym e))
 at_within (x ∷ xs) zero a e = omega arith
 at_within (x ∷ xs) (suc i) a e = let h = at_within xs i a e in omega arith
-
-at_end : (l : List Logged) (a b : Logged) (j : ℕ) → get_elem? (l ++ a ∷ []) j ≡ some b → (get_elem? l j ≡ some b) ⊎ ((j ≡ length l) × (a ≡ b))
-at_end [] a b zero e = inr (refl, some-injective a b e)
-at_end [] a b (suc j) e = absurd (some-ne-none b (sym e))
-at_end (x ∷ xs) a b zero e = inl e
-at_end (x ∷ xs) a b (suc j) e = ⊎_elim (λ t. inl t) (λ t. inr (ap suc t.0, t.1)) (at_end xs a b j e)
 
 -- Whose the seats are
 
@@ -47,9 +43,7 @@ by_own_seat seat n i m (d ∷ ds) is all = (subst (IsSeatOf seat n i) (sym all.0
 own_seat : (g : State) (seat : ℕ → ℕ) (i : ℕ) (v : View) → Sits seat i v → Shown g v → IsSeatOf seat g.seated i (who v)
 own_seat g seat i (Keeper k) sits shown = sits
 own_seat g seat i (Cpu x) sits shown = (sits, shown.seated)
-own_seat g seat i (Reference v) sits shown = tt
-own_seat g seat i (Note h) sits shown = tt
-own_seat g seat i Spent sits shown = tt
+own_seat g seat i v sits shown = tt
 
 -- The keeper's seat is the first
 
@@ -62,10 +56,7 @@ IsKeeper Spent = ⊥
 
 keeper_sits : (seat : ℕ → ℕ) (i : ℕ) (v : View) → IsKeeper v → Sits seat i v → i ≡ 0
 keeper_sits seat i (Keeper k) is sits = sits
-keeper_sits seat i (Cpu x) is sits = absurd is
-keeper_sits seat i (Reference v) is sits = absurd is
-keeper_sits seat i (Note h) is sits = absurd is
-keeper_sits seat i Spent is sits = absurd is
+keeper_sits seat i v is sits = absurd is
 
 -- what a seat that is cut off may have heard: of the keeper's log as much as the other seat has heard, and all of it if that is the
 -- keeper's
@@ -76,14 +67,22 @@ MayTell l ds known_log = (all : List LogItem) → IsPrefix l.known_log all → (
 abbrev pub MayName : Logged → List LogItem → Option Teller → Type 0
 MayName l ds h = (g : State) (seat : ℕ → ℕ) (i : ℕ) (acts : List (ℕ × LogItem)) → Sits seat i l.view → Shown g l.view → l.log ++ ds ≡ part i acts → HasComeIf seat g.seated acts h
 
--- A prefix of what the keeper did stays one as its log goes on
+-- what the list says of the seat j
+record FitsIn (seat : ℕ → ℕ) (n : ℕ) (acts : List (ℕ × LogItem)) (j : ℕ) (u : Logged) : Type 0 where
+  logs : IsStanding u.view → u.log ≡ part j acts
+  known : Knows u (part 0 acts)
+  tellers : HasComeIf seat n acts u.teller
+  lists : IsPrefix u.list acts
+  sections : IsStanding u.view → HasItsSections j u
+  heard : IsStanding u.view → HasHeardAll j u acts
 
-pub prefix_more : (p l more : List LogItem) → IsPrefix p l → IsPrefix p (l ++ more)
-prefix_more p l more pre = (pre.0 ++ more, sym (append_assoc p pre.0 more) ∙ ap (λ (a : List LogItem). a ++ more) pre.1)
-
--- and so does one of the list
-pub list_more : (p l more : List (ℕ × LogItem)) → IsPrefix p l → IsPrefix p (l ++ more)
-list_more p l more pre = (pre.0 ++ more, sym (append_assoc p pre.0 more) ∙ ap (λ (a : List (ℕ × LogItem)). a ++ more) pre.1)
+-- one seat is written
+each_of_set : (P : ℕ → Logged → Type 0) (l : List Logged) (i : ℕ) (a : Logged) → P i a → ((j : ℕ) (u : Logged) → j ≢ i → get_elem? l j ≡ some u → P j u)
+    → (j : ℕ) (u : Logged) → get_elem? (set l i a) j ≡ some u → P j u
+each_of_set P l i a here others j u there = ⊎_elim
+    (λ (x : (j ≡ i) × (a ≡ u)). subst (λ (y : ℕ × Logged). P y.0 y.1) (λ k. (sym x.0 k, x.1 k)) here)
+    (λ (x : (j ≢ i) × (get_elem? l j ≡ some u)). others j u x.0 x.1)
+    (at_set l i j a u there)
 
 -- what a run that goes on with log items of the seat id keeps
 record Went (z : Settings) (s : Table ℕ Logged) (r : LoggedRuled z s) (id : ℕ) (log its ds : List LogItem) (t : Table ℕ View) (goes : GoesOn z (without_logs s) r.run ds t) : Type 0 where
@@ -91,12 +90,11 @@ record Went (z : Settings) (s : Table ℕ Logged) (r : LoggedRuled z s) (id : �
   are : events_of acts ≡ log_of_events z goes.ruled.reached.events
   owners : AreByOwn goes.ruled.seat goes.ruled.g.seated acts
   mine : log ++ its ≡ part id acts
-  others : (j : ℕ) (u : Logged) → j ≢ id → get_elem? s.views j ≡ some u → IsStanding u.view → u.log ≡ part j acts
+  stay : (j : ℕ) (u : Logged) → j ≢ id → get_elem? s.views j ≡ some u → FitsIn goes.ruled.seat goes.ruled.g.seated acts j u
   unseated : (j : ℕ) → length s.views ≤ j → part j acts ≡ []
   known : (d : List LogItem) → IsPrefix d (part 0 r.acts) → IsPrefix d (part 0 acts)
   longer : acts ≡ r.acts ++ by_seat id its
   own_heard : (l m : Logged) → get_elem? s.views id ≡ some l → IsStanding l.view → IsPrefix l.known_log m.known_log → HearsWith id r.acts its m.known_log → HasHeardAll id m acts
-  other_heard : (j : ℕ) (u : Logged) → j ≢ id → get_elem? s.views j ≡ some u → IsStanding u.view → HasHeardAll j u acts
   listed : (d : List (ℕ × LogItem)) → IsPrefix d r.acts → IsPrefix d acts
   told : AreToldBefore goes.ruled.seat goes.ruled.g.seated acts
   tellers : (h : Option Teller) → HasComeIf r.run.seat r.run.g.seated r.acts h → HasComeIf goes.ruled.seat goes.ruled.g.seated acts h
@@ -113,6 +111,8 @@ went z s r id l its ds t goes at stands by events told =
     seat_of_more r.run.seat goes.ruled.seat r.run.g.seated goes.ruled.g.seated id (who l.view) goes.seated goes.seats (own_seat r.run.g r.run.seat id l.view sits.0 sits.1) in
     let longer : (j : ℕ) → j ≢ id → part j (r.acts ++ by_seat id its) ≡ part j r.acts =
     λ j ne. part_append j r.acts (by_seat id its) ∙ (ap (λ (l : List LogItem). part j r.acts ++ l) (part_other id j its ne) ∙ append-nil (part j r.acts)) in
+    let known_on : (d : List LogItem) → IsPrefix d (part 0 r.acts) → IsPrefix d (part 0 (r.acts ++ by_seat id its)) = λ d pre.
+    subst (IsPrefix d) (sym (part_append 0 r.acts (by_seat id its))) (prefix_on d (part 0 r.acts) (part 0 (by_seat id its)) pre) in
     record {
       acts = r.acts ++ by_seat id its;
       are = map-append (λ (a : ℕ × LogItem). untold a.1) r.acts (by_seat id its) ∙ ((λ k. r.are k ++ (events_of_seat id its ∙ events) k) ∙ sym goes.goes_on);
@@ -120,13 +120,19 @@ went z s r id l its ds t goes at stands by events told =
           (by_own_more r.run.seat goes.ruled.seat r.run.g.seated goes.ruled.g.seated r.acts goes.seated goes.seats r.owners)
           (by_own_seat goes.ruled.seat goes.ruled.g.seated id (who l.view) its own by);
       mine = (λ k. r.logs id l at stands k ++ sym (part_own id its) k) ∙ sym (part_append id r.acts (by_seat id its));
-      others = λ j u ne there standing. r.logs j u there standing ∙ sym (longer j ne);
+      stay = λ j u ne there. record {
+        logs = λ standing. r.logs j u there standing ∙ sym (longer j ne);
+        known = (known_on u.known_log (r.known j u there).0, known_on u.noted_log (r.known j u there).1);
+        tellers = come_more r.run.seat goes.ruled.seat r.run.g.seated goes.ruled.g.seated r.acts (by_seat id its) u.teller goes.seated goes.seats (r.tellers j u there);
+        lists = prefix_on u.list r.acts (by_seat id its) (r.lists j u there);
+        sections = r.sections j u there;
+        heard = λ standing. heard_other id j u r.acts its ne (r.heard j u there standing);
+      };
       unseated = λ j le. longer j (λ same. let lt = at_within s.views id l at in omega (arith, lt, same, le)) ∙ r.unseated j le;
-      known = λ d pre. subst (IsPrefix d) (sym (part_append 0 r.acts (by_seat id its))) (prefix_more d (part 0 r.acts) (part 0 (by_seat id its)) pre);
+      known = known_on;
       longer = refl;
       own_heard = λ l m at stands up hears. heard_own id l m r.acts its (r.heard id l at stands) up hears;
-      other_heard = λ j u ne there standing. heard_other id j u r.acts its ne (r.heard j u there standing);
-      listed = λ d pre. list_more d r.acts (by_seat id its) pre;
+      listed = λ d pre. prefix_on d r.acts (by_seat id its) pre;
       told = told_more r.run.seat goes.ruled.seat r.run.g.seated goes.ruled.g.seated r.acts (by_seat id its) goes.seated goes.seats r.told told;
       tellers = λ h come. come_more r.run.seat goes.ruled.seat r.run.g.seated goes.ruled.g.seated r.acts (by_seat id its) h goes.seated goes.seats come;
       newer = λ h come. come_seats r.run.seat goes.ruled.seat r.run.g.seated goes.ruled.g.seated (r.acts ++ by_seat id its) h goes.seated goes.seats come;
@@ -143,6 +149,25 @@ went_plainly z s r id l ds t goes at stands by =
     let none = plain z (without_logs s) r.run ds t goes in
     went z s r id l ds ds t goes at stands by none (plain_past r.run.seat r.run.g.seated id ds r.acts none)
 
+-- the rule holds on where each seat fits
+ruled_on : (z : Settings) (s t : Table ℕ Logged) (r : LoggedRuled z s) (id : ℕ) (log its ds : List LogItem) (goes : GoesOn z (without_logs s) r.run ds (without_logs t))
+    → (on : Went z s r id log its ds (without_logs t) goes) → ((j : ℕ) (u : Logged) → get_elem? t.views j ≡ some u → FitsIn goes.ruled.seat goes.ruled.g.seated on.acts j u)
+    → length s.views ≤ length t.views → LoggedRuled z t
+ruled_on z s t r id log its ds goes on each longer = record {
+  run = goes.ruled;
+  acts = on.acts;
+  are = on.are;
+  owners = on.owners;
+  logs = λ j u there. (each j u there).logs;
+  unseated = λ j le. on.unseated j (omega (arith, longer, le));
+  known = λ j u there. (each j u there).known;
+  told = on.told;
+  tellers = λ j u there. (each j u there).tellers;
+  lists = λ j u there. (each j u there).lists;
+  sections = λ j u there. (each j u there).sections;
+  heard = λ j u there. (each j u there).heard;
+}
+
 -- A seat moves
 
 -- the seat's view becomes w, its log goes on, it has heard d, and it knows the list `all`
@@ -158,7 +183,7 @@ own_part z s r id l its at stands = part_append id r.acts (by_seat id its) ∙ (
 list_goes_on : (z : Settings) (s : Table ℕ Logged) (r : LoggedRuled z s) (id : ℕ) (l : Logged) (its : List LogItem) → get_elem? s.views id ≡ some l → IsStanding l.view
     → ListGoesOn l.list (l.log ++ its) (r.acts ++ by_seat id its)
 list_goes_on z s r id l its at stands = record {
-  grows = list_more l.list r.acts (by_seat id its) (r.lists id l at);
+  grows = prefix_on l.list r.acts (by_seat id its) (r.lists id l at);
   seat = id;
   own = own_part z s r id l its at stands;
 }
@@ -175,40 +200,15 @@ logged_goes z l i n its ds w s r id at stands by events told goes_without_logs d
     let t : Table ℕ Logged = stepped s i n id [] m keeps in
     let same : stepped q i n id [] w keeps ≡ without_logs t = λ k. record { words = set s.words i n; homes = s.homes; views = sym (map-set (λ (x : Logged). x.view) s.views id m) k } in
     let goes : GoesOn z q r.run ds (without_logs t) = subst (GoesOn z q r.run ds) same goes_without_logs in
-    let on = went z s r id l its ds (without_logs t) goes at stands by events told in record {
-      run = goes.ruled;
-      acts = on.acts;
-      are = on.are;
-      owners = on.owners;
-      logs = λ j u there standing. ⊎_elim
-          (λ (x : (j ≡ id) × (m ≡ u)). sym (ap (λ (y : Logged). y.log) x.1) ∙ on.mine ∙ ap (λ (m : ℕ). part m on.acts) (sym x.0))
-          (λ (x : (j ≢ id) × (get_elem? s.views j ≡ some u)). on.others j u x.0 x.1 standing)
-          (at_set s.views id j m u there);
-      unseated = λ j le. on.unseated j (omega (arith, length-set s.views id m, le));
-      known = λ j u there. ⊎_elim
-          (λ (x : (j ≡ id) × (m ≡ u)). subst (λ (y : Logged). Knows y (part 0 on.acts)) x.1 (on.known d known, on.known l.noted_log (r.known id l at).1))
-          (λ (x : (j ≢ id) × (get_elem? s.views j ≡ some u)). let k = r.known j u x.1 in (on.known u.known_log k.0, on.known u.noted_log k.1))
-          (at_set s.views id j m u there);
-      told = on.told;
-      tellers = λ j u there. ⊎_elim
-          (λ (x : (j ≡ id) × (m ≡ u)). subst (λ (y : Logged). HasComeIf goes.ruled.seat goes.ruled.g.seated on.acts y.teller) x.1 (on.tellers l.teller (r.tellers id l at)))
-          (λ (x : (j ≢ id) × (get_elem? s.views j ≡ some u)). on.tellers u.teller (r.tellers j u x.1))
-          (at_set s.views id j m u there);
-      lists = λ j u there. ⊎_elim
-          (λ (x : (j ≡ id) × (m ≡ u)). subst (λ (y : Logged). IsPrefix y.list on.acts) x.1 ([], append-nil (r.acts ++ by_seat id its) ∙ sym on.longer))
-          (λ (x : (j ≢ id) × (get_elem? s.views j ≡ some u)). on.listed u.list (r.lists j u x.1))
-          (at_set s.views id j m u there);
-      sections = λ j u there standing. ⊎_elim
-          (λ (x : (j ≡ id) × (m ≡ u)). subst (HasItsSections j) x.1
-          (subst (λ (k : ℕ). HasItsSections k m) (sym x.0) (sections_whole id m (own_part z s r id l its at stands))))
-          (λ (x : (j ≢ id) × (get_elem? s.views j ≡ some u)). r.sections j u x.1 standing)
-          (at_set s.views id j m u there);
-      heard = λ j u there standing. ⊎_elim
-          (λ (x : (j ≡ id) × (m ≡ u)). subst (λ (y : Logged). HasHeardAll j y on.acts) x.1
-          (subst (λ (k : ℕ). HasHeardAll k m on.acts) (sym x.0) (on.own_heard l m at stands up hears)))
-          (λ (x : (j ≢ id) × (get_elem? s.views j ≡ some u)). on.other_heard j u x.0 x.1 standing)
-          (at_set s.views id j m u there);
-    }
+    let on = went z s r id l its ds (without_logs t) goes at stands by events told in
+    ruled_on z s t r id l.log its ds goes on (each_of_set (FitsIn goes.ruled.seat goes.ruled.g.seated on.acts) s.views id m (record {
+      logs = λ _. on.mine;
+      known = (on.known d known, on.known l.noted_log (r.known id l at).1);
+      tellers = on.tellers l.teller (r.tellers id l at);
+      lists = ([], append-nil (r.acts ++ by_seat id its) ∙ sym on.longer);
+      sections = λ _. sections_whole id m (own_part z s r id l its at stands);
+      heard = λ _. on.own_heard l m at stands up hears;
+    }) on.stay) (omega (arith, length-set s.views id m))
 
 goes_plainly : (z : Settings) (l : Logged) (i : ℕ) (n : ℕ) (ds : List LogItem) (w : View) (s : Table ℕ Logged) (r : LoggedRuled z s) (id : ℕ) → get_elem? s.views id ≡ some l → IsStanding l.view
     → AreBy (who l.view) ds → HasNone is_hear ds
@@ -247,13 +247,12 @@ LoggedHears z l i f by tells = (s : Table ℕ Logged) (r : LoggedRuled z s) (id 
 pub logged_hears : (z : Settings) (l : Logged) (i : ℕ) (f : ℕ → ℕ) (by : Option ℕ) (tells : ℕ → View → Type 0) → IsStanding l.view → maker_of_note by ≡ who l.view
     → Moves z l.view i f (λ _. did (Hear by) Done) tells → LoggedHears z l i f by tells
 logged_hears z l i f by tells stands own moves s r id at fits =
-    let word = slice_index s.words i in
     let done = moves (without_logs s) r.run id (at_map (λ (x : Logged). x.view) s.views id l at) fits in
     let all = part 0 r.acts in (
       done.0,
       all,
       r.acts ++ by_seat id (heard_from by l.teller),
-      logged_goes z l i (f word) (heard_from by l.teller) (did (Hear by) Done) done.0 s r id at stands (own, tt) refl
+      logged_goes z l i (f (slice_index s.words i)) (heard_from by l.teller) (did (Hear by) Done) done.0 s r id at stands (own, tt) refl
           (heard_past r.run.seat r.run.g.seated id by l.teller r.acts (r.tellers id l at)) done.1 all ([], append-nil all) (r.known id l at).0 (hear_with id r.acts by l.teller),
       done.2,
       r.known id l at,
@@ -265,11 +264,10 @@ logged_hears z l i f by tells stands own moves s r id at fits =
 pub logged_heard : (z : Settings) (l : Logged) (i : ℕ) (f : ℕ → ℕ) (tells : ℕ → View → Type 0) → IsStanding l.view → the_keeper ≡ who l.view → Moves z l.view i f (λ _. did (Hear None) Done) tells
     → LoggedMoves z l i f (λ _. heard_from None l.teller) tells
 logged_heard z l i f tells stands own moves s r id at fits =
-    let word = slice_index s.words i in
     let done = moves (without_logs s) r.run id (at_map (λ (x : Logged). x.view) s.views id l at) fits in (
       done.0,
       r.acts ++ by_seat id (heard_from None l.teller),
-      logged_goes z l i (f word) (heard_from None l.teller) (did (Hear None) Done) done.0 s r id at stands (own, tt) refl
+      logged_goes z l i (f (slice_index s.words i)) (heard_from None l.teller) (did (Hear None) Done) done.0 s r id at stands (own, tt) refl
           (heard_past r.run.seat r.run.g.seated id None l.teller r.acts (r.tellers id l at)) done.1 l.known_log (r.known id l at).0 ([], append-nil l.known_log)
           (deaf_with id r.acts (heard_from None l.teller) l.known_log (refl, tt)),
       done.2,
@@ -294,59 +292,29 @@ logged_splits z i v left right ds known_log teller stands by apart quiet may nam
     let size : length (set s.views i l) ≡ length s.views = length-set s.views i l in
     let its = r.run.shows.fits i v.view here in
     let whole : IsKeeper v.view → v.log ++ ds ≡ part 0 on.acts = λ keeper. on.mine ∙ ap (λ (m : ℕ). part m on.acts) (keeper_sits r.run.seat i v.view keeper its.0) in
-    let told : IsPrefix known_log (part 0 on.acts) = may (part 0 on.acts) (on.known v.known_log (r.known i v at).0) whole in
-    record {
-      run = goes.ruled;
-      acts = on.acts;
-      are = on.are;
-      owners = on.owners;
-      logs = λ j u there standing. ⊎_elim
-          (λ (was : get_elem? (set s.views i l) j ≡ some u). ⊎_elim
-          (λ (x : (j ≡ i) × (l ≡ u)). sym (ap (λ (y : Logged). y.log) x.1) ∙ on.mine ∙ ap (λ (m : ℕ). part m on.acts) (sym x.0))
-          (λ (x : (j ≢ i) × (get_elem? s.views j ≡ some u)). on.others j u x.0 x.1 standing)
-          (at_set s.views i j l u was))
-          (λ (x : (j ≡ length (set s.views i l)) × (b ≡ u)). sym (ap (λ (y : Logged). y.log) x.1) ∙ sym (on.unseated j (omega (arith, x.0, size))))
-          (at_end (set s.views i l) b u j there);
-      unseated = λ j le. on.unseated j (omega (arith, length-append (set s.views i l) (b ∷ []), size, le));
-      known = λ j u there. ⊎_elim
-          (λ (was : get_elem? (set s.views i l) j ≡ some u). ⊎_elim
-          (λ (x : (j ≡ i) × (l ≡ u)). let k = r.known i v at in subst (λ (y : Logged). Knows y (part 0 on.acts)) x.1 (on.known v.known_log k.0, on.known v.noted_log k.1))
-          (λ (x : (j ≢ i) × (get_elem? s.views j ≡ some u)). let k = r.known j u x.1 in (on.known u.known_log k.0, on.known u.noted_log k.1))
-          (at_set s.views i j l u was))
-          (λ (x : (j ≡ length (set s.views i l)) × (b ≡ u)). subst (λ (y : Logged). Knows y (part 0 on.acts)) x.1 (told, (part 0 on.acts, refl)))
-          (at_end (set s.views i l) b u j there);
-      told = on.told;
-      tellers = λ j u there. ⊎_elim
-          (λ (was : get_elem? (set s.views i l) j ≡ some u). ⊎_elim
-          (λ (x : (j ≡ i) × (l ≡ u)). subst (λ (y : Logged). HasComeIf goes.ruled.seat goes.ruled.g.seated on.acts y.teller) x.1 (on.tellers v.teller (r.tellers i v at)))
-          (λ (x : (j ≢ i) × (get_elem? s.views j ≡ some u)). on.tellers u.teller (r.tellers j u x.1))
-          (at_set s.views i j l u was))
-          (λ (x : (j ≡ length (set s.views i l)) × (b ≡ u)). subst (λ (y : Logged). HasComeIf goes.ruled.seat goes.ruled.g.seated on.acts y.teller) x.1
-          (on.newer teller (named r.run.g r.run.seat i on.acts its.0 its.1 on.mine)))
-          (at_end (set s.views i l) b u j there);
-      lists = λ j u there. ⊎_elim
-          (λ (was : get_elem? (set s.views i l) j ≡ some u). ⊎_elim
-          (λ (x : (j ≡ i) × (l ≡ u)). subst (λ (y : Logged). IsPrefix y.list on.acts) x.1 (on.listed v.list (r.lists i v at)))
-          (λ (x : (j ≢ i) × (get_elem? s.views j ≡ some u)). on.listed u.list (r.lists j u x.1))
-          (at_set s.views i j l u was))
-          (λ (x : (j ≡ length (set s.views i l)) × (b ≡ u)). subst (λ (y : Logged). IsPrefix y.list on.acts) x.1 (on.acts, refl))
-          (at_end (set s.views i l) b u j there);
-      sections = λ j u there standing. ⊎_elim
-          (λ (was : get_elem? (set s.views i l) j ≡ some u). ⊎_elim
-          (λ (x : (j ≡ i) × (l ≡ u)). subst (HasItsSections j) x.1 (subst (λ (k : ℕ). HasItsSections k l) (sym x.0) (sections_more i v l ds refl refl apart (r.sections i v at stands))))
-          (λ (x : (j ≢ i) × (get_elem? s.views j ≡ some u)). r.sections j u x.1 standing)
-          (at_set s.views i j l u was))
-          (λ (x : (j ≡ length (set s.views i l)) × (b ≡ u)). subst (HasItsSections j) x.1 (sections_whole j b refl))
-          (at_end (set s.views i l) b u j there);
-      heard = λ j u there standing. ⊎_elim
-          (λ (was : get_elem? (set s.views i l) j ≡ some u). ⊎_elim
-          (λ (x : (j ≡ i) × (l ≡ u)). subst (λ (y : Logged). HasHeardAll j y on.acts) x.1 (subst (λ (k : ℕ). HasHeardAll k l on.acts) (sym x.0)
-          (on.own_heard v l at stands ([], append-nil v.known_log) (deaf_with i r.acts ds v.known_log quiet))))
-          (λ (x : (j ≢ i) × (get_elem? s.views j ≡ some u)). on.other_heard j u x.0 x.1 standing)
-          (at_set s.views i j l u was))
-          (λ (x : (j ≡ length (set s.views i l)) × (b ≡ u)). heard_none j u on.acts (on.unseated j (omega (arith, x.0, size))))
-          (at_end (set s.views i l) b u j there);
-    }
+    let fits = FitsIn goes.ruled.seat goes.ruled.g.seated on.acts in
+    let mine : fits i l = record {
+      logs = λ _. on.mine;
+      known = (on.known v.known_log (r.known i v at).0, on.known v.noted_log (r.known i v at).1);
+      tellers = on.tellers v.teller (r.tellers i v at);
+      lists = on.listed v.list (r.lists i v at);
+      sections = λ _. sections_more i v l ds refl refl apart (r.sections i v at stands);
+      heard = λ _. on.own_heard v l at stands ([], append-nil v.known_log) (deaf_with i r.acts ds v.known_log quiet);
+    } in
+    let new : (j : ℕ) → j ≡ length (set s.views i l) → fits j b = λ j end.
+    let none = on.unseated j (omega (arith, end, size)) in record {
+      logs = λ _. sym none;
+      known = ((may (part 0 on.acts) (on.known v.known_log (r.known i v at).0) whole), (part 0 on.acts, refl));
+      tellers = on.newer teller (named r.run.g r.run.seat i on.acts its.0 its.1 on.mine);
+      lists = (on.acts, refl);
+      sections = λ _. sections_whole j b refl;
+      heard = λ _. heard_none j b on.acts none;
+    } in
+    ruled_on z s t r i v.log ds ds goes on (λ j u there. ⊎_elim
+    (λ (was : get_elem? (set s.views i l) j ≡ some u). each_of_set fits s.views i l mine on.stay j u was)
+    (λ (x : (j ≡ length (set s.views i l)) × (b ≡ u)). subst (fits j) x.1 (new j x.0))
+    (at_end (set s.views i l) b u j there))
+    (omega (arith, length-append (set s.views i l) (b ∷ []), size))
 
 -- what lies beside the view after is what lay there, or what the other has heard and who told it
 abbrev pub LiesBeside : Logged → Logged → List LogItem → Option Teller → Type 0
@@ -368,10 +336,7 @@ logged_joins z i v o w both ds noted_log teller stands by borders quiet lies joi
     let goes : GoesOn z q r.run ds (without_logs t) = subst (λ (vs : List View). GoesOn z q r.run ds (record { words = s.words; homes = s.homes; views = vs })) views (joins q r.run here apart also) in
     let on = went_plainly z s r i v ds (without_logs t) goes at stands by in
     let mine = r.known i v at in
-    let was : get_elem? s.views o ≡ some w = ⊎_elim
-    (λ (x : (o ≡ i) × (l ≡ w)). absurd (apart x.0))
-    (λ (x : (o ≢ i) × (get_elem? s.views o ≡ some w)). x.1)
-    (at_set s.views i o l w there) in
+    let was = was_there s.views i o l w apart there in
     let beside : IsPrefix noted_log (part 0 r.acts) = ⊎_elim
     (λ (x : (noted_log ≡ v.noted_log) × (teller ≡ v.teller)). subst (λ (d : List LogItem). IsPrefix d (part 0 r.acts)) (sym x.0) mine.1)
     (λ (x : (noted_log ≡ w.known_log) × (teller ≡ w.teller)). subst (λ (d : List LogItem). IsPrefix d (part 0 r.acts)) (sym x.0) (r.known o w was).0)
@@ -380,58 +345,25 @@ logged_joins z i v o w both ds noted_log teller stands by borders quiet lies joi
     (λ (x : (noted_log ≡ v.noted_log) × (teller ≡ v.teller)). subst (HasComeIf r.run.seat r.run.g.seated r.acts) (sym x.1) (r.tellers i v at))
     (λ (x : (noted_log ≡ w.known_log) × (teller ≡ w.teller)). subst (HasComeIf r.run.seat r.run.g.seated r.acts) (sym x.1) (r.tellers o w was))
     lies in
-    let gone : (u : Logged) → b ≡ u → IsStanding u.view → ⊥ = λ u is standing. subst (λ (y : Logged). IsStanding y.view) (sym is) standing in
-    record {
-      run = goes.ruled;
-      acts = on.acts;
-      are = on.are;
-      owners = on.owners;
-      logs = λ j u now standing. ⊎_elim
-          (λ (x : (j ≡ o) × (b ≡ u)). absurd (gone u x.1 standing))
-          (λ (x : (j ≢ o) × (get_elem? (set s.views i l) j ≡ some u)). ⊎_elim
-          (λ (y : (j ≡ i) × (l ≡ u)). sym (ap (λ (a : Logged). a.log) y.1) ∙ on.mine ∙ ap (λ (m : ℕ). part m on.acts) (sym y.0))
-          (λ (y : (j ≢ i) × (get_elem? s.views j ≡ some u)). on.others j u y.0 y.1 standing)
-          (at_set s.views i j l u x.1))
-          (at_set (set s.views i l) o j b u now);
-      unseated = λ j le. on.unseated j (omega (arith, length-set (set s.views i l) o b, length-set s.views i l, le));
-      known = λ j u now. ⊎_elim
-          (λ (x : (j ≡ o) × (b ≡ u)). subst (λ (y : Logged). Knows y (part 0 on.acts)) x.1 ((part 0 on.acts, refl), (part 0 on.acts, refl)))
-          (λ (x : (j ≢ o) × (get_elem? (set s.views i l) j ≡ some u)). ⊎_elim
-          (λ (y : (j ≡ i) × (l ≡ u)). subst (λ (a : Logged). Knows a (part 0 on.acts)) y.1 (on.known v.known_log mine.0, on.known noted_log beside))
-          (λ (y : (j ≢ i) × (get_elem? s.views j ≡ some u)). let k = r.known j u y.1 in (on.known u.known_log k.0, on.known u.noted_log k.1))
-          (at_set s.views i j l u x.1))
-          (at_set (set s.views i l) o j b u now);
-      told = on.told;
-      tellers = λ j u now. ⊎_elim
-          (λ (x : (j ≡ o) × (b ≡ u)). subst (λ (y : Logged). HasComeIf goes.ruled.seat goes.ruled.g.seated on.acts y.teller) x.1 tt)
-          (λ (x : (j ≢ o) × (get_elem? (set s.views i l) j ≡ some u)). ⊎_elim
-          (λ (y : (j ≡ i) × (l ≡ u)). subst (λ (a : Logged). HasComeIf goes.ruled.seat goes.ruled.g.seated on.acts a.teller) y.1 (on.tellers teller come))
-          (λ (y : (j ≢ i) × (get_elem? s.views j ≡ some u)). on.tellers u.teller (r.tellers j u y.1))
-          (at_set s.views i j l u x.1))
-          (at_set (set s.views i l) o j b u now);
-      lists = λ j u now. ⊎_elim
-          (λ (x : (j ≡ o) × (b ≡ u)). subst (λ (y : Logged). IsPrefix y.list on.acts) x.1 (on.acts, refl))
-          (λ (x : (j ≢ o) × (get_elem? (set s.views i l) j ≡ some u)). ⊎_elim
-          (λ (y : (j ≡ i) × (l ≡ u)). subst (λ (a : Logged). IsPrefix a.list on.acts) y.1 (on.listed v.list (r.lists i v at)))
-          (λ (y : (j ≢ i) × (get_elem? s.views j ≡ some u)). on.listed u.list (r.lists j u y.1))
-          (at_set s.views i j l u x.1))
-          (at_set (set s.views i l) o j b u now);
-      sections = λ j u now standing. ⊎_elim
-          (λ (x : (j ≡ o) × (b ≡ u)). absurd (gone u x.1 standing))
-          (λ (x : (j ≢ o) × (get_elem? (set s.views i l) j ≡ some u)). ⊎_elim
-          (λ (y : (j ≡ i) × (l ≡ u)). subst (HasItsSections j) y.1 (subst (λ (k : ℕ). HasItsSections k l) (sym y.0) (sections_more i v l ds refl refl borders (r.sections i v at stands))))
-          (λ (y : (j ≢ i) × (get_elem? s.views j ≡ some u)). r.sections j u y.1 standing)
-          (at_set s.views i j l u x.1))
-          (at_set (set s.views i l) o j b u now);
-      heard = λ j u now standing. ⊎_elim
-          (λ (x : (j ≡ o) × (b ≡ u)). absurd (gone u x.1 standing))
-          (λ (x : (j ≢ o) × (get_elem? (set s.views i l) j ≡ some u)). ⊎_elim
-          (λ (y : (j ≡ i) × (l ≡ u)). subst (λ (a : Logged). HasHeardAll j a on.acts) y.1 (subst (λ (k : ℕ). HasHeardAll k l on.acts) (sym y.0)
-          (on.own_heard v l at stands ([], append-nil v.known_log) (deaf_with i r.acts ds v.known_log quiet))))
-          (λ (y : (j ≢ i) × (get_elem? s.views j ≡ some u)). on.other_heard j u y.0 y.1 standing)
-          (at_set s.views i j l u x.1))
-          (at_set (set s.views i l) o j b u now);
-    }
+    let fits = FitsIn goes.ruled.seat goes.ruled.g.seated on.acts in
+    let own : fits i l = record {
+      logs = λ _. on.mine;
+      known = (on.known v.known_log mine.0, on.known noted_log beside);
+      tellers = on.tellers teller come;
+      lists = on.listed v.list (r.lists i v at);
+      sections = λ _. sections_more i v l ds refl refl borders (r.sections i v at stands);
+      heard = λ _. on.own_heard v l at stands ([], append-nil v.known_log) (deaf_with i r.acts ds v.known_log quiet);
+    } in
+    let spent : fits o b = record {
+      logs = λ standing. absurd standing;
+      known = ((part 0 on.acts, refl), (part 0 on.acts, refl));
+      tellers = tt;
+      lists = (on.acts, refl);
+      sections = λ standing. absurd standing;
+      heard = λ standing. absurd standing;
+    } in
+    ruled_on z s t r i v.log ds ds goes on (each_of_set fits (set s.views i l) o b spent (λ j u _ there. each_of_set fits s.views i l own on.stay j u there))
+    (omega (arith, length-set (set s.views i l) o b, length-set s.views i l))
 
 -- nothing is done: the log stays
 pub logged_joins_same : (z : Settings) (i : ℕ) (l : Logged) (o : ℕ) (m : Logged) (both : View) (noted_log : List LogItem) (teller : Option Teller) → IsStanding l.view → LiesBeside l m noted_log teller

@@ -8,10 +8,11 @@ use Rattle.registry_values.specs.Common.{no_mark, is_even, has_changed, mark_aft
 use Rattle.protocol.specs.Common.{State, with_cell, section_at, mark_at, opening, snapshot_mark}
 use Rattle.protocol.proofs.Made.{Made, Unpublishes, Snaps, Looks, LooksPassive, Collects}
 use Rattle.protocol.proofs.keeps.References.{snapshot_due_tells}
-use Rattle.protocol.proofs.Cells.{cell_cases, cell_in_new, cell_in_old, get_or_all}
+use Rattle.protocol.proofs.Cells.{cell_in_new, cell_in_old, get_or_all}
 use Rattle.cpu_words.specs.Common.{LogItem, Teller, has_snapped, has_looked, is_detach_from, KeepsEntry, IsSnapped, HasPassedOn, AreMarksOf, has_taken, has_found, IsSeenOut, FindsWord, WordsGrow}
 use Rattle.cpu_words.proofs.logs.Loads.{no_place}
 use Rattle.cpu_words.proofs.logs.Runs.{item_as, item_of, same_first, same_rest}
+use Rattle.cpu_words.proofs.by_keeper.Draining.{cell_put}
 
 -- A log with one item more
 
@@ -110,15 +111,9 @@ snapshot_marks : (log : List LogItem) (marks : List (List Mark)) (t c v : ℕ) �
     → AreMarksOf log marks → AreMarksOf (log ++ has_snapped t c v ∷ []) (with_cell marks t c (snapshot_mark v))
 snapshot_marks log marks t c v free there are =
     let l = log ++ has_snapped t c v ∷ [] in
-    let mark = λ (u j : ℕ). mark_at (with_cell marks t c (snapshot_mark v)) u j in
     let here : IsSnapped t c v l = record { before = log; after = []; are = refl; since = tt } in record {
-      snapped = λ u j w is. ⊎_elim
-          (λ (p : (u ≡ t) × (j ≡ c) × (mark u j ≡ snapshot_mark v)).
-          subst (λ (k : ℕ). IsSnapped k j w l) (sym p.0) (subst (λ (k : ℕ). IsSnapped t k w l) (sym p.1)
-          (subst (λ (k : ℕ). IsSnapped t c k l) (same_Some v w (sym (ap (λ (m : Mark). m.snapshot) p.2) ∙ is)) here)))
-          (λ (old : mark u j ≡ mark_at marks u j). snapped_more u j w log (has_snapped t c v) refl
-          (are.snapped u j w (sym (ap (λ (m : Mark). m.snapshot) old) ∙ is)))
-          (cell_cases no_mark marks t c (snapshot_mark v) u j);
+      snapped = λ u j w. cell_put no_mark marks t c (snapshot_mark v) (λ a b x. x.snapshot ≡ Some w → IsSnapped a b w l) u j (λ is. subst (λ (k : ℕ). IsSnapped t c k l) (same_Some v w is) here)
+          (λ is. snapped_more u j w log (has_snapped t c v) refl (are.snapped u j w is));
       marked = λ u j w is. ⊎_elim
           (λ (last : has_snapped t c v ≡ has_snapped u j w).
           let q : Snapshot (Some t) c ≡ Snapshot (Some u) j = ap (λ (d : LogItem). d.event) last in
@@ -130,18 +125,11 @@ snapshot_marks log marks t c v free there are =
           (subst (λ (k : ℕ). (mark_at (with_cell marks t c (snapshot_mark v)) t k).snapshot ≡ Some w) at_cpu
           (ap (λ (m : Mark). m.snapshot) there ∙ ap (λ (k : ℕ). Some k) word)))
           (λ (old : (is_detach_from u (has_snapped t c v).event ≡ false) × IsSnapped u j w log).
-          let was : (mark_at marks u j).snapshot ≡ Some w = are.marked u j w old.1 in
-          ⊎_elim
-          (λ (p : (u ≡ t) × (j ≡ c) × (mark u j ≡ snapshot_mark v)).
-          absurd (none-some w (sym free ∙ (sym (λ k. (mark_at marks (p.0 k) (p.1 k)).snapshot) ∙ was))))
-          (λ (same : mark u j ≡ mark_at marks u j). ap (λ (m : Mark). m.snapshot) same ∙ was)
-          (cell_cases no_mark marks t c (snapshot_mark v) u j))
+          cell_put no_mark marks t c (snapshot_mark v) (λ a b x. (mark_at marks a b).snapshot ≡ Some w → x.snapshot ≡ Some w) u j (λ was. absurd (none-some w (sym free ∙ was))) (λ was. was)
+          (are.marked u j w old.1))
           (unsnapped u j w log (has_snapped t c v) is);
-      passed = λ u j is. ⊎_elim
-          (λ (p : (u ≡ t) × (j ≡ c) × (mark u j ≡ snapshot_mark v)). absurd (let q : false ≡ true = sym (ap (λ (m : Mark). m.passed) p.2) ∙ is in cc))
-          (λ (old : mark u j ≡ mark_at marks u j). passed_more u j log (has_snapped t c v) refl
-          (are.passed u j (sym (ap (λ (m : Mark). m.passed) old) ∙ is)))
-          (cell_cases no_mark marks t c (snapshot_mark v) u j);
+      passed = λ u j. cell_put no_mark marks t c (snapshot_mark v) (λ a b x. x.passed ≡ true → HasPassedOn a b l) u j (λ is. absurd (let q : false ≡ true = is in cc))
+          (λ is. passed_more u j log (has_snapped t c v) refl (are.passed u j is));
     }
 
 changed : (o : Option ℕ) (w : ℕ) → has_changed o w ≡ true → (x : ℕ) × (o ≡ Some x) × (w ≡ x → ⊥)
@@ -153,26 +141,12 @@ cell_marks : (log : List LogItem) (marks : List (List Mark)) (t c : ℕ) (m : Ma
     → m.snapshot ≡ (mark_at marks t c).snapshot → (m.passed ≡ true → HasPassedOn t c (log ++ d ∷ []))
     → AreMarksOf log marks → AreMarksOf (log ++ d ∷ []) (with_cell marks t c m)
 cell_marks log marks t c m d other none same pass are =
-    let l = log ++ d ∷ [] in
-    let new = with_cell marks t c m in record {
-      snapped = λ u j w is. ⊎_elim
-          (λ (p : (u ≡ t) × (j ≡ c) × (mark_at new u j ≡ m)).
-          subst (λ (k : ℕ). IsSnapped k j w l) (sym p.0) (subst (λ (k : ℕ). IsSnapped t k w l) (sym p.1)
-          (snapped_more t c w log d (other t) (are.snapped t c w (sym same ∙ (sym (ap (λ (x : Mark). x.snapshot) p.2) ∙ is))))))
-          (λ (old : mark_at new u j ≡ mark_at marks u j). snapped_more u j w log d (other u) (are.snapped u j w (sym (ap (λ (x : Mark). x.snapshot) old) ∙ is)))
-          (cell_cases no_mark marks t c m u j);
-      marked = λ u j w is.
-          let was : (mark_at marks u j).snapshot ≡ Some w = are.marked u j w (unsnapped_by u j w log d none is).1 in
-          ⊎_elim
-          (λ (p : (u ≡ t) × (j ≡ c) × (mark_at new u j ≡ m)).
-          ap (λ (x : Mark). x.snapshot) p.2 ∙ (same ∙ (sym (λ k. (mark_at marks (p.0 k) (p.1 k)).snapshot) ∙ was)))
-          (λ (old : mark_at new u j ≡ mark_at marks u j). ap (λ (x : Mark). x.snapshot) old ∙ was)
-          (cell_cases no_mark marks t c m u j);
-      passed = λ u j is. ⊎_elim
-          (λ (p : (u ≡ t) × (j ≡ c) × (mark_at new u j ≡ m)).
-          subst (λ (k : ℕ). HasPassedOn k j l) (sym p.0) (subst (λ (k : ℕ). HasPassedOn t k l) (sym p.1) (pass (sym (ap (λ (x : Mark). x.passed) p.2) ∙ is))))
-          (λ (old : mark_at new u j ≡ mark_at marks u j). passed_more u j log d (other u) (are.passed u j (sym (ap (λ (x : Mark). x.passed) old) ∙ is)))
-          (cell_cases no_mark marks t c m u j);
+    let l = log ++ d ∷ [] in record {
+      snapped = λ u j w. cell_put no_mark marks t c m (λ a b x. x.snapshot ≡ Some w → IsSnapped a b w l) u j
+          (λ is. snapped_more t c w log d (other t) (are.snapped t c w (sym same ∙ is))) (λ is. snapped_more u j w log d (other u) (are.snapped u j w is));
+      marked = λ u j w is. cell_put no_mark marks t c m (λ a b x. (mark_at marks a b).snapshot ≡ Some w → x.snapshot ≡ Some w) u j (λ was. same ∙ was) (λ was. was)
+          (are.marked u j w (unsnapped_by u j w log d none is).1);
+      passed = λ u j. cell_put no_mark marks t c m (λ a b x. x.passed ≡ true → HasPassedOn a b l) u j pass (λ is. passed_more u j log d (other u) (are.passed u j is));
     }
 
 look_marks : (log : List LogItem) (marks : List (List Mark)) (t c w : ℕ) → AreMarksOf log marks

@@ -91,9 +91,7 @@ names_tellers seat n first (a ∷ more) told = (
 named : (s : State) (e : Event) (r : Reply) (d : LogItem) → untold d ≡ log_item (by_number s e) (reply_without_id r) → d.teller ≡ teller_if d.event d.teller → d ≡ item_of s e r d.teller
 named s e r d is only =
     let event : d.event ≡ by_number s e = ap (λ (x : LogItem). x.event) is in
-    let reply : d.reply ≡ reply_without_id r = ap (λ (x : LogItem). x.reply) is in
-    let teller : d.teller ≡ teller_if (by_number s e) d.teller = only ∙ ap (λ (f : Event). teller_if f d.teller) event in
-    λ k. record { event = event k; reply = reply k; teller = teller k }
+    λ k. record { event = event k; reply = (ap (λ (x : LogItem). x.reply) is) k; teller = (only ∙ ap (λ (f : Event). teller_if f d.teller) event) k }
 
 follow : (r : Run) (acts : List (ℕ × LogItem)) (e : Event) (es : List Event) (o : Option Outcome) → NamesTellers acts → step r.state e ≡ o
     → events_of acts ≡ log_with r.state e o (log_from (run_with_event r o) es) → length (log_with r.state e o (log_from (run_with_event r o) es)) ≡ suc (length es)
@@ -187,8 +185,7 @@ walked seat n P log s (a ∷ more) (e ∷ es) t stays run on own so =
     append_assoc log (a.1 ∷ []) (part 0 more) ∙ sym (ap (λ (b : Bool). log ++ cond b (a.1 ∷ part 0 more) (part 0 more)) (eq-eqb a.0 0 same)) in
     subst (λ (l : List LogItem). P l t) whole (walked seat n P (log ++ a.1 ∷ []) o.state more es t stays run.3 holds own.1 next))
     (λ (off : a.0 ≢ 0).
-    let mine : IsSeatOf seat n a.0 (maker (by_number s e)) = subst (λ (d : LogItem). IsSeatOf seat n a.0 (maker d.event)) run.2 own.0 in
-    let next : P log o.state = stays.off a.0 log s e o mine off on run.1 so in
+    let next : P log o.state = stays.off a.0 log s e o (subst (λ (d : LogItem). IsSeatOf seat n a.0 (maker d.event)) run.2 own.0) off on run.1 so in
     let whole : log ++ part 0 more ≡ log ++ part 0 (a ∷ more) = sym (ap (λ (b : Bool). log ++ cond b (a.1 ∷ part 0 more) (part 0 more)) (ne_eqb a.0 0 off)) in
     subst (λ (l : List LogItem). P l t) whole (walked seat n P log o.state more es t stays run.3 holds own.1 next))
     (cases_eq a.0 0)

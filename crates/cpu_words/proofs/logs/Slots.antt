@@ -1,5 +1,5 @@
 -- What the keeper's log says of slots: which entry each has, and that all CPUs have passed for the last one where it is gone.
-use Rattle.std.proofs.Common.{◌≡◌, ℕ, suc, ◌+◌, Bool, false, if◌then◌else◌, List, [], ◌∷◌, ◌++◌, refl, sym, ap, ◌∙◌, arith, inl, inr, ⊎_elim, ◌<◌, true, length, set, replicate, Option, None, eq-eqb, ne_eqb, subst}
+use Rattle.std.proofs.Common.{◌≡◌, ℕ, suc, ◌+◌, Bool, false, if◌then◌else◌, List, [], ◌∷◌, ◌++◌, refl, sym, ap, ◌∙◌, arith, inl, inr, ⊎_elim, ◌<◌, true, length, set, replicate, Option, None, eq-eqb, ne_eqb}
 use Rattle.std.proofs.lemmas.Bool.{and_parts}
 use Rattle.cpu_words.specs.Types.{Event, Publish, Unpublish, Entry, Slot, Vacant, Live, Retired, Settings, Reply, Done}
 use Rattle.registry_values.specs.Common.{slot_at}
@@ -7,8 +7,8 @@ use Rattle.protocol.specs.Common.{State, opening, is_drained, Holds}
 use Rattle.protocol.proofs.Made.{Made, Publishes, Unpublishes, SubsKept, Vacates}
 use Rattle.protocol.proofs.keeps.ListKeeps.{may_publish_tells}
 use Rattle.protocol.proofs.keeps.MarkKeeps.{is_drained_tells}
-use Rattle.protocol.proofs.keeps.Linking.{within_live, within_retired}
-use Rattle.protocol.proofs.Cells.{get_or_all}
+use Rattle.protocol.proofs.keeps.Linking.{within_live}
+use Rattle.protocol.proofs.Cells.{get_or_all, place_put}
 use Rattle.protocol.proofs.Occupied.{live_one, not_vacant, retired_one, slot_cases}
 use Rattle.cpu_words.specs.Common.{LogItem, changes_of, changes_in, is_detach_from, KeepsEntry, Standing, nothing, attached, detached, number_of, stands_after, stands_from, standing, IsDetachedFrom, is_change_at, KeepsSlot, Teller, HasPassedOn, AreMarksOf, AreSlotsOf}
 use Rattle.cpu_words.proofs.logs.Loads.{moves_past}
@@ -27,9 +27,7 @@ changes_both [] b = omega arith
 changes_both (d ∷ ds) b = ap (changes_of d.event) (changes_both ds b) ∙ pushes d.event (changes_in ds) (changes_in b)
 
 pub changes_last : (log : List LogItem) (d : LogItem) → changes_in (log ++ d ∷ []) ≡ changes_of d.event (changes_in log)
-changes_last log d =
-    let past : changes_of d.event (changes_in log) + 0 ≡ changes_in log + changes_of d.event 0 = moves_past d.event (changes_in log) 0 in
-    changes_both log (d ∷ []) ∙ omega (arith, past)
+changes_last log d = changes_both log (d ∷ []) ∙ omega (arith, moves_past d.event (changes_in log) 0)
 
 stands_both : (t n : ℕ) (x : Standing) (a b : List LogItem) → stands_from t n x (a ++ b) ≡ stands_from t (changes_in a + n) (stands_from t n x a) b
 stands_both t n x [] b = let same : n ≡ 0 + n = omega arith in ap (λ (m : ℕ). stands_from t m x b) same
@@ -87,21 +85,11 @@ not_attached t n m log gone here = let q : detached n ≡ attached m = sym gone 
 vacated_slots : (s : State) (t : ℕ) (log : List LogItem) → Holds s → is_drained s t ≡ true → AreMarksOf log s.marks → AreSlotsOf s.settings.cpus log s.slots
     → AreSlotsOf s.settings.cpus log (set s.slots t Vacant)
 vacated_slots s t log on drained marks are =
-    let told = is_drained_tells s t on drained in
-    let lt : t < length s.slots = within_retired s.slots t told.1.0 told.1.1 in
-    let new : List Slot = set s.slots t Vacant in record {
-      live = λ u e is. ⊎_elim
-          (λ (here : (u ≡ t) × (slot_at new u ≡ Vacant)). absurd (not_vacant e (slot_at new u) here.1 (inl is)))
-          (λ (old : (u ≡ t → ⊥) × (slot_at new u ≡ slot_at s.slots u)). are.live u e (sym old.1 ∙ is))
-          (slot_cases s.slots t Vacant u lt);
-      retired = λ u e is. ⊎_elim
-          (λ (here : (u ≡ t) × (slot_at new u ≡ Vacant)). absurd (not_vacant e (slot_at new u) here.1 (inr is)))
-          (λ (old : (u ≡ t → ⊥) × (slot_at new u ≡ slot_at s.slots u)). are.retired u e (sym old.1 ∙ is))
-          (slot_cases s.slots t Vacant u lt);
-      vacant = λ u n c is gone low. ⊎_elim
-          (λ (here : (u ≡ t) × (slot_at new u ≡ Vacant)). subst (λ (k : ℕ). HasPassedOn k c log) (sym here.0) (marks.passed t c (told.2 c low)))
-          (λ (old : (u ≡ t → ⊥) × (slot_at new u ≡ slot_at s.slots u)). are.vacant u n c (sym old.1 ∙ is) gone low)
-          (slot_cases s.slots t Vacant u lt);
+    let told = is_drained_tells s t on drained in record {
+      live = λ u e. place_put Vacant s.slots t Vacant (λ v x. x ≡ Live e → standing v log ≡ attached e.number) u (λ is. absurd (let q : Vacant ≡ Live e = is in cc)) (are.live u e);
+      retired = λ u e. place_put Vacant s.slots t Vacant (λ v x. x ≡ Retired e → standing v log ≡ detached e.number) u (λ is. absurd (let q : Vacant ≡ Retired e = is in cc)) (are.retired u e);
+      vacant = λ u n c. place_put Vacant s.slots t Vacant (λ v x. x ≡ Vacant → standing v log ≡ detached n → c < s.settings.cpus → HasPassedOn v c log) u
+          (λ is gone low. marks.passed t c (told.2 c low)) (are.vacant u n c);
     }
 
 -- the log goes on

@@ -7,6 +7,7 @@ use Rattle.protocol.specs.Common.{Outcome, step, Run, run_with_event, State}
 use Rattle.cpu_words.specs.Common.{LogItem, Teller, by_number, reply_without_id, log_item, log_with, log_from, part, HasComeIf, IsToldBefore, AreToldBefore, teller_if, untold, has_heard_from, heard_from, HasHeardAll, HasItsSections, HasNone, Logged, is_border, is_hear}
 use Rattle.cpu_words.proofs.logs.Runs.{by_seat, part_append, same_first, same_rest}
 use Rattle.cpu_words.proofs.logs.Loads.{no_place, part_same}
+use Rattle.cpu_words.proofs.shown.Seeing.{prefix_both}
 
 -- Who told the notes that were heard: each teller had come as far as the log says before the note was heard, and that stays so.
 
@@ -58,10 +59,7 @@ come_acts : (seat : ℕ → ℕ) (n : ℕ) (acts more : List (ℕ × LogItem)) (
 come_acts seat n acts more None come = tt
 come_acts seat n acts more (Some h) come = record {
   seated = come.seated;
-  events =
-      let at = come.events in
-      let size : length (part (seat h.cpu) (acts ++ more)) ≡ length (part (seat h.cpu) acts ++ part (seat h.cpu) more) = ap (λ (l : List LogItem). length l) (part_append (seat h.cpu) acts more) in
-      omega (arith, at, size, length-append (part (seat h.cpu) acts) (part (seat h.cpu) more));
+  events = omega (arith, come.events, ap (λ (l : List LogItem). length l) (part_append (seat h.cpu) acts more), length-append (part (seat h.cpu) acts) (part (seat h.cpu) more));
 }
 
 pub come_more : (seat next : ℕ → ℕ) (n all : ℕ) (acts more : List (ℕ × LogItem)) (h : Option Teller) → n ≤ all → ((c : ℕ) → c < n → next c ≡ seat c) → HasComeIf seat n acts h
@@ -158,14 +156,11 @@ hear_with id acts by h d (y ∷ past) rest is hears = absurd (no_act past rest (
 
 -- What a seat knows as more is done
 
-known_on : (p l m : List LogItem) → IsPrefix p l → IsPrefix l m → IsPrefix p m
-known_on p l m first second = (first.0 ++ second.0, sym (append_assoc p first.0 second.0) ∙ (ap (λ (d : List LogItem). d ++ second.0) first.1 ∙ second.1))
-
 -- by the seat itself, which knows `known` then
 pub heard_own : (id : ℕ) (l m : Logged) (acts : List (ℕ × LogItem)) (its : List LogItem) → HasHeardAll id l acts → IsPrefix l.known_log m.known_log → HearsWith id acts its m.known_log
     → HasHeardAll id m (acts ++ by_seat id its)
 heard_own id l m acts its had up hears d first rest is hear = ⊎_elim
-    (λ (p : (more : List (ℕ × LogItem)) × (acts ≡ first ++ (id, d) ∷ more)). known_on (part 0 first) l.known_log m.known_log (had d first p.0 p.1 hear) up)
+    (λ (p : (more : List (ℕ × LogItem)) × (acts ≡ first ++ (id, d) ∷ more)). prefix_both (part 0 first) l.known_log m.known_log (had d first p.0 p.1 hear) up)
     (λ (p : (past : List (ℕ × LogItem)) × (first ≡ acts ++ past) × (by_seat id its ≡ past ++ (id, d) ∷ rest)).
     subst (λ (a : List (ℕ × LogItem)). IsPrefix (part 0 a) m.known_log) (sym p.1) (hears d p.0 rest p.2 hear))
     (stands acts (by_seat id its) first rest (id, d) is)

@@ -19,7 +19,7 @@ use Rattle.protocol.proofs.keeps.MarkKeeps.{is_drained_tells, may_examine_tells}
 use Rattle.protocol.proofs.keeps.References.{snapshot_due_tells}
 use Rattle.protocol.proofs.Cells.{total_here, total_other}
 use Rattle.protocol.proofs.Occupied.{at_rest_tells, fresh_unoccupied, in_within, one_number, slot_has}
-use Rattle.cpu_words.specs.Common.{LogItem, Teller, KeeperView, number_at, collected_net, collected_one, GivesUp, KeeperShown, Good, number_or_none, by_number, changes_of, changes_in, keeping, names, occupant_after, occupant, word_after, word_collected, occupant_of, word_if, AreCountsOf, given_by, given_after, given_up, sum_below, is_there, word_or_none, words_collected, sum_collected, AreTotalsOf}
+use Rattle.cpu_words.specs.Common.{LogItem, Teller, KeeperView, number_at, collected_net, collected_one, GivesUp, KeeperShown, Good, number_or_none, by_number, changes_in, keeping, names, occupant_after, occupant, word_after, word_collected, occupant_of, word_if, AreCountsOf, given_by, given_after, given_up, sum_below, is_there, word_or_none, words_collected, sum_collected, AreTotalsOf}
 use Rattle.cpu_words.proofs.by_keeper.Draining.{due_alike}
 use Rattle.cpu_words.proofs.by_keeper.Totals.{one_subtracted}
 use Rattle.cpu_words.proofs.logs.Loads.{changes_up, unnamed_changes}
@@ -31,10 +31,7 @@ use Rattle.cpu_words.proofs.logs.Slots.{changes_last}
 
 given_last : (before : List LogItem) (n : ℕ) (a : List LogItem) (d : LogItem) → given_after before n (a ++ d ∷ []) ≡ given_after before n a + given_by (before ++ a) n d.event
 given_last before n [] d = let same = ap (λ (l : List LogItem). given_by l n d.event) (append-nil before) in omega (arith, same)
-given_last before n (x ∷ a) d =
-    let rest = given_last (before ++ x ∷ []) n a d in
-    let whole = ap (λ (l : List LogItem). given_by l n d.event) (append_assoc before (x ∷ []) a) in
-    omega (arith, rest, whole)
+given_last before n (x ∷ a) d = omega (arith, given_last (before ++ x ∷ []) n a d, ap (λ (l : List LogItem). given_by l n d.event) (append_assoc before (x ∷ []) a))
 
 pub given_more : (n : ℕ) (log : List LogItem) (d : LogItem) → given_up n (log ++ d ∷ []) ≡ given_up n log + given_by log n d.event
 given_more n log d = given_last [] n log d
@@ -42,31 +39,20 @@ given_more n log d = given_last [] n log d
 -- Sums over the places for CPUs
 
 -- the places have the same words
-sum_other : (f g : ℕ → ℕ) (n : ℕ) → ((c : ℕ) → c < n → g c ≡ f c) → sum_below g n ≡ sum_below f n
+pub sum_other : (f g : ℕ → ℕ) (n : ℕ) → ((c : ℕ) → c < n → g c ≡ f c) → sum_below g n ≡ sum_below f n
 sum_other f g zero same = refl
-sum_other f g (suc n) same =
-    let rest = sum_other f g n (λ c lt. same c (omega arith)) in
-    let here = same n (omega arith) in
-    omega (arith, rest, here)
+sum_other f g (suc n) same = omega (arith, sum_other f g n (λ c lt. same c (omega arith)), same n (omega arith))
 
 -- only one place has another word
 sum_changed : (f g : ℕ → ℕ) (c n : ℕ) → c < n → ((d : ℕ) → (d ≡ c → ⊥) → g d ≡ f d) → sum_below g n + f c ≡ sum_below f n + g c
 sum_changed f g c zero lt same = absurd (omega arith)
 sum_changed f g c (suc n) lt same = ⊎_elim
-    (λ (is : n ≡ c).
-    let rest = sum_other f g n (λ d low. same d (λ q. absurd (omega (arith, q, is, low)))) in
-    let old = ap f is in
-    let new = ap g is in
-    omega (arith, rest, old, new))
-    (λ (off : n ≡ c → ⊥).
-    let low : c < n = ⊎_elim (λ (below : c < n). below) (λ (past : n ≤ c). absurd (off (omega arith))) (cases_lt c n) in
-    let rest = sum_changed f g c n low same in
-    let here = same n off in
-    omega (arith, rest, here))
+    (λ (is : n ≡ c). omega (arith, sum_other f g n (λ d low. same d (λ q. absurd (omega (arith, q, is, low)))), ap f is, ap g is))
+    (λ (off : n ≡ c → ⊥). omega (arith, sum_changed f g c n (⊎_elim (λ (below : c < n). below) (λ (past : n ≤ c). absurd (off (omega arith))) (cases_lt c n)) same, same n off))
     (cases_eq n c)
 
 -- the first place by itself
-sum_first : (f : ℕ → ℕ) (n : ℕ) → sum_below f (suc n) ≡ f 0 + sum_below (λ c. f (suc c)) n
+pub sum_first : (f : ℕ → ℕ) (n : ℕ) → sum_below f (suc n) ≡ f 0 + sum_below (λ c. f (suc c)) n
 sum_first f zero = omega arith
 sum_first f (suc n) = let rest = sum_first f n in omega (arith, rest)
 
@@ -153,10 +139,9 @@ as_much log s e g r h t n stay much even =
     sum_other (λ c. is_there (word_collected t c log)) (λ c. is_there (word_collected t c (log ++ d ∷ []))) MOST_CPUS (λ c lt. ap is_there (word c)) in
     let sum : sum_collected t (log ++ d ∷ []) ≡ sum_collected t log =
     sum_other (λ c. word_or_none (word_collected t c log)) (λ c. word_or_none (word_collected t c (log ++ d ∷ []))) MOST_CPUS (λ c lt. ap word_or_none (word c)) in
-    let given : given_up n (log ++ d ∷ []) ≡ given_up n log + given_by log n (by_number s e) = given_more n log d in
     as_much_sum (total_at s.totals t) (addition_due_at t s.due) (given_up n log) (words_collected t log) (is_adding_at t s.due) (subtraction_due_at t s.due) (sum_collected t log)
     (total_at g.totals t) (addition_due_at t g.due) (given_by log n (by_number s e)) (words_collected t (log ++ d ∷ [])) (is_adding_at t g.due) (subtraction_due_at t g.due)
-    (sum_collected t (log ++ d ∷ [])) (given_up n (log ++ d ∷ [])) words sum given much even
+    (sum_collected t (log ++ d ∷ [])) (given_up n (log ++ d ∷ [])) words sum (given_more n log d) much even
 
 -- the slot's total and what is due for it stay, and nothing is given up
 level : (total add due sub : ℕ) → total + add + 0 + bias * due + sub ≡ total + add + bias * due + sub
@@ -175,18 +160,13 @@ IsQuiet due t = (addition_due_at t due ≡ 0) × (is_adding_at t due ≡ 0) × (
 quiet_rest : (due : Due) (t : ℕ) → due ≡ Rest → IsQuiet due t
 quiet_rest due t is = due_alike due Rest is t
 
-quiet_snapshots : (due : Due) (t u c : ℕ) → due ≡ Snapshots u c → IsQuiet due t
-quiet_snapshots due t u c is = due_alike due (Snapshots u c) is t
-
 quiet_if : (t u c : ℕ) (b : Bool) → IsQuiet (if b then Snapshots u c else Rest) t
 quiet_if t u c true = (refl, refl, refl)
 quiet_if t u c false = (refl, refl, refl)
 
 -- totals stay, nothing is due for any, and nothing is given up
 quietly : (log : List LogItem) (s : State) (e : Event) (n : State) (t m : ℕ) → given_by log m (by_number s e) ≡ 0 → n.totals ≡ s.totals → IsQuiet s.due t → IsQuiet n.due t → IsAsMuch log s e n t m
-quietly log s e n t m none same before after =
-    let total = ap (λ (x : List ℕ). total_at x t) same in
-    omega (arith, none, total, before.0, before.1, before.2, after.0, after.1, after.2)
+quietly log s e n t m none same before after = omega (arith, none, ap (λ (x : List ℕ). total_at x t) same, before.0, before.1, before.2, after.0, after.1, after.2)
 
 -- Each event
 
@@ -211,9 +191,8 @@ published_here log s u e h n on may number known =
     λ c. word_next u c log s (Publish u) Done h ∙ (known.counts.words u c ∙ no_word s u c (undrawn_slot s u c (ap is_retired told.vacant))) in
     let words : words_collected u (log ++ d ∷ []) ≡ 0 = sum_other (λ c. 0) (λ c. is_there (word_collected u c (log ++ d ∷ []))) MOST_CPUS (λ c lt. ap is_there (word c)) in
     let sum : sum_collected u (log ++ d ∷ []) ≡ 0 = sum_other (λ c. 0) (λ c. word_or_none (word_collected u c (log ++ d ∷ []))) MOST_CPUS (λ c lt. ap word_or_none (word c)) in
-    let given : given_up n (log ++ d ∷ []) ≡ given_up n log + 0 = given_more n log d in
     published_sum (total_at s.totals u) (addition_due_at u s.due) (given_up n (log ++ d ∷ [])) (words_collected u (log ++ d ∷ [])) (is_adding_at u s.due)
-    (subtraction_due_at u s.due) (sum_collected u (log ++ d ∷ [])) (given_up n log) (eqb-true (total_at s.totals u) bias unused.1) quiet.0 quiet.1 quiet.2 words sum given none
+    (subtraction_due_at u s.due) (sum_collected u (log ++ d ∷ [])) (given_up n log) (eqb-true (total_at s.totals u) bias unused.1) quiet.0 quiet.1 quiet.2 words sum (given_more n log d) none
 
 published_next : (log : List LogItem) (s : State) (u : ℕ) (e : Entry) (h : Option Teller) (t n : ℕ) → Holds s → may_publish s u e ≡ true
     → occupant_after t (changes_in log) (Publish u) (occupant t log) ≡ Some n → SaidBefore log s → Next log s (Publish u) (after_publish s u e) Done h t n
@@ -276,44 +255,31 @@ added_much log s u old t n on due =
     let range = (adding_range s u old on due).0 in
     let lt : u < length s.totals = omega (arith, adding_within s u old on due, on.shape.totals) in
     let total = ap (total_at (set s.totals u (total_at s.totals u + old - bias))) (sym same) ∙ total_here s.totals u (total_at s.totals u + old - bias) lt in
-    let was = ap (total_at s.totals) same in
-    let added = if_here u t old 0 same in
-    let adding = one_self u t same in
-    omega (arith, range, total, was, before.0, before.1, before.2, added, adding))
-    (λ off.
-    let total = total_other s.totals u (total_at s.totals u + old - bias) t (λ same. off (sym same)) in
-    let added = if_off u t old 0 off in
-    let adding = one_other u t off in
-    omega (arith, total, before.0, before.1, before.2, added, adding))
+    omega (arith, range, total, ap (total_at s.totals) same, before.0, before.1, before.2, if_here u t old 0 same, one_self u t same))
+    (λ off. omega (arith, total_other s.totals u (total_at s.totals u + old - bias) t (λ same. off (sym same)), before.0, before.1, before.2, if_off u t old 0 off, one_other u t off))
 
 -- the reference that was given up is subtracted
 subtracted_much : (log : List LogItem) (s : State) (u t n : ℕ) → Holds s → s.due ≡ Subtracting u → IsAsMuch log s (TotalSub u) (after_total s u (total_at s.totals u - 1)) t n
 subtracted_much log s u t n on due =
     let range = subtracting_range s u on due in
-    let less = one_subtracted s.totals u (omega (arith, range.0, on.shape.totals)) range.1 t in
     let before = due_alike s.due (Subtracting u) due t in
-    omega (arith, less, before.0, before.1, before.2)
+    omega (arith, one_subtracted s.totals u (omega (arith, range.0, on.shape.totals)) range.1 t, before.0, before.1, before.2)
 
 -- a reference is given up, and is due for subtraction from its entry's slot
 joined_much : (log : List LogItem) (s : State) (id m u t n : ℕ) → Holds s → number_standing (local_at s.locals id) ≡ Some m → slot_of s.slots m ≡ Some u → may_join_keeper s u ≡ true
     → occupant t log ≡ Some n → SaidBefore log s → IsAsMuch log s (JoinKeeper id) (after_join_keeper s id u) t n
 joined_much log s id m u t n on at of may is known =
-    let join = and_parts (is_retired (slot_at s.slots u)) (may_join s u) may in
-    let before = quiet_rest s.due t (at_rest_tells s.due (and_parts (at_rest s.due) _ join.1).0) in
-    let alike = one_alike s t n u m on (sym (known.counts.occupants t) ∙ is) (at_slot s m u of) in
-    let given : given_by log n (by_number s (JoinKeeper id)) ≡ one_if (m == n) = ap (λ (x : Option ℕ). one_if (number_or_none x == n)) at in
-    omega (arith, alike, given, before.0, before.1, before.2)
+    let before = quiet_rest s.due t (at_rest_tells s.due (and_parts (at_rest s.due) _ (and_parts (is_retired (slot_at s.slots u)) (may_join s u) may).1).0) in
+    omega (arith, one_alike s t n u m on (sym (known.counts.occupants t) ∙ is) (at_slot s m u of), ap (λ (x : Option ℕ). one_if (number_or_none x == n)) at, before.0, before.1, before.2)
 
 -- of another slot than the one made vacant: the driver's total is 1 less, and one more reference to it is given up
 gave_up_much : (log : List LogItem) (s : State) (v d u t n : ℕ) → Holds s → kept_at s.keeps v ≡ Some d → slot_of s.slots d ≡ Some u → is_drained s v ≡ true
     → occupant t log ≡ Some n → SaidBefore log s → IsAsMuch log s (KeptSub v) (after_kept_sub s v u) t n
 gave_up_much log s v d u t n on keeps of drained is known =
-    let alike = one_alike s t n u d on (sym (known.counts.occupants t) ∙ is) (at_slot s d u of) in
     let given : given_by log n (KeptSub v) ≡ one_if (d == n) = ap (λ (x : Option ℕ). one_if (names x n)) (sym (known.kept v) ∙ keeps) in
-    let lt : u < length s.totals = omega (arith, (slot_has s.slots d u of).0, on.shape.slots, on.shape.totals) in
-    let less = one_subtracted s.totals u lt (driver_positive s v d u on keeps of drained) t in
+    let less = one_subtracted s.totals u (omega (arith, (slot_has s.slots d u of).0, on.shape.slots, on.shape.totals)) (driver_positive s v d u on keeps of drained) t in
     let before = quiet_rest s.due t (is_drained_tells s v on drained).0 in
-    omega (arith, alike, given, less, before.0, before.1, before.2)
+    omega (arith, one_alike s t n u d on (sym (known.counts.occupants t) ∙ is) (at_slot s d u of), given, less, before.0, before.1, before.2)
 
 -- an event that makes the slot v vacant leaves the words of another
 vacated_next : (log : List LogItem) (v t n : ℕ) (x : Option ℕ) → (if v == t then None else x) ≡ Some n → (x ≡ Some n) × ((y : Option ℕ) → (if v == t then None else y) ≡ y)
@@ -327,7 +293,7 @@ total_next log s g _ _ h t n on (Publishes u e of may) is known = published_next
 total_next log s g e r h t n on (Unpublishes u head next f at rest past) is known = as_much log s e g r h t n (λ c. refl)
     (quietly log s e g t n refl refl (quiet_rest s.due t (at_rest_tells s.due rest)) (refl, refl, refl)) (known.totals.total t n is)
 total_next log s g e r h t n on (Snaps u c due) is known = as_much log s e g r h t n (λ d. refl)
-    (quietly log s e g t n refl refl (quiet_snapshots s.due t u c (snapshot_due_tells s.due u c due)) (quiet_if t u (c + 1) (nat_lt (c + 1) s.settings.cpus))) (known.totals.total t n is)
+    (quietly log s e g t n refl refl (due_alike s.due (Snapshots u c) (snapshot_due_tells s.due u c due) t) (quiet_if t u (c + 1) (nat_lt (c + 1) s.settings.cpus))) (known.totals.total t n is)
 total_next log s g _ _ h t n on (Collects u c may) is known = collected_next log s u c h t n on may is known
 total_next log s g e r h t n on (AddsTotal u old due) is known = as_much log s e g r h t n (λ c. refl) (added_much log s u old t n on due) (known.totals.total t n is)
 total_next log s g e r h t n on (SubsTotal u due) is known = as_much log s e g r h t n (λ c. refl) (subtracted_much log s u t n on due) (known.totals.total t n is)
@@ -356,10 +322,8 @@ totals_own log s g e r h on made known =
     let d : LogItem = item_of s e r h in record {
       total = λ t n is. total_next log s g e r h t n on made (sym (occupant_next t log s e r h) ∙ is) known;
       later = λ n above.
-          let grows : changes_in (log ++ d ∷ []) ≡ changes_of e (changes_in log) = changes_last log d ∙ unnamed_changes s e (changes_in log) in
-          let low : changes_in log < n = omega (arith, above, grows, changes_up e (changes_in log)) in
-          let given : given_up n (log ++ d ∷ []) ≡ given_up n log + given_by log n (by_number s e) = given_more n log d in
-          omega (arith, given, known.totals.later n low, none_given log s g e r n on made known low);
+          let low : changes_in log < n = omega (arith, above, changes_last log d ∙ unnamed_changes s e (changes_in log), changes_up e (changes_in log)) in
+          omega (arith, given_more n log d, known.totals.later n low, none_given log s g e r n on made known low);
     }
 
 -- before all events no slot is occupied
@@ -372,9 +336,8 @@ no_totals z = record { total = λ t n is. absurd (let q : ◌≡◌ {A = Option 
 pub total_by_log : (log : List LogItem) (s : State) (t n : ℕ) → AreTotalsOf log s → s.due ≡ Rest → occupant t log ≡ Some n
     → total_at s.totals t + given_up n log + bias * words_collected t log ≡ bias + sum_collected t log
 total_by_log log s t n are rest is =
-    let even : IsEven log s t n = are.total t n is in
     let quiet = quiet_rest s.due t rest in
-    omega (arith, even, quiet.0, quiet.1, quiet.2)
+    omega (arith, are.total t n is, quiet.0, quiet.1, quiet.2)
 
 -- a sum over marks and net counts, as one over the places
 row_sum : (h : Mark × ℕ → ℕ) (ms : List Mark) (ns : List ℕ) (f : ℕ → ℕ) → length ms ≡ length ns → ((c : ℕ) → f c ≡ h (get_or ms c no_mark, get_or ns c 0))
@@ -382,11 +345,7 @@ row_sum : (h : Mark × ℕ → ℕ) (ms : List Mark) (ns : List ℕ) (f : ℕ �
 row_sum h [] ns f same each = refl
 row_sum h (m ∷ ms) [] f same each = absurd (omega (arith, same))
 row_sum h (m ∷ ms) (w ∷ ns) f same each =
-    let first = sum_first f (length ms) in
-    let here : f 0 ≡ h (m, w) = each 0 in
-    let rest = row_sum h ms ns (λ c. f (suc c)) (omega (arith, same)) (λ c. each (suc c)) in
-    let sum = sum_by-cons h (m, w) (zip ms ns) in
-    omega (arith, first, here, rest, sum)
+    omega (arith, sum_first f (length ms), each 0, row_sum h ms ns (λ c. f (suc c)) (omega (arith, same)) (λ c. each (suc c)), sum_by-cons h (m, w) (zip ms ns))
 
 -- a mark's word as the log has it counts as it does for the keeper's view
 
@@ -412,15 +371,11 @@ given_by_log log g k t n good had counts totals rest is = by (slot_at g.slots t)
     by : (x : Slot) → slot_at g.slots t ≡ x → number_at k.given_up n ≡ given_up n log
     by Vacant at = absurd (let q : ◌≡◌ {A = Option ℕ} None (Some n) = sym (ap occupant_of at) ∙ here in cc)
     by (Live e) at =
-        let number : e.number ≡ n = same_Some e.number n (sym (ap occupant_of at) ∙ here) in
-        let live = subst (λ (m : ℕ). total_at g.totals t + number_at k.given_up m ≡ bias) number (had.live_total t e at) in
         let word : (c : ℕ) → word_collected t c log ≡ None = λ c. counts.words t c ∙ no_word g t c (undrawn_slot g t c (ap is_retired at)) in
         let words : words_collected t log ≡ 0 = sum_other (λ c. 0) (λ c. is_there (word_collected t c log)) MOST_CPUS (λ c lt. ap is_there (word c)) in
         let sum : sum_collected t log ≡ 0 = sum_other (λ c. 0) (λ c. word_or_none (word_collected t c log)) MOST_CPUS (λ c lt. ap word_or_none (word c)) in
-        omega (arith, even, live, words, sum)
+        omega (arith, even, subst (λ (m : ℕ). total_at g.totals t + number_at k.given_up m ≡ bias) (same_Some e.number n (sym (ap occupant_of at) ∙ here)) (had.live_total t e at), words, sum)
     by (Retired e) at =
-        let number : e.number ≡ n = same_Some e.number n (sym (ap occupant_of at) ∙ here) in
-        let gone : GivesUp g k.given_up t n = subst (λ (m : ℕ). GivesUp g k.given_up t m) number (had.gives_up t e at) in
         let quiet = quiet_rest g.due t rest in
         let shape = good.holds.shape in
         let lt : t < length g.slots = in_within g.slots t e (inr at) in
@@ -436,4 +391,4 @@ given_by_log log g k t n good had counts totals rest is = by (slot_at g.slots t)
         ap (sum_below (λ c. word_or_none (word_collected t c log))) (sym marks)
         ∙ row_sum collected_net (get_or g.marks t []) (get_or g.nets t []) (λ c. word_or_none (word_collected t c log)) (marks ∙ sym nets)
         (λ c. ap word_or_none (word c) ∙ net_collected (mark_at g.marks t c).collected (count_at g.nets c t)) in
-        omega (arith, even, gone, quiet.0, quiet.1, quiet.2, words, sum)
+        omega (arith, even, subst (λ (m : ℕ). GivesUp g k.given_up t m) (same_Some e.number n (sym (ap occupant_of at) ∙ here)) (had.gives_up t e at), quiet.0, quiet.1, quiet.2, words, sum)

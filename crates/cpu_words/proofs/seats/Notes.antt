@@ -1,24 +1,17 @@
 -- Notes on the words: what a seat has seen is told and heard.
-use Rattle.std.proofs.Common.{◌++◌, [], ◌≡◌, ◌≢◌, inl, ⊎_elim, ℕ, ◌≤◌, List, length, take, get_or, set, Some, None, refl, sym, ap, ◌∙◌, subst, arith, get_or-set_same, get_or-set_other}
+use Rattle.std.proofs.Common.{[], ◌≡◌, inl, ℕ, ◌≤◌, List, length, take, get_or, set, Some, None, refl, sym, ap, ◌∙◌, subst, arith, get_or-set_same, get_or-set_other}
 use Rattle.std.specs.Prelude.{slice_index}
-use mathlib.Core.Option.{some}
 use mathlib.Core.List.{IsPrefix}
-use lib.ListN.{get_elem?}
 use Rattle.atomic_table.specs.Table.{Splits, Joins}
-use Rattle.atomic_table.proofs.Lists.{at_set}
 use Rattle.cpu_words.specs.Types.{Change, Settings, Event, Tell, Hear, Done, Rest}
 use Rattle.protocol.specs.Common.{State, seen_at, step}
-use Rattle.cpu_words.specs.Common.{CpuView, KeeperView, Logged, View, Keeper, Cpu, Note, Spent, cpu_view, keeper_view, depth_of, CpuShown, KeeperShown, Shown, cpu_of, keeper_of, note_of, Sits, reference_to, Good, by_number, did, log_item, log_of_events, Makes, SplitsBy, CpuMay, KeeperMay, SplitsOn, JoinsOn, the_cpu, who, LoggedRuled, logged_after_split, known_log_of, whole_log, fresh, logged_with_note, spent_seat, tells_pass, tells_history, told_by_cpu, no_teller, IsIdle, as_before, pass_told, history_told, with_note, keeper_with_note, beside_cpu, beside_keeper, HasHeard, KeeperHasHeard, CpuHears, section_of, head_word, index}
+use Rattle.cpu_words.specs.Common.{CpuView, KeeperView, Logged, View, Keeper, Cpu, Note, Spent, cpu_view, keeper_view, depth_of, CpuShown, KeeperShown, Shown, cpu_of, keeper_of, note_of, Sits, reference_to, Good, by_number, did, log_item, log_of_events, Makes, SplitsBy, CpuMay, SplitsOn, JoinsOn, the_cpu, who, LoggedRuled, logged_after_split, known_log_of, whole_log, fresh, logged_with_note, spent_seat, tells_pass, tells_history, told_by_cpu, no_teller, IsIdle, as_before, pass_told, history_told, with_note, keeper_with_note, beside_cpu, beside_keeper, HasHeard, KeeperHasHeard, CpuHears, section_of, head_word, index}
 use Rattle.std.proofs.lemmas.List.{append-nil}
-use Rattle.cpu_words.proofs.shown.Showing.{more, Stay, shows_split, shows_join}
+use Rattle.cpu_words.proofs.shown.Showing.{shows_split, shows_join, was_there, goes_to}
 use Rattle.cpu_words.proofs.logs.Logs.{tells_known, tells_whole, seat_cut, seat_with_note, names_nobody, names_cpu}
 use Rattle.cpu_words.proofs.shown.Seeing.{taken_is_prefix, prefix_longer, take_whole, seen_of, idle_of}
-use Rattle.cpu_words.proofs.by_cpu.CpuSteps.{CpuLists, lists_of, with_lists, same_counts, shown_on, found_on, cpu_makes}
-use Rattle.cpu_words.proofs.by_keeper.KeeperSteps.{keeper_lists, with_keeper, leaves_all, keeper_makes, seen_by_keeper, loads}
-
--- where a seat's own view alone changes, the core stays, and each other view is shown as it was
-pub own_view_alone : (g : State) (seat : ℕ → ℕ) (i : ℕ) → Stay g g seat i
-own_view_alone g seat i j u ne sits shown backed = shown
+use Rattle.cpu_words.proofs.by_cpu.CpuSteps.{with_lists, same_counts, shown_on, found_on, cpu_makes, CpuDoes}
+use Rattle.cpu_words.proofs.by_keeper.KeeperSteps.{with_keeper, leaves_all, keeper_makes, seen_by_keeper, loads, shown_still, KeeperDoes}
 
 -- Telling
 
@@ -42,20 +35,9 @@ splits : (z : Settings) (i : ℕ) (e : Event) (v : View) (h : List Change) → T
 splits z i e v h tells s r at =
     let g = r.g in
     let had = r.shows.fits i v at in
-    let told = tells g r.good had.1 in record {
-      goes_on = (more z g g e Done r.reached told.0).1 ∙ ap (λ (f : Event). log_of_events z r.reached.events ++ did f Done) told.2;
-      seated = omega arith;
-      seats = λ c lt. refl;
-      ruled = record {
-        g = g;
-        seat = r.seat;
-        settings = r.settings;
-        good = r.good;
-        reached = (more z g g e Done r.reached told.0).0;
-        words = r.words;
-        shows = shows_split g g r.seat s.views i v v (Note h) r.shows at (own_view_alone g r.seat i) had (tt, told.1) (λ c lt. inl lt) refl (λ n. omega arith);
-      };
-    }
+    let told = tells g r.good had.1 in
+    goes_to z s r g r.seat e Done _ _ told.0 (ap (λ (f : Event). did f Done) told.2) r.good refl (omega arith) (λ c lt. refl) r.words
+    (shows_split g g r.seat s.views i v v (Note h) r.shows at (λ j u ne sits shown backed. shown) had (tt, told.1) (λ c lt. inl lt) refl (λ n. omega arith))
 
 cpu_tells : (x : CpuView) (c : ℕ) → x.id ≡ c → IsIdle x → Tells (Tell (Some c)) (Cpu x) x.pass
 cpu_tells x c id idle = subst (λ d. Tells (Tell (Some d)) (Cpu x) x.pass) id (λ g good had.
@@ -65,11 +47,7 @@ cpu_tells x c id idle = subst (λ d. Tells (Tell (Some d)) (Cpu x) x.pass) id (�
 keeper_tells : (k : KeeperView) → k.due ≡ Rest → Tells (Tell None) (Keeper k) k.history
 keeper_tells k may g good had =
     let seen = seen_by_keeper g k good had in
-    let rest : g.due ≡ Rest = sym seen.due ∙ may in
-    (rw (rest) refl, subst (λ h. IsPrefix h g.history) (sym seen.history) (whole g.history), refl)
-  where
-    whole : (h : List Change) → IsPrefix h h
-    whole h = subst (λ p. IsPrefix p h) (take_whole h) (taken_is_prefix (length h) h)
+    (rw (sym seen.due ∙ may) refl, subst (λ h. IsPrefix h g.history) (sym seen.history) ([], append-nil g.history), refl)
 
 -- the same of a seat
 
@@ -81,8 +59,7 @@ cpu_splits z i l x c is view id idle = seat_cut z i l (Cpu x) as_before pass_tol
 
 pub cpu_splits_by : (v a : View) (x : CpuView) (c : ℕ) → cpu_of v ≡ x → a ≡ pass_told v → x.id ≡ c → IsIdle x → SplitsBy (Tell (Some c)) (Cpu x) (Cpu x) (Note (note_of a))
 cpu_splits_by v a x c view right id idle =
-    let p : note_of a ≡ x.pass = ap note_of right ∙ ap (λ (u : CpuView). u.pass) view in
-    subst (λ h. SplitsBy (Tell (Some c)) (Cpu x) (Cpu x) (Note h)) (sym p) (tells_by (Tell (Some c)) (Cpu x) x.pass (cpu_tells x c id idle))
+    subst (λ h. SplitsBy (Tell (Some c)) (Cpu x) (Cpu x) (Note h)) (sym (ap note_of right ∙ ap (λ (u : CpuView). u.pass) view)) (tells_by (Tell (Some c)) (Cpu x) x.pass (cpu_tells x c id idle))
 
 pub keeper_splits : (z : Settings) (i : ℕ) (l : Logged) (k : KeeperView) → l ≡ record l { view = Keeper (keeper_of l.view) } → keeper_of l.view ≡ k → k.due ≡ Rest
     → Splits (LoggedRuled z) i l (logged_after_split as_before tells_history l) (fresh history_told (whole_log tells_history) no_teller l)
@@ -108,10 +85,7 @@ joins : (z : Settings) (i o : ℕ) (v both : View) (h : List Change) → Beside 
 joins z i o v both h beside s r at apart there =
     let g = r.g in
     let had = r.shows.fits i v at in
-    let was : get_elem? s.views o ≡ some (Note h) = ⊎_elim
-    (λ (t : (o ≡ i) × (both ≡ Note h)). absurd (apart t.0))
-    (λ (t : (o ≢ i) × (get_elem? s.views o ≡ some (Note h))). t.1)
-    (at_set s.views i o both (Note h) there) in
+    let was = was_there s.views i o both (Note h) apart there in
     let told : IsPrefix h g.history = (r.shows.fits o (Note h) was).1 in
     record {
       goes_on = sym (append-nil (log_of_events z r.reached.events));
@@ -124,7 +98,7 @@ joins z i o v both h beside s r at apart there =
         good = r.good;
         reached = r.reached;
         words = r.words;
-        shows = shows_join g g r.seat s.views i v o (Note h) both r.shows at apart was (own_view_alone g r.seat i) (beside.sits r.seat i had.0, beside.shown g had.1 told) refl (beside.owner, refl)
+        shows = shows_join g g r.seat s.views i v o (Note h) both r.shows at apart was (λ j u ne sits shown backed. shown) (beside.sits r.seat i had.0, beside.shown g had.1 told) refl (beside.owner, refl)
             (λ n. let same = beside.references n in omega arith) there;
       };
     }
@@ -132,22 +106,7 @@ joins z i o v both h beside s r at apart there =
 cpu_beside : (x : CpuView) (h : List Change) → Beside (Cpu x) (Cpu (with_note x h)) h
 cpu_beside x h = record {
   sits = λ seat i here. here;
-  shown = λ g had told. record {
-    seated = had.seated;
-    is = ap (λ (v : CpuView). with_note v h) had.is;
-    hand = had.hand;
-    in_hand = had.in_hand;
-    depth = had.depth;
-    passive = had.passive;
-    gone = had.gone;
-    nets = had.nets;
-    later = had.later;
-    met = had.met;
-    there = had.there;
-    found = had.found;
-    references = had.references;
-    noted_pass = told;
-  };
+  shown = λ g had told. assumption (ap (λ (v : CpuView). with_note v h) had.is, told, had);
   owner = refl;
   references = λ n. refl;
 }
@@ -155,18 +114,7 @@ cpu_beside x h = record {
 keeper_beside : (k : KeeperView) (h : List Change) → Beside (Keeper k) (Keeper (keeper_with_note k h)) h
 keeper_beside k h = record {
   sits = λ seat i here. here;
-  shown = λ g had told. record {
-    is = ap (λ (v : KeeperView). keeper_with_note v h) had.is;
-    counts = had.counts;
-    sized = had.sized;
-    rows = had.rows;
-    live_total = had.live_total;
-    gives_up = had.gives_up;
-    later = had.later;
-    beyond = had.beyond;
-    honest = had.honest;
-    noted_pass = told;
-  };
+  shown = λ g had told. assumption (ap (λ (v : KeeperView). keeper_with_note v h) had.is, told, had);
   owner = refl;
   references = λ n. refl;
 }
@@ -185,15 +133,14 @@ keeper_joins z i o l m is that = seat_with_note z i o l m (Keeper (keeper_of l.v
 
 -- The load that hears
 
-pub hear_may : (z : Settings) (x : CpuView) (c : ℕ) → x.id ≡ c → IsIdle x
-    → CpuMay z x (index z (section_of c)) (λ n. n) (λ n. did (Hear (Some c)) Done) (λ v n y. Makes (Hear (Some c)) Done (Cpu v) (Cpu y) × HasHeard v y)
-hear_may z x c id idle = subst (λ d. CpuMay z x (index z (section_of d)) (λ n. n) (λ n. did (Hear (Some d)) Done) (λ v n y. Makes (Hear (Some d)) Done (Cpu v) (Cpu y) × HasHeard v y)) id
+pub hear_may : (z : Settings) (x : CpuView) (c : ℕ) → x.id ≡ c → IsIdle x → CpuDoes z x (section_of c) (λ n. n) (Hear (Some c)) (λ _. Done) (λ v _ y. HasHeard v y)
+hear_may z x c id idle = rw (← id)
     (λ s r i at fits.
     let g = r.g in
     let had : CpuShown g x = (r.shows.fits i (Cpu x) at).1 in
     let seen = seen_of g x r.good had in
     let n = length g.history in
-    let l : CpuLists = record (lists_of g) { seen = set g.seen x.id n } in
+    let l = record g { seen = set g.seen x.id n } in
     let y = cpu_view (with_lists g l) x.id x in
     let sees : get_or l.seen x.id 0 ≡ n = get_or-set_same g.seen x.id n 0 seen.in_seen in
     let more : seen_at g x.id ≤ get_or l.seen x.id 0 = omega (arith, seen.within, sees) in
@@ -204,40 +151,22 @@ hear_may z x c id idle = subst (λ d. CpuMay z x (index z (section_of d)) (λ n.
     let shown = shown_on g x l had refl refl refl (had.depth ∙ ap depth_of seen.begin) more within (found_on g x (get_or l.seen x.id 0) had more within) in
     let words = loads z s.words g (with_lists g l) (index z (section_of x.id)) r.words refl (λ q _. refl) in
     let done = cpu_makes z s r i x (index z (section_of x.id)) (slice_index s.words (index z (section_of x.id))) l (Hear (Some x.id)) Done x at made leaves (λ k. refl) refl shown words in
-    let told : IsPrefix x.noted_pass y.pass = subst (IsPrefix x.noted_pass) (sym passes) had.noted_pass in
     let longer : IsPrefix x.pass y.pass = subst (λ p. IsPrefix p y.pass) (sym seen.pass) (prefix_longer g.history (seen_at g x.id) (get_or l.seen x.id 0) more within) in
     let change : y ≡ record x { pass = y.pass } = ap (λ (v : CpuView). record v { pass = y.pass }) (sym had.is) in
-    (Cpu y, done.0, (refl, (done.1, (told, longer, change)))))
+    (Cpu y, done.0, (refl, (done.1, ((subst (IsPrefix x.noted_pass) (sym passes) had.noted_pass), longer, change)))))
 
 -- at the place of its section word
 pub own_hear_may : (z : Settings) (x : CpuView) (c i : ℕ) → x.id ≡ c → i ≡ index z (section_of c) → IsIdle x → CpuMay z x i (λ n. n) (λ n. did (Hear (Some x.id)) Done) (λ v n y. CpuHears v y)
-own_hear_may z x c i id place idle =
-    subst (λ j. CpuMay z x j (λ n. n) (λ n. did (Hear (Some x.id)) Done) (λ v n y. CpuHears v y)) (sym (place ∙ sym (ap (λ d. index z (section_of d)) id))) (hear_may z x x.id refl idle)
+own_hear_may z x c i id place idle = rw (place, ← id) (hear_may z x x.id refl idle)
 
-pub hear_keeper_may : (z : Settings) (k : KeeperView) → k.due ≡ Rest
-    → KeeperMay z k (index z head_word) (λ n. n) (λ n. did (Hear None) Done) (λ v n l. Makes (Hear None) Done (Keeper v) (Keeper l) × KeeperHasHeard v l)
+pub hear_keeper_may : (z : Settings) (k : KeeperView) → k.due ≡ Rest → KeeperDoes z k head_word (λ n. n) (Hear None) (λ _. Done) (λ v _ l. KeeperHasHeard v l)
 hear_keeper_may z k may s r i at fits =
     let g = r.g in
     let had : KeeperShown g k = (r.shows.fits i (Keeper k) at).1 in
-    let seen = seen_by_keeper g k r.good had in
-    let rest : g.due ≡ Rest = sym seen.due ∙ may in
-    let l = keeper_lists g in
-    let made : step g (Hear None) ≡ Some (record { state = with_keeper g l; reply = Done }) = rw (rest) refl in
-    let shown : KeeperShown (with_keeper g l) (keeper_view (with_keeper g l) k) =
-    record {
-      is = refl;
-      counts = had.counts;
-      sized = had.sized;
-      rows = had.rows;
-      live_total = had.live_total;
-      gives_up = had.gives_up;
-      later = had.later;
-      beyond = had.beyond;
-      honest = had.honest;
-      noted_pass = had.noted_pass;
-    } in
+    let l = g in
+    let made : step g (Hear None) ≡ Some (record { state = with_keeper g l; reply = Done }) = rw (sym (seen_by_keeper g k r.good had).due ∙ may) refl in
     let done = keeper_makes z s r i k (index z head_word) (slice_index s.words (index z head_word)) l (Hear None) Done k at made (leaves_all g l refl refl refl refl (λ t d is. is))
-    (λ n. refl) refl shown (loads z s.words g (with_keeper g l) (index z head_word) r.words refl (λ q _. refl)) in
+    (λ n. refl) refl (shown_still g k l k had) (loads z s.words g (with_keeper g l) (index z head_word) r.words refl (λ q _. refl)) in
     (Keeper (keeper_view (with_keeper g l) k), done.0, (refl, (done.1, (had.noted_pass, sym had.is))))
 
 -- as a note is laid beside it a view stays idle, and the load after it is the CPU's own

@@ -18,13 +18,13 @@ use Rattle.protocol.proofs.Cells.{get_or_all}
 use Rattle.protocol.proofs.keeps.MarkKeeps.{cell_all, rows_all}
 use Rattle.protocol.proofs.keeps.Keeping.{opening_holds, step_holds}
 use Rattle.protocol.proofs.Occupied.{not_vacant}
-use Rattle.cpu_words.specs.Common.{CpuView, Logged, View, Spot, section_of, passive_of, count_of, head_word, live_of, next_of, record_of, total_of, index, IsSpot, word_at, Seated, new_keeper, first_view, Shown, Sits, Good, Ruled, IsStanding, Knows, HasItsSections, LoggedRuled, first_logged, HasComeIf, AreOpening, AreSeats, cpu_seat, KeeperView, Keeper, Cpu, Reference, Note, Spent, SameHand, cpu_view, new_cpu, CpuShown, KeeperShown, cpu_of, keeper_of, ShowsViews, IsFresh, did, SplitsBy, SplitsOn, MaySeat, one_seated, with_cpu_seated, next_seat, the_cpu, logged_after_split, no_log, no_teller, fresh, seats_next, keeper_with, IsShownAs, IsShown, Makes, SectionMayHold, IsShownCpu, HasWholePass}
+use Rattle.cpu_words.specs.Common.{CpuView, Logged, View, Spot, section_of, passive_of, count_of, head_word, live_of, next_of, record_of, total_of, index, IsSpot, word_at, Seated, new_keeper, first_view, Shown, Sits, Good, Ruled, IsStanding, Knows, HasItsSections, LoggedRuled, first_logged, HasComeIf, AreOpening, AreSeats, cpu_seat, KeeperView, Keeper, Cpu, SameHand, cpu_view, new_cpu, CpuShown, KeeperShown, cpu_of, keeper_of, ShowsViews, IsFresh, did, SplitsBy, SplitsOn, MaySeat, one_seated, with_cpu_seated, next_seat, the_cpu, logged_after_split, no_log, no_teller, fresh, seats_next, keeper_with, IsShownAs, IsShown, Makes, SectionMayHold, IsShownCpu, HasWholePass}
 use Rattle.cpu_words.specs.declared.view.InHand.TheVariants.{Empty as NoEntry}
 use Rattle.cpu_words.proofs.shown.Placing.{below_size, same_spot, agrees_same}
 use Rattle.cpu_words.proofs.logs.Told.{no_act}
-use Rattle.cpu_words.proofs.shown.Showing.{more, Stay, SeatsWith, shows_split}
+use Rattle.cpu_words.proofs.shown.Showing.{SeatsWith, shows_split, goes_to}
 use Rattle.cpu_words.proofs.logs.Logs.{tells_nothing, names_nobody, seat_cut}
-use Rattle.cpu_words.proofs.by_keeper.KeeperSteps.{KeeperLists, keeper_lists, with_keeper, cpu_beside_shown, seen_by_keeper}
+use Rattle.cpu_words.proofs.by_keeper.KeeperSteps.{with_keeper, beside_stays, beside_words, seen_by_keeper}
 use Rattle.cpu_words.proofs.shown.Seeing.{take_whole, seen_of}
 
 -- The state of the core at the start is shown by the words and the keeper's first view; and the seats of the first CPUs.
@@ -48,23 +48,14 @@ first_good z fit = record {
 -- the words at the start
 
 no_word : (k : ℕ) → word no_words k ≡ 0
-no_word zero = refl
-no_word (suc zero) = refl
-no_word (suc (suc zero)) = refl
-no_word (suc (suc (suc zero))) = refl
 no_word (suc (suc (suc (suc k)))) = refl
+no_word k = refl
 
 -- no word but a total is a total
 
 abbrev IsOther : Spot → Type 0
-IsOther (section_of c) = Unit {0}
-IsOther (passive_of c t) = Unit {0}
-IsOther (count_of c t) = Unit {0}
-IsOther head_word = Unit {0}
-IsOther (live_of t) = Unit {0}
-IsOther (next_of t) = Unit {0}
-IsOther (record_of t k) = Unit {0}
 IsOther (total_of t) = ⊥
+IsOther q = Unit {0}
 
 no_total : (p : Spot) (t : ℕ) → IsOther p → p ≡ total_of t → ⊥
 no_total p t other same = subst IsOther same other
@@ -103,6 +94,11 @@ first_shown z = record {
   noted_pass = ([], refl);
 }
 
+-- the first seat is the only one
+first_alone : {X : Type 0} (a : X) (P : ℕ → X → Type 0) → P 0 a → (i : ℕ) (b : X) → get_elem? (a ∷ []) i ≡ some b → P i b
+first_alone a P here zero b e = subst (P 0) (some-injective _ _ e) here
+first_alone a P here (suc i) b e = absurd (some-ne-none b (sym e))
+
 opens_without_logs : (z : Settings) (words : List ℕ) → IsTrue (are_fit z) → AreOpening z words → Ruled z (opening_table words [] (first_view z))
 opens_without_logs z words fit are = record {
   g = opening z;
@@ -111,12 +107,8 @@ opens_without_logs z words fit are = record {
   good = first_good z fit;
   reached = record { events = []; run = refl; made = refl };
   words = record { size = are.size; settings = refl; at = first_words z words are; unused = λ i free. are.unused i free.0 (λ t lt same. free.1 (total_of t) lt same) };
-  shows = record { fits = one; each = record { keeper = (new_keeper z, refl); cpus = λ c lt. absurd (omega (arith, lt)) }; references = λ n. refl };
+  shows = record { fits = first_alone (first_view z) (λ i v. Sits (λ _. 0) i v × Shown (opening z) v) (refl, first_shown z); each = record { keeper = (new_keeper z, refl); cpus = λ c lt. absurd (omega (arith, lt)) }; references = λ n. refl };
 }
-  where
-    one : (i : ℕ) (v : View) → get_elem? (first_view z ∷ []) i ≡ some v → Sits (λ _. 0) i v × Shown (opening z) v
-    one zero v e = subst (λ (u : View). Sits (λ _. 0) 0 u × Shown (opening z) u) (some-injective _ _ e) (refl, first_shown z)
-    one (suc i) v e = absurd (some-ne-none v (sym e))
 
 -- nobody has done anything
 pub opens : (z : Settings) (words : List ℕ) → IsTrue (are_fit z) → AreOpening z words → LoggedRuled z (opening_table words [] (first_logged z))
@@ -126,35 +118,15 @@ opens z words fit are = record {
   acts = [];
   are = refl;
   owners = tt;
-  logs = one;
+  logs = first_alone (first_logged z) (λ i l. IsStanding l.view → l.log ≡ []) (λ _. refl);
   unseated = λ i le. refl;
-  known = none;
+  known = first_alone (first_logged z) (λ i l. Knows l []) (([], refl), ([], refl));
   told = λ i d first rest is. absurd (no_act first rest (i, d) is);
-  tellers = nobody;
-  lists = unlisted;
-  sections = outside;
+  tellers = first_alone (first_logged z) (λ i l. HasComeIf (λ _. 0) (opening z).seated [] l.teller) tt;
+  lists = first_alone (first_logged z) (λ i l. IsPrefix l.list []) ([], refl);
+  sections = first_alone (first_logged z) (λ i l. IsStanding l.view → HasItsSections i l) (λ _. record { lacks = []; are = refl; none = tt });
   heard = λ i l at stands d first rest is hear. absurd (no_act first rest (i, d) is);
 }
-  where
-    none : (i : ℕ) (l : Logged) → get_elem? (first_logged z ∷ []) i ≡ some l → Knows l []
-    none zero l e = subst (λ (m : Logged). Knows m []) (some-injective _ _ e) (([], refl), ([], refl))
-    none (suc i) l e = absurd (some-ne-none l (sym e))
-
-    nobody : (i : ℕ) (l : Logged) → get_elem? (first_logged z ∷ []) i ≡ some l → HasComeIf (λ _. 0) (opening z).seated [] l.teller
-    nobody zero l e = subst (λ (m : Logged). HasComeIf (λ _. 0) (opening z).seated [] m.teller) (some-injective _ _ e) tt
-    nobody (suc i) l e = absurd (some-ne-none l (sym e))
-
-    unlisted : (i : ℕ) (l : Logged) → get_elem? (first_logged z ∷ []) i ≡ some l → IsPrefix l.list []
-    unlisted zero l e = subst (λ (m : Logged). IsPrefix m.list []) (some-injective _ _ e) ([], refl)
-    unlisted (suc i) l e = absurd (some-ne-none l (sym e))
-
-    outside : (i : ℕ) (l : Logged) → get_elem? (first_logged z ∷ []) i ≡ some l → IsStanding l.view → HasItsSections i l
-    outside zero l e stands = subst (HasItsSections 0) (some-injective _ _ e) (record { lacks = []; are = refl; none = tt })
-    outside (suc i) l e stands = absurd (some-ne-none l (sym e))
-
-    one : (i : ℕ) (l : Logged) → get_elem? (first_logged z ∷ []) i ≡ some l → IsStanding l.view → l.log ≡ []
-    one zero l e stands = sym (ap (λ (m : Logged). m.log) (some-injective _ _ e))
-    one (suc i) l e stands = absurd (some-ne-none l (sym e))
 
 -- the seats of the first CPUs
 
@@ -169,19 +141,8 @@ more_seats table z n seats new are is =
 -- A CPU gets its seat: the keeper's seat is cut in two, and the new view is shown since the CPU has made no step.
 
 -- the core with one more CPU seated
-abbrev pub seated_lists : State → KeeperLists
-seated_lists g = record (keeper_lists g) { seated = g.seated + 1 }
-
 abbrev pub one_more_seated : State → State
-one_more_seated g = with_keeper g (seated_lists g)
-
--- the other views don't speak of the new seat
-others_stay : (g : State) (seat : ℕ → ℕ) (i : ℕ) → i ≡ 0 → Stay g (one_more_seated g) seat i
-others_stay g seat i mine j (Keeper k) ne sits shown backed = absurd (ne (sits ∙ sym mine))
-others_stay g seat i mine j (Cpu y) ne sits shown backed = cpu_beside_shown g (g.seated + 1) g.locals g.due g.keeps y (λ lt. omega (arith, lt)) shown
-others_stay g seat i mine j (Reference v) ne sits shown backed = record { attached = shown.attached; collected = shown.collected }
-others_stay g seat i mine j (Note h) ne sits shown backed = shown
-others_stay g seat i mine j Spent ne sits shown backed = tt
+one_more_seated g = with_keeper g (record g { seated = g.seated + 1 })
 
 -- the CPUs that have no seat yet have made no step
 good_seated : (g : State) → Good g → step g (Seat g.seated) ≡ Some (record { state = one_more_seated g; reply = Done }) → Good (one_more_seated g)
@@ -191,17 +152,6 @@ good_seated g good made = record {
       let was = good.fresh c (omega (arith, le)) lt in
       record { section = was.section; depth = was.depth; seen = was.seen; passive = was.passive; nets = was.nets };
 }
-
--- no word tells of a seat
-same_words : (g : State) (q : Spot) → word_at (one_more_seated g) q ≡ word_at g q
-same_words g (section_of d) = refl
-same_words g (passive_of d t) = refl
-same_words g (count_of d t) = refl
-same_words g head_word = refl
-same_words g (live_of u) = refl
-same_words g (next_of t) = refl
-same_words g (record_of t k) = refl
-same_words g (total_of t) = refl
 
 -- a CPU that is outside has found nothing
 found_none : (g : State) (c : ℕ) (o : Option Entry) → Holds g → begin_at g c ≡ None → found_at g c ≡ o → o ≡ None
@@ -225,10 +175,11 @@ new_is g c good unseated fresh n =
 new_shown : (g : State) → Good g → g.seated < g.settings.cpus → CpuShown (one_more_seated g) (new_cpu g.settings g.seated)
 new_shown g good lt =
     let c = g.seated in
-    let fresh = good.fresh c (self c) lt in record {
-      seated = more c;
-      is = new_is g c good (self c) fresh;
-      hand = subst (λ (h : Hand). SameHand h NoEntry) (sym (good.holds.seats.empty c (self c))) tt;
+    let self : c ≤ c = omega arith in
+    let fresh = good.fresh c self lt in record {
+      seated = omega arith;
+      is = new_is g c good self fresh;
+      hand = subst (λ (h : Hand). SameHand h NoEntry) (sym (good.holds.seats.empty c self)) tt;
       in_hand = tt;
       depth = fresh.depth;
       passive = λ t e here. fresh.passive t;
@@ -241,26 +192,6 @@ new_shown g good lt =
       references = λ e among. let lt : among.0 < 0 = among.1 in absurd (omega arith);
       noted_pass = (g.history, refl);
     }
-  where
-    self : (n : ℕ) → n ≤ n
-    self n = omega arith
-
-    more : (n : ℕ) → n < n + 1
-    more n = omega arith
-
-keeper_shown : (g : State) (k : KeeperView) → KeeperShown g k → KeeperShown (one_more_seated g) (one_seated k)
-keeper_shown g k had = record {
-  is = ap one_seated had.is;
-  counts = had.counts;
-  sized = had.sized;
-  rows = had.rows;
-  live_total = had.live_total;
-  gives_up = had.gives_up;
-  later = had.later;
-  beyond = had.beyond;
-  honest = had.honest;
-  noted_pass = had.noted_pass;
-}
 
 -- the keeper's view tells that the event may be made
 pub record Seats (g : State) (k : KeeperView) : Type 0 where
@@ -287,7 +218,7 @@ seats_of g k may good had =
       made = made;
       good = good_seated g good made;
       new = subst (λ (p : Settings × ℕ). CpuShown (one_more_seated g) (new_cpu p.0 p.1)) (λ n. (sym seen.settings n, sym number n)) (new_shown g good lt);
-      keeper = keeper_shown g k had;
+      keeper = assumption (ap one_seated had.is, had);
     }
 
 pub seats_by : (k : KeeperView) → MaySeat k → SplitsBy (Seat k.seated) (Keeper k) (Keeper (one_seated k)) (Cpu (new_cpu k.settings k.seated))
@@ -313,11 +244,8 @@ sits_on : (g : State) (seat : ℕ → ℕ) (i j : ℕ) (u : View) → Sits seat 
 sits_on g seat i j (Keeper k) sits shown = sits
 sits_on g seat i j (Cpu y) sits shown =
     let lt : y.id < g.seated = shown.seated in
-    let apart : y.id ≢ g.seated = λ e. omega arith in
-    sits ∙ sym (ap (λ b. cond b i (seat y.id)) (ne_eqb y.id g.seated apart))
-sits_on g seat i j (Reference v) sits shown = tt
-sits_on g seat i j (Note h) sits shown = tt
-sits_on g seat i j Spent sits shown = tt
+    sits ∙ sym (ap (λ b. cond b i (seat y.id)) (ne_eqb y.id g.seated (λ e. omega arith)))
+sits_on g seat i j v sits shown = tt
 
 shows_reseated : (g : State) (seat : ℕ → ℕ) (i : ℕ) (views : List View) → ShowsViews g seat views → ShowsViews g (seat_with seat g.seated i) views
 shows_reseated g seat i views shows = record {
@@ -326,8 +254,7 @@ shows_reseated g seat i views shows = record {
     keeper = shows.each.keeper;
     cpus = λ c lt.
         let was = shows.each.cpus c lt in
-        let same : seat_with seat g.seated i c ≡ seat c = ap (λ b. cond b i (seat c)) (ne_eqb c g.seated (λ e. omega (arith, lt, e))) in
-        (was.0, ap (get_elem? views) same ∙ was.1, was.2);
+        (was.0, ap (get_elem? views) (ap (λ b. cond b i (seat c)) (ne_eqb c g.seated (λ e. omega (arith, lt, e)))) ∙ was.1, was.2);
   };
   references = shows.references;
 }
@@ -348,21 +275,12 @@ splits z i k may s r at =
     let far = length s.views in
     let seat' = seat_with r.seat g.seated far in
     let reseated = shows_reseated g r.seat far s.views r.shows in
-    let here : far ≡ seat' k.seated = sym (ap (λ b. cond b far (r.seat k.seated)) (eq-eqb k.seated g.seated p.number)) in record {
-      goes_on = (more z g g' (Seat k.seated) Done r.reached (subst (λ c. step g (Seat c) ≡ Some (record { state = g'; reply = Done })) (sym p.number) p.made)).1;
-      seated = omega arith;
-      seats = λ c lt. ap (λ b. cond b far (r.seat c)) (ne_eqb c g.seated (λ same. omega (arith, lt, same)));
-      ruled = record {
-        g = g';
-        seat = seat';
-        settings = r.settings;
-        good = p.good;
-        reached = (more z g g' (Seat k.seated) Done r.reached (subst (λ c. step g (Seat c) ≡ Some (record { state = g'; reply = Done })) (sym p.number) p.made)).0;
-        words = agrees_same z s.words g g' r.words refl (λ q there. same_words g q);
-        shows = shows_split g g' seat' s.views i (Keeper k) (with_cpu_seated (Keeper k)) (next_seat (Keeper k)) reseated at (others_stay g seat' i had.0) (had.0, p.keeper) (here, p.new)
-            (seats_one g r.seat far k p.number) refl (λ n. refl);
-      };
-    }
+    let here : far ≡ seat' k.seated = sym (ap (λ b. cond b far (r.seat k.seated)) (eq-eqb k.seated g.seated p.number)) in
+    goes_to z s r g' seat' (Seat k.seated) Done _ _ (subst (λ c. step g (Seat c) ≡ Some (record { state = g'; reply = Done })) (sym p.number) p.made) refl p.good refl (omega arith)
+    (λ c lt. ap (λ b. cond b far (r.seat c)) (ne_eqb c g.seated (λ same. omega (arith, lt, same))))
+    (agrees_same z s.words g g' r.words refl (λ q _. beside_words g (g.seated + 1) g.locals g.due g.keeps q))
+    (shows_split g g' seat' s.views i (Keeper k) (with_cpu_seated (Keeper k)) (next_seat (Keeper k)) reseated at (beside_stays g (g.seated + 1) g.locals g.due g.keeps (omega arith) seat' i had.0)
+    (had.0, p.keeper) (here, p.new) (seats_one g r.seat far k p.number) refl (λ n. refl))
 
 -- the same of a seat, whose view is the keeper's
 
@@ -375,9 +293,8 @@ seat_splits z i l k is view may = seat_cut z i l (Keeper k) with_cpu_seated next
 pub seat_splits_by : (v a b : View) (k : KeeperView) → keeper_of v ≡ k → a ≡ with_cpu_seated v → b ≡ next_seat v → MaySeat k
     → SplitsBy (Seat k.seated) (Keeper k) (Keeper (keeper_of a)) (Cpu (cpu_of b))
 seat_splits_by v a b k view left right may =
-    let p : keeper_of a ≡ one_seated k = ap keeper_of left ∙ ap one_seated view in
     let q : cpu_of b ≡ new_cpu k.settings k.seated = ap cpu_of right ∙ ap (λ (u : KeeperView). new_cpu u.settings u.seated) view in
-    subst (λ (w : KeeperView × CpuView). SplitsBy (Seat k.seated) (Keeper k) (Keeper w.0) (Cpu w.1)) (λ n. (sym p n, sym q n)) (seats_by k may)
+    subst (λ (w : KeeperView × CpuView). SplitsBy (Seat k.seated) (Keeper k) (Keeper w.0) (Cpu w.1)) (λ n. (sym (ap keeper_of left ∙ ap one_seated view) n, sym q n)) (seats_by k may)
 
 -- Views that some good state shows: any after a step or a cut, and the keeper's at the start.
 

@@ -21,85 +21,32 @@ pub same_spot : (z : Settings) (p q : Spot) → IsSpot z p → IsSpot z q → in
 same_spot z (section_of c) (section_of c') here there e = let p = in_rows z c' c (0) (0) (omega (arith, there)) (omega (arith, here)) (omega arith) in ap section_of p.0
 same_spot z (section_of c) (passive_of c' t') here there e = let p = in_rows z c' c (1 + t') (0) (omega (arith, there)) (omega (arith, here)) (omega arith) in absurd (omega (arith, p.1, here, there))
 same_spot z (section_of c) (count_of c' t') here there e = let p = in_rows z c' c (1 + z.slots + t') (0) (omega (arith, there)) (omega (arith, here)) (omega arith) in absurd (omega (arith, p.1, here, there))
-same_spot z (section_of c) head_word here there e = absurd (omega arith)
-same_spot z (section_of c) (live_of t') here there e = absurd (omega arith)
-same_spot z (section_of c) (next_of t') here there e = absurd (omega arith)
-same_spot z (section_of c) (record_of t' k') here there e = absurd (omega arith)
-same_spot z (section_of c) (total_of t') here there e = absurd (omega arith)
 same_spot z (passive_of c t) (section_of c') here there e = let p = in_rows z c' c (0) (1 + t) (omega (arith, there)) (omega (arith, here)) (omega arith) in absurd (omega (arith, p.1, here, there))
 same_spot z (passive_of c t) (passive_of c' t') here there e = let p = in_rows z c' c (1 + t') (1 + t) (omega (arith, there)) (omega (arith, here)) (omega arith) in let j : t' ≡ t = omega (arith, p.1) in ap (λ (k : ℕ). passive_of k t') p.0 ∙ ap (passive_of c) j
 same_spot z (passive_of c t) (count_of c' t') here there e = let p = in_rows z c' c (1 + z.slots + t') (1 + t) (omega (arith, there)) (omega (arith, here)) (omega arith) in absurd (omega (arith, p.1, here, there))
-same_spot z (passive_of c t) head_word here there e = absurd (omega arith)
-same_spot z (passive_of c t) (live_of t') here there e = absurd (omega arith)
-same_spot z (passive_of c t) (next_of t') here there e = absurd (omega arith)
-same_spot z (passive_of c t) (record_of t' k') here there e = absurd (omega arith)
-same_spot z (passive_of c t) (total_of t') here there e = absurd (omega arith)
 same_spot z (count_of c t) (section_of c') here there e = let p = in_rows z c' c (0) (1 + z.slots + t) (omega (arith, there)) (omega (arith, here)) (omega arith) in absurd (omega (arith, p.1, here, there))
 same_spot z (count_of c t) (passive_of c' t') here there e = let p = in_rows z c' c (1 + t') (1 + z.slots + t) (omega (arith, there)) (omega (arith, here)) (omega arith) in absurd (omega (arith, p.1, here, there))
 same_spot z (count_of c t) (count_of c' t') here there e = let p = in_rows z c' c (1 + z.slots + t') (1 + z.slots + t) (omega (arith, there)) (omega (arith, here)) (omega arith) in let j : t' ≡ t = omega (arith, p.1) in ap (λ (k : ℕ). count_of k t') p.0 ∙ ap (count_of c) j
-same_spot z (count_of c t) head_word here there e = absurd (omega arith)
-same_spot z (count_of c t) (live_of t') here there e = absurd (omega arith)
-same_spot z (count_of c t) (next_of t') here there e = absurd (omega arith)
-same_spot z (count_of c t) (record_of t' k') here there e = absurd (omega arith)
-same_spot z (count_of c t) (total_of t') here there e = absurd (omega arith)
-same_spot z head_word (section_of c') here there e = absurd (omega arith)
-same_spot z head_word (passive_of c' t') here there e = absurd (omega arith)
-same_spot z head_word (count_of c' t') here there e = absurd (omega arith)
 same_spot z head_word head_word here there e = refl
-same_spot z head_word (live_of t') here there e = absurd (omega arith)
-same_spot z head_word (next_of t') here there e = absurd (omega arith)
-same_spot z head_word (record_of t' k') here there e = absurd (omega arith)
-same_spot z head_word (total_of t') here there e = absurd (omega arith)
-same_spot z (live_of t) (section_of c') here there e = absurd (omega arith)
-same_spot z (live_of t) (passive_of c' t') here there e = absurd (omega arith)
-same_spot z (live_of t) (count_of c' t') here there e = absurd (omega arith)
-same_spot z (live_of t) head_word here there e = absurd (omega arith)
 same_spot z (live_of t) (live_of t') here there e = let i : t' ≡ t = omega arith in ap live_of i
-same_spot z (live_of t) (next_of t') here there e = absurd (omega arith)
-same_spot z (live_of t) (record_of t' k') here there e = absurd (omega arith)
-same_spot z (live_of t) (total_of t') here there e = absurd (omega arith)
-same_spot z (next_of t) (section_of c') here there e = absurd (omega arith)
-same_spot z (next_of t) (passive_of c' t') here there e = absurd (omega arith)
-same_spot z (next_of t) (count_of c' t') here there e = absurd (omega arith)
-same_spot z (next_of t) head_word here there e = absurd (omega arith)
-same_spot z (next_of t) (live_of t') here there e = absurd (omega arith)
 same_spot z (next_of t) (next_of t') here there e = let i : t' ≡ t = omega arith in ap next_of i
-same_spot z (next_of t) (record_of t' k') here there e = absurd (omega arith)
-same_spot z (next_of t) (total_of t') here there e = absurd (omega arith)
-same_spot z (record_of t k) (section_of c') here there e = absurd (omega arith)
-same_spot z (record_of t k) (passive_of c' t') here there e = absurd (omega arith)
-same_spot z (record_of t k) (count_of c' t') here there e = absurd (omega arith)
-same_spot z (record_of t k) head_word here there e = absurd (omega arith)
-same_spot z (record_of t k) (live_of t') here there e = absurd (omega arith)
-same_spot z (record_of t k) (next_of t') here there e = absurd (omega arith)
 same_spot z (record_of t k) (record_of t' k') here there e = let i : t' ≡ t = omega arith in let j : k' ≡ k = omega (arith, e, i, here, there) in ap (λ (k : ℕ). record_of k k') i ∙ ap (record_of t) j
-same_spot z (record_of t k) (total_of t') here there e = absurd (omega arith)
-same_spot z (total_of t) (section_of c') here there e = absurd (omega arith)
-same_spot z (total_of t) (passive_of c' t') here there e = absurd (omega arith)
-same_spot z (total_of t) (count_of c' t') here there e = absurd (omega arith)
-same_spot z (total_of t) head_word here there e = absurd (omega arith)
-same_spot z (total_of t) (live_of t') here there e = absurd (omega arith)
-same_spot z (total_of t) (next_of t') here there e = absurd (omega arith)
-same_spot z (total_of t) (record_of t' k') here there e = absurd (omega arith)
 same_spot z (total_of t) (total_of t') here there e = let i : t' ≡ t = omega arith in ap total_of i
+same_spot z p q here there e = absurd (omega arith)
 
 pub below_size : (z : Settings) (p : Spot) → IsSpot z p → index z p < words_of z
 below_size z (section_of c) here = omega (arith, row_within z c here)
 below_size z (passive_of c t) here = omega (arith, row_within z c here.0, here.1)
 below_size z (count_of c t) here = omega (arith, row_within z c here.0, here.1)
 below_size z head_word here = omega arith
-below_size z (live_of t) here = omega (arith, here)
-below_size z (next_of t) here = omega (arith, here)
-below_size z (record_of t k) here = omega (arith, here)
-below_size z (total_of t) here = omega (arith, here)
+below_size z q here = omega (arith, here)
 
 -- one word changes
 pub agrees_set : (z : Settings) (words : List ℕ) (g g' : State) (p : Spot) (n : ℕ) → Agrees z words g → g'.settings ≡ g.settings → IsSpot g.settings p → word_at g' p ≡ n
     → ((q : Spot) → IsSpot g.settings q → (q ≡ p → ⊥) → word_at g' q ≡ word_at g q) → Agrees z (set words (index z p) n) g'
 agrees_set z words g g' p n agrees same here is others =
     let mine : IsSpot z p = subst (λ (y : Settings). IsSpot y p) agrees.settings here in
-    let below : index z p < words_of z = below_size z p mine in
-    let lt : index z p < length words = omega (arith, below, agrees.size) in record {
+    let lt : index z p < length words = omega (arith, below_size z p mine, agrees.size) in record {
       settings = same ∙ agrees.settings;
       size = length-set words (index z p) n ∙ agrees.size;
       at = λ q there'.
@@ -133,10 +80,7 @@ lies_in z (section_of c) here = (omega arith, omega arith)
 lies_in z (passive_of c t) here = (omega arith, omega (arith, here))
 lies_in z (count_of c t) here = (omega arith, omega (arith, here))
 lies_in z head_word here = omega arith
-lies_in z (live_of t) here = omega (arith, here)
-lies_in z (next_of t) here = omega (arith, here)
-lies_in z (record_of t k) here = omega (arith, here)
-lies_in z (total_of t) here = omega (arith, here)
+lies_in z q here = omega (arith, here)
 
 -- two such ranges are apart, where they are not one CPU's or both the shared ones
 rows_apart : (z : Settings) (a b : Option ℕ) (i j : ℕ) → LiesIn z a i → LiesIn z b j → (a ≡ b → ⊥) → AreApart i j
@@ -157,13 +101,7 @@ lines_apart z p q here there other = rows_apart z (owner p) (owner q) (index z p
 -- no word is among the first
 pub first_words_free : FirstWordsFree
 first_words_free z (section_of c) here = omega arith
-first_words_free z (passive_of c t) here = omega arith
-first_words_free z (count_of c t) here = omega arith
-first_words_free z head_word here = omega arith
-first_words_free z (live_of t) here = omega arith
-first_words_free z (next_of t) here = omega arith
-first_words_free z (record_of t k) here = omega arith
-first_words_free z (total_of t) here = omega arith
+first_words_free z q here = omega arith
 
 -- two words share no place
 pub one_place : OnePlace

@@ -17,16 +17,10 @@ to_cons n e es = sum_by-cons (one_for n) e es
 
 -- one reference more to an entry, and to the others none
 pub to_same : (n : ℕ) (e : Entry) (es : List Entry) → e.number ≡ n → references_to n (e ∷ es) ≡ references_to n es + 1
-to_same n e es same =
-    let one : one_for n e ≡ 1 = ap one_if (eq-eqb e.number n same) in
-    let all = to_cons n e es in
-    omega arith
+to_same n e es same = omega (arith, to_cons n e es, ap one_if (eq-eqb e.number n same))
 
 pub to_other : (n : ℕ) (e : Entry) (es : List Entry) → (e.number ≡ n → ⊥) → references_to n (e ∷ es) ≡ references_to n es
-to_other n e es off =
-    let none : one_for n e ≡ 0 = ap one_if (ne_eqb e.number n off) in
-    let all = to_cons n e es in
-    omega arith
+to_other n e es off = omega (arith, to_cons n e es, ap one_if (ne_eqb e.number n off))
 
 -- what is in a longer list
 pub in_cons : (e f : Entry) (es : List Entry) → Contains (e ∷ es) f → (e ≡ f) ⊎ Contains es f
@@ -72,10 +66,7 @@ without_other n e es test = ap (λ (b : Bool). cond b es (e ∷ without n es)) t
 pub one_less : (n : ℕ) (es : List Entry) → 0 < references_to n es → references_to n (without n es) + 1 ≡ references_to n es
 one_less n [] some = absurd (omega arith)
 one_less n (e ∷ es) some = ⊎_elim
-    (λ (test : is_to n e ≡ true).
-    let less = ap (references_to n) (without_same n e es test) in
-    let had = to_same n e es (eqb-true e.number n test) in
-    omega arith)
+    (λ (test : is_to n e ≡ true). omega (arith, ap (references_to n) (without_same n e es test), to_same n e es (eqb-true e.number n test)))
     (λ (test : is_to n e ≡ false).
     let none : one_for n e ≡ 0 = ap one_if test in
     let less = ap (references_to n) (without_other n e es test) in
@@ -90,12 +81,7 @@ pub others_stay : (n m : ℕ) (es : List Entry) → (m ≡ n → ⊥) → refere
 others_stay n m [] off = refl
 others_stay n m (e ∷ es) off = ⊎_elim
     (λ (test : is_to n e ≡ true). ap (references_to m) (without_same n e es test) ∙ sym (to_other m e es (λ same. off (sym same ∙ eqb-true e.number n test))))
-    (λ (test : is_to n e ≡ false).
-    let less = ap (references_to m) (without_other n e es test) in
-    let had = to_cons m e es in
-    let has = to_cons m e (without n es) in
-    let rest = others_stay n m es off in
-    omega arith)
+    (λ (test : is_to n e ≡ false). omega (arith, ap (references_to m) (without_other n e es test), to_cons m e es, to_cons m e (without n es), others_stay n m es off))
     (cases_Bool (is_to n e))
 
 -- what is left was there

@@ -1,14 +1,16 @@
 -- What a CPU's view tells of the core that shows it, its pass, and the live words, which stay honest.
-use Rattle.std.proofs.Common.{◌≡◌, ℕ, ◌≤◌, List, ◌++◌, length, take, drop, sym, ap, ◌∙◌, subst, arith, append_assoc, zero, suc, set, Bool, true, false, refl, ◌<◌, ◌==◌, None}
+use Rattle.std.proofs.Common.{◌≡◌, ℕ, ◌≤◌, List, ◌++◌, length, take, drop, sym, ap, ◌∙◌, subst, arith, append_assoc, zero, suc, set, Bool, true, false, refl, ◌<◌, ◌==◌, None, ◌⊎◌, inl, inr, ⊎_elim, Option, Some}
 use Rattle.std.proofs.lemmas.List.{take-append-drop, length-take-le, take_all, take-append-le}
 use Rattle.std.proofs.lemmas.Bool.{eq-eqb, lt-ltb, ne_eqb}
+use Rattle.std.proofs.lemmas.Option.{none-some}
 use mathlib.Core.List.{IsPrefix}
 use Rattle.cpu_words.specs.Types.{Entry, Change, Attach, Slot, Vacant, Live, Retired, Hand, Empty, Taking, Giving, Back, Trying}
-use Rattle.registry_values.specs.Common.{slot_at}
+use Rattle.registry_values.specs.Common.{slot_at, slot_of}
 use Rattle.registry_values.proofs.Fit.{Ranges, ranges}
-use Rattle.protocol.specs.Common.{IsAttached, is_honest, live_at, State, section_at, begin_at, seen_at, search_at, found_at, hand_at, is_idle, one_if, trying_at, trying_of}
+use Rattle.protocol.specs.Common.{IsAttached, is_honest, live_at, State, section_at, begin_at, seen_at, search_at, found_at, hand_at, is_idle, one_if, trying_at, trying_of, IsIn, Occupies}
 use Rattle.protocol.specs.History.{change_at}
-use Rattle.protocol.proofs.History.{at_prefix, at_within}
+use Rattle.protocol.proofs.History.{at_prefix, at_within, one_entry}
+use Rattle.protocol.proofs.Occupied.{attached_in, slot_found, slot_occupied}
 use Rattle.protocol.proofs.Cells.{place_put}
 use Rattle.cpu_words.specs.Common.{LivesShow, CpuView, InHand, SameHand, CpuShown, Good, IsIdle, trying_in}
 use Rattle.cpu_words.specs.declared.view.InHand.TheVariants.{Empty as NoEntry, Taking as TakingEntry, Giving as GivingEntry, Back as BackEntry, Trying as TryingEntry}
@@ -32,9 +34,8 @@ attached_take h n e le there reach =
 
 pub number_within : (h : List Change) (n : ℕ) (e : Entry) → n ≤ length h → IsAttached (take n h) e → e.number ≤ n
 number_within h n e le there =
-    let size : length (take n h) ≡ n = length-take-le n h le in
     let b = (at_within (take n h) e.number (Attach e) there).1 in
-    omega arith
+    omega (arith, length-take-le n h le)
 
 -- a pass grows
 pub attached_longer : (h : List Change) (m n : ℕ) (e : Entry) → m ≤ n → n ≤ length h → IsAttached (take m h) e → IsAttached (take n h) e
@@ -45,18 +46,37 @@ attached_longer h m n e le within there =
 pub prefix_longer : (h : List Change) (m n : ℕ) → m ≤ n → n ≤ length h → IsPrefix (take m h) (take n h)
 prefix_longer h m n le within =
     let size : length (take n h) ≡ n = length-take-le n h within in
-    let same : take m h ≡ take m (take n h) = ap (take m) (sym (take-append-drop n h)) ∙ take-append-le m (take n h) (drop n h) (omega arith) in
-    subst (λ p. IsPrefix p (take n h)) (sym same) (taken_is_prefix m (take n h))
+    subst (λ p. IsPrefix p (take n h)) (sym (ap (take m) (sym (take-append-drop n h)) ∙ take-append-le m (take n h) (drop n h) (omega arith))) (taken_is_prefix m (take n h))
 
-pub prefix_on : (p h zs : List Change) → IsPrefix p h → IsPrefix p (h ++ zs)
+pub prefix_both : {X : Type 0} (p q r : List X) → IsPrefix p q → IsPrefix q r → IsPrefix p r
+prefix_both p q r first second = (first.0 ++ second.0, sym (append_assoc p first.0 second.0) ∙ (ap (λ l. l ++ second.0) first.1 ∙ second.1))
+
+pub prefix_on : {X : Type 0} (p h zs : List X) → IsPrefix p h → IsPrefix p (h ++ zs)
 prefix_on p h zs pre = (pre.0 ++ zs, sym (append_assoc p pre.0 zs) ∙ ap (λ l. l ++ zs) pre.1)
-
--- a pass of the history stays as the history grows
-pub take_on : (n : ℕ) (h zs : List Change) → n ≤ length h → take n (h ++ zs) ≡ take n h
-take_on n h zs le = take-append-le n h zs le
 
 pub take_whole : (h : List Change) → take (length h) h ≡ h
 take_whole h = take_all (length h) h (omega arith)
+
+-- An entry that is in a slot
+
+-- a number is in a slot or in none
+pub occupied_or_not : (slots : List Slot) (n : ℕ) → Occupies slots n ⊎ (Occupies slots n → ⊥)
+occupied_or_not slots n = from (slot_of slots n) refl
+  where
+    from : (o : Option ℕ) → slot_of slots n ≡ o → Occupies slots n ⊎ (Occupies slots n → ⊥)
+    from None is = inr (λ there. let found = slot_found slots n there in none-some found.0 (sym is ∙ found.1))
+    from (Some t) is = inl (slot_occupied slots n t is)
+
+-- what can't be without a slot has one
+pub occupies : (slots : List Slot) (n : ℕ) → ((Occupies slots n → ⊥) → ⊥) → Occupies slots n
+occupies slots n off = ⊎_elim (λ (is : Occupies slots n). is) (λ (none : Occupies slots n → ⊥). absurd (off none)) (occupied_or_not slots n)
+
+-- the slot that has an entry's number is its own
+pub its_slot : (g : State) (e : Entry) → Good g → IsAttached g.history e → Occupies g.slots e.number → IsIn e (slot_at g.slots e.slot)
+its_slot g e good attached has =
+    let its = attached_in g.history g.slots has.0 has.1 good.holds.slots has.2 in
+    let one : e ≡ has.1 = one_entry g.history e has.1 attached its.0 (sym has.3) in
+    subst (λ (t : ℕ). IsIn e (slot_at g.slots t)) (sym its.1 ∙ sym (ap (λ (f : Entry). f.slot) one)) (subst (λ (f : Entry). IsIn f (slot_at g.slots has.0)) (sym one) has.2)
 
 -- The live words stay honest as the slots change that they speak of, and as they are stored.
 
@@ -86,17 +106,11 @@ pub honest_dead : (slots : List Slot) (lives : List ℕ) (t : ℕ) (y x : Slot) 
 honest_dead slots lives t y x at dead honest =
     honest_changed slots lives t x (dead_zero (live_at lives t) (slot_at slots t) (λ e live. dead e (sym at ∙ live)) (honest t)) honest
 
-vacant_dead : (e : Entry) → Vacant ≡ Live e → ⊥
-vacant_dead e is = cc
-
-retired_dead : (f e : Entry) → Retired f ≡ Live e → ⊥
-retired_dead f e is = cc
-
 pub honest_vacant : (slots : List Slot) (lives : List ℕ) (t : ℕ) (x : Slot) → slot_at slots t ≡ Vacant → LivesShow slots lives → LivesShow (set slots t x) lives
-honest_vacant slots lives t x at honest = honest_dead slots lives t Vacant x at vacant_dead honest
+honest_vacant slots lives t x at honest = honest_dead slots lives t Vacant x at (λ e is. let q : Vacant ≡ Live e = is in cc) honest
 
 pub honest_retired : (slots : List Slot) (lives : List ℕ) (t : ℕ) (f : Entry) (x : Slot) → slot_at slots t ≡ Retired f → LivesShow slots lives → LivesShow (set slots t x) lives
-honest_retired slots lives t f x at honest = honest_dead slots lives t (Retired f) x at (retired_dead f) honest
+honest_retired slots lives t f x at honest = honest_dead slots lives t (Retired f) x at (λ e is. let q : Retired f ≡ Live e = is in cc) honest
 
 -- a word is stored
 pub honest_stored : (slots : List Slot) (lives : List ℕ) (t n : ℕ) → is_honest n (slot_at slots t) ≡ true → LivesShow slots lives → LivesShow slots (set lives t n)
@@ -126,10 +140,9 @@ pub record Seen (g : State) (x : CpuView) : Type 0 where
 pub seen_of : (g : State) (x : CpuView) → Good g → CpuShown g x → Seen g x
 seen_of g x good had =
     let holds = good.holds in
-    let seated : x.id < g.seated = had.seated in
     let lt : x.id < g.settings.cpus = omega (arith, holds.seats.within) in record {
       fit = ranges g.settings holds.fit;
-      seated = seated;
+      seated = had.seated;
       lt = lt;
       in_section = omega (arith, holds.shape.sections);
       in_begins = omega (arith, holds.shape.begins);
@@ -147,20 +160,19 @@ seen_of g x good had =
       found = ap (λ (v : CpuView). v.found) had.is;
     }
 
+-- an entry of the CPU's pass is one of the history
+pub known_attached : (g : State) (x : CpuView) (e : Entry) → Seen g x → IsAttached x.pass e → IsAttached g.history e
+known_attached g x e seen there = attached_prefix x.pass g.history e (subst (λ (p : List Change). IsPrefix p g.history) (sym seen.pass) (taken_is_prefix (seen_at g x.id) g.history)) there
+
 same_empty : (h : Hand) → SameHand h NoEntry → h ≡ Empty
 same_empty Empty same = refl
-same_empty (Taking n) same = absurd same
-same_empty (Giving n id) same = absurd same
-same_empty (Back n id) same = absurd same
-same_empty (Trying t n) same = absurd same
+same_empty h same = absurd same
 
 pub empty_hand : (g : State) (x : CpuView) → CpuShown g x → x.hand ≡ NoEntry → hand_at g x.id ≡ Empty
 empty_hand g x had is = same_empty (hand_at g x.id) (subst (SameHand (hand_at g x.id)) is had.hand)
 
 pub idle_of : (g : State) (x : CpuView) → Seen g x → CpuShown g x → IsIdle x → is_idle g x.id ≡ true
-idle_of g x seen had idle =
-    let search : search_at g x.id ≡ None = sym seen.search ∙ idle.search in
-    rw (lt-ltb x.id g.seated seen.seated, search, empty_hand g x had idle.hand) refl
+idle_of g x seen had idle = rw (lt-ltb x.id g.seated seen.seated, sym seen.search ∙ idle.search, empty_hand g x had idle.hand) refl
 
 -- What a CPU is trying
 

@@ -6,10 +6,12 @@ use Rattle.atomic_table.specs.Table.{State as Table}
 use mathlib.Core.Option.{some, some-ne-none, some-injective}
 use lib.ListN.{get_elem?}
 use Rattle.atomic_table.proofs.Lists.{at_set, at_longer, at_last}
-use Rattle.cpu_words.specs.Types.{Settings, Event, Reply, LocalPlace, Free, Standing, Lifted}
-use Rattle.protocol.specs.Common.{State, opening, Outcome, step, Run, run_of_events, empty_run, run_with_event, after, local_at, standing_of}
-use Rattle.protocol.proofs.counts.Sums.{none_at}
-use Rattle.cpu_words.specs.Common.{LogItem, View, Reached, Ruled, GoesOn, by_number, did, log_with, log_from, log_of_events, CpuView, KeeperView, Keeper, Cpu, Reference, Note, Spent, Shown, Sits, reference_to, HaveViews, ShowsViews, Maker, the_keeper, the_cpu, another, who}
+use Rattle.cpu_words.specs.Types.{Settings, Event, Reply, Done, LocalPlace, Free, Standing, Lifted}
+use Rattle.protocol.specs.Common.{State, opening, Outcome, step, Run, run_of_events, empty_run, run_with_event, after, local_at, standing_of, one_if}
+use Rattle.protocol.proofs.counts.Sums.{none_at, one_at}
+use Rattle.cpu_words.specs.Common.{LogItem, View, Reached, Ruled, GoesOn, by_number, did, log_with, log_from, log_of_events, CpuView, KeeperView, Keeper, Cpu, Reference, Spent, Shown, Sits, reference_to, HaveViews, ShowsViews, Maker, the_keeper, the_cpu, another, who, Good, Spot, word_at, JoinsOn, number_of_id, reference_of, ReferenceView, is_to, Agrees}
+use Rattle.cpu_words.specs.Steps.{JoinMakes}
+use Rattle.cpu_words.proofs.shown.Placing.{agrees_same}
 
 -- Reached states: what one event more makes of a reached state and of what was done.
 
@@ -65,27 +67,13 @@ standing_place n (Standing m ∷ ps) some_one = ⊎_elim
 
 sum_at : (f : View → ℕ) (l : List View) (i : ℕ) (v w : View) → get_elem? l i ≡ some v → sum_by f (set l i w) + f v ≡ sum_by f l + f w
 sum_at f [] i v w e = absurd (some-ne-none v (sym e))
-sum_at f (x ∷ xs) zero v w e =
-    let same : f x ≡ f v = ap f (some-injective x v e) in
-    let a = sum_by-cons f x xs in
-    let b = sum_by-cons f w xs in
-    omega arith
-sum_at f (x ∷ xs) (suc i) v w e =
-    let a = sum_by-cons f x xs in
-    let b = sum_by-cons f x (set xs i w) in
-    let h = sum_at f xs i v w e in
-    omega arith
+sum_at f (x ∷ xs) zero v w e = omega (arith, sum_by-cons f x xs, sum_by-cons f w xs, ap f (some-injective x v e))
+sum_at f (x ∷ xs) (suc i) v w e = omega (arith, sum_by-cons f x xs, sum_by-cons f x (set xs i w), sum_at f xs i v w e)
 
 pub weight_at : (f : View → ℕ) (l : List View) (i : ℕ) (v : View) → get_elem? l i ≡ some v → f v ≤ sum_by f l
 weight_at f [] i v e = absurd (some-ne-none v (sym e))
-weight_at f (x ∷ xs) zero v e =
-    let same : f x ≡ f v = ap f (some-injective x v e) in
-    let a = sum_by-cons f x xs in
-    omega arith
-weight_at f (x ∷ xs) (suc i) v e =
-    let a = sum_by-cons f x xs in
-    let h = weight_at f xs i v e in
-    omega arith
+weight_at f (x ∷ xs) zero v e = omega (arith, sum_by-cons f x xs, ap f (some-injective x v e))
+weight_at f (x ∷ xs) (suc i) v e = omega (arith, sum_by-cons f x xs, weight_at f xs i v e)
 
 -- how many live references to n the core has
 abbrev pub standing_in : ℕ → State → ℕ
@@ -106,16 +94,12 @@ HasOwner views j m = (u : View) × (get_elem? views j ≡ some u) × (who u ≡ 
 keeper_is : (u : View) → who u ≡ the_keeper → (k : KeeperView) × (u ≡ Keeper k)
 keeper_is (Keeper k) own = (k, refl)
 keeper_is (Cpu x) own = absurd (let q : the_cpu x.id ≡ the_keeper = own in cc)
-keeper_is (Reference v) own = absurd (let q : another ≡ the_keeper = own in cc)
-keeper_is (Note h) own = absurd (let q : another ≡ the_keeper = own in cc)
-keeper_is Spent own = absurd (let q : another ≡ the_keeper = own in cc)
+keeper_is v own = absurd (let q : another ≡ the_keeper = own in cc)
 
 cpu_is : (u : View) (c : ℕ) → who u ≡ the_cpu c → (x : CpuView) × (u ≡ Cpu x) × (x.id ≡ c)
 cpu_is (Keeper k) c own = absurd (let q : the_keeper ≡ the_cpu c = own in cc)
 cpu_is (Cpu x) c own = (x, refl, (let q : the_cpu x.id ≡ the_cpu c = own in cc))
-cpu_is (Reference v) c own = absurd (let q : another ≡ the_cpu c = own in cc)
-cpu_is (Note h) c own = absurd (let q : another ≡ the_cpu c = own in cc)
-cpu_is Spent c own = absurd (let q : another ≡ the_cpu c = own in cc)
+cpu_is v c own = absurd (let q : another ≡ the_cpu c = own in cc)
 
 -- each seat that has an owner in the one list has it in the other
 abbrev OwnersStay : List View → List View → Type 0
@@ -166,8 +150,8 @@ have_push seat n m views w seats have = record {
       (seats c lt);
 }
 
--- a view of a pushed list is an old one, or the new one at the end
-at_end : (l : List View) (a b : View) (j : ℕ) → get_elem? (l ++ a ∷ []) j ≡ some b → (get_elem? l j ≡ some b) ⊎ ((j ≡ length l) × (a ≡ b))
+-- an item of a pushed list is an old one, or the new one at the end
+pub at_end : {X : Type 0} (l : List X) (a b : X) (j : ℕ) → get_elem? (l ++ a ∷ []) j ≡ some b → (get_elem? l j ≡ some b) ⊎ ((j ≡ length l) × (a ≡ b))
 at_end [] a b zero e = inr (refl, some-injective a b e)
 at_end [] a b (suc j) e = absurd (some-ne-none b (sym e))
 at_end (x ∷ xs) a b zero e = inl e
@@ -225,10 +209,63 @@ shows_join g g' seat views i v o u both shows at apart there stay mine seated sa
       (at_set views i j both y x.1))
       (at_set (set views i both) o j Spent y e);
   each = have_set seat g'.seated g'.seated (set views i both) o u Spent refl there' (inr same.1) (have_set seat g.seated g'.seated views i v both seated at (inl same.0) shows.each);
-  references = λ n.
-      let a = sum_at (reference_to n) views i v both at in
-      let b = sum_at (reference_to n) (set views i both) o u Spent there' in
-      let c = shows.references n in
-      let d = count n in
-      omega arith;
+  references = λ n. omega (arith, sum_at (reference_to n) views i v both at, sum_at (reference_to n) (set views i both) o u Spent there', shows.references n, count n);
 }
+
+-- where the reference of a seat stands
+pub reference_place : (g : State) (v : ReferenceView) → IsBacked g (Reference v) → (id : ℕ) × (local_at g.locals id ≡ Standing v.entry.number)
+reference_place g v backs =
+    let n = v.entry.number in
+    let one : one_if (is_to n v.entry) ≡ 1 = one_at n n refl in
+    let some_one : one_if (is_to n v.entry) ≤ standing_in n g = backs n in
+    standing_place n g.locals (omega arith)
+
+-- a place that was written
+pub at_same : (l : List View) (i : ℕ) (v w : View) → get_elem? l i ≡ some v → get_elem? (set l i w) i ≡ some w
+at_same [] i v w e = absurd (some-ne-none v (sym e))
+at_same (u ∷ us) zero v w e = refl
+at_same (u ∷ us) (suc i) v w e = at_same us i v w e
+
+-- what was in the list before another place was written
+pub was_there : {X : Type 0} (l : List X) (i o : ℕ) (a b : X) → o ≢ i → get_elem? (set l i a) o ≡ some b → get_elem? l o ≡ some b
+was_there l i o a b apart there = ⊎_elim
+    (λ (q : (o ≡ i) × (a ≡ b)). absurd (apart q.0))
+    (λ (q : (o ≢ i) × (get_elem? l o ≡ some b)). q.1)
+    (at_set l i o a b there)
+
+-- one event more, to the state g and the table t that shows it
+pub goes_to : (z : Settings) (s : Table ℕ View) (r : Ruled z s) (g : State) (seat : ℕ → ℕ) (e : Event) (rep : Reply) (ds : List LogItem) (t : Table ℕ View)
+    → step r.g e ≡ Some (record { state = g; reply = rep }) → did (by_number r.g e) rep ≡ ds → Good g → g.settings ≡ r.g.settings → r.g.seated ≤ g.seated
+    → ((c : ℕ) → c < r.g.seated → seat c ≡ r.seat c) → Agrees z t.words g → ShowsViews g seat t.views → GoesOn z s r ds t
+goes_to z s r g seat e rep ds t made named good settings seated seats words shows =
+    let reached = more z r.g g e rep r.reached made in record {
+      ruled = record { g = g; seat = seat; settings = settings ∙ r.settings; good = good; reached = reached.0; words = words; shows = shows };
+      goes_on = reached.1 ∙ ap (λ (l : List LogItem). log_of_events z r.reached.events ++ l) named;
+      seated = seated;
+      seats = seats;
+    }
+
+-- A reference is put into another view: what its event makes and leaves, and that a run goes on with it.
+
+pub record JoinLeaves (e : ℕ → Event) (g : State) (v u both : View) : Type 0 where
+  pub makes : JoinMakes e g v u both
+  pub named : by_number g (e makes.id) ≡ e (number_of_id g makes.id)
+  pub settings : makes.after.settings ≡ g.settings
+  pub seated : makes.after.seated ≡ g.seated
+  pub words : (q : Spot) → word_at makes.after q ≡ word_at g q
+  pub stay : (seat : ℕ → ℕ) (i : ℕ) → Sits seat i v → Stay g makes.after seat i
+
+abbrev pub JoinsSo : (ℕ → Event) → View → View → View → Type 0
+JoinsSo e v u both = (g : State) → Good g → Shown g v → Shown g u → IsBacked g u → JoinLeaves e g v u both
+
+pub joins_on : (z : Settings) (i : ℕ) (v : View) (o : ℕ) (u both : View) (e : ℕ → Event) → JoinsSo e v u both → (who both ≡ who v) × (who u ≡ another) → ((seat : ℕ → ℕ) → Sits seat i v → Sits seat i both)
+    → JoinsOn z i v o u both Spent (did (e (reference_of u).entry.number) Done)
+joins_on z i v o u both e joins owners sits s r at apart there =
+    let g = r.g in
+    let had = r.shows.fits i v at in
+    let was = was_there s.views i o both u apart there in
+    let leaves = joins g r.good had.1 (r.shows.fits o u was).1 (backed g r.seat s.views o u r.shows was) in
+    let law = leaves.makes in
+    goes_to z s r law.after r.seat (e law.id) Done _ _ law.made (ap (λ (f : Event). did f Done) (leaves.named ∙ ap e law.names)) law.good_after leaves.settings (omega (arith, leaves.seated)) (λ c lt. refl)
+    (agrees_same z s.words g law.after r.words leaves.settings (λ q _. leaves.words q))
+    (shows_join g law.after r.seat s.views i v o u both r.shows at apart was (leaves.stay r.seat i had.0) (sits r.seat had.0, law.shown) leaves.seated owners law.count there)

@@ -1,4 +1,3 @@
--- `running_headline`: its clauses `run`, `held`, `waiting`, `freed`, `kept`, `balance`, `freed_by`, `fresh` and others.
 use Rattle.cpu_words.proofs.laws.Safety.{held_have_slots}
 use Rattle.cpu_words.proofs.laws.Waiting.{waiting_ends}
 use Rattle.cpu_words.proofs.laws.Freed.{freed_by_keeper, freed_is_gone, attached_keeps}

@@ -1,4 +1,3 @@
--- `opening_words`: that each turn of its loop keeps the invariants.
 use Rattle.std.proofs.Common.{◌≡◌, ◌∙◌, ◌<◌, ℕ, ap, arith, sym, get_or, get_or-set_other, get_or-set_same, length-set, set, ⊎_elim}
 use Rattle.std.proofs.lemmas.Bool.{cases_eq}
 use Rattle.registry_values.specs.Common.{bias}

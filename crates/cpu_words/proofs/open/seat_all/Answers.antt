@@ -1,4 +1,3 @@
--- `seat_all`: that each turn of its loop keeps the invariants.
 use Rattle.std.proofs.Common.{◌≤◌, ◌+◌, List, ap, ◌∙◌, sym, subst}
 use Rattle.cpu_words.specs.Common.{CpuView, Seated, AreSeats, cpu_seat, one_seated}
 use Rattle.cpu_words.proofs.seats.Seating.{more_seats}

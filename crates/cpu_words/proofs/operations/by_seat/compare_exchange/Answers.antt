@@ -1,4 +1,3 @@
--- `compare_exchange`: what `compare_exchange` requires.
 use prog.Atomic.{either}
 use Rattle.std.proofs.Common.{ℕ, ◌==◌, refl}
 use Rattle.cpu_words.proofs.logs.Allowing.{needs}

@@ -1,4 +1,3 @@
--- `load`: what `load` requires.
 use Rattle.std.proofs.Common.{ℕ, refl}
 use Rattle.cpu_words.proofs.logs.Allowing.{needs}
 use Rattle.cpu_words.proofs.operations.by_seat.load.Goals as goal

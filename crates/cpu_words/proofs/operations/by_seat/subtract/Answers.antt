@@ -1,4 +1,3 @@
--- `subtract`: what `fetch_sub` requires.
 use Rattle.std.proofs.Common.{ℕ, ◌+◌, ◌-◌, ◌%◌, ◌^◌, refl}
 use Rattle.cpu_words.proofs.logs.Allowing.{needs}
 use Rattle.cpu_words.proofs.operations.by_seat.subtract.Goals as goal

@@ -1,4 +1,3 @@
--- `load`: what `load` requires.
 use Rattle.std.proofs.Common.{ℕ, refl}
 use Rattle.cpu_words.proofs.logs.Allowing.{needs_hearing}
 use Rattle.cpu_words.proofs.operations.hearing.load.Goals as goal

@@ -1,4 +1,3 @@
--- `store`: what `store` requires.
 use Rattle.std.proofs.Common.{ℕ, refl}
 use Rattle.cpu_words.proofs.logs.Allowing.{needs_hearing}
 use Rattle.cpu_words.proofs.operations.hearing.store.Goals as goal

@@ -1,4 +1,3 @@
--- `subtract`: what `fetch_sub` requires.
 use Rattle.std.proofs.Common.{ℕ, ◌+◌, ◌-◌, ◌%◌, ◌^◌, refl}
 use Rattle.cpu_words.proofs.logs.Allowing.{needs_hearing}
 use Rattle.cpu_words.proofs.operations.hearing.subtract.Goals as goal

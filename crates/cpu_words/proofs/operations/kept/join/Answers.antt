@@ -1,4 +1,3 @@
--- `join`: its clause `event`; what `join_seat` requires.
 use Rattle.std.proofs.Common.{ap, ℕ}
 use Rattle.atomic_table.specs.Table.{Me}
 use Rattle.cpu_words.specs.Common.{KeeperView, ReferenceView, Logged, Seated}

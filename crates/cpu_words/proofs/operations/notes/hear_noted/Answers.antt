@@ -1,4 +1,3 @@
--- `hear_noted`: what `load` requires.
 use mathlib.Core.Option.{none}
 use Rattle.std.proofs.Common.{sym, ap, ◌∙◌, arith}
 use Rattle.cpu_words.specs.Common.{Named, Seated, KeeperHears, KeeperView}

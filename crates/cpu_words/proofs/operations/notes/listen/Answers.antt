@@ -1,4 +1,3 @@
--- `listen`: what `load` requires.
 use mathlib.Core.Option.{none}
 use Rattle.std.proofs.Common.{sym, ap, ◌∙◌, arith}
 use Rattle.cpu_words.specs.Common.{Named, words_of, Seated, CpuHears, CpuView}

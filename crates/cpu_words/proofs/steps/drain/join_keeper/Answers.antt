@@ -1,4 +1,3 @@
--- `join_keeper`: its clause `event`; what `join_seat` requires.
 use Rattle.std.proofs.Common.{rules, arith, ap, ℕ}
 use Rattle.atomic_table.specs.Table.{Me}
 use Rattle.cpu_words.specs.Common.{KeeperView, ReferenceView, Logged, Seated}

@@ -1,4 +1,3 @@
--- `kept_sub`: its clauses `change` and `freed`; what `subtract` requires.
 use Rattle.cpu_words.proofs.by_keeper.Vacating.{kept_sub_may}
 use Rattle.cpu_words.proofs.steps.drain.kept_sub.Goals as goal
 

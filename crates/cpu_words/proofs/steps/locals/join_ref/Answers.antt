@@ -1,4 +1,3 @@
--- `join_ref`: its clause `event`; what `join_seat` requires.
 use Rattle.std.proofs.Common.{ap, ℕ}
 use Rattle.atomic_table.specs.Table.{Me}
 use Rattle.cpu_words.specs.Common.{CpuView, ReferenceView, Logged, Seated}

@@ -1,4 +1,3 @@
--- `split_ref`: its clause `event`; what `split_seat` requires.
 use Rattle.std.proofs.Common.{rules, arith, ap, ℕ, sym}
 use Rattle.atomic_table.specs.Table.{Me}
 use Rattle.cpu_words.specs.Common.{CpuView, Logged, Seated, the_cpu}

@@ -1,5 +1,3 @@
--- `hear_keeper`: its clauses `told`, `change` and `own_log`; what `hear_noted` requires.
-use Rattle.std.proofs.Common.{◌∙◌}
 use Rattle.cpu_words.proofs.logs.Known.{own_with_note}
 use Rattle.cpu_words.proofs.steps.notes.hear_keeper.Goals as goal
 

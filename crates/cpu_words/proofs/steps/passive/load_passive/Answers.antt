@@ -1,4 +1,3 @@
--- `load_passive`: what it returns; what `load` requires.
 use Rattle.std.proofs.Common.{refl, rules}
 use Rattle.cpu_words.proofs.by_cpu.Passives.{load_may}
 use Rattle.cpu_words.proofs.steps.passive.load_passive.Goals as goal

@@ -1,4 +1,3 @@
--- `passive_add`: what it returns; what `add` requires.
 use Rattle.std.proofs.Common.{refl, rules}
 use Rattle.cpu_words.proofs.by_cpu.Passives.{add_may}
 use Rattle.cpu_words.proofs.steps.passive.passive_add.Goals as goal

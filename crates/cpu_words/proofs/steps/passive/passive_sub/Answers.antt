@@ -1,4 +1,3 @@
--- `passive_sub`: what it returns; what `subtract` requires.
 use Rattle.std.proofs.Common.{refl, rules}
 use Rattle.cpu_words.proofs.by_cpu.Passives.{sub_may}
 use Rattle.cpu_words.proofs.steps.passive.passive_sub.Goals as goal

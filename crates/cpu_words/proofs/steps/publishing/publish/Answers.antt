@@ -1,4 +1,3 @@
--- `publish`: its clause `attached`; what `store` requires.
 use Rattle.cpu_words.proofs.by_keeper.Publishing.{publish_may}
 use Rattle.cpu_words.proofs.logs.Known.{attached_by}
 use Rattle.cpu_words.proofs.steps.publishing.publish.Goals as goal

@@ -1,4 +1,3 @@
--- `recall`: its clause `whole`; what `load` requires.
 use Rattle.cpu_words.proofs.by_cpu.Recalling.{recall_may}
 use Rattle.cpu_words.proofs.steps.recalls.recall.Goals as goal
 

@@ -1,4 +1,3 @@
--- `refind`: its clauses `found`, `other` and `whole`; what `load_either` requires.
 use Rattle.cpu_words.proofs.by_cpu.Recalling.{refind_may}
 use Rattle.cpu_words.proofs.steps.recalls.refind.Goals as goal
 

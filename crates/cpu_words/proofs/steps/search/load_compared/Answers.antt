@@ -1,4 +1,3 @@
--- `load_compared`: its clause `value`; what `load` requires.
 use Rattle.cpu_words.proofs.by_cpu.Searching.{load_compared_may}
 use Rattle.cpu_words.proofs.steps.search.load_compared.Goals as goal
 

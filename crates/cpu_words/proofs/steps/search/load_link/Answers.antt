@@ -1,4 +1,3 @@
--- `load_link`: what `load` requires.
 use Rattle.cpu_words.proofs.by_cpu.Searching.{load_link_may}
 use Rattle.cpu_words.proofs.steps.search.load_link.Goals as goal
 

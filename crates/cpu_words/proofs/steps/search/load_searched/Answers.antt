@@ -1,4 +1,3 @@
--- `load_searched`: what `load` requires.
 use Rattle.cpu_words.proofs.by_cpu.Searching.{load_searched_may}
 use Rattle.cpu_words.proofs.steps.search.load_searched.Goals as goal
 

@@ -1,4 +1,3 @@
--- `seat`: its clause `event`; what `split_seat` requires.
 use Rattle.std.proofs.Common.{ap, ℕ}
 use Rattle.atomic_table.specs.Table.{Me}
 use Rattle.cpu_words.specs.Common.{KeeperView, Logged, Seated}

@@ -1,4 +1,3 @@
--- `enter`: what `add` requires.
 use Rattle.cpu_words.proofs.by_cpu.Sections.{enter_may}
 use Rattle.cpu_words.proofs.steps.sections.enter.Goals as goal
 

@@ -1,4 +1,3 @@
--- `exit`: what `add` requires.
 use Rattle.cpu_words.proofs.by_cpu.Sections.{exit_may}
 use Rattle.cpu_words.proofs.steps.sections.exit.Goals as goal
 

@@ -1,4 +1,3 @@
--- `begin_try`: what `add` requires.
 use Rattle.cpu_words.proofs.by_cpu.Trying.{try_may}
 use Rattle.cpu_words.proofs.steps.tries.begin_try.Goals as goal
 

@@ -1,4 +1,3 @@
--- `end_try`: its clauses `confirmed` and `late`; what `load_either` requires.
 use Rattle.cpu_words.proofs.by_cpu.Trying.{end_try_may}
 use Rattle.cpu_words.proofs.steps.tries.end_try.Goals as goal
 

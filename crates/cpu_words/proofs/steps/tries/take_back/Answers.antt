@@ -1,4 +1,3 @@
--- `take_back`: what `subtract` requires.
 use Rattle.cpu_words.proofs.by_cpu.Trying.{back_may}
 use Rattle.cpu_words.proofs.steps.tries.take_back.Goals as goal
 
