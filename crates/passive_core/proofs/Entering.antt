@@ -4,14 +4,23 @@ use Rattle.std.specs.Prelude.{is_none}
 use Rattle.std.proofs.lemmas.Bool.{and_parts, cases_lt, lt-ltb, le-ltb, and_from}
 use Rattle.std.proofs.lemmas.Option.{none-some}
 use Rattle.std.proofs.lemmas.List.{set-set, set-get_or}
-use Rattle.passive_core.specs.Types.{Reply, Hand, Empty, MOST_DEPTH, Change, Entry, Done, Word, Found, Missed, Ref, Collected, Key, SearchPlace, AtHead, AtNext, AtNumber, AtKind, AtHigh, AtLow, AtValue, Search}
+use Rattle.passive_core.specs.Types.{Event, Reply, Hand, Empty, MOST_DEPTH, Change, Entry, Done, Word, Found, Missed, Ref, Collected, Key, SearchPlace, AtHead, AtNext, AtNumber, AtKind, AtHigh, AtLow, AtValue, Search}
 use Rattle.registry_values.specs.Common.{are_words_of}
-use Rattle.protocol.specs.Common.{Outcome, guard, is_idle, some_outcome, Holds, is_empty, State, search_at, hand_at, trying_at, trying_of, is_inside, SectionsShow, depth_at, begin_at, IsLookup, seen_at, row_at, entry_with, loaded_of_name, may_seek, after_seeing, after_seek, with_search_at, search_over, link_loaded, load_link, load_searched, outcome_of}
+use Rattle.protocol.specs.Common.{Outcome, guard, is_idle, some_outcome, Holds, is_empty, State, search_at, hand_at, trying_at, trying_of, is_inside, SectionsShow, depth_at, begin_at, IsLookup, step, state_after, seen_at, row_at, entry_with, loaded_of_name, may_seek, after_seeing, after_seek, with_search_at, search_over, link_loaded, load_link, load_searched, outcome_of}
 use Rattle.protocol.proofs.keeps.SectionKeeps.{none_from, some_from}
+use Rattle.protocol.proofs.keeps.Keeping.{step_holds}
 use Rattle.protocol.proofs.Either.{either}
 use Rattle.protocol.proofs.Cells.{place_put}
 use Rattle.protocol.proofs.keeps.Searching.{Finds, FindSteps, IsFindStep, find_link, find_record, placed, searching_within, seen_now, weight}
 use Rattle.passive_core.specs.Common.{all_seated, may_act, with_depth, after_find, load_at, next_load}
+
+-- what an event leaves of a state with the invariant has it
+pub step_left : {i s n : State} (event : Event) → i ≡ s → Holds i → state_after s (step s event) ≡ n → Holds n
+step_left {i} {s} {n} event view on is = subst Holds is (left_by (step s event) refl)
+  where
+    left_by : (o : Option Outcome) → step s event ≡ o → Holds (state_after s o)
+    left_by None made = subst Holds view on
+    left_by (Some o) made = step_holds s o.state event o.reply (subst Holds view on) made
 
 -- Seating all CPUs: who may act before is idle then, and stays so. An idle CPU is trying nothing.
 

@@ -1,4 +1,3 @@
--- `Core::acquire_local`: its clauses `answer`, `after`, `settings`, `rest`, `ready` and `made`; what `make` requires.
 use Rattle.std.proofs.Common.{◌≡◌, ◌∙◌, ◌<◌, ℕ, Bool, None, Some, ap, subst, sym, true}
 use Rattle.std.specs.Prelude.{if◌then◌else◌}
 use Rattle.protocol.specs.Common.{State, at_rest, Holds}

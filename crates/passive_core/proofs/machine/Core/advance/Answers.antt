@@ -1,4 +1,3 @@
--- `Core::advance`: its clauses `holders`, `answer`, `plain`, `ready` and `made`; what `advance_slot` requires.
 use Rattle.std.proofs.Common.{◌≡◌, sym, ap, subst, ◌∙◌, Ok}
 use Rattle.passive_core.specs.Types.{Retired, Stage}
 use Rattle.passive_core.specs.Common.{first_obstacle, stage_in}

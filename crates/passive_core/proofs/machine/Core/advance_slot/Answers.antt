@@ -1,4 +1,3 @@
--- `Core::advance_slot`: its clauses `stage` and `made`.
 use Rattle.std.proofs.Common.{◌≡◌, ap, ◌∙◌, None}
 use Rattle.passive_core.specs.Types.{Retired}
 use Rattle.protocol.specs.Common.{State, held_at}

@@ -1,4 +1,3 @@
--- `Core::attach`: its clauses `answer`, `after`, `ready` and `made`; what `prepare`, `link` and `restore` require.
 use Rattle.std.proofs.Common.{◌≡◌, true, subst, sym, ap, ◌∙◌}
 use Rattle.std.specs.Prelude.{Result}
 use Rattle.passive_core.specs.Types.{Entry, Refusal}

@@ -1,4 +1,3 @@
--- `Core::attach_iface`: its clauses `answer`, `after`, `ready` and `made`; what `keep`, `prepare`, `link`, `restore` and `give_back` require.
 use Rattle.std.proofs.Common.{◌≡◌, None, [], ◌∷◌, true, not, subst, sym, ap, ◌∙◌}
 use Rattle.std.proofs.lemmas.Bool.{not-false}
 use Rattle.std.specs.Prelude.{Result}

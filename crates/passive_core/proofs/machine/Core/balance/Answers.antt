@@ -1,4 +1,3 @@
--- `Core::balance`: what it returns; what `total_at`, `less_bias` and `sum` require; that nothing overflows.
 use Rattle.std.proofs.Common.{◌≡◌, ◌∙◌, ◌<◌, ◌≤◌, ◌^◌, ◌≤ℤ◌, ℕ, ℤ, List, ap, arith, get_or, length, neg_ℤ, pos, subst, sym}
 use Rattle.std.proofs.lemmas.Int.{ints}
 use Rattle.protocol.specs.Common.{total_at, Holds}

@@ -1,4 +1,3 @@
--- `Core::balances`: its clause `tally`; that each turn of its loop keeps the invariants.
 use Rattle.std.proofs.Common.{◌≡◌, ◌∙◌}
 use Rattle.passive_core.proofs.Audits.{tallies_more, tallies_none}
 use Rattle.passive_core.proofs.machine.Core.balances.Goals as goal

@@ -1,4 +1,3 @@
--- `Core::begin_change`: its clause `made`.
 use Rattle.std.proofs.Common.{None, Some, [], ◌∷◌}
 use Rattle.passive_core.specs.Types.{Hear, Tell}
 use Rattle.passive_core.proofs.Making.{makes_first, makes_one, seated_and}

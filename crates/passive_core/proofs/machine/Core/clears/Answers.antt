@@ -1,4 +1,3 @@
--- `Core::clears`: its clauses `answer`, `marks`, `others` and `made`; what `make` requires.
 use Rattle.std.proofs.Common.{◌≡◌, inr, refl, sym, subst, ◌∙◌}
 use Rattle.passive_core.specs.Types.{PassiveLook}
 use Rattle.passive_core.specs.Common.{MarksClear, IsPassiveLookFor}

@@ -1,4 +1,3 @@
--- `Core::collect`: its clauses `gathered`, `collected` and `made`; what `make` requires.
 use Rattle.std.proofs.Common.{◌≡◌, inl, inr, refl, false, sym, ap, ◌∙◌}
 use Rattle.passive_core.specs.Types.{Mark, Collect, TotalAdd, Done}
 use Rattle.protocol.specs.Common.{narrow_step, mark_at}

@@ -1,4 +1,3 @@
--- `Core::count_down`: its clauses `value`, `kept` and `made`; what it returns; what `make` requires.
 use Rattle.std.proofs.Common.{◌≡◌, false, [], ◌∷◌, ◌∙◌, ap, subst, sym}
 use Rattle.protocol.specs.Common.{Holds, after_collected}
 use Rattle.passive_core.specs.Common.{is_counting, local_slot, with_count_less}

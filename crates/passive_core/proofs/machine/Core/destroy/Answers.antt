@@ -1,4 +1,3 @@
--- `Core::destroy`: that each turn of its loop keeps the invariants.
 use Rattle.std.proofs.Common.{sym, ◌∙◌}
 use Rattle.passive_core.proofs.Advancing.{advance_again, answer_again, marks_again, not_freed, same_Ok}
 use Rattle.passive_core.proofs.Making.{work_again}

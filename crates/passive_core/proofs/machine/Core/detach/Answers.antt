@@ -1,4 +1,3 @@
--- `Core::detach`: its clauses `settings`, `ready`, `answer` and `made`; what `retire`, `take_snapshots` and `make` require.
 use Rattle.std.proofs.Common.{subst}
 use Rattle.protocol.specs.Common.{Holds}
 use Rattle.passive_core.proofs.Entering.{acting_idle}

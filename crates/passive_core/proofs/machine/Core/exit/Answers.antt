@@ -1,4 +1,3 @@
--- `Core::exit`: its clause `made`; what `set_depth` requires; that nothing overflows.
 use Rattle.std.proofs.Common.{[], ◌∷◌}
 use Rattle.passive_core.specs.Types.{Exit}
 use Rattle.passive_core.proofs.Making.{makes_one, seated_and}

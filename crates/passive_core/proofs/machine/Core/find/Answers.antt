@@ -1,4 +1,3 @@
--- `Core::find`: its clauses `answer`, `after`, `ready`, `made` and `rest`; what `make` requires; that each turn of its loop keeps the invariants.
 use Rattle.std.proofs.Common.{◌≡◌, ℕ, ◌<◌, length, Option, Some, None, Bool, true, ◌&&◌, refl, sym, ap, subst, ◌∙◌, arith}
 use Rattle.passive_core.specs.Common.{all_seated, may_act, after_find, next_load}
 use Rattle.protocol.specs.Common.{guard, some_outcome, after_seek, is_inside, may_seek, Holds, State, at_rest, search_at}

@@ -1,4 +1,3 @@
--- `Core::follow`: what it returns; the invariant of `self-else-link-eq0`.
 use Rattle.std.proofs.Common.{◌≡◌, ℕ, ◌-◌, suc, length, sym, ap, subst, ◌∙◌, arith}
 use Rattle.protocol.specs.Common.{State, link_loaded, with_search_at, after_seeing, some_outcome, Keeps}
 use Rattle.passive_core.specs.Common.{state_shown}

@@ -1,4 +1,3 @@
--- `Core::free`: its clauses `after` and `made`; what `make` requires.
 use Rattle.std.proofs.Common.{◌≡◌, inl, inr, refl, sym, subst, ◌∙◌, Some}
 use Rattle.passive_core.specs.Types.{Done, KeptSub, Vacate}
 use Rattle.protocol.specs.Common.{after_kept_sub, narrow_step, Holds, kept_at}

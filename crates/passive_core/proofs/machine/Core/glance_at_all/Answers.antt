@@ -1,4 +1,3 @@
--- `Core::glance_at_all`: that each turn of its loop keeps the invariants.
 use Rattle.std.proofs.Common.{◌≡◌, ◌<◌, true, false, not, ap, ◌∙◌, arith, length, length-set}
 use Rattle.protocol.specs.Common.{is_inside, State}
 use Rattle.registry_values.proofs.Fit.{ranges}

@@ -1,4 +1,3 @@
--- `Core::live_entry`: its clauses `answer` and `live`; what it returns.
 use Rattle.std.proofs.Common.{sym, subst, ◌∙◌}
 use Rattle.passive_core.specs.Common.{IsLookupNow}
 use Rattle.protocol.specs.Common.{Holds}

@@ -1,4 +1,3 @@
--- `Core::load_compared`: what `row_of_place` requires.
 use Rattle.std.proofs.Common.{length, sym, ap, subst, ◌∙◌}
 use Rattle.protocol.specs.Common.{State, search_at, SlotWithin}
 use Rattle.passive_core.specs.Common.{state_shown}

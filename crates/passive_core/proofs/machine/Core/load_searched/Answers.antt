@@ -1,4 +1,3 @@
--- `Core::load_searched`: what `row_of_place`, `go_on` and `end_search` require.
 use Rattle.std.proofs.Common.{length, List, Some, sym, ap, subst, ◌∙◌}
 use Rattle.protocol.specs.Common.{State, search_at, Holds, SlotWithin, loaded_at, row_of_place, with_search_at, search_over}
 use Rattle.passive_core.specs.Common.{state_shown}

@@ -1,4 +1,3 @@
--- `Core::locals_at`: what `local_of` requires; that each turn of its loop keeps the invariants.
 use Rattle.std.proofs.Common.{◌≡◌, ◌<◌, ◌∙◌, ap, arith, subst}
 use Rattle.std.proofs.lemmas.Int.{ints}
 use Rattle.protocol.specs.Common.{State, count_at, Holds}

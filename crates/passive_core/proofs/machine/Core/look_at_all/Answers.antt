@@ -1,4 +1,3 @@
--- `Core::look_at_all`: its clauses `answer`, `marks`, `stopped` and `made`; that each turn of its loop keeps the invariants.
 use Rattle.std.proofs.Common.{◌≡◌, ◌<◌, ◌≤◌, true, false, sym, subst, ◌∙◌, arith}
 use borrow.Author.Count.{below_more}
 use Rattle.passive_core.specs.Common.{is_open_since, IsLookFor}

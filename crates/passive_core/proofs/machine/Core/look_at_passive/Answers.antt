@@ -1,4 +1,3 @@
--- `Core::look_at_passive`: its clauses `answer`, `marks`, `stopped` and `made`; that each turn of its loop keeps the invariants.
 use Rattle.std.proofs.Common.{◌≡◌, ◌<◌, ◌≤◌, true, false, sym, subst, ◌∙◌, ap, arith}
 use Rattle.passive_core.specs.Common.{has_passive, IsPassiveLookFor}
 use Rattle.passive_core.specs.Types.{Mark}

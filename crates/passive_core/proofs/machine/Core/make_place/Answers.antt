@@ -1,4 +1,3 @@
--- `Core::make_place`: its clause `room`; the invariant of `self`.
 use Rattle.std.proofs.Common.{◌∙◌, ap, position, sym}
 use Rattle.protocol.specs.Common.{is_free}
 use Rattle.passive_core.specs.Common.{state_shown}

@@ -1,4 +1,3 @@
--- `Core::opening`: its clause `value`; the invariant of `result`.
 use Rattle.std.proofs.Common.{refl}
 use Rattle.passive_core.proofs.machine.Core.opening.Goals as goal
 use Rattle.protocol.proofs.keeps.Keeping.{opening_holds}

@@ -1,5 +1,4 @@
--- `Core::pass_all`: its clause `passed`; that each turn of its loop keeps the invariants.
-use Rattle.std.proofs.Common.{refl, ◌≡◌, ℕ, ◌<◌, ◌≤◌, true, sym, ap, subst, ◌∙◌, arith, length, inr}
+use Rattle.std.proofs.Common.{refl, ◌≡◌, ℕ, ◌<◌, ◌≤◌, true, sym, ap, subst, ◌∙◌, arith, inr}
 use Rattle.std.proofs.lemmas.Bool.{cases_eq}
 use Rattle.protocol.specs.Common.{AllPassed, Holds, State, mark_at}
 use Rattle.registry_values.specs.Common.{retired_number, is_retired, slot_at}
@@ -10,9 +9,6 @@ use Rattle.passive_core.proofs.Advancing.{passes_none}
 use Rattle.passive_core.proofs.Making.{only_after, only_none}
 use Rattle.passive_core.proofs.machine.Core.pass_all.Goals as goal
 use Rattle.protocol.proofs.Either.{either}
-
-size : (s : State) → Holds s → length s.slots ≡ s.settings.slots
-size s on = on.shape.slots
 
 pub loop-t-preserved : goal.loop-t-preserved
 loop-t-preserved c =
@@ -35,7 +31,7 @@ pub returns-clause-passed : goal.returns-clause-passed
 returns-clause-passed c = λ t gone.
     let s = c.args.self.now in
     let e = is_retired_tells (slot_at s.slots t) gone in
-    let lt : t < s.settings.slots = omega (arith, in_within s.slots t e.0 (inr e.1), size s (subst Holds c.self.view_is c.self.invariant)) in
+    let lt : t < s.settings.slots = omega (arith, in_within s.slots t e.0 (inr e.1), (subst Holds c.self.view_is c.self.invariant).shape.slots) in
     c.loop-t.invariant.passed t (omega (arith, lt, subst (λ (x : State). x.settings.slots ≤ c.loop-t.t) c.self.view_is c.loop-t-test.false)) gone
 
 pub loop-t-init : goal.loop-t-init

@@ -1,4 +1,3 @@
--- `Core::pass_entry`: its clauses `only`, `passed` and `made`; what `look_at_all` requires.
 use Rattle.std.proofs.Common.{◌≡◌, sym, ap, subst, ◌∙◌, Some}
 use Rattle.std.proofs.lemmas.Option.{none-some, same_Some}
 use Rattle.protocol.specs.Common.{AllPassed, Holds}

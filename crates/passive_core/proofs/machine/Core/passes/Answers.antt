@@ -1,4 +1,3 @@
--- `Core::passes`: its clauses `answer`, `marks` and `made`.
 use Rattle.std.proofs.Common.{◌≡◌, inr, refl, Some, sym, ap, subst, ◌∙◌}
 use Rattle.passive_core.specs.Types.{Mark, Look}
 use Rattle.passive_core.specs.Common.{MarksPass, IsLookFor}

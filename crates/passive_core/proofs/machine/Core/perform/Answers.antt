@@ -1,4 +1,3 @@
--- `Core::perform`: its clauses `ready`, `answer`, `after` and `made`; what `pass_all` requires.
 use Rattle.std.proofs.Common.{◌≡◌, ◌<◌, false, refl, sym, ap, subst, ◌∙◌, None}
 use Rattle.registry_values.specs.Common.{wait_answer, least_below}
 use Rattle.passive_core.specs.Common.{all_seated, AllOutside, IsWaiting}

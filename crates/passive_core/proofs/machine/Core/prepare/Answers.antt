@@ -1,4 +1,3 @@
--- `Core::prepare`: its clause `made`.
 use Rattle.std.proofs.Common.{◌≡◌, ℕ, [], ◌∷◌, ◌++◌, Some, ap, subst, ◌∙◌}
 use Rattle.protocol.specs.Common.{State, narrow_step}
 use Rattle.passive_core.specs.Types.{StoreNext}

@@ -1,4 +1,3 @@
--- `Core::record_by_local`: its clauses `record` and `made`; what `load_word` requires.
 use Rattle.std.proofs.Common.{◌≡◌, ◌∙◌, ℕ, Option, Some, refl, subst, sym}
 use Rattle.protocol.specs.Common.{State, load_local, Holds}
 use Rattle.passive_core.proofs.Locals.{local_shows}

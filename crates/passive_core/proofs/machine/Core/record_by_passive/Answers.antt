@@ -1,4 +1,3 @@
--- `Core::record_by_passive`: its clauses `record` and `made`; what `load_word` requires.
 use Rattle.std.proofs.Common.{◌∙◌, ℕ, refl, subst}
 use Rattle.protocol.specs.Common.{State, load_passive, Holds}
 use Rattle.passive_core.proofs.Passives.{ShowsRecord, load_ok, passive_shows, word_is}

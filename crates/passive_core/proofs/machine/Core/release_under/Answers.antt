@@ -1,4 +1,3 @@
--- `Core::release_under`: its clause `made`; what `make` requires; that what is unreachable isn't reached.
 use Rattle.std.proofs.Common.{◌∷◌, ◌∙◌, refl, subst, sym}
 use Rattle.protocol.specs.Common.{Holds, narrow_step}
 use Rattle.passive_core.specs.Types.{JoinKeeper}

@@ -1,4 +1,3 @@
--- `Core::set_depth`: the invariant of `self`.
 use Rattle.std.proofs.Common.{◌<◌, sym, ap, subst, ◌∙◌, arith}
 use Rattle.passive_core.specs.Common.{state_shown}
 use Rattle.protocol.specs.Common.{State, is_inside}

@@ -1,4 +1,3 @@
--- `Core::settle`: its clauses `stage`, `after`, `emptied` and `made`; what `free` requires; that nothing overflows.
 use Rattle.std.proofs.Common.{◌≡◌, ℕ, ◌+◌, None, sym, ap, subst, ◌∙◌, arith}
 use Rattle.protocol.specs.Common.{Holds, held_at, total_at}
 use Rattle.registry_values.specs.Common.{bias, slot_at, stage_of}

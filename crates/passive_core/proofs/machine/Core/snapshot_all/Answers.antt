@@ -1,4 +1,3 @@
--- `Core::snapshot_all`: that each turn of its loop keeps the invariants.
 use Rattle.std.proofs.Common.{◌≡◌, ◌<◌, ap, ◌∙◌, arith, length, length-set}
 use Rattle.protocol.specs.Common.{State, section_at}
 use Rattle.registry_values.proofs.Fit.{ranges}

@@ -1,4 +1,3 @@
--- `Core::step_count_down`: what `exchange` requires.
 use Rattle.std.proofs.Common.{◌<◌, length, sym, subst, ◌∙◌, arith}
 use Rattle.std.proofs.lemmas.List.{get_or_read}
 use Rattle.protocol.specs.Common.{State}

@@ -1,4 +1,3 @@
--- `Core::step_load_link`: what it returns; what `follow` and `index` require.
 use Rattle.std.proofs.Common.{ℕ, ◌<◌, length, get_or, Option, sym, ap, subst, ◌∙◌, arith, rules}
 use Rattle.std.proofs.lemmas.List.{get_or_read}
 use Rattle.protocol.specs.Common.{State, search_at, link_loaded, load_link, with_some, Keeps}

@@ -1,16 +1,11 @@
--- `Core::step_publish`: what it returns; the invariant of `self`.
-use Rattle.std.proofs.Common.{refl, sym, ap, ◌∙◌}
-use Rattle.protocol.specs.Common.{State, row_at, may_publish, entry_of}
-use Rattle.passive_core.specs.Common.{state_shown}
-use Rattle.passive_core.specs.Types.{Publish, Done}
-use Rattle.protocol.proofs.keeps.Keeping.{step_holds}
+use Rattle.std.proofs.Common.{refl, sym, ◌∙◌}
+use Rattle.passive_core.specs.Types.{Publish}
+use Rattle.passive_core.proofs.Entering.{step_left}
 use Rattle.passive_core.proofs.machine.Core.step_publish.Goals as goal
 
 pub invariant_of-self-2 : goal.invariant_of-self-2
 invariant_of-self-2 c =
-    let entry = ap (λ (x : State). entry_of c.args.t (row_at x.rows c.args.t)) c.self.view_is ∙ sym c.in-Some.ensures in
-    let test = ap (λ (x : State). may_publish x c.args.t c.in-Some.entry) c.self.view_is ∙ (sym c.may_publish.ensures.value ∙ c.if-not-may_publish.false) in
-    step_holds (state_shown c.self.inside) _ (Publish c.args.t) Done c.self.invariant (rw (entry, test, c.in_ok-grow.ensures.ok) refl)
+    step_left (Publish c.args.t) c.self.view_is c.self.invariant (rw (sym c.in-Some.ensures, sym c.may_publish.ensures.value ∙ c.if-not-may_publish.false, c.in_ok-grow.ensures.ok, ← c.self.view_is))
 
 pub returns : goal.returns
 returns c =

@@ -1,11 +1,9 @@
--- `Core::step_take_back`: what `passive_at` and `index_mut` require; the invariant of `self`; that nothing overflows.
-use Rattle.std.proofs.Common.{◌<◌, ◌≤◌, length, [], refl, sym, ap, subst, ◌∙◌, arith, rules}
+use Rattle.std.proofs.Common.{◌<◌, ◌≤◌, length, [], sym, subst, ◌∙◌, arith, rules}
 use Rattle.std.proofs.lemmas.List.{get_or_read}
-use Rattle.protocol.specs.Common.{State, Holds, hand_at, passive_at}
-use Rattle.passive_core.specs.Common.{state_shown}
-use Rattle.passive_core.specs.Types.{TakeBack, Word}
+use Rattle.protocol.specs.Common.{Holds, passive_at}
+use Rattle.passive_core.specs.Types.{TakeBack}
 use Rattle.protocol.proofs.keeps.CountKeeps.{trying_tells}
-use Rattle.protocol.proofs.keeps.Keeping.{step_holds}
+use Rattle.passive_core.proofs.Entering.{step_left}
 use Rattle.passive_core.proofs.machine.Core.step_take_back.Goals.{In-Trying}
 use Rattle.passive_core.proofs.machine.Core.step_take_back.Goals as goal
 
@@ -29,9 +27,6 @@ index_mut-requires c =
 
 pub invariant_of-self : goal.invariant_of-self
 invariant_of-self c =
-    let hand = ap (λ (x : State). hand_at x c.args.c) c.self.view_is ∙ (sym c.hand_at.ensures ∙ c.in-Trying.is) in
-    let told = trying_tells (state_shown c.self.inside) c.args.c c.in-Trying.t c.in-Trying.field-1 c.self.invariant hand in
-    let word = c.passive_at-word.ensures ∙ ap (λ (x : State). passive_at x.passive c.args.c c.in-Trying.t) (sym c.self.view_is) in
-    let low : c.in-Trying.t < length c.self.inside.passive.items = omega (arith, told.1, c.self.invariant.shape.passive) in
+    let low : c.in-Trying.t < length c.self.inside.passive.items = search (rules, (tried (goal.at.invariant_of-self c).In-Trying).1) in
     let row = get_or_read c.self.inside.passive.items c.in-Trying.t c.index_mut.result.now low c.index_mut.ensures.value [] in
-    step_holds (state_shown c.self.inside) _ (TakeBack c.args.c) (Word c.passive_at-word.result) c.self.invariant (rw (hand, word, row) refl)
+    step_left (TakeBack c.args.c) c.self.view_is c.self.invariant (rw (sym c.hand_at.ensures ∙ c.in-Trying.is, c.passive_at-word.ensures, row, ← c.self.view_is))

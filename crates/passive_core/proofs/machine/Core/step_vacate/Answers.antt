@@ -1,12 +1,7 @@
--- `Core::step_vacate`: the invariant of `self`.
-use Rattle.std.proofs.Common.{refl, sym, ap, ◌∙◌}
-use Rattle.protocol.specs.Common.{State, may_vacate}
-use Rattle.passive_core.specs.Common.{state_shown}
-use Rattle.passive_core.specs.Types.{Vacate, Done}
-use Rattle.protocol.proofs.keeps.Keeping.{step_holds}
+use Rattle.std.proofs.Common.{sym, ◌∙◌}
+use Rattle.passive_core.specs.Types.{Vacate}
+use Rattle.passive_core.proofs.Entering.{step_left}
 use Rattle.passive_core.proofs.machine.Core.step_vacate.Goals as goal
 
 pub invariant_of-self : goal.invariant_of-self
-invariant_of-self c =
-    let test = ap (λ (x : State). may_vacate x c.args.t) c.self.view_is ∙ (sym c.may_vacate.ensures.value ∙ c.if-not-may_vacate.false) in
-    step_holds (state_shown c.self.inside) _ (Vacate c.args.t) Done c.self.invariant (rw (test) refl)
+invariant_of-self c = step_left (Vacate c.args.t) c.self.view_is c.self.invariant (rw (sym c.may_vacate.ensures.value ∙ c.if-not-may_vacate.false, ← c.self.view_is))

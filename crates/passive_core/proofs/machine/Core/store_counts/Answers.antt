@@ -1,4 +1,3 @@
--- `Core::store_counts`: its clause `made`; that each turn of its loop keeps the invariants.
 use Rattle.std.proofs.Common.{◌≡◌, ◌<◌, sym, ap, subst, ◌∙◌, arith}
 use Rattle.protocol.specs.Common.{State, Holds}
 use Rattle.passive_core.specs.Common.{Makes, count_stores_from}

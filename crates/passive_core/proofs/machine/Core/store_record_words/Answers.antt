@@ -1,4 +1,3 @@
--- `Core::store_record_words`: its clause `after`.
 use Rattle.std.proofs.Common.{◌∷◌}
 use Rattle.protocol.specs.Common.{row_at, with_word}
 use Rattle.registry_values.specs.Common.{kind_word}

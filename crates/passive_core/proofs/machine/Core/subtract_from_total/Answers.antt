@@ -1,14 +1,9 @@
--- `Core::subtract_from_total`: the invariant of `self`; that nothing overflows.
-use Rattle.std.proofs.Common.{◌≡◌, true, refl, sym, ap, ◌∙◌, nat_eq, eq-eqb}
-use Rattle.protocol.specs.Common.{State, total_at}
-use Rattle.passive_core.specs.Common.{state_shown}
-use Rattle.passive_core.specs.Types.{TotalSub, Done}
-use Rattle.protocol.proofs.keeps.Keeping.{step_holds}
+use Rattle.std.proofs.Common.{◌≡◌, true, refl, nat_eq, eq-eqb}
+use Rattle.passive_core.specs.Types.{TotalSub}
+use Rattle.passive_core.proofs.Entering.{step_left}
 use Rattle.passive_core.proofs.machine.Core.subtract_from_total.Goals as goal
 
 pub invariant_of-self : goal.invariant_of-self
 invariant_of-self c =
-    let due = ap (λ (x : State). x.due) c.self.view_is ∙ c.requires in
     let same : nat_eq c.args.t c.args.t ≡ true = eq-eqb c.args.t c.args.t refl in
-    let total = c.total_at-total.ensures ∙ ap (λ (x : State). total_at x.totals c.args.t) (sym c.self.view_is) in
-    step_holds (state_shown c.self.inside) _ (TotalSub c.args.t) Done c.self.invariant (rw (due, same, total) refl)
+    step_left (TotalSub c.args.t) c.self.view_is c.self.invariant (rw (c.requires, same, c.total_at-total.ensures, ← c.self.view_is))

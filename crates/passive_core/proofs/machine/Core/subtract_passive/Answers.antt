@@ -1,4 +1,3 @@
--- `Core::subtract_passive`: its clauses `counted` and `made`; what `make` requires.
 use Rattle.std.proofs.Common.{[], ◌∷◌, subst, sym}
 use Rattle.protocol.specs.Common.{State}
 use Rattle.passive_core.specs.Common.{IsOneLess}

@@ -1,4 +1,3 @@
--- `Core::take_snapshots`: its clauses `after` and `made`; what `make` requires; that each turn of its loop keeps the invariants.
 use Rattle.std.proofs.Common.{◌≡◌, ◌<◌, sym, ap, subst, ◌∙◌, arith}
 use Rattle.protocol.specs.Common.{Holds, State}
 use Rattle.passive_core.proofs.Attaching.{snap_turns, snapping, snapping_ends}

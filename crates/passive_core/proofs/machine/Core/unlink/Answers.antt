@@ -1,4 +1,3 @@
--- `Core::unlink`: what it returns; the invariant of `self`.
 use Rattle.std.proofs.Common.{get_or, refl, sym, ap, ◌∙◌}
 use Rattle.protocol.specs.Common.{State, at_rest}
 use Rattle.registry_values.specs.Common.{slot_at, slot_before}

@@ -1,4 +1,3 @@
--- `Core::wait_for_sections`: its clause `answer`, and what its first glance asks.
 use Rattle.std.proofs.Common.{◌<◌, Bool, false, not, ap, sym, subst, ◌∙◌, slice_index_or}
 use Rattle.std.proofs.lemmas.Bool.{false≢true}
 use Rattle.protocol.proofs.Cells.{get_or_all}

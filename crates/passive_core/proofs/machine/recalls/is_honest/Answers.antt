@@ -1,4 +1,3 @@
--- `is_honest`: what it returns.
 use Rattle.passive_core.specs.Types.{Slot}
 use Rattle.std.proofs.Common.{◌≡◌, ◌≢◌, ℕ, zero, suc, refl, sym, ◌∙◌}
 use Rattle.protocol.specs.Common.{is_honest, has_live}

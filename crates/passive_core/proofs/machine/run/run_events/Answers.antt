@@ -1,4 +1,3 @@
--- `run_events`: that each turn of its loop keeps the invariants.
 use Rattle.std.proofs.Common.{None, Err, subst, get_or, arith}
 use Rattle.protocol.specs.Common.{Steps}
 use Rattle.passive_core.specs.Types.{StepFault, Seat}
