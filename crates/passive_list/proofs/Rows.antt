@@ -15,7 +15,7 @@ use Rattle.protocol.proofs.counts.Sums.{all_collected, held_kept, one_self}
 use Rattle.protocol.proofs.counts.Bounds.{adding_range, collected_at, total_range}
 use Rattle.protocol.proofs.keeps.CountKeeps.{fit_of}
 use Rattle.protocol.proofs.keeps.References.{due_subtracting}
-use Rattle.protocol.proofs.Cells.{snapshot_stands}
+use Rattle.protocol.proofs.Cells.{slot_here, slot_other, snapshot_stands}
 use Rattle.cpu_words.specs.Common.{keeper_with, row_of, Good, IsShown, KeeperShown, occupant_of, IsOwnLog, keeper_with_note}
 use Rattle.cpu_words.proofs.by_keeper.KeeperSteps.{seen_by_keeper}
 use Rattle.passive_list.specs.Common.{KeptSlot, OnPlainKeeper, HasRows, on_keeper, no_row, row_at, state_of, states_of, RowAgrees, IsAtRest, IsOurKeeper, RowsAgree, OnKeeper, GoesOnBy, HasOwnLog}
@@ -124,34 +124,18 @@ row_stays k l t r slot total keeps had = record {
   unused = had.unused;
 }
 
+-- a view with the same slots, totals and kept numbers
+pub rows_stay : (a : Settings) (k l : KeeperView) (rows : List KeptSlot) → l.slots ≡ k.slots → l.totals ≡ k.totals → l.keeps ≡ k.keeps → RowsAgree a k rows → RowsAgree a l rows
+rows_stay a k l rows slots totals keeps agree =
+    record { size = agree.size; each = λ t lt. row_stays k l t (row_at rows t) (λ i. slot_at (slots i) t) (λ i. total_at (totals i) t) (λ i. kept_at (keeps i) t) (agree.each t lt) }
+
+-- the keeper's data agree with the view m, so with l
+pub keeper_on : (a : Settings) (l m : KeeperView) (rows : List KeptSlot) (n : ℕ) → l ≡ m → IsShown l → IsAtRest a m → n ≡ length m.history → RowsAgree a m rows → IsOurKeeper a l rows n
+keeper_on a l m rows n same is_shown at changes agree = subst (λ (x : KeeperView). IsOurKeeper a x rows n) (sym same) (assumption (subst IsShown same is_shown))
+
 -- a note that is heard leaves the rows as they are
 pub note_heard : (a : Settings) (k : KeeperView) (h : List Change) (rows : List KeptSlot) (n : ℕ) → IsOurKeeper a k rows n → IsShown (keeper_with_note k h) → IsOurKeeper a (keeper_with_note k h) rows n
-note_heard a k h rows n had shown = record {
-  view =
-      let rest = had.view in
-      let sized = rest.sized in
-      record {
-        settings = rest.settings;
-        fit = rest.fit;
-        rest = rest.rest;
-        seated = rest.seated;
-        sized = record {
-          slots = sized.slots;
-          marks = sized.marks;
-          mark_rows = sized.mark_rows;
-          keeps = sized.keeps;
-          next = sized.next;
-          rows = sized.rows;
-          totals = sized.totals;
-          counts = sized.counts;
-          count_rows = sized.count_rows;
-        };
-        room = rest.room;
-      };
-  is_shown = shown;
-  changes = had.changes;
-  rows = record { size = had.rows.size; each = λ t lt. row_stays k (keeper_with_note k h) t (row_at rows t) refl refl refl (had.rows.each t lt) };
-}
+note_heard a k h rows n had shown = assumption (rows_stay a k (keeper_with_note k h) rows refl refl refl had.rows)
 
 -- one row changes with its slot, and the others stay
 pub rows_set : (a : Settings) (k l : KeeperView) (rows : List KeptSlot) (t : ℕ) (r : KeptSlot) → t < a.slots → RowsAgree a k rows → RowAgrees l t r
@@ -164,6 +148,16 @@ rows_set a k l rows t r lt agree here others = record {
       (λ (off : (u ≡ t → ⊥) × (row_at (set rows t r) u ≡ row_at rows u)). subst (RowAgrees l u) (sym off.1) (others u off.0 (agree.each u within)))
       (place_cases no_row rows t r u (let size = agree.size in omega arith));
 }
+
+-- the slot t becomes x
+pub state_set : (a : Settings) (k l : KeeperView) (rows : List KeptSlot) (t : ℕ) (x : Slot) → IsAtRest a k → RowsAgree a k rows → t < a.slots
+    → l.slots ≡ set k.slots t x → l.totals ≡ k.totals → l.keeps ≡ k.keeps → (x ≡ Vacant → total_at k.totals t ≡ bias) → RowsAgree a l (set rows t (record (row_at rows t) { state = x }))
+state_set a k l rows t x at agree lt slots totals keeps unused =
+    let had = agree.each t lt in
+    let m : KeeperView = record k { slots = set k.slots t x } in
+    rows_stay a m l (set rows t (record (row_at rows t) { state = x })) slots totals keeps (rows_set a k m rows t (record (row_at rows t) { state = x }) lt agree
+    record { state = slot_here k.slots t x (omega (arith, lt, at.sized.slots)); total = had.total; keeps = had.keeps; unused = λ vacant. had.total ∙ unused vacant }
+    (λ u off was. row_stays k m u (row_at rows u) (slot_other k.slots t x u off) refl refl was))
 
 -- The keeper as contracts see it: it has the rows that are in it
 pub has_rows : {table : TableId} {log : List LogItem} (a : Settings) (k : KeeperView) (rows : List KeptSlot) (n : ℕ) (x : OnPlainKeeper) → IsOurKeeper a k rows n → on_keeper table a k rows log ≡ x
