@@ -334,4 +334,3 @@ found_from_outside key a x y v w c d m f at idle id shallow enters entered looke
       };
     } in
     subst (λ (b : OnCpu). HasFoundFromOutside key b (cpu_at w d m) f) at had
-

@@ -92,24 +92,6 @@ collected_keeper a k l b rows ms n x t c p v w e q m our marks is retired cpu pl
       marks_set a k b ms t c p m our.view marks lt cpu place (ap (λ (y : KeeperView). y.marks) now),
     )
 
-pub collected_into : {log between later : List LogItem} (a : Settings) (k l b : KeeperView) (rows : List KeptSlot) (n : ℕ) (x : OnKeeper) (t c v w : ℕ) (e : Entry) (r : KeptSlot)
-    → IsOurKeeper a k rows n → record { view = k; slots = states_of rows; log = log } ≡ x → v ≡ total_or_bias (row_at rows t)
-    → slot_at x.slots t ≡ Retired e → HasCollected k t c w l → Makes (Collect t c) (Word w) (Keeper k) (Keeper l) → HasAdded l t (v + w - bias) b
-    → Makes (TotalAdd t) Done (Keeper l) (Keeper b) → r.state ≡ (row_at rows t).state
-    → between ≡ log ++ did (Collect t c) (Word w) → later ≡ between ++ did (TotalAdd t) Done → HasCollectedInto x t c (record { view = b; slots = states_of (set rows t r); log = later })
-collected_into {log} {later} a k l b rows n x t c v w e r our is read retired change made added made_too state first then =
-    let lt = (retired_in a k rows t e our.rows (ap (λ (y : OnKeeper). slot_at y.slots t) is ∙ retired)).0 in
-    let total : v + w - bias ≡ total_at k.totals t + w - bias = ap (λ (u : ℕ). u + w - bias) (read ∙ (our.rows.each t lt).total) in
-    subst (λ (y : OnKeeper). HasCollectedInto y t c (record { view = b; slots = states_of (set rows t r); log = later })) is record {
-      word = w;
-      collected = subst (λ (y : KeeperView). Makes (Collect t c) (Word w) (Keeper k) (Keeper y)) change made;
-      added = subst (λ (y : KeeperView). Makes (TotalAdd t) Done (Keeper y) (Keeper b)) change made_too;
-      view = added ∙ ap (λ (y : KeeperView). record y { totals = set y.totals t (v + w - bias); due = Rest }) change
-          ∙ (λ i. record (keeper_after_collect k t c w) { totals = set k.totals t (total i); due = sym our.view.rest i });
-      slots = map-set_same state_of rows t r no_row state;
-      log = then ∙ ap (λ (ds : List LogItem). ds ++ did (TotalAdd t) Done) first;
-    }
-
 -- Once all words are collected
 
 pub record TotalTells (k : KeeperView) (t total : ℕ) : Type 0 where
@@ -240,4 +222,3 @@ has_given_up {log} {later} k j l rows t n v w x r state is is_too rest slot join
       slots = map-set_same state_of rows t (row_less r n) no_row state;
       log = then ∙ ap (λ (ds : List LogItem). ds ++ did (TotalSub t) Done) first ∙ ap (λ (u : ℕ). log ++ did (JoinKeeper v.entry.number) Done ++ did (TotalSub u) Done) (sym slot);
     })
-

@@ -199,18 +199,14 @@ goes_by_next x y z w es t m e at had loaded_link =
     more : IsPrefix y.pass w.pass
     more = subst (λ p. IsPrefix p w.pass) same followed.pass
 
-
     low : from ≤ length y.pass
     low = prefix_length x.pass y.pass at.pass
-
 
     settings : z.settings.slots ≡ x.settings.slots
     settings = ap (λ (u : CpuView). u.settings.slots) v.is ∙ ap (λ (u : CpuView). u.settings.slots) at.is
 
-
     stands_z : StandsOn z.pass from (length z.pass) t e
     stands_z = subst (λ (p : List Change). StandsOn p from (length p) t e) (sym same) v.stands
-
 
     -- live since, in the longer pass, so in the shorter one
     earlier : (f : Entry) → IsLiveSince w.pass from f → IsLiveSince y.pass from f

@@ -33,7 +33,6 @@ pub mark_read : (a : Settings) (k : KeeperView) (ms : List Mark) (t c at : ℕ) 
 mark_read a k ms t c at m had lt cpu place is =
     get_or_read ms at m (mark_below a k ms t c at had lt cpu place) is no_mark ∙ (ap (λ (p : ℕ). get_or ms p no_mark) place ∙ had.each t c lt cpu)
 
-
 -- At the start
 
 pub new_marks : (a : Settings) → MarksAgree a (keeper_with a a.cpus) (replicate (a.slots * a.cpus) no_mark)
@@ -200,21 +199,6 @@ vacated_keeper a k l rows n t our is change is_shown =
     let m = keeper_after_vacate k t in
     keeper_on a l m (set rows t (row_vacated (row_at rows t))) n change is_shown (vacated_at_rest a k t is.retired.0 our.view here.0 here.1) our.changes
     (state_set a k m rows t Vacant our.view our.rows here.0 refl refl refl (λ _. is.drained.total))
-
--- what it leaves of the keeper
-pub has_vacated : {log later : List LogItem} (a : Settings) (k l : KeeperView) (rows : List KeptSlot) (t : ℕ) (r : KeptSlot) (x : OnKeeper) → record { view = k; slots = states_of rows; log = log } ≡ x
-    → RowsAgree a k rows → Makes (Vacate t) Done (Keeper k) (Keeper l) → Makes (Hear None) Done (Keeper l) (Keeper l)
-    → l ≡ keeper_after_vacate k t → later ≡ log ++ (did (Vacate t) Done ++ did (Hear None) Done) → ((e : Entry) → slot_at k.slots t ≡ Retired e → IsFreedFrom t e.number later)
-    → HasVacated x t (record { view = l; slots = states_of (set rows t (row_vacated r)); log = later })
-has_vacated {later} a k l rows t r x is agree made heard change goes_on freed =
-    subst (λ (y : OnKeeper). HasVacated y t (record { view = l; slots = states_of (set rows t (row_vacated r)); log = later })) is record {
-      made = made;
-      heard = heard;
-      view = change;
-      slots = map-set state_of rows t (row_vacated r);
-      log = rw append_assoc goes_on;
-      freed = λ e at. freed e (retired_in a k rows t e agree at).1;
-    }
 
 -- as many marks as there are CPUs, by the view's settings
 marks_taken : (a : Settings) (k : KeeperView) (ms : List Mark) (t cpus : ℕ) → IsAtRest a k → cpus ≡ a.cpus → take a.cpus ms ≡ take a.cpus (get_or k.marks t [])

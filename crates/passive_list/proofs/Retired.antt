@@ -248,19 +248,3 @@ freed_keeper a k l rows n t u v x our is drained keeps told is_shown read =
     keeper_on a l m (set (set rows u (row_less (row_at rows u) v)) t (row_freed (row_at rows t))) n (freed_is k l t keeps.d u keeps.kept told) is_shown
     (assumption (vacated_at_rest a k t d.retired.0 our.view here.0 here.1, length-set k.keeps t None ∙ our.view.sized.keeps, length-set k.totals u (total_at k.totals u - 1) ∙ our.view.sized.totals))
     our.changes (freed_rows a k rows t keeps.d u v our.view our.rows keeps.held keeps.other here.0 d.drained.total read)
-
--- what it leaves of the keeper
-pub has_freed : {log later : List LogItem} (a : Settings) (k l : KeeperView) (rows : List KeptSlot) (t u v : ℕ) (r q : KeptSlot) (x : OnKeeper) → state_of q ≡ state_of (row_at rows u) → record { view = k; slots = states_of rows; log = log } ≡ x
-    → RowsAgree a k rows → Makes (KeptSub t) Done (Keeper k) (Keeper l) → HasKeptSub k t u l → later ≡ log ++ did (KeptSub t) Done
-    → ((e : Entry) → slot_at k.slots t ≡ Retired e → IsFreedFrom t e.number later)
-    → HasFreed x t (record { view = l; slots = states_of (set (set rows u (row_less q v)) t (row_freed r)); log = later })
-has_freed {later} a k l rows t u v r q x state is agree made told goes_on freed =
-    let after = set (set rows u (row_less q v)) t (row_freed r) in
-    subst (λ (y : OnKeeper). HasFreed y t (record { view = l; slots = states_of after; log = later })) is record {
-      u = u;
-      made = made;
-      view = told;
-      slots = map-set state_of (set rows u (row_less q v)) t (row_freed r) ∙ ap (λ (xs : List Slot). set xs t Vacant) (map-set_same state_of rows u (row_less q v) no_row state);
-      log = goes_on;
-      freed = λ e at. freed e (retired_in a k rows t e agree at).1;
-    }

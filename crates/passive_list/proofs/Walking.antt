@@ -115,7 +115,7 @@ same_at p h k pre le = ap (λ l. change_at l k) (sym pre.1) ∙ at_prefix p pre.
 pub attached_before : (p h : List Change) (e : Entry) → IsPrefix p h → e.number ≤ length p → IsAttached h e → IsAttached p e
 attached_before p h e pre le attached = sym (same_at p h e.number pre le) ∙ attached
 
-ends_later : (p h : List Change) (n k : ℕ) → IsPrefix p h → EndsAt p n k → EndsAt h n k
+pub ends_later : (p h : List Change) (n k : ℕ) → IsPrefix p h → EndsAt p n k → EndsAt h n k
 ends_later p h n k pre ends = same_at p h k pre (at_within p k (Detach n) ends).1 ∙ ends
 
 -- what ends in the whole after `from`, if it ends in the prefix only after that

@@ -1,11 +1,13 @@
--- `collect`: its clause `change`; what `total_add` requires; the invariant of `keeper`; that nothing overflows; that an index is in range.
-use Rattle.std.proofs.Common.{◌≡◌, ◌∙◌, ◌+◌, ◌-◌, ◌<◌, length, set, sym, ap, subst, arith, rules}
-use Rattle.passive_list.specs.Types.{Settings}
+use Rattle.std.proofs.Common.{◌≡◌, ◌∙◌, ◌+◌, ◌-◌, ◌<◌, ◌++◌, ℕ, List, length, set, sym, ap, subst, arith, rules}
+use Rattle.std.proofs.Math.Seq.{map-set_same}
+use Rattle.passive_list.specs.Types.{Settings, Collect, TotalAdd, Done, Word, Rest, KeeperView, LogItem, Keeper}
 use Rattle.registry_values.specs.Common.{bias, slot_at}
-use Rattle.passive_list.specs.Common.{KeptSlot, OnPlainKeeper, IsOurKeeper, row_at, total_or_bias}
+use Rattle.protocol.specs.Common.{total_at}
+use Rattle.cpu_words.specs.Common.{Makes, did}
+use Rattle.passive_list.specs.Common.{KeptSlot, OnPlainKeeper, HasCollectedInto, IsOurKeeper, keeper_after_collect, no_row, row_at, state_of, states_of, total_or_bias}
 use Rattle.passive_list.proofs.Marks.{mark_below}
 use Rattle.passive_list.proofs.Rows.{keeper_is, retired_in, row_read}
-use Rattle.passive_list.proofs.GivenUp.{CollectionTells, collection_tells, collected_keeper, collected_into, row_with_total}
+use Rattle.passive_list.proofs.GivenUp.{CollectionTells, collection_tells, collected_keeper, row_with_total}
 use Rattle.passive_list.proofs.collecting.collect.Goals.{After-total_or_bias}
 use Rattle.passive_list.proofs.collecting.collect.Goals as goal
 
@@ -24,11 +26,10 @@ tells c =
 
 pub collect-word-requires-clause-place : goal.collect-word-requires-clause-place
 collect-word-requires-clause-place c =
-    let inside = c.keeper.inside in
     let retired = ap (λ (x : OnPlainKeeper). slot_at x.keeper.slots c.args.slot) c.keeper.view_is ∙ c.requires.retired.1 in (
       subst (λ (z : Settings). c.args.cpu < z.cpus) (sym c.requires.words.1) c.requires.cpu,
       subst (λ (z : Settings). c.args.slot < z.slots) (ap (λ (x : OnPlainKeeper). x.words.settings) c.keeper.view_is ∙ sym c.requires.words.1)
-          (retired_in inside.settings inside.seat.view inside.rows.items c.args.slot c.requires.retired.0 c.keeper.invariant.0.rows retired).0,
+          (retired_in _ _ _ _ _ c.keeper.invariant.0.rows retired).0,
     )
 
 pub overflow_add-total : goal.overflow_add-total
@@ -69,7 +70,24 @@ invariant_of-keeper c =
 
 pub returns-clause-change : goal.returns-clause-change
 returns-clause-change c =
-    let row = row_read _ _ _ _ _ c.keeper.invariant.0.rows (within (goal.at.returns-clause-change c).After-total_or_bias) c.index_mut.ensures.value in
-    collected_into _ _ _ _ _ _ _ _ _ _ _ _ _ c.keeper.invariant.0
-    (keeper_is c.keeper.view_is) (read (goal.at.returns-clause-change c).After-total_or_bias) c.requires.retired.1 c.collect-word.ensures.change c.collect-word.ensures.step.event c.total_add.ensures.change
-    c.total_add.ensures.step.event (ap (λ (r : KeptSlot). r.state) row) c.collect-word.ensures.step.log c.total_add.ensures.step.log
+    let at = (goal.at.returns-clause-change c).After-total_or_bias in
+    let our = c.keeper.invariant.0 in
+    let k = c.keeper.inside.seat.view in
+    let b = c.total_add.new.keeper.view in
+    let rows = c.keeper.inside.rows.items in
+    let t = c.args.slot in
+    let w = c.collect-word.result in
+    let v = c.total_or_bias.result + w - bias in
+    let new = row_with_total c.index_mut.result.now v in
+    let change = c.collect-word.ensures.change in
+    let row = row_read _ _ _ _ _ our.rows (within at) c.index_mut.ensures.value in
+    let total : v ≡ total_at k.totals t + w - bias = ap (λ (u : ℕ). u + w - bias) (read at ∙ (our.rows.each t (within at)).total) in
+    subst (λ (x : OnPlainKeeper). HasCollectedInto x.keeper t c.args.cpu (record { view = b; slots = states_of (set rows t new); log = c.total_add.new.keeper.log })) c.keeper.view_is record {
+      word = w;
+      collected = subst (λ (y : KeeperView). Makes (Collect t c.args.cpu) (Word w) (Keeper k) (Keeper y)) change c.collect-word.ensures.step.event;
+      added = subst (λ (y : KeeperView). Makes (TotalAdd t) Done (Keeper y) (Keeper b)) change c.total_add.ensures.step.event;
+      view = c.total_add.ensures.change ∙ ap (λ (y : KeeperView). record y { totals = set y.totals t v; due = Rest }) change
+          ∙ (λ i. record (keeper_after_collect k t c.args.cpu w) { totals = set k.totals t (total i); due = sym our.view.rest i });
+      slots = map-set_same state_of rows t new no_row (ap state_of row);
+      log = c.total_add.ensures.step.log ∙ ap (λ (ds : List LogItem). ds ++ did (TotalAdd t) Done) c.collect-word.ensures.step.log;
+    }

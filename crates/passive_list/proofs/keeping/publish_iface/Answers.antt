@@ -14,10 +14,8 @@ use Rattle.passive_list.proofs.keeping.publish_iface.Goals as goal
 -- the rows with what is kept, as they are once that was written
 kept : (c : After-index_mut) → set c.keeper.inside.rows.items c.args.slot (row_keeping c.index_mut.result.now c.reference.inside.number) ≡ rows_keeping c.keeper.inside.rows.items c.args.slot c.reference.inside.number
 kept c =
-    let inside = c.keeper.inside in
     let within = subst (λ (z : Settings). c.args.slot < z.slots) (sym (settings_are c.keeper.view_is)) c.requires.vacant.0 in
-    ap (λ (r : KeptSlot). set inside.rows.items c.args.slot (row_keeping r c.reference.inside.number))
-    (row_read inside.settings inside.seat.view inside.rows.items c.args.slot c.index_mut.result.now c.keeper.invariant.0.rows within c.index_mut.ensures.value)
+    ap (λ (r : KeptSlot). set c.keeper.inside.rows.items c.args.slot (row_keeping r c.reference.inside.number)) (row_read _ _ _ _ _ c.keeper.invariant.0.rows within c.index_mut.ensures.value)
 
 -- and what is asked of the keeper then
 asked : (c : After-index_mut) → MayAttach c.keeper.inside.settings c.keep.new.keeper.view (rows_keeping c.keeper.inside.rows.items c.args.slot c.reference.inside.number) (record { number = c.keeper.inside.changes + 1; slot = c.args.slot; rec = c.args.rec })

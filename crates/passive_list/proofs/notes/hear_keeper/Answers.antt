@@ -14,11 +14,8 @@ returns-clause-own c = subst (λ (x : OnPlainKeeper). HasOwnLog x.words.settings
 pub invariant_of-keeper : goal.invariant_of-keeper
 invariant_of-keeper c =
     let inside = c.keeper.inside in
-    let a = inside.settings in
-    let k = inside.seat.view in
-    let l = c.hear_keeper.new.keeper.view in
     let change = c.hear_keeper.ensures.change in (
-      subst (λ (x : KeeperView). IsOurKeeper a x inside.rows.items inside.changes) (sym change)
-          (note_heard a k c.args.note.view inside.rows.items inside.changes c.keeper.invariant.0 (subst IsShown change (step_is_shown c.hear_keeper.ensures.event))),
-      marks_stay a k l inside.marks.items (ap (λ (x : KeeperView). x.marks) change) c.keeper.invariant.1,
+      subst (λ (x : KeeperView). IsOurKeeper inside.settings x inside.rows.items inside.changes) (sym change)
+          (note_heard _ _ c.args.note.view _ _ c.keeper.invariant.0 (subst IsShown change (step_is_shown c.hear_keeper.ensures.event))),
+      marks_stay _ _ c.hear_keeper.new.keeper.view _ (ap (λ (x : KeeperView). x.marks) change) c.keeper.invariant.1,
     )

@@ -1,4 +1,3 @@
--- `publish_entry`: its clauses `change`, `log` and `attached`; what `prepare`, `publish` and `show` require.
 use Rattle.std.proofs.Common.{◌++◌, ◌∙◌, sym, ap, subst, arith}
 use Rattle.passive_list.specs.Types.{Settings, Publish, Show, Done, KeeperView, Keeper}
 use Rattle.cpu_words.specs.Common.{MayPublish, Makes, keeper_after_live}

@@ -1,4 +1,3 @@
--- `store_counts`: that each turn of its loop keeps the invariants.
 use Rattle.std.proofs.Common.{◌≡◌, ◌+◌, ◌++◌, ℕ, suc, List, ap, ◌∙◌, subst, arith}
 use Rattle.passive_list.specs.Types.{LogItem, StoreSlot, Done}
 use Rattle.registry_values.specs.Common.{bias}

@@ -1,4 +1,3 @@
--- `store_row`: its clause `row`.
 use Rattle.std.proofs.Common.{◌≡◌, ◌++◌, ◌∙◌}
 use Rattle.protocol.specs.Common.{row_at, with_word}
 use Rattle.registry_values.specs.Common.{kind_word}

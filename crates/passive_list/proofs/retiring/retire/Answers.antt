@@ -1,4 +1,3 @@
--- `retire`: its clauses `change` and `log`; what `hide`, `unpublish` and `snapshots` require; the invariant of `keeper`.
 use Rattle.std.proofs.Common.{◌≡◌, ◌++◌, ◌∙◌, ◌+◌, ◌*◌, ◌<◌, ◌≤◌, List, length, vec_len, sym, ap, subst, set, arith, rules}
 use Rattle.std.proofs.lemmas.List.{map-set}
 use Rattle.passive_list.specs.Types.{Settings, Hide, Unpublish, Done, Live, LogItem, Mark, KeeperView, Keeper}

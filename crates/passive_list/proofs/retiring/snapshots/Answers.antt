@@ -1,4 +1,3 @@
--- `snapshots`: that each turn of its loop keeps the invariants; that an index is in range; its clause `taken`.
 use Rattle.std.proofs.Common.{◌≡◌, ◌+◌, ◌*◌, ℕ, suc, set, sym, ◌∙◌, subst, arith}
 use Rattle.protocol.specs.Common.{snapshot_mark}
 use Rattle.passive_list.specs.Common.{AreWritten, LogsSnapshots}

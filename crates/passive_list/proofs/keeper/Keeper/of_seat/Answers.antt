@@ -1,4 +1,3 @@
--- `Keeper::of_seat`: its clause `keeper`; the invariant of `result`.
 use Rattle.std.proofs.Common.{List, sym, ap, subst, arith, ◌∙◌, length}
 use Rattle.passive_list.specs.Types.{KeeperView, Mark}
 use Rattle.cpu_words.specs.Common.{IsShown, keeper_with}
