@@ -251,4 +251,3 @@ come_back x y k w e n v empty joined found cut =
       cpu = cut.2 ∙ ap (λ (q : CpuView). with_hand q NoEntry) found.3 ∙ ap (λ (q : CpuView). with_hand q NoEntry) joined ∙ (λ i. with_hand x (sym empty i));
       is = cut.3 ∙ (λ i. record { entry = one i; collected = Some (id i) });
     }
-

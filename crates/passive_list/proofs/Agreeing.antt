@@ -44,21 +44,10 @@ inside b = record { outside = (λ (q : Some b ≡ None). cc, λ (q : 1 ≡ 0). a
 -- a new CPU
 pub new_agrees : (z : TableId) (a : Settings) (t : TableId) (c : ℕ) → t ≡ z → IsTrue (are_fit a) → c < a.cpus
     → IsOurCpu z a t (new_cpu a c) c 0 0 no_found (replicate a.slots no_place) (replicate a.slots no_place) (no_memory a.slots)
-new_agrees z a t c table fit lt = record {
-  table = table;
-  settings = refl;
-  fit = fit;
-  id = refl;
-  few = lt;
-  section = record { word = refl; limit = omega arith };
-  idle = record { search = refl; hand = refl };
-  depth = outside;
-  found = refl;
-  passive = new_passive a c;
-  net = new_net a c;
-  memory = none_remembered a.slots [] (let some = (ranges a fit).some_slot in omega (arith, some)) (ranges a fit).slots;
-  is_shown = new_cpu_is_shown a fit c lt;
-}
+new_agrees z a t c table fit lt =
+    let limit : 0 + 0 ≤ a.section_limit = omega arith in
+    let memory = none_remembered a.slots [] (omega (arith, (ranges a fit).some_slot)) (ranges a fit).slots in
+    assumption (limit, outside, new_passive a c, new_net a c, memory, new_cpu_is_shown a fit c lt)
 
 -- what was read at a slot is its place
 pub place_is : (ps : List NumberedCount) (t : ℕ) (p : NumberedCount) → p ≡ slice_index_or ps t p → t < length ps → p ≡ place_at ps t
@@ -236,26 +225,21 @@ unspent z a t x c w d e ps ns ms our may = ltb-true w a.section_limit (may_begin
 abbrev pub cpu_at : Seated CpuView → ℕ → Memory → OnCpu
 cpu_at s depth m = record { view = s.view; depth = depth; made = 0; memory = m; known_log = s.known_log; log = s.log }
 
-began : (x y : CpuView) → HasEntered x y → y.begin ≢ None
-began x y had none = let clash : ◌≡◌ {A = Option ℕ} (Some (length y.pass)) None = sym (ap (λ (v : CpuView). v.begin) had.1) ∙ none in cc
-
 -- a section begins by the step
 pub entered_on : (a : OnCpu) (s t : Seated CpuView) (c d n : ℕ) (m : Memory) → cpu_at s d m ≡ a → s.view.id ≡ c → d ≡ 0 → n ≡ d + 1 → SeatMakes Cpu (Enter c) Done s t → HasEntered s.view t.view
     → HasEnteredOn a (cpu_at t n m)
-entered_on a s t c d n m at id shallow one made entered =
-    let had : HasEnteredOn (cpu_at s d m) (cpu_at t n m) = record {
-      begun = λ _. entered;
-      whole = λ _. entered_whole c s.view t.view id made.event;
-      inner = λ off. absurd (off shallow);
-      inside = began s.view t.view entered;
-      depth = one;
-      made = refl;
-      memory = refl;
-      known_log = made.known_log;
-      event = λ _. made.log ∙ ap (λ (i : ℕ). s.log ++ did (Enter i) Done) (sym id);
-      none = λ off. absurd (off shallow);
-    } in
-    subst (λ (b : OnCpu). HasEnteredOn b (cpu_at t n m)) at had
+entered_on a s t c d n m at id shallow one made entered = subst (λ (b : OnCpu). HasEnteredOn b (cpu_at t n m)) at record {
+  begun = λ _. entered;
+  whole = λ _. entered_whole c s.view t.view id made.event;
+  inner = λ off. absurd (off shallow);
+  inside = λ none. none-some (length t.view.pass) (sym none ∙ ap (λ (v : CpuView). v.begin) entered.1);
+  depth = one;
+  made = refl;
+  memory = refl;
+  known_log = made.known_log;
+  event = λ _. made.log ∙ ap (λ (i : ℕ). s.log ++ did (Enter i) Done) (sym id);
+  none = λ off. absurd (off shallow);
+}
 
 -- A lookup from outside: the steps that its section allows, how the data agree with the view as it is over, and what it is to a contract.
 
@@ -285,15 +269,16 @@ are_kept None = refl
 are_kept (Some e) = (refl, refl, refl)
 
 -- outside and with nothing found again, as before, and one section more is ended
-pub from_outside_agrees : (z : TableId) (a : Settings) (t u : TableId) (x y v w : CpuView) (c n m d : ℕ) (e : Found) (f : Option Entry) (ps ns : List NumberedCount) (ms : Memory) (key : Key)
-    → IsOurCpu z a t x c n d e ps ns ms → u ≡ t → d ≡ 0 → IsTrue (may_begin x) → Makes (Enter c) Done (Cpu x) (Cpu y) → HasEntered x y → IsShownCpu v → HasLookedUp key y v f → IsShownCpu w
-    → HasExited v w → m ≡ n + 1 → IsOurCpu u w.settings u w c m d e ps ns ms
-from_outside_agrees z a t u x y v w c n m d e f ps ns ms key our same shallow unended made entered looked_shown looked exited_shown exited one_more =
-    let room : n < a.section_limit = unspent z a t x c n d e ps ns ms our unended in
-    let inside = entered_agrees z a t u x y c n d e ps ns ms our (step_is_shown made) same shallow room entered in
-    let sought = looked_up_agrees z a u u y v c n 1 e (kept_of f) f ps ns ms key inside looked_shown refl (are_kept f) looked in
+pub from_outside_agrees : (z : TableId) (a : Settings) (t u : TableId) (x y : Seated CpuView) (v w : CpuView) (c n m d : ℕ) (e : Found) (f : Option Entry) (ps ns : List NumberedCount) (ms : Memory) (key : Key) (b : OnCpu)
+    → IsOurCpu z a t x.view c n d e ps ns ms → cpu_at x d ms ≡ b → b.depth ≡ 0 → IsTrue (may_begin b.view) → u ≡ t → SeatMakes Cpu (Enter c) Done x y → HasEntered x.view y.view
+    → IsShownCpu v → HasLookedUp key y.view v f → IsShownCpu w → HasExited v w → m ≡ n + 1 → IsOurCpu u w.settings u w c m d e ps ns ms
+from_outside_agrees z a t u x y v w c n m d e f ps ns ms key b our at outside unended same made entered looked_shown looked exited_shown exited one_more =
+    let shallow : d ≡ 0 = ap (λ (o : OnCpu). o.depth) at ∙ outside in
+    let room : n < a.section_limit = unspent z a t x.view c n d e ps ns ms our (subst (λ (o : OnCpu). IsTrue (may_begin o.view)) (sym at) unended) in
+    let inside = entered_agrees z a t u x.view y.view c n d e ps ns ms our (step_is_shown made.event) same shallow room entered in
+    let sought = looked_up_agrees z a u u y.view v c n 1 e (kept_of f) f ps ns ms key inside looked_shown refl (are_kept f) looked in
     let over = exited_agrees z a u u v w c n 1 (kept_of f) ps ns ms sought exited_shown refl refl exited in
-    let was : IsKept e None = subst (λ (g : Option Entry). IsKept e g) (none_outside x our.is_shown (our.depth.outside.1 shallow)) our.found in
+    let was : IsKept e None = subst (λ (g : Option Entry). IsKept e g) (none_outside x.view our.is_shown (our.depth.outside.1 shallow)) our.found in
     let kept : IsKept e w.found = subst (λ (g : Option Entry). IsKept e g) (sym (ap (λ (i : CpuView). i.found) exited)) was in
     let there : IsOurCpu z a u w c (n + 1) d e ps ns ms = assumption (subst (λ (k : ℕ). DepthAgrees w.begin k) (sym shallow) over.depth, kept, over) in
     own_agrees z a u w c m d e ps ns ms (subst (λ (k : ℕ). IsOurCpu z a u w c k d e ps ns ms) (sym one_more) there)
@@ -301,16 +286,17 @@ from_outside_agrees z a t u x y v w c n m d e f ps ns ms key our same shallow un
 -- To a contract
 
 pub found_from_outside : (key : Key) (a : OnCpu) (x y v w : Seated CpuView) (c d : ℕ) (m : Memory) (f : Option Entry)
-    → cpu_at x d m ≡ a → IsIdle x.view → x.view.id ≡ c → d ≡ 0 → SeatMakes Cpu (Enter c) Done x y → HasEntered x.view y.view → HasLookedUp key y.view v.view f → v.known_log ≡ y.known_log
+    → cpu_at x d m ≡ a → IsIdle x.view → x.view.id ≡ c → a.depth ≡ 0 → SeatMakes Cpu (Enter c) Done x y → HasEntered x.view y.view → HasLookedUp key y.view v.view f → v.known_log ≡ y.known_log
     → SearchesOnce c y.view.settings.slots key f y.log v.log
     → SeatMakes Cpu (Exit c) Done v w → HasExited v.view w.view → HasFoundFromOutside key a (cpu_at w d m) f
-found_from_outside key a x y v w c d m f at idle id shallow enters entered looked known log exits exited =
+found_from_outside key a x y v w c d m f at idle id outside enters entered looked known log exits exited =
+    let shallow : d ≡ 0 = ap (λ (o : OnCpu). o.depth) at ∙ outside in
     let one : d + 1 ≡ 1 = omega (arith, shallow) in
     let same : y.view.search ≡ None = ap (λ (i : CpuView). i.search) entered.1 ∙ idle.search in
     let is : v.view ≡ record y.view { pass = v.view.pass; found = f } = looked.is ∙ ap (λ (s : Option Search). record y.view { pass = v.view.pass; search = s; found = f }) (sym same) in
     let y_id : y.view.id ≡ c = ap (λ (i : CpuView). i.id) entered.1 ∙ id in
     let v_id : v.view.id ≡ c = ap (λ (i : CpuView). i.id) looked.is ∙ y_id in
-    let had : HasFoundFromOutside key (cpu_at x d m) (cpu_at w d m) f = record {
+    subst (λ (b : OnCpu). HasFoundFromOutside key b (cpu_at w d m) f) at record {
       first = cpu_at y (d + 1) m;
       last = cpu_at v (d + 1) m;
       enters = entered_on (cpu_at x d m) x y c d (d + 1) m refl id shallow refl enters entered;
@@ -332,5 +318,4 @@ found_from_outside key a x y v w c d m f at idle id shallow enters entered looke
         event = λ _. exits.log ∙ ap (λ (i : ℕ). v.log ++ did (Exit i) Done) (sym v_id);
         none = λ off. absurd (off one);
       };
-    } in
-    subst (λ (b : OnCpu). HasFoundFromOutside key b (cpu_at w d m) f) at had
+    }

@@ -41,10 +41,6 @@ keeping_rows a k rows t n v at agree lt number =
 pub states_keeping : (rows : List KeptSlot) (t n : ℕ) → states_of (rows_keeping rows t n) ≡ states_of rows
 states_keeping rows t n = map-set_same state_of rows t (row_keeping (row_at rows t) n) no_row refl
 
--- and so does the history
-pub same_history : (k l : KeeperView) (t : ℕ) (v : ReferenceView) → l ≡ keeper_after_keep k t v → length k.history ≡ length l.history
-same_history k l t v at = sym (ap (λ (x : KeeperView). length x.history) at)
-
 -- what publishing asks of the keeper once the slot keeps the reference, from what is asked of a caller
 pub may_attach : {table : TableId} {log : List LogItem} (a : Settings) (k l : KeeperView) (rows : List KeptSlot) (c t n : ℕ) (rec : Record) (v : ReferenceView) (x : OnPlainKeeper)
     → IsOurKeeper a k rows c → on_keeper table a k rows log ≡ x
@@ -135,10 +131,8 @@ count_on (x ∷ xs) [] on =
     let first : one_if (is_live x) ≤ 0 = live_on x Vacant (λ f is. on zero f is) in
     omega (arith, rest, split, first)
 count_on (x ∷ xs) (y ∷ ys) on =
-    let rest = count_on xs ys (λ u f live. on (suc u) f live) in
-    let split = sum_by-cons (λ (z : Slot). one_if (is_live z)) x xs in
     let split_y = sum_by-cons (λ (z : Slot). one_if (is_live z)) y ys in
-    omega (arith, rest, split, split_y, live_on x y (λ f is. on zero f is))
+    omega (arith, count_on xs ys (λ u f live. on (suc u) f live), sum_by-cons (λ (z : Slot). one_if (is_live z)) x xs, split_y, live_on x y (λ f is. on zero f is))
 
 -- The entry by its words
 
@@ -183,12 +177,9 @@ published_is k l m e v at told may =
     let t = e.slot in
     let p = keeper_after_stores k e v in
     let f = told.0 in
-    let same : f ≡ e = one f e (sym (ap (λ (x : KeeperView). entry_of t (words_at x.rows t)) (sym at) ∙ told.1.entry) ∙ may.entry) in
+    let same : f ≡ e = let q : ◌≡◌ {A = Option Entry} (Some f) (Some e) = sym (ap (λ (x : KeeperView). entry_of t (words_at x.rows t)) (sym at) ∙ told.1.entry) ∙ may.entry in cc in
     told.2 ∙ (ap (λ (x : KeeperView). record x { head = t + 1; history = after_change x.history (Attach f); slots = set x.slots t (Live f) }) at
     ∙ ap (λ (x : Entry). record p { head = t + 1; history = after_change p.history (Attach x); slots = set p.slots t (Live x) }) same)
-  where
-    one : (x y : Entry) → Some x ≡ Some y → x ≡ y
-    one x y q = cc
 
 abbrev pub row_live : KeptSlot → Entry → KeptSlot
 row_live r e = record { state = Live e; total = r.total; keeps = r.keeps }

@@ -125,7 +125,7 @@ pub outside_memory : (key : Key) (a b : OnCpu) (answer : Option Entry) → HasFo
 outside_memory key a b answer had = had.exits.memory ∙ ap (λ (c : OnCpu). c.memory) had.finds.is ∙ had.enters.memory
 
 -- what was found is an entry of the pass
-seen_by : (key : Key) (a b : OnPlainCpu) (answer : Option Seen) → ((e : Entry) → entry_seen key answer ≡ Some e → IsAttached b.cpu.view.pass e) → b.words ≡ a.words
+pub seen_by : (key : Key) (a b : OnPlainCpu) (answer : Option Seen) → ((e : Entry) → entry_seen key answer ≡ Some e → IsAttached b.cpu.view.pass e) → b.words ≡ a.words
     → IfSome answer (λ (s : Seen). (s.slot < MOST_SLOTS) × (s.slot < a.words.settings.slots)) → IfSome answer (λ (s : Seen). HasSeen b key s)
 seen_by key a b None attached words slot = tt
 seen_by key a b (Some s) attached words slot =
@@ -135,10 +135,6 @@ pub found_seen : (key : Key) (a b : OnPlainCpu) (answer : Option Seen) → HasFo
     → IfSome answer (λ (s : Seen). (s.slot < MOST_SLOTS) × (s.slot < a.words.settings.slots)) → IfSome answer (λ (s : Seen). HasSeen b key s)
 found_seen key a b answer had outside words slot =
     seen_by key a b answer (λ e is. subst (λ h. IsAttached h e) (sym (left_pass key a.cpu b.cpu (entry_seen key answer) had outside)) (had.finds.seen e is)) words slot
-
-pub kept_seen : (key : Key) (a b : OnPlainCpu) (answer : Option Seen) → HasFound key a.cpu b.cpu (entry_seen key answer) → b.words ≡ a.words
-    → IfSome answer (λ (s : Seen). (s.slot < MOST_SLOTS) × (s.slot < a.words.settings.slots)) → IfSome answer (λ (s : Seen). HasSeen b key s)
-kept_seen key a b answer had words slot = seen_by key a b answer had.seen words slot
 
 -- What stays is found
 
@@ -224,19 +220,13 @@ still_outside key a c (Some s, at, inr had) = (ap (λ (x : OnCpu). x.depth) had.
 
 -- What a miss tells
 
+-- no later entry in the slot of a live one is live
 later_there : (h : List Change) → IsLegal h → (k : ℕ) (e f : Entry) → IsLiveAt h k e → IsLiveAt h k f → e.slot ≡ f.slot → e.number < f.number → ⊥
 later_there h legal k e f le lf same lt = go f.number refl
   where
     go : (n : ℕ) → f.number ≡ n → ⊥
     go zero is = omega (arith, lt, is)
     go (suc n) is = legal.new_slot n f e (ap (change_at h) (sym is) ∙ lf.attached) (live_down h k n e le (omega (arith, lt, is)) (omega (arith, lf.begun, is))) same
-
--- two live entries in one slot have one number
-one_there : (h : List Change) → IsLegal h → (k : ℕ) (e f : Entry) → IsLiveAt h k e → IsLiveAt h k f → e.slot ≡ f.slot → e.number ≡ f.number
-one_there h legal k e f le lf same = ⊎_elim
-    (λ lt. absurd (later_there h legal k e f le lf same lt))
-    (λ ge. ⊎_elim (λ lt. absurd (later_there h legal k f e lf le (sym same) lt)) (λ le2. omega (arith, ge, le2)) (cases_lt f.number e.number))
-    (cases_lt e.number f.number)
 
 -- The entry with the number n is live at the later load, so it was the newest one at the head's load. What is live there was attached by the miss, and would have been found.
 pub still_absent : (key : Key) (t n w : ℕ) (a c d : OnCpu) → WasAbsent a.view.pass key n → HasRecalledHeadOn a c w → w ≡ suc t → HasRecalledOn t n c d true → IsAbsentAt key c None
@@ -253,8 +243,11 @@ still_absent key t n w a c d was heads is recalled =
       whole = heads.whole;
       answered = λ f other same.
           let top = heads.newest.newest t is in
-          let one : top.0.number ≡ e.number = one_there g (whole_legal c.view heads.whole) (length g) top.0 e top.1 live (top.2 ∙ sym there.1) in
-          let begun : f.number ≤ was.point = omega (arith, one, top.3 f other, was.newest.number, was.from_on) in
+          let most : top.0.number ≤ e.number = ⊎_elim
+          (λ (lt : e.number < top.0.number). absurd (later_there g (whole_legal c.view heads.whole) (length g) e top.0 live top.1 (there.1 ∙ sym top.2) lt))
+          (λ (le : top.0.number ≤ e.number). le)
+          (cases_lt e.number top.0.number) in
+          let begun : f.number ≤ was.point = omega (arith, most, top.3 f other, was.newest.number, was.from_on) in
           was.answered f (live_before a.view.pass g was.point (length g) f heads.pass begun was.up_to (omega (arith, was.up_to, prefix_length a.view.pass g heads.pass)) other) same;
     }
 

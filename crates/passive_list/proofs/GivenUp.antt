@@ -14,7 +14,7 @@ use Rattle.cpu_words.specs.Draining.{HasSubtracted}
 use Rattle.cpu_words.proofs.seats.Seating.{step_is_shown}
 use Rattle.passive_list.specs.Common.{KeptSlot, OnKeeper, OnPlainKeeper, on_keeper, no_row, row_at, state_of, states_of, total_or_bias, IsAtRest, MarksAgree, RowsAgree, IsOurKeeper, keeper_after_collect, HasCollectedInto, AreHeld, RowAgrees, HasGivenUp}
 use Rattle.passive_list.proofs.Marks.{mark_read, marks_set}
-use Rattle.passive_list.proofs.Rows.{state_at, not_vacant_within, retired_in, keeper_on, row_stays, rows_set, none_at_rest, total_collected, bias_within, adding_fits, IsHeldIn, held_given_up}
+use Rattle.passive_list.proofs.Rows.{state_at, not_vacant_within, retired_in, keeper_on, row_stays, rows_set, none_at_rest, total_collected, IsHeldIn, held_given_up}
 
 -- Collections: what the rows say where a count word is collected, and where all are.
 
@@ -34,7 +34,12 @@ with_total_rows a k rows t marks total given_up at agree some =
     let lt = not_vacant_within a k rows t agree some in
     let had = agree.each t lt in
     rows_set a k l rows t (row_with_total (row_at rows t) total) lt agree
-    record { state = had.state; total = sym (total_here k.totals t total (omega (arith, lt, at.sized.totals))); keeps = had.keeps; unused = λ vacant. absurd (some (state_at rows t ∙ vacant)) }
+    record {
+      state = had.state;
+      total = sym (total_here k.totals t total (omega (arith, lt, at.sized.totals)));
+      keeps = had.keeps;
+      unused = λ vacant. absurd (some (state_at rows t ∙ vacant));
+    }
     (λ u other was. row_stays k l u (row_at rows u) refl (total_other k.totals t total u other) refl was)
 
 -- the keeper's data agree with such a view, where the slot isn't vacant
@@ -48,28 +53,6 @@ with_total_keeper a k l rows n t marks total given_up our some size change is_sh
     our.changes (with_total_rows a k rows t marks total given_up our.view our.rows some)
 
 -- A collection
-
--- the word w was collected for the retired entry of t, and is to be added to v, the total in the slot's row
-pub record CollectionTells (a : Settings) (k : KeeperView) (t v w : ℕ) : Type 0 where
-  pub place : t < a.slots
-  pub floor : bias ≤ v + w
-  pub fits : v + w < 2 ^ 64
-  pub may : (old : ℕ) × MayTotalAdd k t old (v + w - bias)
-
-pub collection_tells : {log : List LogItem} (a : Settings) (k l : KeeperView) (rows : List KeptSlot) (n : ℕ) (x : OnKeeper) (t c v w : ℕ) (e : Entry) → IsOurKeeper a k rows n
-    → record { view = k; slots = states_of rows; log = log } ≡ x → v ≡ total_or_bias (row_at rows t)
-    → slot_at x.slots t ≡ Retired e → HasCollected k t c w l → Makes (Collect t c) (Word w) (Keeper k) (Keeper l) → CollectionTells a l t v w
-collection_tells a k l rows n x t c v w e our is read retired change made =
-    let lt = (retired_in a k rows t e our.rows (ap (λ (y : OnKeeper). slot_at y.slots t) is ∙ retired)).0 in
-    let due = ap (λ (v : KeeperView). v.due) change in
-    let total : v ≡ total_at l.totals t = read ∙ (our.rows.each t lt).total ∙ sym (ap (λ (y : KeeperView). total_at y.totals t) change) in
-    let range = adding_fits l t w (step_is_shown made) due in
-    record {
-      place = lt;
-      floor = omega (arith, range.0, total);
-      fits = omega (arith, range.1, total);
-      may = (w, record { due = due; sum = ap (λ (u : ℕ). u + w - bias) total });
-    }
 
 -- the view after it, with the new total v and the mark m
 added_is : (k l b : KeeperView) (t c v w : ℕ) (m : Mark) → HasCollected k t c w l → m ≡ mark_after_collect (mark_at k.marks t c) → HasAdded l t v b
@@ -108,7 +91,8 @@ total_tells a k rows n x t v e our is read retired all =
     let total : v ≡ total_at k.totals t = read ∙ (our.rows.each t here.0).total in
     let told : are_collected k.settings.cpus (row_of k t) ≡ true =
     ap (λ (z : Settings). are_collected z.cpus (row_of k t)) our.view.settings ∙ (ap (λ (y : OnPlainKeeper). are_collected y.words.settings.cpus (row_of y.keeper.view t)) is ∙ all) in
-    let floor = bias_within k t e our.is_shown our.view.rest here.1 told in
+    let now = our.is_shown in
+    let floor : bias ≤ total_at k.totals t = omega (arith, total_collected now.g k t e now.good now.shown (none_at_rest k.due t our.view.rest) here.1 told) in
     subst (λ (y : OnPlainKeeper). TotalTells y.keeper.view t v) is record {
       floor = omega (arith, floor, total);
       is = omega (arith, floor, total);
@@ -203,22 +187,3 @@ given_keeper a k j l rows n t u v our slot joined made told read =
     let given_up = one_more k.given_up v.entry.number in
     with_total_keeper a k l rows n t (get_or k.marks t []) (u - 1) given_up our row.some row.size
     (given_is k j l t v our.view.rest joined told ∙ less_is a k rows t u given_up our.view.rest row read) (step_is_shown made)
-
--- what is left of the keeper
-pub has_given_up : {log between later : List LogItem} (k j l : KeeperView) (rows : List KeptSlot) (t n : ℕ) (v w : ReferenceView) (x : OnKeeper) (r : KeptSlot) → state_of r ≡ state_of (row_at rows t)
-    → record { view = k; slots = states_of rows; log = log } ≡ x → v ≡ w → k.due ≡ Rest → v.entry.slot ≡ t → j ≡ keeper_after_join k v
-    → JoinsBy JoinKeeper (Keeper k) (Reference v) (Keeper j) → Makes (TotalSub t) Done (Keeper j) (Keeper l) → HasSubtracted j t l
-    → between ≡ log ++ did (JoinKeeper v.entry.number) Done → later ≡ between ++ did (TotalSub t) Done
-    → HasGivenUp x w (record { view = l; slots = states_of (set rows t (row_less r n)); log = later })
-has_given_up {log} {later} k j l rows t n v w x r state is is_too rest slot joined joins made told first then =
-    let after = states_of (set rows t (row_less r n)) in
-    let s = v.entry.slot in
-    let made_there = subst (λ (u : ℕ). Makes (TotalSub u) Done (Keeper j) (Keeper l)) (sym slot) made in
-    subst (λ (y : OnKeeper). HasGivenUp y w (record { view = l; slots = after; log = later })) is
-    (subst (λ (u : ReferenceView). HasGivenUp (record { view = k; slots = states_of rows; log = log }) u (record { view = l; slots = after; log = later })) is_too record {
-      joined = subst (λ (y : KeeperView). JoinsBy JoinKeeper (Keeper k) (Reference v) (Keeper y)) joined joins;
-      subtracted = subst (λ (y : KeeperView). Makes (TotalSub s) Done (Keeper y) (Keeper l)) joined made_there;
-      view = given_is k j l s v rest joined (subst (λ (u : ℕ). HasSubtracted j u l) (sym slot) told);
-      slots = map-set_same state_of rows t (row_less r n) no_row state;
-      log = then ∙ ap (λ (ds : List LogItem). ds ++ did (TotalSub t) Done) first ∙ ap (λ (u : ℕ). log ++ did (JoinKeeper v.entry.number) Done ++ did (TotalSub u) Done) (sym slot);
-    })

@@ -32,11 +32,8 @@ unnamed kind high low named = by_cases (are_words_of nobody kind high low) refl
     by_cases : (b : Bool) → are_words_of nobody kind high low ≡ b → are_words_of nobody kind high low ≡ false
     by_cases false is = is
     by_cases true is =
-        let name = (and_parts (kind == 1) (high == 0 && low == 0) is).1 in
-        let both = and_parts (high == 0) (low == 0) name in
-        let h : high ≡ 0 = eqb-true high 0 both.0 in
-        let l : low ≡ 0 = eqb-true low 0 both.1 in
-        absurd (no_zeros (sym (λ i. are_key_words (h i) (l i)) ∙ named))
+        let both = and_parts (high == 0) (low == 0) (and_parts (kind == 1) (high == 0 && low == 0) is).1 in
+        absurd (no_zeros (sym (λ i. are_key_words (eqb-true high 0 both.0 i) (eqb-true low 0 both.1 i)) ∙ named))
 
 -- the words are not those that the search seeks
 pub compared : (x y1 y2 y3 y4 : CpuView) (from t n k h l : ℕ) → HasLoadedWord x n y1 → HasLoadedWord y1 k y2 → HasLoadedWord y2 h y3 → HasLoadedWord y3 l y4
@@ -46,26 +43,17 @@ compared x y1 y2 y3 y4 from t n k h l had1 had2 had3 had4 at tells =
     let named : are_key_words h l ≡ true = sym (λ i. are_key_words (v.high i) (v.low i)) ∙ tells.named t v.entry v.stands in
     subst (λ (b : Bool). HasPassed x nobody from t n k h l (after_visit t n b) y4) (unnamed k h l named) v
 
-pub may_load_value : (x y : CpuView) (from t n k h l : ℕ) → HasPassed x nobody from t n k h l (AtNext t) y → MayLoadLink y t
-may_load_value x y from t n k h l had = may_follow y nobody from t (ap (λ (v : CpuView). v.search) had.is)
-
 -- and so was the value
 pub gone_by : (x y z : CpuView) (from t n k h l value : ℕ) (kind : Kind) (name : Name) → HasPassed x nobody from t n k h l (AtNext t) y → IsValueThere y t value → z ≡ y
     → ((c : Kind) → k ≡ kind_word c → kind ≡ c) → name ≡ record { high = h; low = l } → HasGoneByFrom x from t (record { number = n; slot = t; rec = record { kind = kind; name = name; value = value } }) z
-gone_by x y z from t n k h l value kind name had there same kinds named = record { is = same ∙ had.is; stands = subst (StandsOn x.pass from (length x.pass) t) entry_is had.stands }
-  where
-    e : Entry
-    e = had.entry
-
-    value_is : e.rec.value ≡ value
-    value_is = there (search_at nobody from (AtNext t)) e (ap (λ (v : CpuView). v.search) had.is)
-        (subst (λ (p : List Change). StandsOn p from (length p) t e) (sym (ap (λ (v : CpuView). v.pass) had.is)) had.stands)
-
-    name_is : e.rec.name ≡ name
-    name_is = (λ i. record { high = had.high i; low = had.low i }) ∙ sym named
-
-    entry_is : e ≡ record { number = n; slot = t; rec = record { kind = kind; name = name; value = value } }
-    entry_is = λ i. record { number = had.number i; slot = had.stands.at i; rec = record { kind = sym (kinds e.rec.kind (sym had.kind)) i; name = name_is i; value = value_is i } }
+gone_by x y z from t n k h l value kind name had there same kinds named =
+    let e = had.entry in
+    let value_is : e.rec.value ≡ value = there (search_at nobody from (AtNext t)) e (ap (λ (v : CpuView). v.search) had.is)
+    (subst (λ (p : List Change). StandsOn p from (length p) t e) (sym (ap (λ (v : CpuView). v.pass) had.is)) had.stands) in
+    let name_is : e.rec.name ≡ name = (λ i. record { high = had.high i; low = had.low i }) ∙ sym named in
+    let entry_is : e ≡ record { number = n; slot = t; rec = record { kind = kind; name = name; value = value } } =
+    λ i. record { number = had.number i; slot = had.stands.at i; rec = record { kind = sym (kinds e.rec.kind (sym had.kind)) i; name = name_is i; value = value_is i } } in
+    record { is = same ∙ had.is; stands = subst (StandsOn x.pass from (length x.pass) t) entry_is had.stands }
 
 -- No more than there are slots
 
@@ -115,8 +103,13 @@ none_stood_on h from slots = record { stands = λ e there. absurd (omega (arith,
 
 -- the head was loaded
 pub going_begins : (x y : CpuView) (m : ℕ) → HasFollowed (cpu_after_seek nobody x) (search_for nobody x) m y → IsGoingOver x [] m y
-going_begins x y m had =
-    record { pass = had.pass; is = is_at m had.is; tells = had.tells; over = none_stood_on y.pass (length x.pass) x.settings.slots; goes_on = goes_on m had.holds (had.first refl) }
+going_begins x y m had = record {
+  pass = had.pass;
+  is = is_at m had.is;
+  tells = had.tells;
+  over = none_stood_on y.pass (length x.pass) x.settings.slots;
+  goes_on = goes_on m had.holds (had.first refl);
+}
   where
     is_at : (m : ℕ) → y ≡ cpu_after_link (cpu_after_seek nobody x) (search_for nobody x) m y.pass → y ≡ view_at_link x m y.pass
     is_at zero is = is
@@ -202,9 +195,6 @@ goes_by_next x y z w es t m e at had loaded_link =
     low : from ≤ length y.pass
     low = prefix_length x.pass y.pass at.pass
 
-    settings : z.settings.slots ≡ x.settings.slots
-    settings = ap (λ (u : CpuView). u.settings.slots) v.is ∙ ap (λ (u : CpuView). u.settings.slots) at.is
-
     stands_z : StandsOn z.pass from (length z.pass) t e
     stands_z = subst (λ (p : List Change). StandsOn p from (length p) t e) (sym same) v.stands
 
@@ -231,7 +221,7 @@ goes_by_next x y z w es t m e at had loaded_link =
         → GoesOnAt w.pass from x.settings.slots (es ++ e ∷ []) m
     goes_on zero holds skips falls = λ f live. ⊎_elim (λ (lt : f.number < e.number). absurd (skips f live.0 live.1 lt)) (λ there. there) (cases f live)
     goes_on (suc u) holds skips falls = (
-      subst (λ (slots : ℕ). (u < slots) × (u < MOST_SLOTS)) settings holds,
+      subst (λ (slots : ℕ). (u < slots) × (u < MOST_SLOTS)) (ap (λ (i : CpuView). i.settings.slots) v.is ∙ ap (λ (i : CpuView). i.settings.slots) at.is) holds,
       λ g stands. (
         λ f there.
             let below : g.number < e.number = falls e g stands_z stands in
@@ -264,57 +254,36 @@ none_written written row = record { first = sym (take_all (length row) [] (omega
 
 pub one_more_written : {P : Type 0} (written : Entry → P) (es : List Entry) (e : Entry) (first old : List P) → length old ≡ length first → IsWritten written es first old
     → IsWritten written (es ++ e ∷ []) first (set old (length es) (written e))
-one_more_written {P} written es e first old size had = ⊎_elim within past (cases_lt k n)
-  where
-    k : ℕ
-    k = length es
-
-    n : ℕ
-    n = length first
-
-    more : length (es ++ e ∷ []) ≡ k + 1
-    more = length-append es (e ∷ [])
-
-    grown : map written (es ++ e ∷ []) ≡ map written es ++ written e ∷ []
-    grown = map-append written es (e ∷ [])
-
-    sized : length (map written es) ≡ k
-    sized = length-map es written
-
-    next_drop : (row : List P) → drop (k + 1) row ≡ drop 1 (drop k row)
-    next_drop row = sym (drop-drop 1 k row)
-
-    within : k < n → IsWritten written (es ++ e ∷ []) first (set old k (written e))
-    within lt = record {
+one_more_written {P} written es e first old size had =
+    let k = length es in
+    let n = length first in
+    let more : length (es ++ e ∷ []) ≡ k + 1 = length-append es (e ∷ []) in
+    let grown : map written (es ++ e ∷ []) ≡ map written es ++ written e ∷ [] = map-append written es (e ∷ []) in
+    let sized : length (map written es) ≡ k = length-map es written in
+    let rest : drop (k + 1) old ≡ drop (length (es ++ e ∷ [])) first =
+    sym (drop-drop 1 k old) ∙ ap (drop 1) had.rest ∙ drop-drop 1 k first ∙ sym (ap (λ (m : ℕ). drop m first) more) in
+    ⊎_elim
+    (λ (lt : k < n). record {
       first = ap (λ (m : ℕ). take m (set old k (written e))) more ∙ take_more_set old k (written e) (omega (arith, lt, size))
           ∙ ap (λ (row : List P). row ++ written e ∷ []) (had.first ∙ take_all n (map written es) (omega (arith, sized, lt)))
           ∙ sym (take_all n (map written (es ++ e ∷ [])) (omega (arith, length-map (es ++ e ∷ []) written, more, lt)) ∙ grown);
-      rest = ap (λ (m : ℕ). drop m (set old k (written e))) more ∙ drop-set-lt (k + 1) old k (written e) (omega arith)
-          ∙ next_drop old ∙ ap (drop 1) had.rest ∙ sym (next_drop first) ∙ sym (ap (λ (m : ℕ). drop m first) more);
-    }
-
-    past : n ≤ k → IsWritten written (es ++ e ∷ []) first (set old k (written e))
-    past le = subst (IsWritten written (es ++ e ∷ []) first) (sym (set_past old k (written e) (omega (arith, le, size)))) (record {
+      rest = ap (λ (m : ℕ). drop m (set old k (written e))) more ∙ drop-set-lt (k + 1) old k (written e) (omega arith) ∙ rest;
+    })
+    (λ (le : n ≤ k). subst (IsWritten written (es ++ e ∷ []) first) (sym (set_past old k (written e) (omega (arith, le, size)))) (record {
       first = take_all (length (es ++ e ∷ [])) old (omega (arith, more, le, size)) ∙ sym (take_all k old (omega (arith, le, size))) ∙ had.first
           ∙ sym (take-append-le n (map written es) (written e ∷ []) (omega (arith, sized, le))) ∙ ap (take n) (sym grown);
-      rest = ap (λ (m : ℕ). drop m old) more ∙ next_drop old ∙ ap (drop 1) had.rest ∙ sym (next_drop first) ∙ sym (ap (λ (m : ℕ). drop m first) more);
-    })
+      rest = ap (λ (m : ℕ). drop m old) more ∙ rest;
+    }))
+    (cases_lt k n)
 
 -- as they are, into a row that has room
 pub all_written : (es old new : List Entry) → length es ≤ length old → IsWritten (λ (e : Entry). e) es old new → take (length es) new ≡ es
 all_written es old new room had = had.first ∙ ap (take (length old)) (map-id es) ∙ take_all (length old) es room
 
--- the search has gone by no more entries than there are slots
-pub few_gone_over : (x y : CpuView) (es : List Entry) (m : ℕ) → IsGoingOver x es m y → length es ≤ x.settings.slots
-few_gone_over x y es m at = (few_stood_on x.begin y.pass (length x.pass) x.settings.slots es at.tells at.over).0
-
 -- it is the same CPU's view
 pub going_id : (x y : CpuView) (es : List Entry) (m : ℕ) → IsGoingOver x es m y → y.id ≡ x.id
 going_id x y es zero at = ap (λ (v : CpuView). v.id) at.is
 going_id x y es (suc t) at = ap (λ (v : CpuView). v.id) at.is
-
-pub slot_id : (x y z : CpuView) (es : List Entry) (t : ℕ) (e : Entry) → IsGoingOver x es (suc t) y → HasGoneByOne y t e z → z.id ≡ y.id
-slot_id x y z es t e at had = ap (λ (v : CpuView). v.id) (gone_by_there x y z es t e at had).is
 
 -- The whole walk
 

@@ -42,12 +42,9 @@ IsBest up slots n d best = IsFound up slots n best × ((u : ℕ) (h : Entry) →
 -- a live entry in the first d + 1 slots is in the first d, or is the one in d
 one_of : (slots : List Slot) (d u : ℕ) (e h : Entry) (P : Entry → Type 0) → slot_at slots d ≡ Live e → u < suc d → slot_at slots u ≡ Live h → P e → (u < d → P h) → P h
 one_of slots d u e h P here lt live at_d before = ⊎_elim
-    (λ (is : u ≡ d). subst P (same e h (sym here ∙ (ap (slot_at slots) (sym is) ∙ live))) at_d)
+    (λ (is : u ≡ d). let same : e ≡ h = let q : Live e ≡ Live h = sym here ∙ (ap (slot_at slots) (sym is) ∙ live) in cc in subst P same at_d)
     (λ (off : u ≡ d → ⊥). before (omega (arith, lt, off)))
     (cases_eq u d)
-  where
-    same : (x y : Entry) → Live x ≡ Live y → x ≡ y
-    same x y q = cc
 
 -- and where d has none, it is in the first d
 none_at : (slots : List Slot) (d u : ℕ) (x : Slot) (h : Entry) → slot_at slots d ≡ x → ((e : Entry) → x ≡ Live e → ⊥) → u < suc d → slot_at slots u ≡ Live h → u < d
@@ -74,11 +71,13 @@ best_live : (up : Bool) (slots : List Slot) (n d : ℕ) (e : Entry) (best : Opti
     → IsBest up slots n (suc d) (if b then Some (record { slot = d; number = e.number }) else best)
 best_live up slots n d e best true here test had =
     let is = test.0 refl in
-    ((e, here, refl, is.0), λ u h lt live below. one_of slots d u e h (λ x. IsBelow up e.number x.number → ⊥) here lt live (never up e.number)
-    (λ before more. had.1 u h before live below (further up best e.number h.number is.1 more)))
+    let none = λ (u : ℕ) (h : Entry) (lt : u < suc d) (live : slot_at slots u ≡ Live h) (below : IsBelow up h.number n).
+    one_of slots d u e h (λ x. IsBelow up e.number x.number → ⊥) here lt live (never up e.number) (λ before more. had.1 u h before live below (further up best e.number h.number is.1 more)) in
+    ((e, here, refl, is.0), none)
 best_live up slots n d e best false here test had =
-    (had.0, λ u h lt live. one_of slots d u e h (λ x. IsBelow up x.number n → IsBetter up x.number best → ⊥) here lt live
-    (λ below better. not_from_Decides false test refl (below, better)) (λ before. had.1 u h before live))
+    let none = λ (u : ℕ) (h : Entry) (lt : u < suc d) (live : slot_at slots u ≡ Live h). one_of slots d u e h (λ x. IsBelow up x.number n → IsBetter up x.number best → ⊥) here lt live
+    (λ below better. not_from_Decides false test refl (below, better)) (λ before. had.1 u h before live) in
+    (had.0, none)
 
 -- The newest below
 
@@ -130,10 +129,12 @@ oldest_is rows n (suc d) = oldest_more (states_of rows) n d (row_at rows d).stat
 before_from : (slots : List Slot) (n d : ℕ) (best : Option At) → ((u : ℕ) (h : Entry) → slot_at slots u ≡ Live h → u < d) → IsBest true slots n d best
     → IsBefore slots n (place_of best) × IsLinkPlace d (place_of best)
 before_from slots n d None all had = (λ u h live. ⊎_elim (λ (lt : n < h.number). absurd (had.1 u h (all u h live) live lt tt)) (λ (le : h.number ≤ n). le) (cases_lt n h.number), tt)
-before_from slots n d (Some at) all had = ((had.0.0, had.0.1, had.0.3, λ u h live above. ⊎_elim
+before_from slots n d (Some at) all had =
+    let least : (u : ℕ) (h : Entry) → slot_at slots u ≡ Live h → n < h.number → had.0.0.number ≤ h.number = λ u h live above. ⊎_elim
     (λ (less : h.number < at.number). absurd (had.1 u h (all u h live) live above less))
     (λ (ge : at.number ≤ h.number). omega (arith, ge, had.0.2))
-    (cases_lt h.number at.number)), all at.slot had.0.0 had.0.1)
+    (cases_lt h.number at.number) in
+    ((had.0.0, had.0.1, had.0.3, least), all at.slot had.0.0 had.0.1)
 
 pub oldest_before : (rows : List KeptSlot) (n d : ℕ) → length rows ≡ d
     → IsBefore (states_of rows) n (place_of (oldest_to rows n d)) × IsLinkPlace d (place_of (oldest_to rows n d))

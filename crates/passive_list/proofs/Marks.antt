@@ -100,15 +100,14 @@ one_written from n row old ms m place in_row had = record {
   size = length-set ms (from + n) m ∙ had.size;
   here = λ c lt. ⊎_elim
       (λ (is : c ≡ n). subst (λ (d : ℕ). get_or (set ms (from + n) m) (from + d) no_mark ≡ get_or (set row n m) d no_mark) (sym is)
-      (get_or-set_same ms (from + n) m no_mark (let size = had.size in omega (arith, size, place)) ∙ sym (get_or-set_same row n m no_mark in_row)))
+      (get_or-set_same ms (from + n) m no_mark (omega (arith, had.size, place)) ∙ sym (get_or-set_same row n m no_mark in_row)))
       (λ (off : c ≡ n → ⊥). get_or-set_other ms (from + n) (from + c) m no_mark (λ (same : from + c ≡ from + n). off (omega (arith, same)))
       ∙ (had.here c (omega (arith, lt, off)) ∙ sym (get_or-set_other row n c m no_mark off)))
       (cases_eq c n);
-  others = λ p out. get_or-set_other ms (from + n) p m no_mark (λ (same : p ≡ from + n). ⊎_elim
-      (λ (low : p < from). absurd (omega (arith, low, same)))
-      (λ (high : from + (n + 1) ≤ p). absurd (omega (arith, high, same)))
-      out)
-      ∙ had.others p (⊎_elim (λ (low : p < from). inl low) (λ (high : from + (n + 1) ≤ p). inr (omega (arith, high))) out);
+  others = λ p out. ⊎_elim
+      (λ (low : p < from). get_or-set_other ms (from + n) p m no_mark (λ (same : p ≡ from + n). omega (arith, low, same)) ∙ had.others p (inl low))
+      (λ (high : from + (n + 1) ≤ p). get_or-set_other ms (from + n) p m no_mark (λ (same : p ≡ from + n). omega (arith, high, same)) ∙ had.others p (inr (omega (arith, high))))
+      out;
 }
 
 -- what is written through a slice of a whole list is then the list

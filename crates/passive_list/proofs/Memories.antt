@@ -106,8 +106,9 @@ leads_by false m key s x few at is = ap (λ (h : Hint). h.last) (hint_here m.hin
 pub recalls_seen : (z : ℕ) (h : List Change) (m : Memory) (key : Key) (s : Seen) → Remembers z h m → s.slot < z → s.number ≢ 0 → Recalls (with_seen m key s) key (Some s)
 recalls_seen z h m key s had low some =
     let few : s.slot < length m.rows = omega (arith, low, had.size) in
-    inl (s, refl, (sym (leads_by ((hinted m.hints key.name).last == s.slot) m key s _ had.hints refl refl),
-    record { few = row_few m.rows (memo_of key s) s.slot s.slot few; some = some; is = get_or-set_same m.rows s.slot (memo_of key s) no_memo few }))
+    let row : IsOfRow (set m.rows s.slot (memo_of key s)) key s =
+    record { few = row_few m.rows (memo_of key s) s.slot s.slot few; some = some; is = get_or-set_same m.rows s.slot (memo_of key s) no_memo few } in
+    inl (s, refl, (sym (leads_by ((hinted m.hints key.name).last == s.slot) m key s _ had.hints refl refl), row))
 
 -- a hint of another name
 other_by : (b : Bool) (hints : List Hint) (n other : Name) (x : Hint) → hint_of (length hints) other ≢ hint_of (length hints) n
@@ -124,17 +125,15 @@ row_stays rows m t other o off row = record { few = row_few rows m t o.slot row.
 -- where a slot didn't have the key, it doesn't, as a row of another name is set
 none_stays : (rows : List Memo) (key other : Key) (s : Seen) (t count : ℕ) → hint_of count other.name ≢ hint_of count key.name → RecallsAt rows other t None
     → RecallsAt (set rows s.slot (memo_of key s)) other t None
-none_stays rows key other s t count apart none low row = ⊎_elim
+none_stays rows key other s t count apart none low row =
+    let few : t < length rows = omega (arith, low, length-set rows s.slot (memo_of key s)) in
+    ⊎_elim
     (λ (same : t ≡ s.slot).
     let here : memo_at (set rows s.slot (memo_of key s)) t ≡ memo_of key s = ap (memo_at (set rows s.slot (memo_of key s))) same
-    ∙ get_or-set_same rows s.slot (memo_of key s) no_memo (omega (arith, size, low, same)) in
+    ∙ get_or-set_same rows s.slot (memo_of key s) no_memo (omega (arith, few, same)) in
     apart (ap (hint_of count) (sym row.name ∙ ap (λ (m : Memo). m.name) here)))
-    (λ (off : t ≢ s.slot).
-    none (omega (arith, size, low)) (subst (IsRow other) (get_or-set_other rows s.slot t (memo_of key s) no_memo off) row))
+    (λ (off : t ≢ s.slot). none few (subst (IsRow other) (get_or-set_other rows s.slot t (memo_of key s) no_memo off) row))
     (cases_eq t s.slot)
-  where
-    size : length (set rows s.slot (memo_of key s)) ≡ length rows
-    size = length-set rows s.slot (memo_of key s)
 
 pub keeps_others : (m : Memory) (key : Key) (s : Seen) → KeepsOthers key (Some s.slot) m (with_seen m key s)
 keeps_others m key s other o apart off recalls = by recalls
@@ -154,22 +153,6 @@ keeps_others m key s other o apart off recalls = by recalls
 
 -- Rows that are cleared
 
--- the row of the slot t had the key, and is of no entry now
-pub cleared : (m n : Memory) (key : Key) (t : ℕ) → t < length m.rows → IsRow key (memo_at m.rows t) → n ≡ record m { rows = set m.rows t no_memo } → HasCleared key t m n
-cleared m n key t few row is = subst (HasCleared key t m) (sym is) (record { is = refl; size = length-set m.rows t no_memo; none = λ low has. has.some (ap (λ (m : Memo). m.number) here); each = each })
-  where
-    here : memo_at (set m.rows t no_memo) t ≡ no_memo
-    here = get_or-set_same m.rows t no_memo no_memo few
-
-    each : (u : ℕ) → (memo_at (set m.rows t no_memo) u ≡ memo_at m.rows u) ⊎ (IsRow key (memo_at m.rows u) × (memo_at (set m.rows t no_memo) u ≡ no_memo))
-    each u = ⊎_elim
-        (λ (same : u ≡ t). inr (subst (λ (v : ℕ). IsRow key (memo_at m.rows v)) (sym same) row, ap (memo_at (set m.rows t no_memo)) same ∙ here))
-        (λ (off : u ≢ t). inl (get_or-set_other m.rows t u no_memo no_memo off))
-        (cases_eq u t)
-
-pub unchanged : (m n : Memory) (key : Key) (t : ℕ) → (t < length m.rows → IsRow key (memo_at m.rows t) → ⊥) → n ≡ m → HasCleared key t m n
-unchanged m n key t none is = subst (HasCleared key t m) (sym is) (record { is = refl; size = refl; none = none; each = λ u. inl refl })
-
 -- a slot without the key stays so
 still_none : (m n : Memory) (key other : Key) (t u : ℕ) → HasCleared key t m n → RecallsAt m.rows other u None → RecallsAt n.rows other u None
 still_none m n key other t u had none low row = ⊎_elim
@@ -185,20 +168,6 @@ none_recalled m n key had =
       subst (λ (l : List Hint). RecallsAt n.rows key (hinted l key.name).last None) (sym hints) (still_none c n key key _ _ had.2 had.1.none),
       subst (λ (l : List Hint). RecallsAt n.rows key (hinted l key.name).older None) (sym hints) had.2.none,
     )
-
-one_cleared : (z : ℕ) (h : List Change) (m n : Memory) (key : Key) (t : ℕ) → HasCleared key t m n → Remembers z h m → Remembers z h n
-one_cleared z h m n key t had was = record {
-  size = had.size ∙ was.size;
-  hints = subst (λ (x : Memory). IsCount (length x.hints)) (sym had.is) was.hints;
-  each = λ u some. ⊎_elim
-      (λ (same : memo_at n.rows u ≡ memo_at m.rows u). subst (λ (r : Memo). (u < z) × IsAttached h (entry_of u r)) (sym same) (was.each u (λ none. some (ap (λ (m : Memo). m.number) same ∙ none))))
-      (λ (gone : IsRow key (memo_at m.rows u) × (memo_at n.rows u ≡ no_memo)). absurd (some (ap (λ (m : Memo). m.number) gone.1)))
-      (had.each u);
-  absent = subst (λ (x : Memory). (i : ℕ) → IsTrueMiss h (miss_at x.missed.places i)) (sym had.is) was.absent;
-}
-
-pub forgotten : (z : ℕ) (h : List Change) (m n : Memory) (key : Key) → HasForgotten key m n → Remembers z h m → Remembers z h n
-forgotten z h m n key had was = one_cleared z h had.0 n key _ had.2 (one_cleared z h m had.0 key _ had.1 was)
 
 -- what is remembered of a key with another hint is of rows with another key
 other_kept : (m n : Memory) (key : Key) (t : ℕ) → HasCleared key t m n → KeepsOthers key None m n

@@ -46,10 +46,9 @@ abbrev pub snapped : KeeperView → ℕ → Entry → Option ℕ → ℕ → Lis
 snapped k t e p v marks = with_snapshots (keeper_after_unpublish k t e p v) t marks
 
 pub unpublished_is : (k l : KeeperView) (t : ℕ) (e : Entry) (p : Option ℕ) (v : ℕ) → slot_at k.slots t ≡ Live e → HasUnpublished k t p v l → l ≡ keeper_after_unpublish k t e p v
-unpublished_is k l t e p v live told = told.2 ∙ ap (λ (x : Entry). keeper_after_unpublish k t x p v) (one told.0 e (sym told.1 ∙ live))
-  where
-    one : (x y : Entry) → Live x ≡ Live y → x ≡ y
-    one x y q = cc
+unpublished_is k l t e p v live told =
+    let one : told.0 ≡ e = let q : Live told.0 ≡ Live e = sym told.1 ∙ live in cc in
+    told.2 ∙ ap (λ (x : Entry). keeper_after_unpublish k t x p v) one
 
 pub snapped_is : (k l m : KeeperView) (t : ℕ) (e : Entry) (p : Option ℕ) (v : ℕ) (marks : List Mark) → slot_at k.slots t ≡ Live e → HasUnpublished k t p v l → m ≡ with_snapshots l t marks
     → m ≡ snapped k t e p v marks
@@ -185,15 +184,6 @@ keeps_on a k rows n t x our is iface =
       s.keeps,
     )
 
--- where they have found u
-pub keeps_at : {log : List LogItem} (a : Settings) (k : KeeperView) (rows : List KeptSlot) (n t u : ℕ) (x : OnKeeper) → IsOurKeeper a k rows n
-    → record { view = k; slots = states_of rows; log = log } ≡ x → IsIface x t
-    → kept_slot (row_at rows t).keeps rows ≡ Some u → KeepsHeld k t u
-keeps_at a k rows n t u x our is iface found =
-    let it = keeps_on a k rows n t x our is iface in
-    let same : it.0 ≡ u = let q : ◌≡◌ {A = Option ℕ} (Some it.0) (Some u) = sym it.1 ∙ found in cc in
-    subst (KeepsHeld k t) same it.2
-
 -- and the keeper may give the driver up
 pub may_free : {log : List LogItem} (a : Settings) (k : KeeperView) (rows : List KeptSlot) (n t u : ℕ) (x : OnKeeper) → IsOurKeeper a k rows n
     → record { view = k; slots = states_of rows; log = log } ≡ x → IsIface x t
@@ -202,7 +192,11 @@ may_free a k rows n t u x our is iface drained keeps =
     let d = (subst (λ (y : OnKeeper). IsDrainedOn y t) (sym is) drained).drained in
     let retired = retired_in a k rows t iface.0 our.rows (ap (λ (y : OnKeeper). slot_at y.slots t) is ∙ iface.1) in
     let one : d.retired.0 ≡ iface.0 = let q : Retired d.retired.0 ≡ Retired iface.0 = sym d.retired.1 ∙ retired.1 in cc in
-    record { drained = d; kind = ap (λ (f : Entry). f.rec.kind) one ∙ iface.2; kept = (keeps.d, (keeps.kept, keeps.of)) }
+    record {
+      drained = d;
+      kind = ap (λ (f : Entry). f.rec.kind) one ∙ iface.2;
+      kept = (keeps.d, (keeps.kept, keeps.of));
+    }
 
 -- The view after it
 
@@ -244,7 +238,6 @@ pub freed_keeper : {log : List LogItem} (a : Settings) (k l : KeeperView) (rows 
 freed_keeper a k l rows n t u v x our is drained keeps told is_shown read =
     let d = subst (λ (y : OnKeeper). IsDrainedOn y t) (sym is) drained in
     let here = retired_in a k rows t d.retired.0 our.rows d.retired.1 in
-    let m = freed k t keeps.d u in
-    keeper_on a l m (set (set rows u (row_less (row_at rows u) v)) t (row_freed (row_at rows t))) n (freed_is k l t keeps.d u keeps.kept told) is_shown
+    keeper_on a l (freed k t keeps.d u) (set (set rows u (row_less (row_at rows u) v)) t (row_freed (row_at rows t))) n (freed_is k l t keeps.d u keeps.kept told) is_shown
     (assumption (vacated_at_rest a k t d.retired.0 our.view here.0 here.1, length-set k.keeps t None ∙ our.view.sized.keeps, length-set k.totals u (total_at k.totals u - 1) ∙ our.view.sized.totals))
     our.changes (freed_rows a k rows t keeps.d u v our.view our.rows keeps.held keeps.other here.0 d.drained.total read)

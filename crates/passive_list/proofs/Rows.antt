@@ -187,9 +187,6 @@ NothingToAdd due t = (addition_due_at t due ≡ 0) × (is_adding_at t due ≡ 0)
 pub none_at_rest : (due : Due) (t : ℕ) → due ≡ Rest → NothingToAdd due t
 none_at_rest due t rest = (ap (addition_due_at t) rest, ap (is_adding_at t) rest)
 
-pub none_at_subtraction : (due : Due) (t u : ℕ) → due ≡ Subtracting u → NothingToAdd due t
-none_at_subtraction due t u is = (ap (addition_due_at t) is, ap (is_adding_at t) is)
-
 -- the total of a retired entry's slot is what is held, once all words are collected
 pub total_collected : (g : State) (k : KeeperView) (t : ℕ) (e : Entry) → Good g → KeeperShown g k → NothingToAdd k.due t → slot_at k.slots t ≡ Retired e
     → are_collected k.settings.cpus (row_of k t) ≡ true
@@ -231,10 +228,6 @@ adding_fits k t old is_shown due =
     let range = adding_range is_shown.g t old is_shown.good.holds (sym seen.due ∙ due) in
     (omega (arith, range.0, total), omega (arith, range.1, total))
 
--- the keeper is at rest, and the slot's entry is retired with all words collected
-pub bias_within : (k : KeeperView) (t : ℕ) (e : Entry) → IsShown k → k.due ≡ Rest → slot_at k.slots t ≡ Retired e → are_collected k.settings.cpus (row_of k t) ≡ true → bias ≤ total_at k.totals t
-bias_within k t e is_shown rest retired all = omega (arith, total_collected is_shown.g k t e is_shown.good is_shown.shown (none_at_rest k.due t rest) retired all)
-
 -- The entry of t, live or retired, is held: one can be subtracted from the total.
 pub record IsHeldIn (k : KeeperView) (t : ℕ) : Type 0 where
   pub e : Entry
@@ -247,14 +240,10 @@ held_from : (g : State) (k : KeeperView) (t : ℕ) (e : Entry) → Good g → Ke
 held_from g k t e good had none is some =
     let seen = seen_by_keeper g k good had in
     let near = total_near g k t e good had none is in
-    let in_list = in_within k.slots t e is in
-    let slots = ap (λ (x : List Slot). length x) seen.slots in
-    let size = good.holds.shape.slots in
-    let settings = ap (λ (z : Settings). z.slots) seen.settings in
     record {
       e = e;
       occupied = is;
-      slot = omega (arith, in_list, slots, size, settings);
+      slot = omega (arith, in_within k.slots t e is, ap (λ (x : List Slot). length x) seen.slots, good.holds.shape.slots, ap (λ (z : Settings). z.slots) seen.settings);
       positive = omega (arith, near.0);
       near = near.1;
     }
@@ -267,7 +256,7 @@ held_given_up k t is_shown due =
     let of : g.due ≡ Subtracting t = sym seen.due ∙ due in
     let gone = due_subtracting g.settings.cpus g.slots g.hands g.due g.locals t of is_shown.good.holds.references in
     let one : subtraction_due_at t g.due ≡ 1 = ap (subtraction_due_at t) of ∙ one_self t t refl in
-    held_from g k t gone.0 is_shown.good is_shown.shown (none_at_subtraction k.due t t due) (inr (ap (λ (x : List Slot). slot_at x t) seen.slots ∙ gone.1)) (omega (arith, one))
+    held_from g k t gone.0 is_shown.good is_shown.shown (ap (addition_due_at t) due, ap (is_adding_at t) due) (inr (ap (λ (x : List Slot). slot_at x t) seen.slots ∙ gone.1)) (omega (arith, one))
 
 -- by the reference that the slot s keeps
 pub held_by_slot : (k : KeeperView) (s d t : ℕ) → IsShown k → k.due ≡ Rest → kept_at k.keeps s ≡ Some d → slot_of k.slots d ≡ Some t → IsHeldIn k t
@@ -316,9 +305,7 @@ pub few_slots : (z : Settings) (k : OnKeeper) → HasOwnLog z k → length k.slo
 few_slots z k own =
     let shown = own.counts.1 in
     let seen = seen_by_keeper shown.g (keeper_with_note k.view own.counts.0) shown.good shown.shown in
-    let most = (ranges shown.g.settings shown.good.holds.fit).slots in
-    let same = ap (λ (s : Settings). s.slots) (sym own.settings ∙ seen.settings) in
-    omega (arith, own.size, most, same)
+    omega (arith, own.size, (ranges shown.g.settings shown.good.holds.fit).slots, ap (λ (s : Settings). s.slots) (sym own.settings ∙ seen.settings))
 
 pub own_log : (a : Settings) (k : KeeperView) (rows : List KeptSlot) (n : ℕ) (log note : List LogItem) → IsOurKeeper a k rows n → IsOwnLog log note k
     → HasOwnLog a (record { view = k; slots = states_of rows; log = log })

@@ -52,11 +52,8 @@ gone_by_next key x y z w t n m last visited on had loaded_link so_far =
 
 -- At the end no more than the slots
 
-few_gone_by : (x : CpuView) (visited last : ℕ) (p : List Change) → PassTells x.begin (length x.pass) p → HasGoneBy x visited last p → visited ≤ x.settings.slots
+pub few_gone_by : (x : CpuView) (visited last : ℕ) (p : List Change) → PassTells x.begin (length x.pass) p → HasGoneBy x visited last p → visited ≤ x.settings.slots
 few_gone_by x visited last p tells so_far = omega (arith, (few_stood_on x.begin p (length x.pass) x.settings.slots so_far.entries tells so_far.stood).0, so_far.size)
-
-pub few_missed : (key : Key) (x y : CpuView) (visited last : ℕ) → HasMissed key x y → HasGoneBy x visited last y.pass → visited ≤ x.settings.slots
-few_missed key x y visited last had so_far = few_gone_by x visited last y.pass had.tells so_far
 
 pub few_found : (key : Key) (x y z : CpuView) (t n last visited : ℕ) → IsOn key x t last y → HasVisited y key t n true z → HasGoneBy x visited last y.pass → visited + 1 ≤ x.settings.slots
 few_found key x y z t n last visited on had so_far =

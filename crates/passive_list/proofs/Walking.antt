@@ -78,13 +78,11 @@ search_found c slots key e reply visited old between new is few loads last = rec
 of_search : (c n : ℕ) (old new : List LogItem) → GoesOnByLoads c n old new → GoesOnBySoMany (IsWalkLoad c) n old new
 of_search c n old new goes = record { since = goes.since; are = goes.are; only = λ k d lt. inl (goes.only k d lt); count = goes.count }
 
-value_loaded : (c : ℕ) (reply : Reply) (old new : List LogItem) → new ≡ old ++ did (LoadRecord (Compared c)) reply → GoesOnBySoMany (IsWalkLoad c) 1 old new
-value_loaded c reply old new is = record { since = did (LoadRecord (Compared c)) reply; are = is; only = one_item (IsWalkLoad c) _ (inr refl); count = refl }
-
 -- the words of a slot
 pub five_loaded : (c : ℕ) (reply : Reply) (old between new : List LogItem) → GoesOnByLoads c 4 old between → new ≡ between ++ did (LoadRecord (Compared c)) reply
     → GoesOnBySoMany (IsWalkLoad c) 5 old new
-five_loaded c reply old between new four last = more_items (IsWalkLoad c) 4 1 old between new (of_search c 4 old between four) (value_loaded c reply between new last)
+five_loaded c reply old between new four last = more_items (IsWalkLoad c) 4 1 old between new (of_search c 4 old between four)
+    record { since = did (LoadRecord (Compared c)) reply; are = last; only = one_item (IsWalkLoad c) _ (inr refl); count = refl }
 
 pub walk_begun : (c : ℕ) (reply : Reply) (old new : List LogItem) → new ≡ old ++ (did (Seek c nobody.kind nobody.name) Done ++ did (LoadLink c) reply) → HasWalkedBy c 0 old new
 walk_begun c reply old new is = of_search c 1 (old ++ did (Seek c nobody.kind nobody.name) Done) new (search_begun c nobody.kind nobody.name reply old new is)
@@ -112,31 +110,24 @@ prefix_length p h pre = omega (arith, length-append p pre.0, ap (λ (l : List Ch
 same_at : (p h : List Change) (k : ℕ) → IsPrefix p h → k ≤ length p → change_at h k ≡ change_at p k
 same_at p h k pre le = ap (λ l. change_at l k) (sym pre.1) ∙ at_prefix p pre.0 k le
 
-pub attached_before : (p h : List Change) (e : Entry) → IsPrefix p h → e.number ≤ length p → IsAttached h e → IsAttached p e
-attached_before p h e pre le attached = sym (same_at p h e.number pre le) ∙ attached
-
 pub ends_later : (p h : List Change) (n k : ℕ) → IsPrefix p h → EndsAt p n k → EndsAt h n k
 ends_later p h n k pre ends = same_at p h k pre (at_within p k (Detach n) ends).1 ∙ ends
-
--- what ends in the whole after `from`, if it ends in the prefix only after that
-unended_later : (p h : List Change) (n from : ℕ) → IsPrefix p h → from ≤ length p → ((k : ℕ) → EndsAt p n k → from < k) → (k : ℕ) → EndsAt h n k → from < k
-unended_later p h n from pre le unended k ends = ⊎_elim
-    (λ (lt : length p < k). omega (arith, lt, le))
-    (λ (ge : k ≤ length p). unended k (sym (same_at p h k pre ge) ∙ ends))
-    (cases_lt (length p) k)
 
 pub stands_later : (p h : List Change) (from t : ℕ) (e : Entry) → IsPrefix p h → from ≤ length p → StandsOn p from (length p) t e → StandsOn h from (length h) t e
 stands_later p h from t e pre le stands = record {
   attached = attached_prefix p h e pre stands.attached;
   at = stands.at;
   begun = omega (arith, stands.begun, prefix_length p h pre);
-  unended = unended_later p h e.number from pre le stands.unended;
+  unended = λ k ends. ⊎_elim
+      (λ (lt : length p < k). omega (arith, lt, le))
+      (λ (ge : k ≤ length p). stands.unended k (sym (same_at p h k pre ge) ∙ ends))
+      (cases_lt (length p) k);
 }
 
 -- live at a later point of a longer pass, so at an earlier one of the pass
 pub live_before : (p h : List Change) (j k : ℕ) (e : Entry) → IsPrefix p h → e.number ≤ j → j ≤ length p → j ≤ k → IsLiveAt h k e → IsLiveAt p j e
 live_before p h j k e pre begun within le live = record {
-  attached = attached_before p h e pre (omega (arith, begun, within)) live.attached;
+  attached = sym (same_at p h e.number pre (omega (arith, begun, within))) ∙ live.attached;
   begun = begun;
   unended = λ i ends. omega (arith, le, live.unended i (ends_later p h e.number i pre ends));
 }

@@ -1,13 +1,14 @@
-use Rattle.std.proofs.Common.{◌≡◌, ◌∙◌, ◌+◌, ◌-◌, ◌<◌, ◌++◌, ℕ, List, length, set, sym, ap, subst, arith, rules}
+use Rattle.std.proofs.Common.{◌≡◌, ◌∙◌, ◌+◌, ◌-◌, ◌^◌, ◌<◌, ◌≤◌, ◌++◌, ℕ, List, length, set, sym, ap, subst, arith, rules}
 use Rattle.std.proofs.Math.Seq.{map-set_same}
 use Rattle.passive_list.specs.Types.{Settings, Collect, TotalAdd, Done, Word, Rest, KeeperView, LogItem, Keeper}
 use Rattle.registry_values.specs.Common.{bias, slot_at}
 use Rattle.protocol.specs.Common.{total_at}
-use Rattle.cpu_words.specs.Common.{Makes, did}
+use Rattle.cpu_words.specs.Common.{Makes, MayTotalAdd, did}
+use Rattle.cpu_words.proofs.seats.Seating.{step_is_shown}
 use Rattle.passive_list.specs.Common.{KeptSlot, OnPlainKeeper, HasCollectedInto, IsOurKeeper, keeper_after_collect, no_row, row_at, state_of, states_of, total_or_bias}
-use Rattle.passive_list.proofs.Marks.{mark_below}
-use Rattle.passive_list.proofs.Rows.{keeper_is, retired_in, row_read}
-use Rattle.passive_list.proofs.GivenUp.{CollectionTells, collection_tells, collected_keeper, row_with_total}
+use Rattle.passive_list.proofs.Marks.{look_below}
+use Rattle.passive_list.proofs.Rows.{adding_fits, keeper_is, retired_in, row_read}
+use Rattle.passive_list.proofs.GivenUp.{collected_keeper, row_with_total}
 use Rattle.passive_list.proofs.collecting.collect.Goals.{After-total_or_bias}
 use Rattle.passive_list.proofs.collecting.collect.Goals as goal
 
@@ -20,9 +21,17 @@ read : (c : After-total_or_bias) → c.total_or_bias.result ≡ total_or_bias (r
 read c = c.total_or_bias.ensures ∙ ap total_or_bias (row_read _ _ _ _ _ c.keeper.invariant.0.rows (within c) c.index.ensures)
 
 -- what the row says of the total and of the word
-tells : (c : After-total_or_bias) → CollectionTells c.keeper.inside.settings c.collect-word.new.keeper.view c.args.slot c.total_or_bias.result c.collect-word.result
+tells : (c : After-total_or_bias) → (bias ≤ c.total_or_bias.result + c.collect-word.result) × (c.total_or_bias.result + c.collect-word.result < 2 ^ 64)
+    × MayTotalAdd c.collect-word.new.keeper.view c.args.slot c.collect-word.result (c.total_or_bias.result + c.collect-word.result - bias)
 tells c =
-    collection_tells _ _ _ _ _ _ _ _ _ _ _ c.keeper.invariant.0 (keeper_is c.keeper.view_is) (read c) c.requires.retired.1 c.collect-word.ensures.change c.collect-word.ensures.step.event
+    let l = c.collect-word.new.keeper.view in
+    let w = c.collect-word.result in
+    let change = c.collect-word.ensures.change in
+    let due = ap (λ (y : KeeperView). y.due) change in
+    let total : c.total_or_bias.result ≡ total_at l.totals c.args.slot =
+    read c ∙ (c.keeper.invariant.0.rows.each c.args.slot (within c)).total ∙ sym (ap (λ (y : KeeperView). total_at y.totals c.args.slot) change) in
+    let range = adding_fits l c.args.slot w (step_is_shown c.collect-word.ensures.step.event) due in
+    (omega (arith, range.0, total), omega (arith, range.1, total), record { due = due; sum = ap (λ (u : ℕ). u + w - bias) total })
 
 pub collect-word-requires-clause-place : goal.collect-word-requires-clause-place
 collect-word-requires-clause-place c =
@@ -33,27 +42,21 @@ collect-word-requires-clause-place c =
     )
 
 pub overflow_add-total : goal.overflow_add-total
-overflow_add-total c = omega (arith, (tells (goal.at.overflow_add-total c).After-total_or_bias).fits)
+overflow_add-total c = omega (arith, (tells (goal.at.overflow_add-total c).After-total_or_bias).1)
 
 pub overflow_sub-total : goal.overflow_sub-total
-overflow_sub-total c = (tells (goal.at.overflow_sub-total c).After-total_or_bias).floor
+overflow_sub-total c = (tells (goal.at.overflow_sub-total c).After-total_or_bias).0
 
 pub total_add-requires-clause-may : goal.total_add-requires-clause-may
-total_add-requires-clause-may c = (tells (goal.at.total_add-requires-clause-may c).After-total_or_bias).may
+total_add-requires-clause-may c = (c.collect-word.result, (tells (goal.at.total_add-requires-clause-may c).After-total_or_bias).2)
 
 pub index-requires-2 : goal.index-requires-2
 index-requires-2 c =
-    let cpu = subst (λ (x : OnPlainKeeper). c.args.cpu < x.words.settings.cpus) (sym c.keeper.view_is) c.requires.cpu in
-    let place : c.mark_place-at.result < length c.keeper.inside.marks.items =
-    mark_below _ _ _ _ _ _ c.keeper.invariant.1 (within (goal.at.index-requires-2 c).After-total_or_bias) cpu c.mark_place-at.ensures in
-    search (rules, place)
+    search (rules, look_below _ _ _ _ _ _ _ _ _ c.keeper.invariant.0.rows c.keeper.invariant.1 c.keeper.view_is c.requires.retired.1 c.requires.cpu c.mark_place-at.ensures)
 
 pub index_mut-requires-2 : goal.index_mut-requires-2
 index_mut-requires-2 c =
-    let cpu = subst (λ (x : OnPlainKeeper). c.args.cpu < x.words.settings.cpus) (sym c.keeper.view_is) c.requires.cpu in
-    let place : c.mark_place-at.result < length c.keeper.inside.marks.items =
-    mark_below _ _ _ _ _ _ c.keeper.invariant.1 (within (goal.at.index_mut-requires-2 c).After-total_or_bias) cpu c.mark_place-at.ensures in
-    search (rules, place)
+    search (rules, look_below _ _ _ _ _ _ _ _ _ c.keeper.invariant.0.rows c.keeper.invariant.1 c.keeper.view_is c.requires.retired.1 c.requires.cpu c.mark_place-at.ensures)
 
 pub invariant_of-keeper : goal.invariant_of-keeper
 invariant_of-keeper c =

@@ -1,12 +1,12 @@
 -- The slot keeps the reference, and then the interface is published there.
-use Rattle.std.proofs.Common.{◌≡◌, ◌+◌, ◌++◌, ◌<◌, ◌∙◌, ℕ, List, sym, ap, subst, set}
+use Rattle.std.proofs.Common.{◌≡◌, ◌+◌, ◌++◌, ◌<◌, ◌∙◌, ℕ, List, length, sym, ap, subst, set}
 use Rattle.std.proofs.lemmas.List.{map-set}
 use Rattle.passive_list.specs.Types.{Entry, Keep, Done, LogItem, Settings, Slot, Live, KeeperView, ReferenceView, Keeper, Reference}
 use Rattle.cpu_words.specs.Common.{JoinsBy, did, keeper_after_keep}
 use Rattle.cpu_words.proofs.seats.Seating.{step_is_shown}
 use Rattle.passive_list.specs.Common.{KeptSlot, LogsAttach, OnKeeper, OnPlainRef, IsOurKeeper, RowsAgree, row_at, state_of, states_of, MayAttach, HasEntry, HasAttachedKeeping}
 use Rattle.passive_list.proofs.Rows.{keeper_is, row_read, settings_are}
-use Rattle.passive_list.proofs.Attached.{published_keeper, row_live, keeps_it, row_keeping, rows_keeping, states_keeping, may_attach, same_history}
+use Rattle.passive_list.proofs.Attached.{published_keeper, row_live, keeps_it, row_keeping, rows_keeping, states_keeping, may_attach}
 use Rattle.passive_list.proofs.Marks.{marks_stay}
 use Rattle.passive_list.proofs.keeping.publish_iface.Goals.{After-index_mut}
 use Rattle.passive_list.proofs.keeping.publish_iface.Goals as goal
@@ -44,7 +44,7 @@ invariant_of-keeper c =
     let written = set inside.rows.items t (row_keeping c.index_mut.result.now c.reference.inside.number) in
     let row = row_read a k written t c.index_mut-2.result.now (subst (λ (rows : List KeptSlot). RowsAgree a k rows) (sym (kept at)) (asked at).agree) (asked at).slot c.index_mut-2.ensures.value in
     let are = published_keeper a k l (rows_keeping inside.rows.items t c.reference.inside.number) inside.changes e has.link
-    (c.keeper.invariant.0.changes ∙ same_history inside.seat.view k e.slot c.reference.inside.seat.view c.keep.ensures.change) (asked at) has.view (step_is_shown has.shown) in (
+    (c.keeper.invariant.0.changes ∙ sym (ap (λ (x : KeeperView). length x.history) c.keep.ensures.change)) (asked at) has.view (step_is_shown has.shown) in (
       subst (λ (r : KeptSlot). IsOurKeeper a l (set written t (row_live r e)) (inside.changes + 1)) (sym row)
           (subst (λ (rows : List KeptSlot). IsOurKeeper a l (set rows t (row_live (row_at rows t) e)) (inside.changes + 1)) (sym (kept at)) are),
       marks_stay a inside.seat.view l inside.marks.items marks c.keeper.invariant.1,

@@ -6,7 +6,7 @@ use Rattle.cpu_words.specs.Common.{did, key_with}
 use Rattle.cpu_words.proofs.seats.Seating.{step_is_shown}
 use Rattle.passive_list.specs.Common.{IsAtLink, IsOn, HasVisited}
 use Rattle.passive_list.proofs.Walking.{on_slot, on_way, may_take, may_go, number_falls, follows, at_end, found, visit_id, follow_id, search_begun, link_loaded, word_loaded, one_visited, search_missed, search_found}
-use Rattle.passive_list.proofs.Visited.{gone_by_none, gone_by_next, few_missed, few_found, value_replied}
+use Rattle.passive_list.proofs.Visited.{gone_by_none, gone_by_next, few_gone_by, few_found, value_replied}
 use Rattle.passive_list.proofs.lookup.look_up.Goals.{After-visit-number}
 use Rattle.passive_list.proofs.lookup.look_up.Goals as goal
 
@@ -104,4 +104,4 @@ returns-clause-log c =
     let so_far = c.loop-link.invariant.visited in
     let missed = at_end key x c.loop-link.seat.view c.loop-link.link c.loop-link.last c.loop-link-test.false c.loop-link.invariant.at in
     (search_missed c.args.cpu x.settings.slots key c.loop-link.link so_far.0 _ _ c.loop-link-test.false
-    (few_missed key x c.loop-link.seat.view so_far.0 c.loop-link.last missed so_far.2) so_far.1 c.loop-link.invariant.ends).0
+    (few_gone_by x so_far.0 c.loop-link.last c.loop-link.seat.view.pass missed.tells so_far.2) so_far.1 c.loop-link.invariant.ends).0

@@ -1,5 +1,6 @@
 use Rattle.std.proofs.Common.{◌≡◌, sym, ap, set, subst, ◌∙◌, ◌<◌, List, arith}
 use Rattle.std.proofs.lemmas.List.{map-set}
+use Rattle.std.proofs.lemmas.Option.{same_Some}
 use Rattle.std.proofs.Math.Seq.{map-set_same}
 use Rattle.cpu_words.proofs.seats.Seating.{step_is_shown}
 use Rattle.passive_list.specs.Types.{Settings, Slot, Vacant, KeeperView}
@@ -7,7 +8,7 @@ use Rattle.registry_values.specs.Common.{slot_at}
 use Rattle.passive_list.specs.Common.{KeptSlot, OnKeeper, OnPlainKeeper, HasFreed, IsOurKeeper, kept_slot, no_row, row_at, state_of, states_of, total_or_bias}
 use Rattle.passive_list.proofs.Marks.{marks_stay}
 use Rattle.passive_list.proofs.Rows.{keeper_is, retired_in, row_read}
-use Rattle.passive_list.proofs.Retired.{KeepsHeld, keeps_on, keeps_at, may_free, freed_is, freed_keeper, row_freed}
+use Rattle.passive_list.proofs.Retired.{KeepsHeld, keeps_on, may_free, freed_is, freed_keeper, row_freed}
 use Rattle.passive_list.proofs.GivenUp.{HeldRow, held_row, row_less}
 use Rattle.passive_list.proofs.vacating.free_iface.Goals.{After-kept_slot, In-Some}
 use Rattle.passive_list.proofs.vacating.free_iface.Goals as goal
@@ -27,26 +28,22 @@ found c = c.kept_slot.ensures ∙ (ap (kept_slot c.index-row.result.now.keeps) c
 held : (c : In-Some) → c.kept_slot.result ≡ kept_slot (row_at c.keeper.inside.rows.items c.args.slot).keeps c.keeper.inside.rows.items
     → KeepsHeld c.keeper.inside.seat.view c.args.slot c.in-Some.driver_slot
 held c is =
-    let inside = c.keeper.inside in
-    keeps_at inside.settings inside.seat.view inside.rows.items inside.changes c.args.slot c.in-Some.driver_slot c.args.keeper.now.keeper c.keeper.invariant.0 (keeper_is c.keeper.view_is) c.requires.iface
-    (sym is ∙ c.in-Some.is)
+    let it = keeps_on _ _ _ _ _ _ c.keeper.invariant.0 (keeper_is c.keeper.view_is) c.requires.iface in
+    subst (KeepsHeld c.keeper.inside.seat.view c.args.slot) (same_Some it.0 c.in-Some.driver_slot (sym it.1 ∙ (sym is ∙ c.in-Some.is))) it.2
 
 -- and its row
 driver : (c : In-Some) → KeepsHeld c.keeper.inside.seat.view c.args.slot c.in-Some.driver_slot → HeldRow c.keeper.inside.settings c.keeper.inside.seat.view c.keeper.inside.rows.items c.in-Some.driver_slot
-driver c keeps = let our = c.keeper.invariant.0 in held_row c.keeper.inside.settings c.keeper.inside.seat.view c.keeper.inside.rows.items c.in-Some.driver_slot our.view our.rows keeps.held
+driver c keeps = held_row _ _ _ _ c.keeper.invariant.0.view c.keeper.invariant.0.rows keeps.held
 
 pub unreachable-requires : goal.unreachable-requires
 unreachable-requires c =
-    let inside = c.keeper.inside in
-    let it = keeps_on inside.settings inside.seat.view inside.rows.items inside.changes c.args.slot c.args.keeper.now.keeper c.keeper.invariant.0 (keeper_is c.keeper.view_is) c.requires.iface in
+    let it = keeps_on _ _ _ _ _ _ c.keeper.invariant.0 (keeper_is c.keeper.view_is) c.requires.iface in
     c.in_default.not-Some it.0 (found (goal.at.unreachable-requires c).After-kept_slot ∙ it.1)
 
 pub kept_sub-requires-clause-may : goal.kept_sub-requires-clause-may
 kept_sub-requires-clause-may c =
     let at = goal.at.kept_sub-requires-clause-may c in
-    let inside = c.keeper.inside in
-    may_free inside.settings inside.seat.view inside.rows.items inside.changes c.args.slot c.in-Some.driver_slot c.args.keeper.now.keeper c.keeper.invariant.0 (keeper_is c.keeper.view_is) c.requires.iface
-    c.requires.drained (held at.In-Some (found at.After-kept_slot))
+    may_free _ _ _ _ _ _ _ c.keeper.invariant.0 (keeper_is c.keeper.view_is) c.requires.iface c.requires.drained (held at.In-Some (found at.After-kept_slot))
 
 pub kept_sub-requires-clause-place : goal.kept_sub-requires-clause-place
 kept_sub-requires-clause-place c =
@@ -59,8 +56,7 @@ pub overflow_sub-total : goal.overflow_sub-total
 overflow_sub-total c =
     let at = goal.at.overflow_sub-total c in
     let row = driver at.In-Some (held at.In-Some (found at.After-kept_slot)) in
-    let read = row_read _ _ _ _ _ c.keeper.invariant.0.rows row.slot c.index.ensures in
-    omega (arith, row.positive, c.total_or_bias-total.ensures ∙ ap total_or_bias read)
+    omega (arith, row.positive, c.total_or_bias-total.ensures ∙ ap total_or_bias (row_read _ _ _ _ _ c.keeper.invariant.0.rows row.slot c.index.ensures))
 
 pub invariant_of-keeper : goal.invariant_of-keeper
 invariant_of-keeper c =
