@@ -15,7 +15,7 @@ use Rattle.protocol.specs.Common.{IsAttached}
 use Rattle.protocol.proofs.Cells.{get_or_all}
 use Rattle.protocol.proofs.Occupied.{in_within}
 use Rattle.protocol.proofs.History.{at_within}
-use Rattle.cpu_words.specs.Common.{IsShownCpu, number_at, references_to, depth_of, new_cpu, HasEntered, HasExited, did, SeatMakes, Seated, Makes, MaySeek, IsIdle, MayExit}
+use Rattle.cpu_words.specs.Common.{IsShownCpu, number_at, references_to, depth_of, new_cpu, HasEntered, HasExited, did, SeatMakes, Seated, MaySeek, IsIdle, MayExit}
 use Rattle.cpu_words.proofs.seats.Seating.{found_is_in, new_cpu_is_shown, entered_whole, step_is_shown}
 use Rattle.cpu_words.proofs.shown.Seeing.{attached_prefix, seen_of}
 use Rattle.cpu_words.proofs.by_cpu.Passives.{known_of}
@@ -80,12 +80,10 @@ entered_agrees z a t u x y c w d e ps ns ms our is_shown same shallow room had =
     let p = y.pass in
     let z0 : CpuView = record x { section = x.section + 1; begin = Some (length p); pass = p } in
     let none : depth_of x.begin ≡ 0 = ap depth_of (our.depth.outside.1 shallow) in
-    let word : x.section + 1 ≡ 2 * w + 1 = omega (arith, our.section.word, none) in
-    let limit : w + 1 ≤ a.section_limit = omega arith in
+    let section : SectionAgrees a z0 w = record { word = omega (arith, our.section.word, none); limit = omega arith } in
     subst (λ (v : CpuView). IsOurCpu z a u v c w 1 e ps ns ms) (sym had.1) (assumption (
       same ∙ our.table,
-      word,
-      limit,
+      section,
       inside (length p),
       passive_longer x z0 ps refl refl had.0 our.passive,
       net_same x z0 ns refl refl refl refl our.net,
@@ -106,12 +104,10 @@ exited_agrees z a t u x y c w d e ps ns ms our is_shown same last had =
     let some : x.begin ≢ None = λ q. absurd (let none : d ≡ 0 = our.depth.outside.0 q in omega arith) in
     let z0 : CpuView = record x { section = x.section + 1; begin = None; found = None } in
     let one : depth_of x.begin ≡ 1 = opened x.begin some in
-    let word : x.section + 1 ≡ 2 * (w + 1) + 0 = omega (arith, our.section.word, one) in
-    let limit : w + 1 + 0 ≤ a.section_limit = omega (arith, our.section.limit, one) in
+    let section : SectionAgrees a z0 (w + 1) = record { word = omega (arith, our.section.word, one); limit = omega (arith, our.section.limit, one) } in
     subst (λ (v : CpuView). IsOurCpu z a u v c (w + 1) 0 (record e { number = 0 }) ps ns ms) (sym had) (assumption (
       same ∙ our.table,
-      word,
-      limit,
+      section,
       outside,
       passive_longer x z0 ps refl refl (([], append-nil x.pass)) our.passive,
       net_same x z0 ns refl refl refl refl our.net,

@@ -6,16 +6,15 @@ use Rattle.std.proofs.lemmas.List.Sums.{sum_by-cons}
 use Rattle.std.proofs.lemmas.List.{append_assoc}
 use Rattle.atomic_table.specs.Seated.{TableId}
 use mathlib.Core.List.{IsPrefix}
-use Rattle.passive_list.specs.Types.{Change, Iface, Record, Settings, Slot, Vacant, KeeperView, LogItem, ReferenceView, Attach, Publish, Done, Entry, Kind, Driver, Key, Live, Retired}
+use Rattle.passive_list.specs.Types.{Iface, Record, Settings, Slot, Vacant, KeeperView, LogItem, ReferenceView, Attach, Publish, Done, Entry, Kind, Driver, Key, Live, Retired}
 use Rattle.registry_values.specs.Common.{key_of_record, is_taken, live_count, slot_at, is_key, key_of, is_live, is_live_as, kind_word, same_key}
 use Rattle.registry_values.proofs.Fit.{ranges}
 use Rattle.protocol.specs.Common.{kept_at, with_biases, no_words, entry_if, entry_of, keeps_rightly, kind_of, words_of, after_change, one_if}
 use Rattle.protocol.specs.State.{row_at as words_at}
-use Rattle.protocol.proofs.Cells.{slot_here, slot_other}
 use Rattle.protocol.proofs.History.{length-after_change}
 use Rattle.protocol.proofs.keeps.ListKeeps.{live_count_set, rows_put}
 use Rattle.protocol.proofs.Occupied.{in_within}
-use Rattle.cpu_words.specs.Common.{keeper_after_keep, IsAttachedKeeping, LeadsBelow, MayPublish, HasPublished, To_end, To_slot, IsShown, MayWrite, keeper_after_live, log_item}
+use Rattle.cpu_words.specs.Common.{keeper_after_keep, IsAttachedKeeping, LeadsBelow, MayPublish, HasPublished, To_end, To_slot, IsShown, keeper_after_live, log_item}
 use Rattle.passive_list.specs.Common.{KeptSlot, OnPlainKeeper, on_keeper, no_row, row_at, state_of, states_of, IsAtRest, RowsAgree, IsOurKeeper, MayAttach, keeper_after_stores, keeper_after_publish}
 use Rattle.passive_list.proofs.Rows.{keeper_on, row_stays, rows_set, settings_are, slots_agree, state_at, state_set, live_in}
 use Rattle.passive_list.proofs.Preparing.{biases_size, bias_stored}

@@ -4,7 +4,7 @@ use Rattle.std.proofs.lemmas.Bool.{eq-eqb, ne_eqb, cases_lt, eqb-true, false≢t
 use Rattle.std.proofs.lemmas.List.{append-nil}
 use Rattle.std.specs.Prelude.{is_some}
 use mathlib.Core.List.{IsPrefix}
-use Rattle.passive_list.specs.Types.{Entry, Event, Key, MOST_SLOTS, Recall, RecallHead, Refind, Settings, Word, CpuView, LogItem, Attach, Change, Detach}
+use Rattle.passive_list.specs.Types.{Entry, Event, Key, MOST_SLOTS, Recall, RecallHead, Refind, Settings, Word, CpuView, LogItem, Attach, Change}
 use Rattle.registry_values.specs.Common.{are_fit, key_of}
 use Rattle.registry_values.proofs.Fit.{ranges}
 use Rattle.protocol.specs.Common.{IsAttached, entry_with, EndsAt, IsLegal, IsLiveAt, IsLookup}
@@ -12,7 +12,7 @@ use Rattle.protocol.specs.History.{change_at}
 use Rattle.protocol.proofs.History.{at_within, live_down, one_live}
 use Rattle.cpu_words.specs.Common.{did, event_by, HasRecalled, HasRecalledHead, HasRefound, HasWholePass, MayRefind, Named}
 use Rattle.cpu_words.proofs.shown.Seeing.{attached_prefix}
-use Rattle.passive_list.specs.Common.{HasRecalledHeadOn, HasRecalledOn, HasRefoundAs, HasSeen, OnCpu, OnPlainCpu, Seen, Memory, Missed, HasFound, HasFoundFromOutside, HasNumbered, HasRefoundOn, WasAbsent, entry_seen, may_begin, IsMiss, IsTrueMiss, Misses, miss_of, with_miss, FindsAndRemembers, FindsWhatStays, HasFoundAnew, HasFoundInSection, HasFoundByMemory, HasRecalledAs, HasRecalledByMemory, HasRecalledInVain, IsAbsentAt, FindsAfterHead, FindsAfterWord, Recalls, RecallsBy, RecallsSeen, RefindsSeen, RemembersAnswer}
+use Rattle.passive_list.specs.Common.{HasRecalledHeadOn, HasRecalledOn, HasRefoundAs, HasSeen, OnCpu, OnPlainCpu, Seen, Memory, Missed, HasFoundFromOutside, HasNumbered, HasRefoundOn, WasAbsent, entry_seen, may_begin, IsMiss, IsTrueMiss, Misses, miss_of, with_miss, FindsAndRemembers, FindsWhatStays, HasFoundAnew, HasFoundInSection, HasFoundByMemory, HasRecalledAs, HasRecalledByMemory, RecallsBy, IsAbsentAt, FindsAfterHead, RecallsSeen, RefindsSeen, RemembersAnswer}
 use Rattle.passive_list.specs.declared.memory.Miss.{Miss}
 use Rattle.passive_list.proofs.Memories.{numbered_longer}
 use Rattle.passive_list.proofs.Walking.{ends_later, live_before, prefix_length, prefix_trans}
@@ -214,9 +214,12 @@ anew_after key a c b answer (Some s, at, inr had) anew outside =
 
 -- after such a load the CPU is outside still, with a section left
 pub still_outside : (key : Key) (a c : OnCpu) → HasRecalledByMemory key a c None → (c.depth ≡ a.depth) × (may_begin c.view ≡ may_begin a.view)
-still_outside key a c (None, at, had) = (ap (λ (x : OnCpu). x.depth) had.1, ap (λ (x : OnCpu). may_begin x.view) had.1)
-still_outside key a c (Some s, at, inl had) = let clash : ◌≡◌ {A = Option Seen} None (Some s) = had.0 in cc
-still_outside key a c (Some s, at, inr had) = (ap (λ (x : OnCpu). x.depth) had.1.is, ap (λ (x : OnCpu). may_begin x.view) had.1.is)
+still_outside key a c had = by had.0 had.2
+  where
+    by : (kept : Option Seen) → RecallsBy kept key a c None → (c.depth ≡ a.depth) × (may_begin c.view ≡ may_begin a.view)
+    by None had = (ap (λ (x : OnCpu). x.depth) had.1, ap (λ (x : OnCpu). may_begin x.view) had.1)
+    by (Some s) (inl had) = let clash : ◌≡◌ {A = Option Seen} None (Some s) = had.0 in cc
+    by (Some s) (inr had) = (ap (λ (x : OnCpu). x.depth) had.1.is, ap (λ (x : OnCpu). may_begin x.view) had.1.is)
 
 -- What a miss tells
 

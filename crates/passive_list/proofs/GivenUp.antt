@@ -1,18 +1,17 @@
 -- Collections, and references that are given up: what the rows say, and that what the keeper has agrees with what its seat knows then.
-use Rattle.std.proofs.Common.{◌≡◌, ℕ, ◌+◌, ◌-◌, ◌*◌, ◌^◌, ◌<◌, ◌≤◌, List, ◌++◌, length, get_or, set, Some, true, refl, sym, ap, ◌∙◌, subst, arith, length-set, [], inl, inr, ⊎_elim}
-use Rattle.std.proofs.Math.Seq.{map-set_same}
+use Rattle.std.proofs.Common.{◌≡◌, ℕ, ◌+◌, ◌-◌, ◌*◌, ◌<◌, ◌≤◌, List, length, get_or, set, Some, true, refl, sym, ap, ◌∙◌, subst, arith, length-set, [], inl, inr, ⊎_elim}
 use Rattle.std.proofs.lemmas.List.{set-get_or}
 use Rattle.atomic_table.specs.Seated.{TableId}
-use Rattle.passive_list.specs.Types.{Entry, Collect, TotalAdd, Done, Word, Settings, Rest, Mark, Vacant, Retired, MOST_CPUS, KeeperView, LogItem, Keeper, JoinKeeper, TotalSub, Due, Subtracting, ReferenceView, Reference}
+use Rattle.passive_list.specs.Types.{Entry, TotalAdd, Done, Settings, Rest, Mark, Vacant, Retired, MOST_CPUS, KeeperView, LogItem, Keeper, TotalSub, Due, Subtracting, ReferenceView}
 use Rattle.registry_values.specs.Common.{mark_after_collect, are_collected, bias, slot_at}
 use Rattle.protocol.specs.Common.{mark_at, total_at}
 use Rattle.protocol.proofs.Cells.{total_here, total_other}
 use Rattle.protocol.proofs.keeps.ListKeeps.{rows_put}
 use Rattle.protocol.proofs.Occupied.{not_vacant}
-use Rattle.cpu_words.specs.Common.{row_of, HasCollected, MayTotalAdd, HasAdded, IsShown, did, Makes, IsFoundCollected, MayJoinKeeper, keeper_after_join, JoinsBy, one_more}
+use Rattle.cpu_words.specs.Common.{row_of, HasCollected, HasAdded, IsShown, Makes, IsFoundCollected, MayJoinKeeper, keeper_after_join, one_more}
 use Rattle.cpu_words.specs.Draining.{HasSubtracted}
 use Rattle.cpu_words.proofs.seats.Seating.{step_is_shown}
-use Rattle.passive_list.specs.Common.{KeptSlot, OnKeeper, OnPlainKeeper, on_keeper, no_row, row_at, state_of, states_of, total_or_bias, IsAtRest, MarksAgree, RowsAgree, IsOurKeeper, keeper_after_collect, HasCollectedInto, AreHeld, RowAgrees, HasGivenUp}
+use Rattle.passive_list.specs.Common.{KeptSlot, OnKeeper, OnPlainKeeper, on_keeper, row_at, states_of, total_or_bias, IsAtRest, MarksAgree, RowsAgree, IsOurKeeper, AreHeld, RowAgrees}
 use Rattle.passive_list.proofs.Marks.{mark_read, marks_set}
 use Rattle.passive_list.proofs.Rows.{state_at, not_vacant_within, retired_in, keeper_on, row_stays, rows_set, none_at_rest, total_collected, IsHeldIn, held_given_up}
 

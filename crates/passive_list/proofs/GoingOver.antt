@@ -10,12 +10,12 @@ use Rattle.std.proofs.lemmas.Bool.{cases_lt, and_parts}
 use Rattle.std.proofs.lemmas.Bool.Decides.{Decides-eqb}
 use Rattle.std.specs.List.{AllPairs, Contains, list_any}
 use mathlib.Core.List.{IsPrefix}
-use Rattle.passive_list.specs.Types.{Entry, Kind, Iface, Name, Change, MOST_SLOTS, AtNext, AtNumber, AtKind, AtHigh, AtLow, On, Search, CpuView}
+use Rattle.passive_list.specs.Types.{Entry, Kind, Iface, Name, Change, MOST_SLOTS, AtNext, AtNumber, Search, CpuView}
 use Rattle.registry_values.specs.Names.{are_key_words}
 use Rattle.registry_values.specs.Common.{are_words_of, kind_word}
-use Rattle.protocol.specs.Common.{StandsOn, loaded_at}
+use Rattle.protocol.specs.Common.{StandsOn}
 use Rattle.protocol.proofs.History.{one_entry}
-use Rattle.cpu_words.specs.Common.{MayLoadLink, PassTells, SkipsNone, Descends, LinkHolds, every_word, HasLoadedLink, HasLoadedWord, HasFollowed, IsValueThere, cpu_after_seek, cpu_after_link, search_for}
+use Rattle.cpu_words.specs.Common.{MayLoadLink, PassTells, SkipsNone, Descends, LinkHolds, HasLoadedLink, HasLoadedWord, HasFollowed, IsValueThere, cpu_after_seek, cpu_after_link, search_for}
 use Rattle.passive_list.specs.Common.{OnCpu, search_at, IsUnderWay, cpu_with_search_at, after_visit, nobody, AreStoodOn, MayGoBy, HasGoneByFrom, HasGoneByOne, view_at_link, IsLiveSince, GoesOnAt, IsGoingOver, HasGoneOver, HasGoneOverBy, HasWalked, IsWritten}
 use Rattle.passive_list.proofs.Walking.{HasPassed, passed, prefix_trans, may_follow, prefix_length, stands_later, live_before, stood_was_live}
 

@@ -1,20 +1,20 @@
 -- The keeper's marks: where a slot's lie, what is so as one is written or all snapshots are taken, and looks.
-use Rattle.std.proofs.Common.{◌≡◌, ◌≢◌, inl, inr, ⊎_elim, ◌⊎◌, ℕ, ◌+◌, ◌*◌, ◌<◌, ◌≤◌, List, [], ◌++◌, length, take, drop, get_or, set, replicate, refl, sym, ap, ◌∙◌, subst, arith, length-set, get_or-set_same, get_or-set_other, true, ◌&&◌, ◌==◌, None, eqb-true, append_assoc, Bool, nat_lt, if◌then◌else◌, lt-ltb}
+use Rattle.std.proofs.Common.{◌≡◌, ◌≢◌, inl, inr, ⊎_elim, ◌⊎◌, ℕ, ◌+◌, ◌*◌, ◌<◌, ◌≤◌, List, [], ◌++◌, length, take, drop, get_or, set, replicate, refl, sym, ap, ◌∙◌, subst, arith, length-set, get_or-set_same, get_or-set_other, true, ◌&&◌, ◌==◌, eqb-true, Bool, nat_lt, if◌then◌else◌, lt-ltb}
 use Rattle.std.proofs.lemmas.Bool.{cases_eq, cases_lt, and_parts}
-use Rattle.std.proofs.lemmas.List.{length-replicate, length-drop, length-take-le, get_or-replicate, get_or-take, get_or-drop, get_or_read, ext_get_or, take-append-le, take_all, map-set, set-get_or, set-set}
+use Rattle.std.proofs.lemmas.List.{length-replicate, length-drop, length-take-le, get_or-replicate, get_or-take, get_or-drop, get_or_read, ext_get_or, take-append-le, take_all, set-get_or, set-set}
 use Rattle.std.proofs.lemmas.Nat.{row_fits, same_from_place}
 use Rattle.std.specs.List.{list_all}
 use Rattle.atomic_table.specs.Seated.{TableId}
-use Rattle.passive_list.specs.Types.{Mark, Settings, MOST_CPUS, KeeperView, Entry, Event, Hear, Vacate, Reply, Done, Vacant, Retired, LogItem, Keeper, Due, Rest, Snapshots}
+use Rattle.passive_list.specs.Types.{Mark, Settings, MOST_CPUS, KeeperView, Entry, Event, Reply, Vacant, Retired, LogItem, Keeper, Due, Rest, Snapshots}
 use Rattle.registry_values.specs.Common.{no_mark, is_passed, is_clear, is_collected, is_retired, live_count, slot_at, have_passed, are_clear, are_collected, bias}
 use Rattle.registry_values.proofs.Fit.{ranges}
 use Rattle.protocol.specs.Common.{with_cell, mark_at, snapshot_mark}
-use Rattle.protocol.proofs.Cells.{by_cell, cell_here, cell_other, get_or_all, slot_here, slot_other}
+use Rattle.protocol.proofs.Cells.{by_cell, cell_here, cell_other, get_or_all}
 use Rattle.protocol.proofs.keeps.ListKeeps.{live_count_put, rows_cell, rows_put}
 use Rattle.protocol.proofs.Occupied.{is_retired_tells}
-use Rattle.cpu_words.specs.Common.{keeper_with, MayLook, keeper_after_look, IsFreedFrom, IsShown, did, Makes, keeper_after_vacate, HasSnapshot}
+use Rattle.cpu_words.specs.Common.{keeper_with, MayLook, keeper_after_look, IsShown, Makes, keeper_after_vacate, HasSnapshot}
 use Rattle.cpu_words.proofs.seats.Seating.{step_is_shown}
-use Rattle.passive_list.specs.Common.{AreWritten, IsAtRest, MarksAgree, KeptSlot, OnKeeper, OnPlainKeeper, on_keeper, row_at, state_of, states_of, total_or_bias, RowsAgree, IsOurKeeper, HasVacated, IsDrainedOn, is_drained_row, AreFresh, AreSnapshots}
+use Rattle.passive_list.specs.Common.{AreWritten, IsAtRest, MarksAgree, KeptSlot, OnPlainKeeper, on_keeper, row_at, states_of, total_or_bias, RowsAgree, IsOurKeeper, IsDrainedOn, is_drained_row, AreFresh, AreSnapshots}
 use Rattle.passive_list.proofs.Rows.{state_at, state_set, retired_in, keeper_on, rows_stay}
 
 -- The keeper's marks: where a slot's lie, and what they say of a view as one mark, or all of a slot, are written.

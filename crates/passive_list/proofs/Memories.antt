@@ -1,16 +1,13 @@
 -- What a row that is remembered tells, what stays remembered, and what is remembered from then on.
 use Rattle.passive_list.specs.Common.{Memory, HasCleared, HasForgotten, HasNumbered, IsOfRow, IsRow, IsTrueMiss, KeepsOthers, Missed, Recalls, RecallsAt, Remembers, Seen, WasAbsent, IsCount, entry_of, hint_of, hinted, is_for, keeps, memo_at, memo_of, miss_at, miss_of, missed_as, no_hint, no_memo, no_memory, no_miss, with_miss, with_seen}
 use Rattle.std.specs.Prelude.{slice_index_or}
-use Rattle.std.proofs.Common.{◌≡◌, ◌≢◌, ◌⊎◌, ⊎_elim, inl, inr, ℕ, ◌+◌, ◌*◌, ◌/◌, ◌%◌, ◌^◌, ◌<◌, ◌≤◌, ◌==◌, if◌then◌else◌, min, Bool, true, false, List, length, replicate, set, get_or-set_same, get_or-set_other, Some, None, refl, sym, ap, ◌∙◌, subst, arith, length-append}
+use Rattle.std.proofs.Common.{◌≡◌, ◌≢◌, ⊎_elim, inl, inr, ℕ, ◌+◌, ◌*◌, ◌/◌, ◌%◌, ◌^◌, ◌<◌, ◌≤◌, ◌==◌, if◌then◌else◌, min, Bool, true, false, List, length, set, get_or-set_same, get_or-set_other, Some, None, refl, sym, ap, ◌∙◌, subst, arith}
 use Rattle.std.proofs.lemmas.Bool.{cases_eq, cases_lt, eqb-true}
 use Rattle.std.proofs.lemmas.List.{length-replicate, length-set, set_past}
-use Rattle.std.proofs.lemmas.Nat.{mul-lt}
 use Rattle.std.proofs.Math.Nat.{mul-lt-mul_of_pos_right}
 use mathlib.Core.List.{IsPrefix}
-use Rattle.passive_list.specs.Types.{Change, Detach, Entry, Key, Name, MOST_SLOTS}
-use Rattle.protocol.specs.Common.{EndsAt, IsAttached, IsLiveAt, entry_with}
-use Rattle.protocol.specs.History.{change_at}
-use Rattle.protocol.proofs.History.{at_prefix, at_within}
+use Rattle.passive_list.specs.Types.{Change, Key, Name, MOST_SLOTS}
+use Rattle.protocol.specs.Common.{IsAttached, entry_with}
 use Rattle.protocol.proofs.Cells.{get_or_all}
 use Rattle.protocol.proofs.Occupied.{place_cases}
 use Rattle.cpu_words.proofs.shown.Seeing.{attached_prefix}

@@ -4,7 +4,7 @@ use Rattle.std.proofs.lemmas.Bool.{cases_lt}
 use Rattle.std.proofs.lemmas.List.{length-replicate, replicate_more, set-set, set_at, set_past, append_assoc, length-append, length-drop, get_or_append_left, get_or-replicate}
 use Rattle.std.proofs.Math.Seq.{drop-cons}
 use Rattle.std.proofs.Math.Numerals.{add-one}
-use Rattle.passive_list.specs.Types.{Entry, Settings, RecordWords, MOST_CPUS, KeeperView}
+use Rattle.passive_list.specs.Types.{Entry, RecordWords, MOST_CPUS, KeeperView}
 use Rattle.protocol.specs.Common.{with_biases, no_words, row_at, count_at, with_cell, with_word, words_of}
 use Rattle.registry_values.specs.Common.{bias}
 use Rattle.protocol.proofs.Cells.{cell_in_new}

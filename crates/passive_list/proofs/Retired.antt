@@ -1,9 +1,7 @@
 -- An entry is retired, and a retired interface is freed: the keeper may do so, and what it has agrees with what its seat knows then.
-use Rattle.std.proofs.Common.{◌≡◌, ℕ, zero, suc, ◌+◌, ◌*◌, ◌<◌, ◌≤◌, List, [], ◌∷◌, length, set, replicate, Option, Some, None, refl, sym, ap, ◌∙◌, subst, arith, get_or-set_same, get_or-set_other, length-set, ◌≢◌, inr, ◌-◌, ◌++◌}
-use Rattle.std.proofs.lemmas.List.{map-set}
+use Rattle.std.proofs.Common.{◌≡◌, ℕ, zero, suc, ◌+◌, ◌*◌, ◌<◌, ◌≤◌, List, [], ◌∷◌, length, set, replicate, Option, Some, None, refl, sym, ap, ◌∙◌, subst, arith, get_or-set_same, get_or-set_other, length-set, ◌≢◌, inr, ◌-◌}
 use Rattle.std.proofs.lemmas.List.Quantifiers.{position-Some}
-use Rattle.std.proofs.Math.Seq.{map-set_same}
-use Rattle.passive_list.specs.Types.{Detach, Entry, Settings, Mark, Slot, Vacant, Live, Retired, MOST_CPUS, KeeperView, Iface, KeptSub, Done, Rest, LogItem, Keeper}
+use Rattle.passive_list.specs.Types.{Detach, Entry, Settings, Mark, Slot, Vacant, Live, Retired, MOST_CPUS, KeeperView, Iface, Rest, LogItem}
 use Rattle.registry_values.specs.Common.{live_count, slot_at, no_mark, has_number, slot_of, bias}
 use Rattle.protocol.specs.Common.{live_at, IsIn, DriversKept, total_at, kept_at}
 use Rattle.protocol.proofs.Cells.{slot_here, slot_other, total_other}
@@ -11,9 +9,9 @@ use Rattle.protocol.proofs.History.{length-after_change}
 use Rattle.protocol.proofs.keeps.ListKeeps.{live_count_put, rows_put}
 use Rattle.protocol.proofs.keeps.Drivers.{kept_number}
 use Rattle.protocol.proofs.Occupied.{has_it, not_vacant, number_in, one_number, position_found, slot_found, slot_has}
-use Rattle.cpu_words.specs.Common.{LeadsBelow, IsBefore, MayUnpublish, HasUnpublished, keeper_after_live, keeper_after_unpublish, links_with, IsShown, IsFreedFrom, MayKeptSub, HasKeptSub, did, Makes, one_more}
+use Rattle.cpu_words.specs.Common.{LeadsBelow, IsBefore, MayUnpublish, HasUnpublished, keeper_after_live, keeper_after_unpublish, links_with, IsShown, MayKeptSub, HasKeptSub, one_more}
 use Rattle.cpu_words.proofs.by_keeper.KeeperSteps.{seen_by_keeper}
-use Rattle.passive_list.specs.Common.{KeptSlot, row_at, states_of, AreWritten, IsAtRest, MarksAgree, RowsAgree, IsOurKeeper, with_snapshots, OnKeeper, no_row, state_of, total_or_bias, IsDrainedOn, HasFreed, kept_slot}
+use Rattle.passive_list.specs.Common.{KeptSlot, row_at, states_of, AreWritten, IsAtRest, MarksAgree, RowsAgree, IsOurKeeper, with_snapshots, OnKeeper, no_row, state_of, total_or_bias, IsDrainedOn, kept_slot}
 use Rattle.passive_list.specs.Draining.{place_of}
 use Rattle.passive_list.proofs.Marks.{marks_written, vacated_at_rest}
 use Rattle.passive_list.proofs.Rows.{state_at, state_set, live_in, keeper_on, row_stays, rows_set, rows_stay, taken_in, retired_in, IsHeldIn, held_by_slot}

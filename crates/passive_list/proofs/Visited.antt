@@ -1,14 +1,13 @@
 -- The entries that a lookup has visited: its search may be at each of them, so they are no more than there are slots.
-use Rattle.std.proofs.Common.{◌≡◌, ⊎_elim, ℕ, ◌+◌, ◌<◌, ◌≤◌, Bool, true, false, List, [], ◌∷◌, ◌++◌, length, get_or, Option, refl, sym, ap, subst, arith, length-append}
+use Rattle.std.proofs.Common.{◌≡◌, ⊎_elim, ℕ, ◌+◌, ◌≤◌, Bool, true, false, List, [], ◌∷◌, ◌++◌, length, Option, refl, ap, subst, arith, length-append}
 use Rattle.std.proofs.lemmas.List.{append-nil}
-use Rattle.std.proofs.lemmas.List.Elements.{Contains-get_or, Contains-push_cases}
-use Rattle.std.proofs.lemmas.List.Quantifiers.{all_pairs_push}
+use Rattle.std.proofs.lemmas.List.Elements.{Contains-push_cases}
 use Rattle.std.specs.List.{Contains}
 use mathlib.Core.List.{IsPrefix}
-use Rattle.passive_list.specs.Types.{Entry, Change, Key, MOST_SLOTS, Found, Search, AtNext, CpuView}
-use Rattle.protocol.specs.Common.{StandsOn, entry_with}
+use Rattle.passive_list.specs.Types.{Entry, Change, Key, Found, Search, AtNext, CpuView}
+use Rattle.protocol.specs.Common.{entry_with}
 use Rattle.cpu_words.specs.Common.{HasLoadedLink, PassTells, loaded_of, loaded_answer}
-use Rattle.passive_list.specs.Common.{search_at, HasVisitedFrom, HasVisited, HasMissed, IsOn, AreStoodOn}
+use Rattle.passive_list.specs.Common.{search_at, HasVisited, IsOn, AreStoodOn}
 use Rattle.passive_list.proofs.Walking.{on_way, prefix_length}
 use Rattle.passive_list.proofs.GoingOver.{few_stood_on, none_stood_on, stood_later, stood_on_more}
 

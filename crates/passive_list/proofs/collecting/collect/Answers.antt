@@ -1,4 +1,4 @@
-use Rattle.std.proofs.Common.{◌≡◌, ◌∙◌, ◌+◌, ◌-◌, ◌^◌, ◌<◌, ◌≤◌, ◌++◌, ℕ, List, length, set, sym, ap, subst, arith, rules}
+use Rattle.std.proofs.Common.{◌≡◌, ◌∙◌, ◌+◌, ◌-◌, ◌^◌, ◌<◌, ◌≤◌, ◌++◌, ℕ, List, set, sym, ap, subst, arith, rules}
 use Rattle.std.proofs.Math.Seq.{map-set_same}
 use Rattle.passive_list.specs.Types.{Settings, Collect, TotalAdd, Done, Word, Rest, KeeperView, LogItem, Keeper}
 use Rattle.registry_values.specs.Common.{bias, slot_at}

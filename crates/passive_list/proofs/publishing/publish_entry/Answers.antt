@@ -1,4 +1,4 @@
-use Rattle.std.proofs.Common.{◌++◌, ◌∙◌, sym, ap, subst, arith}
+use Rattle.std.proofs.Common.{◌∙◌, sym, ap, subst, arith}
 use Rattle.passive_list.specs.Types.{Settings, Publish, Show, Done, KeeperView, Keeper}
 use Rattle.cpu_words.specs.Common.{MayPublish, Makes, keeper_after_live}
 use Rattle.passive_list.specs.Common.{states_of, keeper_after_publish}

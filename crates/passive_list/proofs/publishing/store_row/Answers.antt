@@ -1,4 +1,3 @@
-use Rattle.std.proofs.Common.{◌≡◌, ◌++◌, ◌∙◌}
 use Rattle.protocol.specs.Common.{row_at, with_word}
 use Rattle.registry_values.specs.Common.{kind_word}
 use Rattle.passive_list.proofs.Preparing.{row_next}

@@ -1,9 +1,9 @@
 -- One slot on the list after the other.
-use Rattle.std.proofs.Common.{◌≡◌, ◌≤◌, suc, ◌+◌, ◌-◌, ◌<◌, [], ◌∷◌, ◌++◌, length, set, refl, sym, ap, ◌∙◌, subst, arith, length-append, length-set, append_assoc}
+use Rattle.std.proofs.Common.{◌≡◌, suc, ◌-◌, ◌<◌, [], ◌∷◌, ◌++◌, length, set, refl, sym, ap, ◌∙◌, subst, arith, length-append, length-set, append_assoc}
 use Rattle.passive_list.specs.Types.{Entry, Iface, Key, Seek, LoadLink, Done, Settings, MOST_SLOTS, CpuView}
 use Rattle.cpu_words.specs.Common.{did, HasFollowed, cpu_after_seek, search_for, key_with, link_answer}
 use Rattle.cpu_words.proofs.seats.Seating.{step_is_shown}
-use Rattle.passive_list.specs.Common.{nobody, HasGoneOverBy, IsGoingOver, IsWritten}
+use Rattle.passive_list.specs.Common.{nobody, IsGoingOver, IsWritten}
 use Rattle.passive_list.proofs.GoingOver.{going_begins, on_slot, slot_within, may_go_by, may_go_on, room_for_next, goes_by_next, none_written, one_more_written, few_stood_on, going_id, gone_by_there, gone_over}
 use Rattle.passive_list.proofs.Walking.{walk_begun, one_gone_by, walk_over}
 use Rattle.passive_list.proofs.walks.go_over.Given.{Over}
