@@ -1,5 +1,5 @@
 -- A CPU acquires and releases local references: why it may, what it leaves, and that its plain data agree with its view on.
-use Rattle.std.proofs.Common.{◌≡◌, ◌≢◌, ⊎_elim, ◌⊎◌, ℕ, ◌+◌, ◌<◌, ◌≤◌, List, length, set, Bool, true, false, ◌==◌, cond, refl, sym, ap, ◌∙◌, subst, arith, get_or-set_same, get_or-set_other, length-set, nat_lt, Option, Some, None, ◌-◌}
+use Rattle.std.proofs.Common.{◌≡◌, ◌≢◌, ⊎_elim, ◌⊎◌, ℕ, ◌+◌, ◌<◌, ◌≤◌, List, set, Bool, true, false, ◌==◌, cond, refl, sym, ap, ◌∙◌, subst, arith, length-set, nat_lt, Option, Some, None, ◌-◌}
 use Rattle.std.proofs.lemmas.Bool.{eq-eqb, ne_eqb, ltb-true}
 use Rattle.std.specs.Prelude.{if◌then◌else◌}
 use mathlib.Core.Logic.{dite}

@@ -1,5 +1,5 @@
 -- A CPU's passive references: what its places say of them, and how they agree with its view as one is added, copied or taken away.
-use Rattle.std.proofs.Common.{◌≡◌, ◌≢◌, ◌⊎◌, ⊎_elim, ℕ, ◌<◌, ◌≤◌, List, true, Some, None, nat_lt, ◌==◌, refl, sym, ap, ◌∙◌, subst, arith, ◌+◌, ◌-◌, ◌∷◌, length, set, get_or-set_same, get_or-set_other, Option, ◌++◌}
+use Rattle.std.proofs.Common.{◌≡◌, ◌≢◌, ◌⊎◌, ⊎_elim, ℕ, ◌<◌, ◌≤◌, List, true, Some, None, nat_lt, ◌==◌, refl, sym, ap, ◌∙◌, subst, arith, ◌+◌, ◌-◌, ◌∷◌, set, get_or-set_same, get_or-set_other, Option, ◌++◌}
 use Rattle.std.proofs.lemmas.Bool.{eq-eqb, eqb-true, lt-ltb, ltb-true, and_parts, cases_eq, cases_lt}
 use Rattle.std.proofs.lemmas.Option.{none-some}
 use Rattle.std.proofs.lemmas.List.Quantifiers.{position-Some}

@@ -1,7 +1,6 @@
 -- A get by memory: where it may try, what it has then, how the data agree, and that a share of a ledger changes nothing of it.
-use Rattle.std.proofs.Common.{◌≡◌, ◌⊎◌, ℕ, Option, Some, None, inl, inr, ap, ◌≢◌, ⊎_elim, ◌+◌, ◌<◌, Bool, IfSome, if◌then◌else◌, List, ◌∷◌, ◌++◌, length, set, refl, sym, ◌∙◌, subst, arith}
+use Rattle.std.proofs.Common.{◌≡◌, ℕ, Option, Some, None, inl, inr, ap, ◌≢◌, ⊎_elim, ◌+◌, ◌<◌, Bool, IfSome, if◌then◌else◌, List, ◌∷◌, ◌++◌, length, set, refl, sym, ◌∙◌, subst, arith}
 use Rattle.std.proofs.lemmas.Bool.{cases_eq, eq-eqb, ne_eqb}
-use Rattle.std.specs.List.{Contains}
 use mathlib.Core.List.{IsPrefix}
 use Rattle.atomic_table.specs.Seated.{TableId}
 use Rattle.passive_list.specs.Types.{Entry, Key, Settings, Try, Confirm, TakeBack, Recall, Word, CpuView, LogItem}
@@ -18,7 +17,7 @@ use Rattle.passive_list.specs.declared.place.NumberedCount.{NumberedCount}
 use Rattle.passive_list.proofs.Sharing.{sharing}
 use Rattle.passive_list.proofs.Memories.{stays}
 use Rattle.passive_list.proofs.Agreeing.{net_same, noted_agrees, own_agrees, passive_longer}
-use Rattle.passive_ref.specs.{OnPsref, entry_got, GetsBy, HasGivenUp, HasGotByMemory, HasGotOn, HasGotRemembered, IsGot, counted_for, EndsInVain, EndsWell, HasSeen, IsTakenAs, IsVain}
+use Rattle.passive_ref.specs.{OnPsref, HasGivenUp, HasGotByMemory, HasGotOn, IsGot, counted_for, EndsInVain, EndsWell, HasSeen, IsTakenAs, IsVain}
 use Rattle.passive_ref.proofs.Changing.{added_passive, uncounted_here}
 
 -- A CPU that has a share of a ledger, and the CPU without it: what is told of a get by the one is told of the other. And what a get without a reference leaves.
