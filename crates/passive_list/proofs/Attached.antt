@@ -89,10 +89,6 @@ pub leads_on : (xs ys : List Slot) (n v : ℕ) → LiveIn xs ys → LiveIn ys xs
 leads_on xs ys n v on back (To_end none) = To_end (λ u h live below. none u h (back u h live) below)
 leads_on xs ys n v on back (To_slot t f live below most) = To_slot t f (on t f live) below (λ u h is lt. most u h (back u h is) lt)
 
--- a live entry of a key takes it
-taken_at : (key : Key) (xs : List Slot) (u : ℕ) (f : Entry) → slot_at xs u ≡ Live f → same_key (key_of f) key ≡ true → is_taken key xs ≡ true
-taken_at key xs u f live same = list_any_at (is_live_as key) xs u Vacant (in_within xs u f (inl live)) (ap (is_live_as key) live ∙ same)
-
 -- a link leads to a slot
 pub leads_within : (slots : List Slot) (n v : ℕ) → LeadsBelow slots n v → v ≤ length slots
 leads_within slots n zero (To_end none) = omega arith
@@ -105,7 +101,7 @@ free_on key xs ys back free = walk ys (λ u f live. off u f (back u f live))
     off u f live = by (same_key (key_of f) key) refl
       where
         by : (b : Bool) → same_key (key_of f) key ≡ b → b ≡ false
-        by true is = sym (taken_at key xs u f live is) ∙ free
+        by true is = sym (list_any_at (is_live_as key) xs u Vacant (in_within xs u f (inl live)) (ap (is_live_as key) live ∙ is)) ∙ free
         by false is = refl
 
     first : (y : Slot) → ((f : Entry) → y ≡ Live f → same_key (key_of f) key ≡ false) → is_live_as key y ≡ false

@@ -304,17 +304,13 @@ section_missed key n a l r b answer had is remembers same none known missed =
       missed = inl (none, known, ap (λ (k : Memory). k.missed) m ∙ ap (λ (k : Missed). (with_miss (record r.memory { missed = k }) key n).missed) (same ∙ ap (λ (k : Memory). k.missed) (outside_memory key a l _ had)));
     }
 
--- what a miss that is remembered says of its key
-miss_absent : (h : List Change) (key : Key) (n : ℕ) (m : Miss) → IsTrueMiss h m → IsMiss key n m → WasAbsent h key n
-miss_absent h key n m so is =
-    let same : m ≡ record { number = n; kind = key.kind; name = key.name } = λ i. record { number = is.number i; kind = is.kind i; name = is.name i } in
-    subst (λ (x : Miss). WasAbsent h (record { kind = x.kind; name = x.name }) x.number) same (so (λ zero. is.some (sym is.number ∙ zero)))
-
 pub absent_anew : (key : Key) (t n w : ℕ) (a c d : OnCpu) (m : Miss) → HasRecalledHeadOn a c w → w ≡ suc t → HasRecalledOn t n c d true → m ≡ miss_of a.memory.missed key
     → IsTrueMiss a.view.pass m → IsMiss key n m → HasFoundAnew key a d None
 absent_anew key t n w a c d m heads head recalled at so is =
     let misses : Misses c.memory key n = subst (IsMiss key n) (at ∙ ap (λ (x : OnCpu). miss_of x.memory.missed key) (sym heads.is)) is in
-    record { head = w; at_head = c; heads = heads; finds = inr (t, n, d, head, recalled, inl (misses, still_absent key t n w a c d (miss_absent a.view.pass key n m so is) heads head recalled, refl)) }
+    let same : m ≡ record { number = n; kind = key.kind; name = key.name } = λ i. record { number = is.number i; kind = is.kind i; name = is.name i } in
+    let was = subst (λ (x : Miss). WasAbsent a.view.pass (record { kind = x.kind; name = x.name }) x.number) same (so (λ zero. is.some (sym is.number ∙ zero))) in
+    record { head = w; at_head = c; heads = heads; finds = inr (t, n, d, head, recalled, inl (misses, still_absent key t n w a c d was heads head recalled, refl)) }
 
 pub section_anew : (key : Key) (t n w : ℕ) (a c d b : OnCpu) (m : Miss) (answer : Option Seen) → HasRecalledHeadOn a c w → w ≡ suc t → HasRecalledOn t n c d true
     → m ≡ miss_of a.memory.missed key → (IsMiss key n m → ⊥) → HasFoundInSection key n d b answer → HasFoundAnew key a b answer

@@ -5,7 +5,7 @@ use Rattle.std.proofs.lemmas.Bool.{cases_lt}
 use Rattle.std.proofs.lemmas.List.{length-replicate, get_or-replicate, get_or_past, get_or_read, length-map}
 use Rattle.std.proofs.lemmas.List.Elements.{All-append, All-cons}
 use Rattle.atomic_table.specs.Seated.{TableId}
-use Rattle.passive_list.specs.Types.{Change, Entry, Settings, Key, Slot, Vacant, Live, Retired, MOST_CPUS, KeeperView, LogItem, Due, Rest, Adding, Subtracting, Mark, MOST_SLOTS}
+use Rattle.passive_list.specs.Types.{Entry, Settings, Key, Slot, Vacant, Live, Retired, MOST_CPUS, KeeperView, LogItem, Due, Rest, Adding, Subtracting, Mark, MOST_SLOTS}
 use Rattle.registry_values.specs.Common.{are_fit, bias, no_mark, is_live_as, is_taken, slot_at, slot_of, are_collected, is_retired}
 use Rattle.registry_values.proofs.Fit.{ranges}
 use Rattle.protocol.specs.Common.{no_words, total_at, kept_at, IsIn, Balances, held_at, addition_due_at, is_adding_at, subtraction_due_at, greatest_limit, State, at_rest, mark_at}
@@ -59,19 +59,16 @@ pub taken_in_rows : (key : Key) (rows : List KeptSlot) → is_taken key (states_
 taken_in_rows key [] = refl
 taken_in_rows key (r ∷ rows) = ap (λ b. is_live_as key r.state || b) (taken_in_rows key rows)
 
--- such a row agrees with the view at the start
-first_agrees : (a : Settings) (t : ℕ) → t < a.slots → RowAgrees (keeper_with a a.cpus) t no_row
-first_agrees a t lt = record {
-  state = get_or-replicate a.slots t Vacant Vacant lt;
-  total = sym (get_or-replicate a.slots t bias 0 lt);
-  keeps = sym (get_or-replicate a.slots t None None lt);
-  unused = λ vacant. refl;
-}
-
+-- such rows agree with the view at the start
 pub new_rows : (a : Settings) → RowsAgree a (keeper_with a a.cpus) (replicate a.slots no_row)
 new_rows a = record {
   size = length-replicate a.slots no_row;
-  each = λ t lt. subst (RowAgrees (keeper_with a a.cpus) t) (sym (get_or-replicate a.slots t no_row no_row lt)) (first_agrees a t lt);
+  each = λ t lt. subst (RowAgrees (keeper_with a a.cpus) t) (sym (get_or-replicate a.slots t no_row no_row lt)) record {
+    state = get_or-replicate a.slots t Vacant Vacant lt;
+    total = sym (get_or-replicate a.slots t bias 0 lt);
+    keeps = sym (get_or-replicate a.slots t None None lt);
+    unused = λ vacant. refl;
+  };
 }
 
 -- A row
@@ -132,10 +129,6 @@ rows_stay a k l rows slots totals keeps agree =
 -- the keeper's data agree with the view m, so with l
 pub keeper_on : (a : Settings) (l m : KeeperView) (rows : List KeptSlot) (n : ℕ) → l ≡ m → IsShown l → IsAtRest a m → n ≡ length m.history → RowsAgree a m rows → IsOurKeeper a l rows n
 keeper_on a l m rows n same is_shown at changes agree = subst (λ (x : KeeperView). IsOurKeeper a x rows n) (sym same) (assumption (subst IsShown same is_shown))
-
--- a note that is heard leaves the rows as they are
-pub note_heard : (a : Settings) (k : KeeperView) (h : List Change) (rows : List KeptSlot) (n : ℕ) → IsOurKeeper a k rows n → IsShown (keeper_with_note k h) → IsOurKeeper a (keeper_with_note k h) rows n
-note_heard a k h rows n had shown = assumption (rows_stay a k (keeper_with_note k h) rows refl refl refl had.rows)
 
 -- one row changes with its slot, and the others stay
 pub rows_set : (a : Settings) (k l : KeeperView) (rows : List KeptSlot) (t : ℕ) (r : KeptSlot) → t < a.slots → RowsAgree a k rows → RowAgrees l t r

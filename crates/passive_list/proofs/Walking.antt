@@ -12,7 +12,7 @@ use Rattle.protocol.specs.History.{change_at}
 use Rattle.protocol.proofs.History.{at_within, ends_after, at_prefix}
 use Rattle.cpu_words.specs.Common.{did, key_with, link_answer, MayLoadLink, MayLoadSearched, IsAtWord, every_word, cpu_after_record_word, HasLoadedLink, HasLoadedWord, HasFollowed, PassTells}
 use Rattle.cpu_words.proofs.shown.Seeing.{attached_prefix}
-use Rattle.passive_list.specs.Common.{IsLoad, IsWalkLoad, GoesOnBySoMany, GoesOnByLoads, HasSearchedFor, SearchesOnce, HasWalkedBy, HasGoneOverBy, nobody, WasLive, Seen, entry_seen, search_at, IsUnderWay, cpu_with_search_at, after_visit, HasVisitedFrom, HasVisited, HasTaken, HasMissed, IsOn, IsAtLink, HasLookedUp}
+use Rattle.passive_list.specs.Common.{IsLoad, IsWalkLoad, GoesOnBySoMany, GoesOnByLoads, HasSearchedFor, SearchesOnce, HasWalkedBy, HasGoneOverBy, nobody, WasLive, Seen, entry_seen, search_at, IsUnderWay, cpu_with_search_at, after_visit, HasVisitedFrom, HasVisited, HasTaken, IsOn, IsAtLink, HasLookedUp}
 use Rattle.passive_list.proofs.Rows.{one_item}
 
 more_items : (P : LogItem → Type 0) (m n : ℕ) (old between new : List LogItem) → GoesOnBySoMany P m old between → GoesOnBySoMany P n between new → GoesOnBySoMany P (m + n) old new
@@ -237,9 +237,6 @@ took x y key t n value had from at =
 pub on_slot : (key : Key) (x y : CpuView) (n last : ℕ) → n ≢ 0 → IsAtLink key x n last y → IsOn key x (n - 1) last y
 on_slot key x y zero last some at = absurd (some refl)
 on_slot key x y (suc t) last some at = let same : suc t - 1 ≡ t = omega arith in subst (λ u. IsOn key x u last y) (sym same) at
-
-pub at_end : (key : Key) (x y : CpuView) (n last : ℕ) → n ≡ 0 → IsAtLink key x n last y → HasMissed key x y
-at_end key x y n last none at = subst (λ m. IsAtLink key x m last y) none at
 
 -- the search is under way there
 pub on_way : (key : Key) (x y : CpuView) (t last : ℕ) → IsOn key x t last y → IsUnderWay y key (length x.pass) (AtNumber t)
