@@ -1,13 +1,13 @@
 -- An entry is published, and may keep its driver: the keeper may do so, and what it has agrees with what its seat knows then.
-use Rattle.std.proofs.Common.{◌≡◌, ℕ, ◌+◌, ◌<◌, ◌≤◌, false, List, length, set, Some, None, IsTrue, refl, sym, ap, ◌∙◌, subst, arith, get_or-set_same, get_or-set_other, length-set, inl, zero, suc, Bool, true, [], ◌∷◌, ◌++◌, get_or, Option}
+use Rattle.std.proofs.Common.{◌≡◌, ℕ, ◌+◌, ◌<◌, ◌≤◌, false, List, length, set, Some, None, IsTrue, refl, sym, ap, ◌∙◌, subst, arith, get_or-set_same, get_or-set_other, length-set, inl, zero, suc, Bool, true, true≢false, [], ◌∷◌, ◌++◌, get_or, Option}
 use Rattle.std.proofs.Math.Seq.{map-set_same}
-use Rattle.std.proofs.lemmas.List.Folds.{list_any_at}
+use Rattle.std.proofs.lemmas.List.Folds.{Any-from_list_any, list_any_at}
 use Rattle.std.proofs.lemmas.List.Sums.{sum_by-cons}
-use Rattle.std.proofs.lemmas.List.{append_assoc}
+use Rattle.std.proofs.lemmas.List.{append_assoc, get_or_default}
 use Rattle.atomic_table.specs.Seated.{TableId}
 use mathlib.Core.List.{IsPrefix}
 use Rattle.passive_list.specs.Types.{Iface, Record, Settings, Slot, Vacant, KeeperView, LogItem, ReferenceView, Attach, Publish, Done, Entry, Kind, Driver, Key, Live, Retired}
-use Rattle.registry_values.specs.Common.{key_of_record, is_taken, live_count, slot_at, is_key, key_of, is_live, is_live_as, kind_word, same_key}
+use Rattle.registry_values.specs.Common.{key_of_record, is_taken, live_count, slot_at, is_key, key_of, is_live, is_live_as, kind_word}
 use Rattle.registry_values.proofs.Fit.{ranges}
 use Rattle.protocol.specs.Common.{kept_at, with_biases, no_words, entry_if, entry_of, keeps_rightly, kind_of, words_of, after_change, one_if}
 use Rattle.protocol.specs.State.{row_at as words_at}
@@ -65,12 +65,6 @@ may_attach a k l rows c t n rec v x our is at number vacant kind name free room 
       number = omega (arith, our.changes);
     }
 
--- the slot keeps the reference then
-pub keeps_it : (a : Settings) (k l : KeeperView) (rows : List KeptSlot) (n t : ℕ) (v : ReferenceView) → IsOurKeeper a k rows n → t < a.slots → l ≡ keeper_after_keep k t v
-    → kept_at l.keeps t ≡ Some v.entry.number
-keeps_it a k l rows n t v our lt change =
-    ap (λ (x : KeeperView). kept_at x.keeps t) change ∙ get_or-set_same k.keeps t (Some v.entry.number) None (omega (arith, lt, our.view.sized.keeps))
-
 -- An entry is published: the keeper may do so, and what it has agrees with what its seat knows then.
 
 -- Who is live
@@ -95,23 +89,18 @@ leads_within slots n zero (To_end none) = omega arith
 leads_within slots n _ (To_slot t f live lt most) = omega (arith, in_within slots t f (inl live))
 
 pub free_on : (key : Key) (xs ys : List Slot) → LiveIn ys xs → is_taken key xs ≡ false → is_taken key ys ≡ false
-free_on key xs ys back free = walk ys (λ u f live. off u f (back u f live))
+free_on key xs ys back free = by (is_taken key ys) refl
   where
-    off : (u : ℕ) (f : Entry) → slot_at xs u ≡ Live f → same_key (key_of f) key ≡ false
-    off u f live = by (same_key (key_of f) key) refl
-      where
-        by : (b : Bool) → same_key (key_of f) key ≡ b → b ≡ false
-        by true is = sym (list_any_at (is_live_as key) xs u Vacant (in_within xs u f (inl live)) (ap (is_live_as key) live ∙ is)) ∙ free
-        by false is = refl
+    live : (u : ℕ) (y : Slot) → slot_at ys u ≡ y → is_live_as key y ≡ true → is_taken key xs ≡ true
+    live u Vacant here is = absurd (true≢false (sym is))
+    live u (Live f) here is = let there = back u f here in list_any_at (is_live_as key) xs u Vacant (in_within xs u f (inl there)) (ap (is_live_as key) there ∙ is)
+    live u (Retired f) here is = absurd (true≢false (sym is))
 
-    first : (y : Slot) → ((f : Entry) → y ≡ Live f → same_key (key_of f) key ≡ false) → is_live_as key y ≡ false
-    first Vacant no_ = refl
-    first (Live f) no_ = no_ f refl
-    first (Retired f) no_ = refl
-
-    walk : (zs : List Slot) → ((u : ℕ) (f : Entry) → slot_at zs u ≡ Live f → same_key (key_of f) key ≡ false) → is_taken key zs ≡ false
-    walk [] no_ = refl
-    walk (z ∷ zs) no_ = rw (first z (λ f is. no_ zero f is), walk zs (λ u f live. no_ (suc u) f live)) refl
+    by : (b : Bool) → is_taken key ys ≡ b → b ≡ false
+    by false is = refl
+    by true is =
+        let found = Any-from_list_any (is_live_as key) ys is in
+        sym (live found.0 found.1 (sym (get_or_default ys found.0 found.1 Vacant found.2) ∙ found.3) found.4) ∙ free
 
 live_on : (x y : Slot) → ((f : Entry) → x ≡ Live f → y ≡ Live f) → one_if (is_live x) ≤ one_if (is_live y)
 live_on Vacant y so = omega arith

@@ -1,7 +1,7 @@
 -- A CPU that has a share of a ledger, and the CPU without it: what is told of a lookup of the one is told of the other.
 use Rattle.std.proofs.Common.{◌≡◌, ℕ, true, Option, Some, None, inl, inr, ap, ◌∙◌}
 use Rattle.passive_list.specs.Types.{Entry, Key}
-use Rattle.passive_list.specs.Common.{HasFoundAnew, HasFoundByMemory, HasFoundFromOutside, HasFoundInSection, HasFoundInside, HasFoundKept, HasRecalledInVain, HasRecalledOn, OnCpu, OnPlainCpu, FindsAfterHead, FindsAfterWord, FindsBy, FindsInsideBy, Seen}
+use Rattle.passive_list.specs.Common.{HasFoundAnew, HasFoundByMemory, HasFoundFromOutside, HasFoundInSection, HasFoundInside, HasFoundKept, HasRecalledInVain, HasRecalledOn, OnCpu, OnPlainCpu, FindsAfterHead, FindsAfterWord, FindsBy, Seen}
 
 abbrev pub sharing : ℕ → OnCpu → OnCpu
 sharing m x = record x { made = m }
@@ -52,10 +52,7 @@ finds_by m (Some s) key a b answer (inr had) = inr (sharing m had.0, vain m s a 
 pub found_by_memory : (m : ℕ) (key : Key) (a b : OnCpu) (answer : Option Seen) → HasFoundByMemory key a b answer → HasFoundByMemory key (sharing m a) (sharing m b) answer
 found_by_memory m key a b answer had = (had.0, had.1, finds_by m had.0 key a b answer had.2)
 
-finds_inside_by : (m : ℕ) (o : Option Seen) (key : Key) (a b : OnCpu) (answer : Option Seen) → FindsInsideBy o key a b answer → FindsInsideBy o key (sharing m a) (sharing m b) answer
-finds_inside_by m None key a b answer had = kept m key a b answer had
-finds_inside_by m (Some s) key a b answer (inl had) = inl (had.0, assumption (ap (sharing m) had.1.is, had.1))
-finds_inside_by m (Some s) key a b answer (inr had) = inr (sharing m had.0, vain m s a had.0 had.1, kept m key had.0 b answer had.2)
-
 pub found_inside : (m : ℕ) (key : Key) (a b : OnCpu) (answer : Option Entry) → HasFoundInside key a b answer → HasFoundInside key (sharing m a) (sharing m b) answer
-found_inside m key a b answer had = (had.0, had.1, (had.2.0, had.2.1, finds_inside_by m had.2.0 key a b had.0 had.2.2))
+found_inside m key a b answer (seen, is, (None, at, had)) = (seen, is, (None, at, kept m key a b seen had))
+found_inside m key a b answer (seen, is, (Some s, at, inl had)) = (seen, is, (Some s, at, inl (had.0, assumption (ap (sharing m) had.1.is, had.1))))
+found_inside m key a b answer (seen, is, (Some s, at, inr had)) = (seen, is, (Some s, at, inr (sharing m had.0, vain m s a had.0 had.1, kept m key had.0 b seen had.2)))

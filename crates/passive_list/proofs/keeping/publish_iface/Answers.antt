@@ -1,12 +1,13 @@
 -- The slot keeps the reference, and then the interface is published there.
-use Rattle.std.proofs.Common.{◌≡◌, ◌+◌, ◌++◌, ◌<◌, ◌∙◌, ℕ, List, length, sym, ap, subst, set}
+use Rattle.std.proofs.Common.{◌≡◌, ◌+◌, ◌++◌, ◌<◌, ◌∙◌, ℕ, List, Some, None, length, sym, ap, subst, set, get_or-set_same, arith}
 use Rattle.std.proofs.lemmas.List.{map-set}
 use Rattle.passive_list.specs.Types.{Entry, Keep, Done, LogItem, Settings, Slot, Live, KeeperView, ReferenceView, Keeper, Reference}
+use Rattle.protocol.specs.Common.{kept_at}
 use Rattle.cpu_words.specs.Common.{JoinsBy, did, keeper_after_keep}
 use Rattle.cpu_words.proofs.seats.Seating.{step_is_shown}
 use Rattle.passive_list.specs.Common.{KeptSlot, LogsAttach, OnKeeper, OnPlainRef, IsOurKeeper, RowsAgree, row_at, state_of, states_of, MayAttach, HasEntry, HasAttachedKeeping}
 use Rattle.passive_list.proofs.Rows.{keeper_is, row_read, settings_are}
-use Rattle.passive_list.proofs.Attached.{published_keeper, row_live, keeps_it, row_keeping, rows_keeping, states_keeping, may_attach}
+use Rattle.passive_list.proofs.Attached.{published_keeper, row_live, row_keeping, rows_keeping, states_keeping, may_attach}
 use Rattle.passive_list.proofs.Marks.{marks_stay}
 use Rattle.passive_list.proofs.keeping.publish_iface.Goals.{After-index_mut}
 use Rattle.passive_list.proofs.keeping.publish_iface.Goals as goal
@@ -62,6 +63,7 @@ returns-clause-change c =
     ap states_of (kept (goal.at.returns-clause-change c).After-index_mut) ∙ states_keeping inside.rows.items t c.reference.inside.number in
     let e : Entry = record { number = inside.changes + 1; slot = t; rec = c.args.rec } in
     let new = row_live c.index_mut-2.result.now e in
+    let within = subst (λ (z : Settings). t < z.slots) (sym (settings_are c.keeper.view_is)) c.requires.vacant.0 in
     let b : OnKeeper = record { view = l; slots = states_of (set written t new); log = c.publish_entry.new.seat.log } in
     subst (λ (w : ReferenceView). HasAttachedKeeping c.args.keeper.now.keeper w e b) (ap (λ (o : OnPlainRef). o.reference) c.reference.view_is) (subst (λ (a : OnKeeper). HasAttachedKeeping a v e b) (keeper_is c.keeper.view_is) record {
       kept = subst (λ (x : KeeperView). JoinsBy (Keep t) (Keeper k) (Reference v) (Keeper x)) c.keep.ensures.change c.keep.ensures.event;
@@ -69,8 +71,8 @@ returns-clause-change c =
         entry = subst (λ (x : KeeperView). HasEntry x e l) c.keep.ensures.change c.publish_entry.ensures.change;
         slots = map-set state_of written t new ∙ ap (λ (xs : List Slot). set xs t (Live e)) same;
       };
-      keeping = c.publish_entry.ensures.attached v.entry.number (keeps_it _ _ _ _ _ t v c.keeper.invariant.0
-          (subst (λ (z : Settings). t < z.slots) (sym (settings_are c.keeper.view_is)) c.requires.vacant.0) c.keep.ensures.change);
+      keeping = c.publish_entry.ensures.attached v.entry.number (ap (λ (x : KeeperView). kept_at x.keeps t) c.keep.ensures.change
+          ∙ get_or-set_same inside.seat.view.keeps t (Some v.entry.number) None (omega (arith, within, c.keeper.invariant.0.view.sized.keeps)));
     })
 
 pub returns-clause-log : goal.returns-clause-log
