@@ -53,12 +53,7 @@ with_total_keeper a k l rows n t marks total given_up our some size change is_sh
 
 -- A collection
 
--- the view after it, with the new total v and the mark m
-added_is : (k l b : KeeperView) (t c v w : ℕ) (m : Mark) → HasCollected k t c w l → m ≡ mark_after_collect (mark_at k.marks t c) → HasAdded l t v b
-    → b ≡ with_total k t (set (row_of k t) c m) v k.given_up
-added_is k l b t c v w m change mark added =
-    added ∙ ap (λ (x : KeeperView). record x { totals = set x.totals t v; due = Rest }) change ∙ sym (ap (λ (x : Mark). with_total k t (set (row_of k t) c x) v k.given_up) mark)
-
+-- the keeper's data agree with the view after it, with the new total v and the mark m
 pub collected_keeper : {log : List LogItem} (a : Settings) (k l b : KeeperView) (rows : List KeptSlot) (ms : List Mark) (n : ℕ) (x : OnKeeper) (t c p v w : ℕ) (e : Entry) (q m : Mark)
     → IsOurKeeper a k rows n → MarksAgree a k ms → record { view = k; slots = states_of rows; log = log } ≡ x
     → slot_at x.slots t ≡ Retired e → c < a.cpus → p ≡ t * a.cpus + c → q ≡ get_or ms p q → HasCollected k t c w l → m ≡ mark_after_collect q → HasAdded l t v b
@@ -69,7 +64,8 @@ collected_keeper a k l b rows ms n x t c p v w e q m our marks is retired cpu pl
     let lt = (retired_in a k rows t e our.rows here).0 in
     let mark : m ≡ mark_after_collect (mark_at k.marks t c) = made_of ∙ ap mark_after_collect (mark_read a k ms t c p q marks lt cpu place read) in
     let long : length (set (row_of k t) c m) ≡ MOST_CPUS = length-set (row_of k t) c m ∙ our.view.sized.mark_rows t (omega (arith, lt, our.view.sized.marks)) in
-    let now = added_is k l b t c v w m change mark added in (
+    let now : b ≡ with_total k t (set (row_of k t) c m) v k.given_up = added ∙ ap (λ (x : KeeperView). record x { totals = set x.totals t v; due = Rest }) change
+    ∙ sym (ap (λ (x : Mark). with_total k t (set (row_of k t) c x) v k.given_up) mark) in (
       with_total_keeper a k b rows n t (set (row_of k t) c m) v k.given_up our (λ vacant. let q : Retired e ≡ Vacant = sym here ∙ vacant in cc) long now (step_is_shown made),
       marks_set a k b ms t c p m our.view marks lt cpu place (ap (λ (y : KeeperView). y.marks) now),
     )
