@@ -1,5 +1,5 @@
 -- A CPU acquires and releases local references: why it may, what it leaves, and that its plain data agree with its view on.
-use Rattle.std.proofs.Common.{◌≡◌, ◌≢◌, ℕ, ◌+◌, ◌<◌, ◌≤◌, List, length, set, Bool, true, false, ◌==◌, cond, refl, sym, ap, ◌∙◌, subst, arith, get_or-set_same, get_or-set_other, length-set, nat_lt, Option, Some, None, ◌-◌}
+use Rattle.std.proofs.Common.{◌≡◌, ◌≢◌, ⊎_elim, ◌⊎◌, ℕ, ◌+◌, ◌<◌, ◌≤◌, List, set, Bool, true, false, ◌==◌, cond, refl, sym, ap, ◌∙◌, subst, arith, length-set, nat_lt, Option, Some, None, ◌-◌}
 use Rattle.std.proofs.lemmas.Bool.{eq-eqb, ne_eqb, ltb-true}
 use Rattle.std.specs.Prelude.{if◌then◌else◌}
 use mathlib.Core.Logic.{dite}
@@ -11,6 +11,7 @@ use Rattle.registry_values.proofs.Answers.{uncounted_alike}
 use Rattle.registry_values.proofs.Fit.{ranges}
 use Rattle.protocol.specs.Common.{greatest_limit}
 use Rattle.protocol.proofs.History.{at_within}
+use Rattle.protocol.proofs.Occupied.{place_cases}
 use Rattle.cpu_words.specs.Common.{number_at, with_number, IsShownCpu, IsPlaceCount, IsMetAlone, one_more, IsNetCount, MayCount, HasCounted, HasSplit, HasCountedDown, HasFoundCollected, HasSplitBack, with_hand}
 use Rattle.cpu_words.specs.declared.view.InHand.TheVariants.{Empty as NoEntry, Taking as TakingEntry, Giving as GivingEntry, Back as BackEntry}
 use Rattle.cpu_words.proofs.by_cpu.Locals.{with_number_same, with_number_other, one_more_same, one_more_other, place_is}
@@ -52,46 +53,36 @@ net_most x l t n w agree is = subst (λ k. k ≤ bias + greatest_limit) (sym is)
 pub net_set : (x y : CpuView) (l : List NumberedCount) (t n v : ℕ) → NetAgree x l → t < x.settings.slots → y.settings ≡ x.settings → IsMetAlone x t n → y.met ≡ with_number x.met t n
     → v + number_at y.released n ≡ bias + number_at y.acquired n → v ≤ bias + greatest_limit
     → ((m : ℕ) → m ≢ n → (number_at y.acquired m ≡ number_at x.acquired m) × (number_at y.released m ≡ number_at x.released m)) → NetAgree y (set l t (record { number = n; count = v }))
-net_set x y l t n v agree lt settings alone met count most same = record { size = length-set l t place ∙ agree.size ∙ ap (λ (s : Settings). s.slots) (sym settings); met = λ u. found u; counts = λ u some. counted u some; most = λ u. below u }
+net_set x y l t n v agree lt settings alone met count most same = record {
+  size = length-set l t place ∙ agree.size ∙ ap (λ (s : Settings). s.slots) (sym settings);
+  met = λ u. ⊎_elim
+      (λ (on : (u ≡ t) × (place_at (set l t place) u ≡ place)). ap (λ (p : NumberedCount). p.number) on.1
+      ∙ sym (ap (λ k. number_at y.met k) on.0 ∙ ap (λ m. number_at m t) met ∙ with_number_same x.met t n))
+      (λ (off : (u ≡ t → ⊥) × (place_at (set l t place) u ≡ place_at l u)). ap (λ (p : NumberedCount). p.number) off.1 ∙ agree.met u
+      ∙ sym (ap (λ m. number_at m u) met ∙ with_number_other x.met t n u off.0))
+      (at u);
+  counts = λ u some. ⊎_elim
+      (λ (on : (u ≡ t) × (place_at (set l t place) u ≡ place)). subst Counts (sym on.1) count)
+      (λ (off : (u ≡ t → ⊥) × (place_at (set l t place) u ≡ place_at l u)).
+      let p = place_at l u in
+      let was = agree.counts u (λ none. some (ap (λ (q : NumberedCount). q.number) off.1 ∙ none)) in
+      let on = same p.number (λ is. off.0 (alone u (sym (agree.met u) ∙ is))) in
+      subst Counts (sym off.1) (ap (λ k. p.count + k) on.1 ∙ was ∙ ap (λ k. bias + k) (sym on.0)))
+      (at u);
+  most = λ u. ⊎_elim
+      (λ (on : (u ≡ t) × (place_at (set l t place) u ≡ place)). subst (λ (p : NumberedCount). p.count ≤ bias + greatest_limit) (sym on.1) most)
+      (λ (off : (u ≡ t → ⊥) × (place_at (set l t place) u ≡ place_at l u)). subst (λ (p : NumberedCount). p.count ≤ bias + greatest_limit) (sym off.1) (agree.most u))
+      (at u);
+}
   where
     place : NumberedCount
     place = record { number = n; count = v }
 
-    within : t < length l
-    within = let size : length l ≡ x.settings.slots = agree.size in omega (arith, size, lt)
-
-    here : place_at (set l t place) t ≡ place
-    here = get_or-set_same l t place no_place within
-
-    other : (u : ℕ) → u ≢ t → place_at (set l t place) u ≡ place_at l u
-    other u off = get_or-set_other l t u place no_place off
-
-    found : (u : ℕ) → (place_at (set l t place) u).number ≡ number_at y.met u
-    found u = dite (ℕ_discrete u t)
-        (λ (on : u ≡ t). ap (λ k. (place_at (set l t place) k).number) on ∙ ap (λ (p : NumberedCount). p.number) here
-        ∙ sym (ap (λ k. number_at y.met k) on ∙ ap (λ m. number_at m t) met ∙ with_number_same x.met t n))
-        (λ (off : u ≢ t). ap (λ (p : NumberedCount). p.number) (other u off) ∙ agree.met u ∙ sym (ap (λ m. number_at m u) met ∙ with_number_other x.met t n u off))
+    at : (u : ℕ) → ((u ≡ t) × (place_at (set l t place) u ≡ place)) ⊎ ((u ≡ t → ⊥) × (place_at (set l t place) u ≡ place_at l u))
+    at u = place_cases no_place l t place u (omega (arith, agree.size, lt))
 
     Counts : NumberedCount → Type 0
     Counts p = p.count + number_at y.released p.number ≡ bias + number_at y.acquired p.number
-
-    counted : (u : ℕ) → (place_at (set l t place) u).number ≢ 0 → Counts (place_at (set l t place) u)
-    counted u some = dite (ℕ_discrete u t)
-        (λ (on : u ≡ t). subst Counts (sym (ap (place_at (set l t place)) on ∙ here)) count)
-        (λ (off : u ≢ t).
-        let p = place_at l u in
-        let m = p.number in
-        let apart : m ≢ n = λ is. off (alone u (sym (agree.met u) ∙ is)) in
-        let was : p.count + number_at x.released m ≡ bias + number_at x.acquired m = agree.counts u (λ none. some (ap (λ (q : NumberedCount). q.number) (other u off) ∙ none)) in
-        let on = same m apart in
-        let a : number_at y.acquired m ≡ number_at x.acquired m = on.0 in
-        let b : number_at y.released m ≡ number_at x.released m = on.1 in
-        subst Counts (sym (other u off)) (ap (λ k. p.count + k) b ∙ was ∙ ap (λ k. bias + k) (sym a)))
-
-    below : (u : ℕ) → (place_at (set l t place) u).count ≤ bias + greatest_limit
-    below u = dite (ℕ_discrete u t)
-        (λ (on : u ≡ t). subst (λ (p : NumberedCount). p.count ≤ bias + greatest_limit) (sym (ap (place_at (set l t place)) on ∙ here)) most)
-        (λ (off : u ≢ t). subst (λ (p : NumberedCount). p.count ≤ bias + greatest_limit) (sym (other u off)) (agree.most u))
 
 -- The data agree with the view after a count, up or down
 
@@ -100,26 +91,9 @@ pub counted_agrees : (z : TableId) (a : Settings) (t u : TableId) (x : CpuView) 
     → v + number_at released n ≡ bias + number_at acquired n → v ≤ bias + greatest_limit
     → ((m : ℕ) → m ≢ n → (number_at acquired m ≡ number_at x.acquired m) × (number_at released m ≡ number_at x.released m))
     → IsOurCpu z a u (record x { acquired = acquired; released = released; met = with_number x.met s n }) c w d o ps (set ns s (record { number = n; count = v })) ms
-counted_agrees z a t u x c w d o ps ns ms acquired released s n v our is_shown same lt alone count most others = record {
-  table = same ∙ our.table;
-  settings = our.settings;
-  fit = our.fit;
-  id = our.id;
-  few = our.few;
-  section = record { word = our.section.word; limit = our.section.limit };
-  idle = record { search = our.idle.search; hand = our.idle.hand };
-  depth = our.depth;
-  found = our.found;
-  passive = record {
-    size = our.passive.size;
-    counts = our.passive.counts;
-    placed = λ k some. let old = our.passive.placed k some in record { entry = old.entry; attached = old.attached; slot = old.slot; number = old.number };
-    each = our.passive.each;
-  };
-  net = net_set x _ ns s n v our.net lt refl alone refl count most others;
-  memory = our.memory;
-  is_shown = is_shown;
-}
+counted_agrees z a t u x c w d o ps ns ms acquired released s n v our is_shown same lt alone count most others =
+    let y : CpuView = record x { acquired = acquired; released = released; met = with_number x.met s n } in
+    assumption (same ∙ our.table, net_set x y ns s n v our.net lt refl alone refl count most others, our)
 
 -- the seat's table and view are as they were
 pub same_agrees : (z : TableId) (a : Settings) (t u : TableId) (x y : CpuView) (c w d : ℕ) (o : Found) (ps ns : List NumberedCount) (ms : Memory) → IsOurCpu z a t x c w d o ps ns ms → u ≡ t → y ≡ x
@@ -163,7 +137,7 @@ counted_room n most none = tells (nat_lt n most) refl none
     tells false test q = absurd (some_not_none LocalFull q)
 
 begun_of : (x : CpuView) (k : Found) → IsFoundAs x k → 0 < k.number
-begun_of x k kept = let begun = (at_within x.pass kept.entry.number (Attach kept.entry) kept.attached).0 in omega (arith, begun, kept.number)
+begun_of x k kept = omega (arith, (at_within x.pass kept.entry.number (Attach kept.entry) kept.attached).0, kept.number)
 
 -- what its place says is its net count for that entry, which has its slot
 net_of_found : (z : TableId) (a : Settings) (t : TableId) (x : CpuView) (c w d : ℕ) (k : Found) (ps ns : List NumberedCount) (ms : Memory) (n : ℕ) (kept : IsFoundAs x k)
@@ -210,17 +184,12 @@ pub record Acquired (x : CpuView) (e : Entry) (w : CpuView) (v : ReferenceView) 
 pub acquired_of : (x y w : CpuView) (v : ReferenceView) (e : Entry) → x.found ≡ Some e → x.hand ≡ NoEntry → HasCounted x e.slot e.number y → HasSplit y w v → Acquired x e w v
 acquired_of x y w v e found empty counted cut =
     let hand : TakingEntry cut.0 ≡ TakingEntry counted.0 = sym cut.1 ∙ ap (λ (k : CpuView). k.hand) counted.4 in
-    let one : cut.0 ≡ e = same_taking cut.0 counted.0 hand ∙ same_some counted.0 e (sym counted.1 ∙ found) in record {
+    let was : ◌≡◌ {A = Option Entry} (Some counted.0) (Some e) = sym counted.1 ∙ found in
+    let one : cut.0 ≡ e = cc in record {
       is = cut.3 ∙ (λ k. record { entry = one k; collected = None });
       view = cut.2 ∙ ap (λ (k : CpuView). record k { hand = NoEntry }) counted.4
           ∙ (λ k. record x { hand = sym empty k; acquired = one_more x.acquired e.number; met = with_number x.met e.slot e.number });
     }
-  where
-    same_taking : (f g : Entry) → TakingEntry f ≡ TakingEntry g → f ≡ g
-    same_taking f g q = cc
-
-    same_some : (f g : Entry) → ◌≡◌ {A = Option Entry} (Some f) (Some g) → f ≡ g
-    same_some f g q = cc
 
 -- the step counted the entry that is kept as k
 counted_it : (x y : CpuView) (k : Found) (kept : IsFoundAs x k) → HasCounted x k.slot k.number y → HasCounted x kept.entry.slot kept.entry.number y
@@ -230,9 +199,8 @@ pub acquired_reference : (z : TableId) (a : Settings) (t : TableId) (x : CpuView
     → IsOurCpu z a t x c w d k ps ns ms → IsFoundAs x k → HasCounted x k.slot k.number y → HasSplit y l v → IsOurReference v k.number k.slot k.kind
 acquired_reference z a t x c w d k ps ns ms y l v our kept counted cut =
     let left = acquired_of x y l v kept.entry kept.found our.idle.hand (counted_it x y k kept counted) cut in
-    let there : IsOurReference (record { entry = kept.entry; collected = None }) k.number k.slot k.kind =
-    record { number = sym kept.number; slot = sym kept.slot; kind = sym kept.kind; begun = begun_of x k kept; few = kept.few } in
-    subst (λ (r : ReferenceView). IsOurReference r k.number k.slot k.kind) (sym left.is) there
+    subst (λ (r : ReferenceView). IsOurReference r k.number k.slot k.kind) (sym left.is)
+    record { number = sym kept.number; slot = sym kept.slot; kind = sym kept.kind; begun = begun_of x k kept; few = kept.few }
 
 pub acquired_agrees : (z : TableId) (a : Settings) (t u : TableId) (x : CpuView) (c w d : ℕ) (k : Found) (ps ns : List NumberedCount) (ms : Memory) (y l : CpuView) (v : ReferenceView) (n : ℕ)
     → IsOurCpu z a t x c w d k ps ns ms → IsShownCpu l → IsFoundAs x k → u ≡ t → HasCounted x k.slot k.number y → HasSplit y l v → IsNetCount x k.number n → n < bias + x.settings.count_limit
@@ -242,8 +210,7 @@ acquired_agrees z a t u x c w d k ps ns ms y l v n our is_shown kept same counte
     let left = acquired_of x y l v kept.entry kept.found our.idle.hand (counted_it x y k kept counted) cut in
     let view : l ≡ record x { acquired = one_more x.acquired k.number; met = with_number x.met k.slot k.number } =
     left.view ∙ (λ i. record x { acquired = one_more x.acquired (sym kept.number i); met = with_number x.met (sym kept.slot i) (sym kept.number i) }) in
-    let one = one_more_same x.acquired k.number in
-    let count : n + 1 + number_at x.released k.number ≡ bias + number_at (one_more x.acquired k.number) k.number = omega (arith, net, one) in
+    let count : n + 1 + number_at x.released k.number ≡ bias + number_at (one_more x.acquired k.number) k.number = omega (arith, net, one_more_same x.acquired k.number) in
     let limit : x.settings.count_limit ≤ greatest_limit = subst (λ (b : Settings). b.count_limit ≤ greatest_limit) (sym our.settings) (ranges a our.fit).counts in
     subst (λ (q : CpuView). IsOurCpu z a u q c w d k ps (set ns k.slot (record { number = k.number; count = n + 1 })) ms) (sym view)
     (counted_agrees z a t u x c w d k ps ns ms (one_more x.acquired k.number) x.released k.slot k.number (n + 1) our (subst IsShownCpu view is_shown) same kept.within alone count
@@ -263,14 +230,11 @@ pub released_agrees : (z : TableId) (a : Settings) (t u : TableId) (x : CpuView)
     → IsOurCpu z a u k c w d o ps (set ns s (record { number = n; count = count - 1 })) ms
 released_agrees z a t u x c w d o ps ns ms v n s count kind y k our is_shown its lt same joined counted floor is net alone =
     let was : count + number_at x.released n ≡ bias + number_at x.acquired n = subst (λ (q : CpuView). IsNetCount q n count) joined net in
-    let here : IsMetAlone x s n = subst (λ (q : CpuView). IsMetAlone q s n) joined alone in
-    let one = one_more_same x.released n in
-    let after : count - 1 + number_at (one_more x.released n) n ≡ bias + number_at x.acquired n = omega (arith, was, one, floor) in
-    let most = net_most x ns s n count our.net is in
+    let after : count - 1 + number_at (one_more x.released n) n ≡ bias + number_at x.acquired n = omega (arith, was, one_more_same x.released n, floor) in
     let view = released_of x y k v.entry s n our.idle.hand joined counted in
     subst (λ (q : CpuView). IsOurCpu z a u q c w d o ps (set ns s (record { number = n; count = count - 1 })) ms) (sym view)
-    (counted_agrees z a t u x c w d o ps ns ms x.acquired (one_more x.released n) s n (count - 1) our (subst IsShownCpu view is_shown) same lt here after (omega (arith, most))
-    (λ m off. (refl, one_more_other x.released n m off)))
+    (counted_agrees z a t u x c w d o ps ns ms x.acquired (one_more x.released n) s n (count - 1) our (subst IsShownCpu view is_shown) same lt
+    (subst (λ (q : CpuView). IsMetAlone q s n) joined alone) after (omega (arith, net_most x ns s n count our.net is)) (λ m off. (refl, one_more_other x.released n m off)))
 
 -- What a collected word leaves: the CPU as it was, and the reference again
 
@@ -282,14 +246,8 @@ pub come_back : (x y k w : CpuView) (e : Entry) (n : ℕ) (v : ReferenceView) �
 come_back x y k w e n v empty joined found cut =
     let giving : GivingEntry found.0 ≡ GivingEntry e = sym found.1 ∙ ap (λ (q : CpuView). q.hand) joined in
     let back : BackEntry cut.0 ≡ BackEntry found.0 = sym cut.1 ∙ ap (λ (q : CpuView). q.hand) found.3 in
-    let one : cut.0 ≡ e = same_back cut.0 found.0 back ∙ same_giving found.0 e giving in
+    let one : cut.0 ≡ e = cc in
     let id : k.id ≡ x.id = ap (λ (q : CpuView). q.id) found.3 ∙ ap (λ (q : CpuView). q.id) joined in record {
       cpu = cut.2 ∙ ap (λ (q : CpuView). with_hand q NoEntry) found.3 ∙ ap (λ (q : CpuView). with_hand q NoEntry) joined ∙ (λ i. with_hand x (sym empty i));
       is = cut.3 ∙ (λ i. record { entry = one i; collected = Some (id i) });
     }
-  where
-    same_giving : (f g : Entry) → GivingEntry f ≡ GivingEntry g → f ≡ g
-    same_giving f g q = cc
-
-    same_back : (f g : Entry) → BackEntry f ≡ BackEntry g → f ≡ g
-    same_back f g q = cc

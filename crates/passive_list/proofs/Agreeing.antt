@@ -15,7 +15,7 @@ use Rattle.protocol.specs.Common.{IsAttached}
 use Rattle.protocol.proofs.Cells.{get_or_all}
 use Rattle.protocol.proofs.Occupied.{in_within}
 use Rattle.protocol.proofs.History.{at_within}
-use Rattle.cpu_words.specs.Common.{IsShownCpu, number_at, references_to, depth_of, new_cpu, HasEntered, HasExited, did, SeatMakes, Seated, Makes, MaySeek, IsIdle, MayExit}
+use Rattle.cpu_words.specs.Common.{IsShownCpu, number_at, references_to, depth_of, new_cpu, HasEntered, HasExited, did, SeatMakes, Seated, MaySeek, IsIdle, MayExit}
 use Rattle.cpu_words.proofs.seats.Seating.{found_is_in, new_cpu_is_shown, entered_whole, step_is_shown}
 use Rattle.cpu_words.proofs.shown.Seeing.{attached_prefix, seen_of}
 use Rattle.cpu_words.proofs.by_cpu.Passives.{known_of}
@@ -44,21 +44,10 @@ inside b = record { outside = (λ (q : Some b ≡ None). cc, λ (q : 1 ≡ 0). a
 -- a new CPU
 pub new_agrees : (z : TableId) (a : Settings) (t : TableId) (c : ℕ) → t ≡ z → IsTrue (are_fit a) → c < a.cpus
     → IsOurCpu z a t (new_cpu a c) c 0 0 no_found (replicate a.slots no_place) (replicate a.slots no_place) (no_memory a.slots)
-new_agrees z a t c table fit lt = record {
-  table = table;
-  settings = refl;
-  fit = fit;
-  id = refl;
-  few = lt;
-  section = record { word = refl; limit = omega arith };
-  idle = record { search = refl; hand = refl };
-  depth = outside;
-  found = refl;
-  passive = new_passive a c;
-  net = new_net a c;
-  memory = none_remembered a.slots [] (let some = (ranges a fit).some_slot in omega (arith, some)) (ranges a fit).slots;
-  is_shown = new_cpu_is_shown a fit c lt;
-}
+new_agrees z a t c table fit lt =
+    let limit : 0 + 0 ≤ a.section_limit = omega arith in
+    let memory = none_remembered a.slots [] (omega (arith, (ranges a fit).some_slot)) (ranges a fit).slots in
+    assumption (limit, outside, new_passive a c, new_net a c, memory, new_cpu_is_shown a fit c lt)
 
 -- what was read at a slot is its place
 pub place_is : (ps : List NumberedCount) (t : ℕ) (p : NumberedCount) → p ≡ slice_index_or ps t p → t < length ps → p ≡ place_at ps t
@@ -89,26 +78,19 @@ pub entered_agrees : (z : TableId) (a : Settings) (t u : TableId) (x y : CpuView
     → IsOurCpu z a t x c w d e ps ns ms → IsShownCpu y → u ≡ t → d ≡ 0 → w < a.section_limit → HasEntered x y → IsOurCpu z a u y c w 1 e ps ns ms
 entered_agrees z a t u x y c w d e ps ns ms our is_shown same shallow room had =
     let p = y.pass in
-    let longer : IsPrefix x.pass p = had.0 in
     let z0 : CpuView = record x { section = x.section + 1; begin = Some (length p); pass = p } in
     let none : depth_of x.begin ≡ 0 = ap depth_of (our.depth.outside.1 shallow) in
-    let word : x.section ≡ 2 * w + depth_of x.begin = our.section.word in
-    let there : IsOurCpu z a u z0 c w 1 e ps ns ms = record {
-      table = same ∙ our.table;
-      settings = our.settings;
-      fit = our.fit;
-      id = our.id;
-      few = our.few;
-      section = record { word = omega arith; limit = omega arith };
-      idle = record { search = our.idle.search; hand = our.idle.hand };
-      depth = inside (length p);
-      found = our.found;
-      passive = passive_longer x z0 ps refl refl longer our.passive;
-      net = net_same x z0 ns refl refl refl refl our.net;
-      memory = stays x.settings.slots x.pass p ms longer our.memory;
-      is_shown = subst IsShownCpu had.1 is_shown;
-    } in
-    subst (λ (v : CpuView). IsOurCpu z a u v c w 1 e ps ns ms) (sym had.1) there
+    let section : SectionAgrees a z0 w = record { word = omega (arith, our.section.word, none); limit = omega arith } in
+    subst (λ (v : CpuView). IsOurCpu z a u v c w 1 e ps ns ms) (sym had.1) (assumption (
+      same ∙ our.table,
+      section,
+      inside (length p),
+      passive_longer x z0 ps refl refl had.0 our.passive,
+      net_same x z0 ns refl refl refl refl our.net,
+      stays x.settings.slots x.pass p ms had.0 our.memory,
+      subst IsShownCpu had.1 is_shown,
+      our,
+    ))
 
 -- an open section
 opened : (b : Option ℕ) → b ≢ None → depth_of b ≡ 1
@@ -122,47 +104,31 @@ exited_agrees z a t u x y c w d e ps ns ms our is_shown same last had =
     let some : x.begin ≢ None = λ q. absurd (let none : d ≡ 0 = our.depth.outside.0 q in omega arith) in
     let z0 : CpuView = record x { section = x.section + 1; begin = None; found = None } in
     let one : depth_of x.begin ≡ 1 = opened x.begin some in
-    let word : x.section ≡ 2 * w + depth_of x.begin = our.section.word in
-    let limit : w + depth_of x.begin ≤ a.section_limit = our.section.limit in
-    let there : IsOurCpu z a u z0 c (w + 1) 0 (record e { number = 0 }) ps ns ms = record {
-      table = same ∙ our.table;
-      settings = our.settings;
-      fit = our.fit;
-      id = our.id;
-      few = our.few;
-      section = record { word = omega arith; limit = omega arith };
-      idle = record { search = our.idle.search; hand = our.idle.hand };
-      depth = outside;
-      found = refl;
-      passive = passive_longer x z0 ps refl refl (([], append-nil x.pass)) our.passive;
-      net = net_same x z0 ns refl refl refl refl our.net;
-      memory = our.memory;
-      is_shown = subst IsShownCpu had is_shown;
-    } in
-    subst (λ (v : CpuView). IsOurCpu z a u v c (w + 1) 0 (record e { number = 0 }) ps ns ms) (sym had) there
+    let section : SectionAgrees a z0 (w + 1) = record { word = omega (arith, our.section.word, one); limit = omega (arith, our.section.limit, one) } in
+    subst (λ (v : CpuView). IsOurCpu z a u v c (w + 1) 0 (record e { number = 0 }) ps ns ms) (sym had) (assumption (
+      same ∙ our.table,
+      section,
+      outside,
+      passive_longer x z0 ps refl refl (([], append-nil x.pass)) our.passive,
+      net_same x z0 ns refl refl refl refl our.net,
+      subst IsShownCpu had is_shown,
+      our,
+    ))
 
 -- the pass grows, another entry may be the last found one, and another note may lie beside the view
 pub seen_agrees : (z : TableId) (a : Settings) (t u : TableId) (x y : CpuView) (c w d : ℕ) (e k : Found) (f : Option Entry) (ps ns : List NumberedCount) (ms : Memory) (h : List Change)
     → IsOurCpu z a t x c w d e ps ns ms → IsShownCpu y → u ≡ t → IsPrefix x.pass y.pass → y ≡ record x { pass = y.pass; found = f; noted_pass = h } → IsKept k f → IsOurCpu z a u y c w d k ps ns ms
 seen_agrees z a t u x y c w d e k f ps ns ms h our is_shown same longer is kept =
-    let p = y.pass in
-    let z0 : CpuView = record x { pass = p; found = f; noted_pass = h } in
-    let there : IsOurCpu z a u z0 c w d k ps ns ms = record {
-      table = same ∙ our.table;
-      settings = our.settings;
-      fit = our.fit;
-      id = our.id;
-      few = our.few;
-      section = record { word = our.section.word; limit = our.section.limit };
-      idle = record { search = our.idle.search; hand = our.idle.hand };
-      depth = our.depth;
-      found = kept;
-      passive = passive_longer x z0 ps refl refl longer our.passive;
-      net = net_same x z0 ns refl refl refl refl our.net;
-      memory = stays x.settings.slots x.pass p ms longer our.memory;
-      is_shown = subst IsShownCpu is is_shown;
-    } in
-    subst (λ (v : CpuView). IsOurCpu z a u v c w d k ps ns ms) (sym is) there
+    let z0 : CpuView = record x { pass = y.pass; found = f; noted_pass = h } in
+    subst (λ (v : CpuView). IsOurCpu z a u v c w d k ps ns ms) (sym is) (assumption (
+      same ∙ our.table,
+      passive_longer x z0 ps refl refl longer our.passive,
+      net_same x z0 ns refl refl refl refl our.net,
+      stays x.settings.slots x.pass y.pass ms longer our.memory,
+      subst IsShownCpu is is_shown,
+      kept,
+      our,
+    ))
 
 pub noted_agrees : (z : TableId) (a : Settings) (t u : TableId) (x y : CpuView) (c w d : ℕ) (e : Found) (ps ns : List NumberedCount) (ms : Memory) (h : List Change)
     → IsOurCpu z a t x c w d e ps ns ms → IsShownCpu y → u ≡ t → IsPrefix x.pass y.pass → y ≡ record x { pass = y.pass; noted_pass = h } → IsOurCpu z a u y c w d e ps ns ms
@@ -179,40 +145,12 @@ looked_up_agrees z a t u x y c w d e k f ps ns ms key our is_shown same kept had
 -- the data of a CPU agree with its view by the table and the settings that its own seat has
 pub own_agrees : (z : TableId) (a : Settings) (t : TableId) (x : CpuView) (c w d : ℕ) (e : Found) (ps ns : List NumberedCount) (ms : Memory) → IsOurCpu z a t x c w d e ps ns ms
     → IsOurCpu t x.settings t x c w d e ps ns ms
-own_agrees z a t x c w d e ps ns ms our = record {
-  table = refl;
-  settings = refl;
-  fit = subst (λ (s : Settings). IsTrue (are_fit s)) (sym our.settings) our.fit;
-  id = our.id;
-  few = subst (λ (s : Settings). c < s.cpus) (sym our.settings) our.few;
-  section = subst (λ (s : Settings). SectionAgrees s x w) (sym our.settings) our.section;
-  idle = our.idle;
-  depth = our.depth;
-  found = our.found;
-  passive = our.passive;
-  net = our.net;
-  memory = our.memory;
-  is_shown = our.is_shown;
-}
+own_agrees z a t x c w d e ps ns ms our = subst (λ (s : Settings). IsOurCpu t s t x c w d e ps ns ms) (sym our.settings) (assumption our)
 
 -- other entries of the pass are remembered
 pub memory_agrees : (z : TableId) (a : Settings) (t : TableId) (x : CpuView) (c w d : ℕ) (e : Found) (ps ns : List NumberedCount) (ms m : Memory) → IsOurCpu z a t x c w d e ps ns ms
     → Remembers x.settings.slots x.pass m → IsOurCpu z a t x c w d e ps ns m
-memory_agrees z a t x c w d e ps ns ms m our kept = record {
-  table = our.table;
-  settings = our.settings;
-  fit = our.fit;
-  id = our.id;
-  few = our.few;
-  section = our.section;
-  idle = our.idle;
-  depth = our.depth;
-  found = our.found;
-  passive = our.passive;
-  net = our.net;
-  memory = kept;
-  is_shown = our.is_shown;
-}
+memory_agrees z a t x c w d e ps ns ms m our kept = assumption (kept, our)
 
 -- an entry that it found last or refers to is in a slot of its table
 pub slot_within : (x : CpuView) (e : Entry) → IsShownCpu x → (x.found ≡ Some e) ⊎ Contains x.references e → e.slot < x.settings.slots
@@ -238,19 +176,16 @@ found_as x k shown kept some = by_cases x.found kept refl
     by_cases : (f : Option Entry) → IsKept k f → x.found ≡ f → IsFoundAs x k
     by_cases None none is = absurd (some none)
     by_cases (Some e) kept is =
-        let within = in_within shown.g.slots e.slot e (found_is_in x e shown is).1 in
-        let most = (ranges shown.g.settings shown.good.holds.fit).slots in
-        let size = shown.good.holds.shape.slots in
-        record { entry = e; found = is; number = kept.0; slot = kept.1; kind = kept.2; few = omega (arith, kept.1, within, most, size); within = omega (arith, kept.1, slot_within x e shown (inl is)); attached = shown.shown.found e is }
+        let few : k.slot < MOST_SLOTS =
+        omega (arith, kept.1, in_within shown.g.slots e.slot e (found_is_in x e shown is).1, (ranges shown.g.settings shown.good.holds.fit).slots, shown.good.holds.shape.slots) in
+        record { entry = e; found = is; number = kept.0; slot = kept.1; kind = kept.2; few = few; within = omega (arith, kept.1, slot_within x e shown (inl is)); attached = shown.shown.found e is }
 
 pub found_none : (x : CpuView) (k : Found) → IsShownCpu x → IsKept k x.found → k.number ≡ 0 → x.found ≡ None
 found_none x k shown kept none = by_cases x.found kept refl
   where
     by_cases : (f : Option Entry) → IsKept k f → x.found ≡ f → x.found ≡ None
     by_cases None kept is = is
-    by_cases (Some e) kept is =
-        let begun = (at_within x.pass e.number (Attach e) (shown.shown.found e is)).0 in
-        absurd (omega (arith, kept.0, begun, none))
+    by_cases (Some e) kept is = absurd (omega (arith, kept.0, (at_within x.pass e.number (Attach e) (shown.shown.found e is)).0, none))
 
 -- outside there is none
 pub none_outside : (x : CpuView) → IsShownCpu x → x.begin ≡ None → x.found ≡ None
@@ -258,9 +193,7 @@ none_outside x shown outside = by_cases x.found refl
   where
     by_cases : (f : Option Entry) → x.found ≡ f → x.found ≡ None
     by_cases None is = is
-    by_cases (Some e) is =
-        let held = (found_is_in x e shown is).0 in
-        absurd (none-some held.0 (sym outside ∙ held.1))
+    by_cases (Some e) is = let held = (found_is_in x e shown is).0 in absurd (none-some held.0 (sym outside ∙ held.1))
 
 pub holds_found : (x : CpuView) → IsShownCpu x → HoldsFound x
 holds_found x shown = record { is_shown = shown; held = λ e is. (found_is_in x e shown is).0; slot = λ e is. (found_is_in x e shown is).1 }
@@ -277,8 +210,7 @@ pub may_begin_is : (z : TableId) (a : Settings) (t : TableId) (x : CpuView) (c w
 may_begin_is z a t x c w d e ps ns ms limit our is =
     let word = our.section.word in
     let most : x.settings.section_limit ≡ a.section_limit = ap (λ (s : Settings). s.section_limit) our.settings in
-    let at = few x.begin in
-    same_test w limit x.section (2 * x.settings.section_limit) (λ lt. omega (arith, lt, word, is, most, at)) (λ ge. omega (arith, ge, word, is, most))
+    same_test w limit x.section (2 * x.settings.section_limit) (λ lt. omega (arith, lt, word, is, most, few x.begin)) (λ ge. omega (arith, ge, word, is, most))
 
 -- so it has then
 pub unspent : (z : TableId) (a : Settings) (t : TableId) (x : CpuView) (c w d : ℕ) (e : Found) (ps ns : List NumberedCount) (ms : Memory) → IsOurCpu z a t x c w d e ps ns ms → IsTrue (may_begin x)
@@ -289,26 +221,21 @@ unspent z a t x c w d e ps ns ms our may = ltb-true w a.section_limit (may_begin
 abbrev pub cpu_at : Seated CpuView → ℕ → Memory → OnCpu
 cpu_at s depth m = record { view = s.view; depth = depth; made = 0; memory = m; known_log = s.known_log; log = s.log }
 
-began : (x y : CpuView) → HasEntered x y → y.begin ≢ None
-began x y had none = let clash : ◌≡◌ {A = Option ℕ} (Some (length y.pass)) None = sym (ap (λ (v : CpuView). v.begin) had.1) ∙ none in cc
-
 -- a section begins by the step
 pub entered_on : (a : OnCpu) (s t : Seated CpuView) (c d n : ℕ) (m : Memory) → cpu_at s d m ≡ a → s.view.id ≡ c → d ≡ 0 → n ≡ d + 1 → SeatMakes Cpu (Enter c) Done s t → HasEntered s.view t.view
     → HasEnteredOn a (cpu_at t n m)
-entered_on a s t c d n m at id shallow one made entered =
-    let had : HasEnteredOn (cpu_at s d m) (cpu_at t n m) = record {
-      begun = λ _. entered;
-      whole = λ _. entered_whole c s.view t.view id made.event;
-      inner = λ off. absurd (off shallow);
-      inside = began s.view t.view entered;
-      depth = one;
-      made = refl;
-      memory = refl;
-      known_log = made.known_log;
-      event = λ _. made.log ∙ ap (λ (i : ℕ). s.log ++ did (Enter i) Done) (sym id);
-      none = λ off. absurd (off shallow);
-    } in
-    subst (λ (b : OnCpu). HasEnteredOn b (cpu_at t n m)) at had
+entered_on a s t c d n m at id shallow one made entered = subst (λ (b : OnCpu). HasEnteredOn b (cpu_at t n m)) at record {
+  begun = λ _. entered;
+  whole = λ _. entered_whole c s.view t.view id made.event;
+  inner = λ off. absurd (off shallow);
+  inside = λ none. none-some (length t.view.pass) (sym none ∙ ap (λ (v : CpuView). v.begin) entered.1);
+  depth = one;
+  made = refl;
+  memory = refl;
+  known_log = made.known_log;
+  event = λ _. made.log ∙ ap (λ (i : ℕ). s.log ++ did (Enter i) Done) (sym id);
+  none = λ off. absurd (off shallow);
+}
 
 -- A lookup from outside: the steps that its section allows, how the data agree with the view as it is over, and what it is to a contract.
 
@@ -326,12 +253,6 @@ may_exit key y v f may had = record {
   inside = (may.inside.0, ap (λ (i : CpuView). i.begin) had.is ∙ may.inside.1);
 }
 
-pub entered_id : (x y : CpuView) → HasEntered x y → y.id ≡ x.id
-entered_id x y had = ap (λ (v : CpuView). v.id) had.1
-
-pub looked_up_id : (key : Key) (y v : CpuView) (f : Option Entry) → HasLookedUp key y v f → v.id ≡ y.id
-looked_up_id key y v f had = ap (λ (i : CpuView). i.id) had.is
-
 -- The data
 
 -- what a find would keep of its answer
@@ -344,46 +265,34 @@ are_kept None = refl
 are_kept (Some e) = (refl, refl, refl)
 
 -- outside and with nothing found again, as before, and one section more is ended
-pub from_outside_agrees : (z : TableId) (a : Settings) (t u : TableId) (x y v w : CpuView) (c n m d : ℕ) (e : Found) (f : Option Entry) (ps ns : List NumberedCount) (ms : Memory) (key : Key)
-    → IsOurCpu z a t x c n d e ps ns ms → u ≡ t → d ≡ 0 → IsTrue (may_begin x) → Makes (Enter c) Done (Cpu x) (Cpu y) → HasEntered x y → IsShownCpu v → HasLookedUp key y v f → IsShownCpu w
-    → HasExited v w → m ≡ n + 1 → IsOurCpu u w.settings u w c m d e ps ns ms
-from_outside_agrees z a t u x y v w c n m d e f ps ns ms key our same shallow unended made entered looked_shown looked exited_shown exited one_more =
-    let room : n < a.section_limit = unspent z a t x c n d e ps ns ms our unended in
-    let inside = entered_agrees z a t u x y c n d e ps ns ms our (step_is_shown made) same shallow room entered in
-    let sought = looked_up_agrees z a u u y v c n 1 e (kept_of f) f ps ns ms key inside looked_shown refl (are_kept f) looked in
+pub from_outside_agrees : (z : TableId) (a : Settings) (t u : TableId) (x y : Seated CpuView) (v w : CpuView) (c n m d : ℕ) (e : Found) (f : Option Entry) (ps ns : List NumberedCount) (ms : Memory) (key : Key) (b : OnCpu)
+    → IsOurCpu z a t x.view c n d e ps ns ms → cpu_at x d ms ≡ b → b.depth ≡ 0 → IsTrue (may_begin b.view) → u ≡ t → SeatMakes Cpu (Enter c) Done x y → HasEntered x.view y.view
+    → IsShownCpu v → HasLookedUp key y.view v f → IsShownCpu w → HasExited v w → m ≡ n + 1 → IsOurCpu u w.settings u w c m d e ps ns ms
+from_outside_agrees z a t u x y v w c n m d e f ps ns ms key b our at outside unended same made entered looked_shown looked exited_shown exited one_more =
+    let shallow : d ≡ 0 = ap (λ (o : OnCpu). o.depth) at ∙ outside in
+    let room : n < a.section_limit = unspent z a t x.view c n d e ps ns ms our (subst (λ (o : OnCpu). IsTrue (may_begin o.view)) (sym at) unended) in
+    let inside = entered_agrees z a t u x.view y.view c n d e ps ns ms our (step_is_shown made.event) same shallow room entered in
+    let sought = looked_up_agrees z a u u y.view v c n 1 e (kept_of f) f ps ns ms key inside looked_shown refl (are_kept f) looked in
     let over = exited_agrees z a u u v w c n 1 (kept_of f) ps ns ms sought exited_shown refl refl exited in
-    let none : w.found ≡ None = ap (λ (i : CpuView). i.found) exited in
-    let was : IsKept e None = subst (λ (g : Option Entry). IsKept e g) (none_outside x our.is_shown (our.depth.outside.1 shallow)) our.found in
-    let there : IsOurCpu z a u w c (n + 1) d e ps ns ms = record {
-      table = over.table;
-      settings = over.settings;
-      fit = over.fit;
-      id = over.id;
-      few = over.few;
-      section = over.section;
-      idle = over.idle;
-      depth = subst (λ (k : ℕ). DepthAgrees w.begin k) (sym shallow) over.depth;
-      found = subst (λ (g : Option Entry). IsKept e g) (sym none) was;
-      passive = over.passive;
-      net = over.net;
-      memory = over.memory;
-      is_shown = over.is_shown;
-    } in
+    let was : IsKept e None = subst (λ (g : Option Entry). IsKept e g) (none_outside x.view our.is_shown (our.depth.outside.1 shallow)) our.found in
+    let kept : IsKept e w.found = subst (λ (g : Option Entry). IsKept e g) (sym (ap (λ (i : CpuView). i.found) exited)) was in
+    let there : IsOurCpu z a u w c (n + 1) d e ps ns ms = assumption (subst (λ (k : ℕ). DepthAgrees w.begin k) (sym shallow) over.depth, kept, over) in
     own_agrees z a u w c m d e ps ns ms (subst (λ (k : ℕ). IsOurCpu z a u w c k d e ps ns ms) (sym one_more) there)
 
 -- To a contract
 
 pub found_from_outside : (key : Key) (a : OnCpu) (x y v w : Seated CpuView) (c d : ℕ) (m : Memory) (f : Option Entry)
-    → cpu_at x d m ≡ a → IsIdle x.view → x.view.id ≡ c → d ≡ 0 → SeatMakes Cpu (Enter c) Done x y → HasEntered x.view y.view → HasLookedUp key y.view v.view f → v.known_log ≡ y.known_log
+    → cpu_at x d m ≡ a → IsIdle x.view → x.view.id ≡ c → a.depth ≡ 0 → SeatMakes Cpu (Enter c) Done x y → HasEntered x.view y.view → HasLookedUp key y.view v.view f → v.known_log ≡ y.known_log
     → SearchesOnce c y.view.settings.slots key f y.log v.log
     → SeatMakes Cpu (Exit c) Done v w → HasExited v.view w.view → HasFoundFromOutside key a (cpu_at w d m) f
-found_from_outside key a x y v w c d m f at idle id shallow enters entered looked known log exits exited =
+found_from_outside key a x y v w c d m f at idle id outside enters entered looked known log exits exited =
+    let shallow : d ≡ 0 = ap (λ (o : OnCpu). o.depth) at ∙ outside in
     let one : d + 1 ≡ 1 = omega (arith, shallow) in
     let same : y.view.search ≡ None = ap (λ (i : CpuView). i.search) entered.1 ∙ idle.search in
     let is : v.view ≡ record y.view { pass = v.view.pass; found = f } = looked.is ∙ ap (λ (s : Option Search). record y.view { pass = v.view.pass; search = s; found = f }) (sym same) in
-    let y_id : y.view.id ≡ c = entered_id x.view y.view entered ∙ id in
-    let v_id : v.view.id ≡ c = looked_up_id key y.view v.view f looked ∙ y_id in
-    let had : HasFoundFromOutside key (cpu_at x d m) (cpu_at w d m) f = record {
+    let y_id : y.view.id ≡ c = ap (λ (i : CpuView). i.id) entered.1 ∙ id in
+    let v_id : v.view.id ≡ c = ap (λ (i : CpuView). i.id) looked.is ∙ y_id in
+    subst (λ (b : OnCpu). HasFoundFromOutside key b (cpu_at w d m) f) at record {
       first = cpu_at y (d + 1) m;
       last = cpu_at v (d + 1) m;
       enters = entered_on (cpu_at x d m) x y c d (d + 1) m refl id shallow refl enters entered;
@@ -405,5 +314,4 @@ found_from_outside key a x y v w c d m f at idle id shallow enters entered looke
         event = λ _. exits.log ∙ ap (λ (i : ℕ). v.log ++ did (Exit i) Done) (sym v_id);
         none = λ off. absurd (off one);
       };
-    } in
-    subst (λ (b : OnCpu). HasFoundFromOutside key b (cpu_at w d m) f) at had
+    }

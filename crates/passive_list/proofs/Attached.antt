@@ -1,46 +1,25 @@
 -- An entry is published, and may keep its driver: the keeper may do so, and what it has agrees with what its seat knows then.
-use Rattle.std.proofs.Common.{◌≡◌, ℕ, ◌+◌, ◌<◌, ◌≤◌, false, List, length, set, Some, None, IsTrue, refl, sym, ap, ◌∙◌, subst, arith, get_or-set_same, get_or-set_other, length-set, inl, zero, suc, Bool, true, [], ◌∷◌, ◌++◌, get_or, Option}
+use Rattle.std.proofs.Common.{◌≡◌, ℕ, ◌+◌, ◌<◌, ◌≤◌, false, List, length, set, Some, None, IsTrue, refl, sym, ap, ◌∙◌, subst, arith, get_or-set_same, get_or-set_other, length-set, inl, zero, suc, Bool, true, true≢false, [], ◌∷◌, ◌++◌, get_or, Option}
 use Rattle.std.proofs.Math.Seq.{map-set_same}
-use Rattle.std.proofs.lemmas.List.Folds.{list_any_at}
+use Rattle.std.proofs.lemmas.List.Folds.{Any-from_list_any, list_any_at}
 use Rattle.std.proofs.lemmas.List.Sums.{sum_by-cons}
-use Rattle.std.proofs.lemmas.List.{append_assoc}
+use Rattle.std.proofs.lemmas.List.{append_assoc, get_or_default}
 use Rattle.atomic_table.specs.Seated.{TableId}
 use mathlib.Core.List.{IsPrefix}
-use Rattle.passive_list.specs.Types.{Change, Iface, Record, Settings, Slot, Vacant, KeeperView, LogItem, ReferenceView, Attach, Publish, Done, Entry, Kind, Driver, Key, Live, Retired}
-use Rattle.registry_values.specs.Common.{key_of_record, is_taken, live_count, slot_at, is_key, key_of, is_live, is_live_as, kind_word, same_key}
+use Rattle.passive_list.specs.Types.{Iface, Record, Settings, Slot, Vacant, KeeperView, LogItem, ReferenceView, Attach, Publish, Done, Entry, Kind, Driver, Key, Live, Retired}
+use Rattle.registry_values.specs.Common.{key_of_record, is_taken, live_count, slot_at, is_key, key_of, is_live, is_live_as, kind_word}
 use Rattle.registry_values.proofs.Fit.{ranges}
 use Rattle.protocol.specs.Common.{kept_at, with_biases, no_words, entry_if, entry_of, keeps_rightly, kind_of, words_of, after_change, one_if}
 use Rattle.protocol.specs.State.{row_at as words_at}
-use Rattle.protocol.proofs.Cells.{slot_here, slot_other}
 use Rattle.protocol.proofs.History.{length-after_change}
 use Rattle.protocol.proofs.keeps.ListKeeps.{live_count_set, rows_put}
 use Rattle.protocol.proofs.Occupied.{in_within}
-use Rattle.cpu_words.specs.Common.{keeper_after_keep, IsAttachedKeeping, LeadsBelow, MayPublish, HasPublished, To_end, To_slot, IsShown, MayWrite, keeper_after_live, log_item}
+use Rattle.cpu_words.specs.Common.{keeper_after_keep, IsAttachedKeeping, LeadsBelow, MayPublish, HasPublished, To_end, To_slot, IsShown, keeper_after_live, log_item}
 use Rattle.passive_list.specs.Common.{KeptSlot, OnPlainKeeper, on_keeper, no_row, row_at, state_of, states_of, IsAtRest, RowsAgree, IsOurKeeper, MayAttach, keeper_after_stores, keeper_after_publish}
-use Rattle.passive_list.proofs.Rows.{row_stays, rows_set, settings_are, state_at, live_in}
+use Rattle.passive_list.proofs.Rows.{keeper_on, row_stays, rows_set, settings_are, slots_agree, state_at, state_set, live_in}
 use Rattle.passive_list.proofs.Preparing.{biases_size, bias_stored}
 
 -- A slot keeps a reference to its driver: the keeper's rows say so, and an interface may be published there.
-
-keeping_at_rest : (a : Settings) (k : KeeperView) (t : ℕ) (v : ReferenceView) → IsAtRest a k → IsAtRest a (keeper_after_keep k t v)
-keeping_at_rest a k t v at = record {
-  settings = at.settings;
-  fit = at.fit;
-  rest = at.rest;
-  seated = at.seated;
-  sized = record {
-    slots = at.sized.slots;
-    marks = at.sized.marks;
-    mark_rows = at.sized.mark_rows;
-    keeps = length-set k.keeps t (Some v.entry.number) ∙ at.sized.keeps;
-    next = at.sized.next;
-    rows = at.sized.rows;
-    totals = at.sized.totals;
-    counts = at.sized.counts;
-    count_rows = at.sized.count_rows;
-  };
-  room = at.room;
-}
 
 abbrev pub row_keeping : KeptSlot → ℕ → KeptSlot
 row_keeping r n = record { state = r.state; total = r.total; keeps = Some n }
@@ -52,25 +31,14 @@ keeping_rows : (a : Settings) (k : KeeperView) (rows : List KeptSlot) (t n : ℕ
     → RowsAgree a (keeper_after_keep k t v) (rows_keeping rows t n)
 keeping_rows a k rows t n v at agree lt number =
     let l = keeper_after_keep k t v in
-    let some = Some v.entry.number in
-    let wide = at.sized.keeps in
     let had = agree.each t lt in
     rows_set a k l rows t (row_keeping (row_at rows t) n) lt agree
-    record {
-      state = had.state;
-      total = had.total;
-      keeps = sym (get_or-set_same k.keeps t some None (omega (arith, lt, wide)) ∙ ap Some number);
-      unused = had.unused;
-    }
-    (λ u off was. row_stays k l u (row_at rows u) refl refl (get_or-set_other k.keeps t u some None off) was)
+    (assumption (sym (get_or-set_same k.keeps t (Some v.entry.number) None (omega (arith, lt, at.sized.keeps)) ∙ ap Some number), had))
+    (λ u off was. row_stays k l u (row_at rows u) refl refl (get_or-set_other k.keeps t u (Some v.entry.number) None off) was)
 
 -- the slots stay
 pub states_keeping : (rows : List KeptSlot) (t n : ℕ) → states_of (rows_keeping rows t n) ≡ states_of rows
 states_keeping rows t n = map-set_same state_of rows t (row_keeping (row_at rows t) n) no_row refl
-
--- and so does the history
-pub same_history : (k l : KeeperView) (t : ℕ) (v : ReferenceView) → l ≡ keeper_after_keep k t v → length k.history ≡ length l.history
-same_history k l t v at = sym (ap (λ (x : KeeperView). length x.history) at)
 
 -- what publishing asks of the keeper once the slot keeps the reference, from what is asked of a caller
 pub may_attach : {table : TableId} {log : List LogItem} (a : Settings) (k l : KeeperView) (rows : List KeptSlot) (c t n : ℕ) (rec : Record) (v : ReferenceView) (x : OnPlainKeeper)
@@ -80,33 +48,22 @@ pub may_attach : {table : TableId} {log : List LogItem} (a : Settings) (k l : Ke
     → MayAttach a l (rows_keeping rows t n) (record { number = c + 1; slot = t; rec = rec })
 may_attach a k l rows c t n rec v x our is at number vacant kind name free room =
     let rest = our.view in
-    let empty : slot_at (states_of rows) t ≡ Vacant = ap (λ (y : OnPlainKeeper). slot_at y.keeper.slots t) is ∙ vacant.1 in
     let same = states_keeping rows t n in
-    let wide = rest.sized.keeps in
     let lt = subst (λ (y : OnPlainKeeper). t < y.words.settings.slots) (sym is) vacant.0 in
-    let some = Some v.entry.number in
-    let kept : kept_at (keeper_after_keep k t v).keeps t ≡ some = get_or-set_same k.keeps t some None (omega (arith, lt, wide)) in
+    let kept : kept_at (keeper_after_keep k t v).keeps t ≡ Some v.entry.number = get_or-set_same k.keeps t (Some v.entry.number) None (omega (arith, lt, rest.sized.keeps)) in
     let history : (keeper_after_keep k t v).history ≡ x.keeper.view.history = ap (λ (y : OnPlainKeeper). y.keeper.view.history) is in
     let states : states_of (rows_keeping rows t n) ≡ x.keeper.slots = same ∙ ap (λ (y : OnPlainKeeper). y.keeper.slots) is in
     subst (λ (y : KeeperView). MayAttach a y (rows_keeping rows t n) (record { number = c + 1; slot = t; rec = rec })) (sym at) record {
-      at = keeping_at_rest a k t v rest;
+      at = assumption (rest, length-set k.keeps t (Some v.entry.number) ∙ rest.sized.keeps);
       agree = keeping_rows a k rows t n v rest our.rows lt number;
       slot = lt;
-      vacant = ap (λ (xs : List Slot). slot_at xs t) same ∙ empty;
+      vacant = ap (λ (xs : List Slot). slot_at xs t) states ∙ vacant.1;
       keeps = rw (kept, kind) refl;
       name = name;
       free = ap (is_taken (key_of_record rec)) states ∙ free;
       room = rw (history, states) (subst (λ (z : Settings). length x.keeper.view.history + live_count x.keeper.slots + 2 ≤ z.change_limit) (sym (settings_are is)) room);
-      number = let changes =
-          our.changes in let long = ap (λ (h : List Change). length h) history in let was = ap (λ (y : OnPlainKeeper). length y.keeper.view.history) is in omega (arith, changes, long, was);
+      number = omega (arith, our.changes);
     }
-
--- the slot keeps the reference then
-pub keeps_it : (a : Settings) (k l : KeeperView) (rows : List KeptSlot) (n t : ℕ) (v : ReferenceView) → IsOurKeeper a k rows n → t < a.slots → l ≡ keeper_after_keep k t v
-    → kept_at l.keeps t ≡ Some v.entry.number
-keeps_it a k l rows n t v our lt change =
-    let size = our.view.sized.keeps in
-    ap (λ (x : KeeperView). kept_at x.keeps t) change ∙ get_or-set_same k.keeps t (Some v.entry.number) None (omega (arith, lt, size))
 
 -- An entry is published: the keeper may do so, and what it has agrees with what its seat knows then.
 
@@ -120,66 +77,46 @@ pub rows_live : (a : Settings) (k : KeeperView) (rows : List KeptSlot) → RowsA
 rows_live a k rows agree u f live = (live_in a k rows u f agree live).1
 
 pub live_rows : (a : Settings) (k : KeeperView) (rows : List KeptSlot) → IsAtRest a k → RowsAgree a k rows → LiveIn k.slots (states_of rows)
-live_rows a k rows at agree u f live =
-    let within = in_within k.slots u f (inl live) in
-    let size = at.sized.slots in
-    state_at rows u ∙ (sym (agree.each u (omega (arith, within, size))).state ∙ live)
+live_rows a k rows at agree u f live = sym (slots_agree a k rows u at agree) ∙ live
 
 pub leads_on : (xs ys : List Slot) (n v : ℕ) → LiveIn xs ys → LiveIn ys xs → LeadsBelow xs n v → LeadsBelow ys n v
 leads_on xs ys n v on back (To_end none) = To_end (λ u h live below. none u h (back u h live) below)
 leads_on xs ys n v on back (To_slot t f live below most) = To_slot t f (on t f live) below (λ u h is lt. most u h (back u h is) lt)
 
--- a live entry of a key takes it
-taken_at : (key : Key) (xs : List Slot) (u : ℕ) (f : Entry) → slot_at xs u ≡ Live f → same_key (key_of f) key ≡ true → is_taken key xs ≡ true
-taken_at key xs u f live same = list_any_at (is_live_as key) xs u Vacant (in_within xs u f (inl live)) (ap (is_live_as key) live ∙ same)
-
 -- a link leads to a slot
 pub leads_within : (slots : List Slot) (n v : ℕ) → LeadsBelow slots n v → v ≤ length slots
 leads_within slots n zero (To_end none) = omega arith
-leads_within slots n _ (To_slot t f live lt most) = let within = in_within slots t f (inl live) in omega (arith, within)
+leads_within slots n _ (To_slot t f live lt most) = omega (arith, in_within slots t f (inl live))
 
 pub free_on : (key : Key) (xs ys : List Slot) → LiveIn ys xs → is_taken key xs ≡ false → is_taken key ys ≡ false
-free_on key xs ys back free = walk ys (λ u f live. off u f (back u f live))
+free_on key xs ys back free = by (is_taken key ys) refl
   where
-    off : (u : ℕ) (f : Entry) → slot_at xs u ≡ Live f → same_key (key_of f) key ≡ false
-    off u f live = by (same_key (key_of f) key) refl
-      where
-        by : (b : Bool) → same_key (key_of f) key ≡ b → b ≡ false
-        by true is = sym (taken_at key xs u f live is) ∙ free
-        by false is = refl
+    live : (u : ℕ) (y : Slot) → slot_at ys u ≡ y → is_live_as key y ≡ true → is_taken key xs ≡ true
+    live u Vacant here is = absurd (true≢false (sym is))
+    live u (Live f) here is = let there = back u f here in list_any_at (is_live_as key) xs u Vacant (in_within xs u f (inl there)) (ap (is_live_as key) there ∙ is)
+    live u (Retired f) here is = absurd (true≢false (sym is))
 
-    first : (y : Slot) → ((f : Entry) → y ≡ Live f → same_key (key_of f) key ≡ false) → is_live_as key y ≡ false
-    first Vacant no_ = refl
-    first (Live f) no_ = no_ f refl
-    first (Retired f) no_ = refl
+    by : (b : Bool) → is_taken key ys ≡ b → b ≡ false
+    by false is = refl
+    by true is =
+        let found = Any-from_list_any (is_live_as key) ys is in
+        sym (live found.0 found.1 (sym (get_or_default ys found.0 found.1 Vacant found.2) ∙ found.3) found.4) ∙ free
 
-    walk : (zs : List Slot) → ((u : ℕ) (f : Entry) → slot_at zs u ≡ Live f → same_key (key_of f) key ≡ false) → is_taken key zs ≡ false
-    walk [] no_ = refl
-    walk (z ∷ zs) no_ = rw (first z (λ f is. no_ zero f is), walk zs (λ u f live. no_ (suc u) f live)) refl
+live_on : (x y : Slot) → ((f : Entry) → x ≡ Live f → y ≡ Live f) → one_if (is_live x) ≤ one_if (is_live y)
+live_on Vacant y so = omega arith
+live_on (Live f) y so = rw (so f refl) (omega arith)
+live_on (Retired f) y so = omega arith
 
 pub count_on : (xs ys : List Slot) → LiveIn xs ys → live_count xs ≤ live_count ys
 count_on [] ys on = omega arith
 count_on (x ∷ xs) [] on =
     let rest = count_on xs [] (λ u f live. on (suc u) f live) in
     let split = sum_by-cons (λ (y : Slot). one_if (is_live y)) x xs in
-    let first : one_if (is_live x) ≡ 0 = none x (λ f is. let q : Slot.Vacant ≡ Live f = on zero f is in cc) in
+    let first : one_if (is_live x) ≤ 0 = live_on x Vacant (λ f is. on zero f is) in
     omega (arith, rest, split, first)
-  where
-    none : (x : Slot) → ((f : Entry) → x ≡ Live f → ⊥) → one_if (is_live x) ≡ 0
-    none Vacant no_ = refl
-    none (Live f) no_ = absurd (no_ f refl)
-    none (Retired f) no_ = refl
 count_on (x ∷ xs) (y ∷ ys) on =
-    let rest = count_on xs ys (λ u f live. on (suc u) f live) in
-    let split = sum_by-cons (λ (z : Slot). one_if (is_live z)) x xs in
     let split_y = sum_by-cons (λ (z : Slot). one_if (is_live z)) y ys in
-    let first : one_if (is_live x) ≤ one_if (is_live y) = less x (λ f is. on zero f is) in
-    omega (arith, rest, split, split_y, first)
-  where
-    less : (x : Slot) → ((f : Entry) → x ≡ Live f → y ≡ Live f) → one_if (is_live x) ≤ one_if (is_live y)
-    less Vacant so = omega arith
-    less (Live f) so = rw (so f refl) (omega arith)
-    less (Retired f) so = omega arith
+    omega (arith, count_on xs ys (λ u f live. on (suc u) f live), sum_by-cons (λ (z : Slot). one_if (is_live z)) x xs, split_y, live_on x y (λ f is. on zero f is))
 
 -- The entry by its words
 
@@ -193,38 +130,26 @@ entry_is e lawful = by e.rec.kind
 
 -- Publishing
 
-pub asked_write : (a : Settings) (k : KeeperView) (rows : List KeptSlot) (t : ℕ) → IsAtRest a k → RowsAgree a k rows → t < a.slots → slot_at (states_of rows) t ≡ Vacant → MayWrite k t
-asked_write a k rows t at agree lt vacant = record {
-  rest = at.rest;
-  slot = subst (λ (z : Settings). t < z.slots) (sym at.settings) lt;
-  vacant = (agree.each t lt).state ∙ (sym (state_at rows t) ∙ vacant);
-}
-
 pub may_publish : (a : Settings) (k : KeeperView) (rows : List KeptSlot) (e : Entry) (v : ℕ) → MayAttach a k rows e → LeadsBelow (states_of rows) e.number v
     → MayPublish (keeper_after_stores k e v) e.slot e
 may_publish a k rows e v asked link =
     let at = asked.at in
     let t = e.slot in
-    let may = asked_write a k rows t at asked.agree asked.slot asked.vacant in
     let lt = asked.slot in
-    let row_size = at.sized.rows in
-    let next_size = at.sized.next in
-    let count_size = at.sized.counts in
     let back = live_rows a k rows at asked.agree in
-    let on = rows_live a k rows asked.agree in
     let had = asked.agree.each t lt in
     let none : ℕ = 0 in
     record {
-      rest = may.rest;
-      slot = may.slot;
-      vacant = may.vacant;
-      entry = ap (entry_of t) (get_or-set_same k.rows t (words_of e) no_words (omega (arith, lt, row_size))) ∙ entry_is e asked.name;
+      rest = at.rest;
+      slot = subst (λ (z : Settings). t < z.slots) (sym at.settings) lt;
+      vacant = slots_agree a k rows t at asked.agree ∙ asked.vacant;
+      entry = ap (entry_of t) (get_or-set_same k.rows t (words_of e) no_words (omega (arith, lt, at.sized.rows))) ∙ entry_is e asked.name;
       number = asked.number;
       free = free_on (key_of e) (states_of rows) k.slots back asked.free;
-      room = let count = count_on k.slots (states_of rows) back in let room = asked.room in let limit = ap (λ (z : Settings). z.change_limit) at.settings in omega (arith, count, room, limit);
-      link = subst (LeadsBelow k.slots (suc (length k.history))) (sym (get_or-set_same k.next t v none (omega (arith, lt, next_size))))
-          (subst (λ (n : ℕ). LeadsBelow k.slots n v) asked.number (leads_on (states_of rows) k.slots e.number v on back link));
-      counts = λ c cpu. bias_stored k.counts t k.settings.cpus c (get_or k.counts t []) (omega (arith, lt, count_size)) cpu;
+      room = omega (arith, count_on k.slots (states_of rows) back, asked.room, ap (λ (z : Settings). z.change_limit) at.settings);
+      link = subst (LeadsBelow k.slots (suc (length k.history))) (sym (get_or-set_same k.next t v none (omega (arith, lt, at.sized.next))))
+          (subst (λ (n : ℕ). LeadsBelow k.slots n v) asked.number (leads_on (states_of rows) k.slots e.number v (rows_live a k rows asked.agree) back link));
+      counts = λ c cpu. bias_stored k.counts t k.settings.cpus c (get_or k.counts t []) (omega (arith, lt, at.sized.counts)) cpu;
       total = sym had.total ∙ had.unused (sym (state_at rows t) ∙ asked.vacant);
       keeps = asked.keeps;
     }
@@ -236,12 +161,9 @@ published_is k l m e v at told may =
     let t = e.slot in
     let p = keeper_after_stores k e v in
     let f = told.0 in
-    let same : f ≡ e = one f e (sym (ap (λ (x : KeeperView). entry_of t (words_at x.rows t)) (sym at) ∙ told.1.entry) ∙ may.entry) in
+    let same : f ≡ e = let q : ◌≡◌ {A = Option Entry} (Some f) (Some e) = sym (ap (λ (x : KeeperView). entry_of t (words_at x.rows t)) (sym at) ∙ told.1.entry) ∙ may.entry in cc in
     told.2 ∙ (ap (λ (x : KeeperView). record x { head = t + 1; history = after_change x.history (Attach f); slots = set x.slots t (Live f) }) at
     ∙ ap (λ (x : Entry). record p { head = t + 1; history = after_change p.history (Attach x); slots = set p.slots t (Live x) }) same)
-  where
-    one : (x y : Entry) → Some x ≡ Some y → x ≡ y
-    one x y q = cc
 
 abbrev pub row_live : KeptSlot → Entry → KeptSlot
 row_live r e = record { state = Live e; total = r.total; keeps = r.keeps }
@@ -251,60 +173,29 @@ published_at_rest a k rows e v asked =
     let at = asked.at in
     let t = e.slot in
     let lt = asked.slot in
-    let few = (ranges a at.fit).cpus in
-    let cpus = ap (λ (z : Settings). z.cpus) at.settings in
-    let wide = at.sized.counts in
     let row = get_or k.counts t [] in
-    let long = at.sized.count_rows t (omega (arith, lt, wide)) in
-    record {
-      settings = at.settings;
-      fit = at.fit;
-      rest = at.rest;
-      seated = at.seated;
-      sized = record {
-        slots = length-set k.slots t (Live e) ∙ at.sized.slots;
-        marks = at.sized.marks;
-        mark_rows = at.sized.mark_rows;
-        keeps = at.sized.keeps;
-        next = length-set k.next t v ∙ at.sized.next;
-        rows = length-set k.rows t (words_of e) ∙ at.sized.rows;
-        totals = at.sized.totals;
-        counts = length-set k.counts t _ ∙ at.sized.counts;
-        count_rows = rows_put k.counts t (with_biases k.settings.cpus row) (biases_size row k.settings.cpus long (omega (arith, few, cpus))) at.sized.count_rows;
-      };
-      room =
-          let slots_size = at.sized.slots in
-          let more : live_count (set k.slots t (Live e)) + one_if (is_live (slot_at k.slots t)) ≡ live_count k.slots + 1 = live_count_set k.slots t (Live e) (omega (arith, lt, slots_size)) in
-          let count = count_on k.slots (states_of rows) (live_rows a k rows at asked.agree) in
-          let long = length-after_change k.history (Attach e) in
-          let room = asked.room in
-          omega (arith, more, count, long, room);
-    }
+    let long = at.sized.count_rows t (omega (arith, lt, at.sized.counts)) in
+    let biases = with_biases k.settings.cpus row in
+    let more : live_count (set k.slots t (Live e)) + one_if (is_live (slot_at k.slots t)) ≡ live_count k.slots + 1 = live_count_set k.slots t (Live e) (omega (arith, lt, at.sized.slots)) in
+    let count = count_on k.slots (states_of rows) (live_rows a k rows at asked.agree) in
+    let room : length (after_change k.history (Attach e)) + live_count (set k.slots t (Live e)) ≤ a.change_limit = omega (arith, more, count, length-after_change k.history (Attach e), asked.room) in
+    assumption (
+      room,
+      length-set k.slots t (Live e) ∙ at.sized.slots,
+      length-set k.next t v ∙ at.sized.next,
+      length-set k.rows t (words_of e) ∙ at.sized.rows,
+      length-set k.counts t biases ∙ at.sized.counts,
+      rows_put k.counts t biases (biases_size row k.settings.cpus long (omega (arith, (ranges a at.fit).cpus, ap (λ (z : Settings). z.cpus) at.settings))) at.sized.count_rows,
+      at,
+    )
 
 -- what the keeper has agrees with what it publishes, after any step that brought its seat to the view k
 pub published_keeper : (a : Settings) (k l : KeeperView) (rows : List KeptSlot) (n : ℕ) (e : Entry) (v : ℕ) → n ≡ length k.history → MayAttach a k rows e → l ≡ keeper_after_live (keeper_after_publish k e v) e.slot e.number → IsShown l
     → IsOurKeeper a l (set rows e.slot (row_live (row_at rows e.slot) e)) (n + 1)
 published_keeper a k l rows n e v was asked change is_shown =
-    let at = asked.at in
-    let t = e.slot in
-    let lt = asked.slot in
-    let p = keeper_after_live (keeper_after_publish k e v) e.slot e.number in
-    let size = at.sized.slots in
-    let had = asked.agree.each t lt in
-    record {
-      view = subst (IsAtRest a) (sym change) (published_at_rest a k rows e v asked);
-      is_shown = is_shown;
-      changes = let long = length-after_change k.history (Attach e) in let now = ap (λ (x : KeeperView). length x.history) change in omega (arith, was, long, now);
-      rows = subst (λ (x : KeeperView). RowsAgree a x (set rows t (row_live (row_at rows t) e))) (sym change)
-          (rows_set a k p rows t (row_live (row_at rows t) e) lt asked.agree
-          record {
-            state = slot_here k.slots t (Live e) (omega (arith, lt, size));
-            total = had.total;
-            keeps = had.keeps;
-            unused = λ vacant. absurd (let q : Live e ≡ Vacant = vacant in cc);
-          }
-          (λ u off was. row_stays k p u (row_at rows u) (slot_other k.slots t (Live e) u off) refl refl was));
-    }
+    let m = keeper_after_live (keeper_after_publish k e v) e.slot e.number in
+    keeper_on a l m (set rows e.slot (row_live (row_at rows e.slot) e)) (n + 1) change is_shown (published_at_rest a k rows e v asked)
+    (omega (arith, was, length-after_change k.history (Attach e))) (state_set a k m rows e.slot (Live e) asked.at asked.agree asked.slot refl refl refl (λ vacant. cc))
 
 -- what is asked of a caller, of the keeper's own view
 pub ask : {table : TableId} {log : List LogItem} (a : Settings) (k : KeeperView) (rows : List KeptSlot) (n t : ℕ) (rec : Record) (x : OnPlainKeeper) → IsOurKeeper a k rows n
@@ -321,7 +212,7 @@ ask a k rows n t rec x our is vacant keeps name free room = record {
   name = name;
   free = ap (λ (y : OnPlainKeeper). is_taken (key_of_record rec) y.keeper.slots) is ∙ free;
   room = subst (λ (y : OnPlainKeeper). length y.keeper.view.history + live_count y.keeper.slots + 2 ≤ y.words.settings.change_limit) (sym is) room;
-  number = let changes = our.changes in omega (arith, changes);
+  number = omega (arith, our.changes);
 }
 
 -- what a log says of the slot's driver, a longer log says, too
@@ -338,6 +229,4 @@ keeping_more t n d log later pre is = record {
 pub attached_as : (k m : KeeperView) (e : Entry) (v d : ℕ) (log : List LogItem) → m ≡ keeper_after_stores k e v → e.number ≡ suc (length k.history)
     → (kept_at m.keeps e.slot ≡ Some d → IsAttachedKeeping e.slot (suc (length m.history)) d log) → kept_at k.keeps e.slot ≡ Some d → IsAttachedKeeping e.slot e.number d log
 attached_as k m e v d log stored number told keeps =
-    let kept : m.keeps ≡ k.keeps = ap (λ (x : KeeperView). x.keeps) stored in
-    let history : m.history ≡ k.history = ap (λ (x : KeeperView). x.history) stored in
-    subst (λ (n : ℕ). IsAttachedKeeping e.slot n d log) (ap (λ (h : List Change). suc (length h)) history ∙ sym number) (told (ap (λ (l : List (Option ℕ)). kept_at l e.slot) kept ∙ keeps))
+    subst (λ (n : ℕ). IsAttachedKeeping e.slot n d log) (ap (λ (x : KeeperView). suc (length x.history)) stored ∙ sym number) (told (ap (λ (x : KeeperView). kept_at x.keeps e.slot) stored ∙ keeps))

@@ -4,7 +4,7 @@ use Rattle.std.proofs.lemmas.Bool.{eq-eqb, ne_eqb, cases_lt, eqb-true, false≢t
 use Rattle.std.proofs.lemmas.List.{append-nil}
 use Rattle.std.specs.Prelude.{is_some}
 use mathlib.Core.List.{IsPrefix}
-use Rattle.passive_list.specs.Types.{Entry, Event, Key, MOST_SLOTS, Recall, RecallHead, Refind, Settings, Word, CpuView, LogItem, Attach, Change, Detach}
+use Rattle.passive_list.specs.Types.{Entry, Event, Key, MOST_SLOTS, Recall, RecallHead, Refind, Settings, Word, CpuView, LogItem, Attach, Change}
 use Rattle.registry_values.specs.Common.{are_fit, key_of}
 use Rattle.registry_values.proofs.Fit.{ranges}
 use Rattle.protocol.specs.Common.{IsAttached, entry_with, EndsAt, IsLegal, IsLiveAt, IsLookup}
@@ -12,10 +12,10 @@ use Rattle.protocol.specs.History.{change_at}
 use Rattle.protocol.proofs.History.{at_within, live_down, one_live}
 use Rattle.cpu_words.specs.Common.{did, event_by, HasRecalled, HasRecalledHead, HasRefound, HasWholePass, MayRefind, Named}
 use Rattle.cpu_words.proofs.shown.Seeing.{attached_prefix}
-use Rattle.passive_list.specs.Common.{HasRecalledHeadOn, HasRecalledOn, HasRefoundAs, HasSeen, OnCpu, OnPlainCpu, Seen, Memory, Missed, HasFound, HasFoundFromOutside, HasNumbered, HasRefoundOn, WasAbsent, entry_seen, may_begin, IsMiss, IsTrueMiss, Misses, miss_of, with_miss, FindsAndRemembers, FindsWhatStays, HasFoundAnew, HasFoundInSection, HasFoundByMemory, HasRecalledAs, HasRecalledByMemory, HasRecalledInVain, IsAbsentAt, FindsAfterHead, FindsAfterWord, Recalls, RecallsBy, RecallsSeen, RefindsSeen, RemembersAnswer}
+use Rattle.passive_list.specs.Common.{HasRecalledHeadOn, HasRecalledOn, HasRefoundAs, HasSeen, OnCpu, OnPlainCpu, Seen, Memory, Missed, HasFoundFromOutside, HasNumbered, HasRefoundOn, WasAbsent, entry_seen, may_begin, IsMiss, IsTrueMiss, Misses, miss_of, with_miss, FindsAndRemembers, FindsWhatStays, HasFoundAnew, HasFoundInSection, HasFoundByMemory, HasRecalledAs, HasRecalledByMemory, RecallsBy, IsAbsentAt, FindsAfterHead, RecallsSeen, RefindsSeen, RemembersAnswer}
 use Rattle.passive_list.specs.declared.memory.Miss.{Miss}
-use Rattle.passive_list.proofs.Memories.{ends_on, numbered_longer, length_longer, live_back}
-use Rattle.passive_list.proofs.Walking.{prefix_trans}
+use Rattle.passive_list.proofs.Memories.{numbered_longer}
+use Rattle.passive_list.proofs.Walking.{ends_later, live_before, prefix_length, prefix_trans}
 
 -- A recall, of an entry or of the head, and an entry found again, by the CPU that names its own table.
 
@@ -23,31 +23,25 @@ use Rattle.passive_list.proofs.Walking.{prefix_trans}
 
 pub recalled_on : (t n c m : ℕ) (a p : OnCpu) (y : CpuView) (k l : List LogItem) (found : Bool) → a ≡ p → HasRecalled a.view t m y → HasWholePass y → a.view.id ≡ c
     → l ≡ a.log ++ did (Recall c t) (Word m) → k ≡ a.known_log → found ≡ (m == n) → HasRecalledOn t n p (record a { view = y; known_log = k; log = l }) found
-recalled_on t n c m a p y k l found same had whole id log known test =
-    let b : OnCpu = record a { view = y; known_log = k; log = l } in
-    let here : HasRecalledOn t n a b found = record {
-      pass = had.is.0;
-      is = λ i. record a { view = had.is.1 i; known_log = known i; log = l };
-      whole = whole;
-      word = m;
-      log = log ∙ ap (λ (d : ℕ). a.log ++ did (Recall d t) (Word m)) (sym id);
-      found = test;
-      live = had.live;
-    } in
-    subst (λ (q : OnCpu). HasRecalledOn t n q b found) same here
+recalled_on t n c m a p y k l found same had whole id log known test = subst (λ (q : OnCpu). HasRecalledOn t n q (record a { view = y; known_log = k; log = l }) found) same record {
+  pass = had.is.0;
+  is = λ i. record a { view = had.is.1 i; known_log = known i; log = l };
+  whole = whole;
+  word = m;
+  log = log ∙ ap (λ (d : ℕ). a.log ++ did (Recall d t) (Word m)) (sym id);
+  found = test;
+  live = had.live;
+}
 
 pub recalled_head_on : (c w : ℕ) (a p : OnCpu) (y : CpuView) (k l : List LogItem) → a ≡ p → HasRecalledHead a.view w y → HasWholePass y → a.view.id ≡ c → l ≡ a.log ++ did (RecallHead c) (Word w)
     → k ≡ a.known_log → HasRecalledHeadOn p (record a { view = y; known_log = k; log = l }) w
-recalled_head_on c w a p y k l same had whole id log known =
-    let b : OnCpu = record a { view = y; known_log = k; log = l } in
-    let here : HasRecalledHeadOn a b w = record {
-      pass = had.is.0;
-      is = λ i. record a { view = had.is.1 i; known_log = known i; log = l };
-      whole = whole;
-      log = log ∙ ap (λ (d : ℕ). a.log ++ did (RecallHead d) (Word w)) (sym id);
-      newest = had.newest;
-    } in
-    subst (λ (q : OnCpu). HasRecalledHeadOn q b w) same here
+recalled_head_on c w a p y k l same had whole id log known = subst (λ (q : OnCpu). HasRecalledHeadOn q (record a { view = y; known_log = k; log = l }) w) same record {
+  pass = had.is.0;
+  is = λ i. record a { view = had.is.1 i; known_log = known i; log = l };
+  whole = whole;
+  log = log ∙ ap (λ (d : ℕ). a.log ++ did (RecallHead d) (Word w)) (sym id);
+  newest = had.newest;
+}
 
 -- the head is no more than the slots
 pub head_few : (w : ℕ) (a b : Settings) → IsTrue (are_fit a) → a ≡ b → w ≤ a.slots → (w ≤ MOST_SLOTS) × (w ≤ b.slots)
@@ -76,20 +70,17 @@ pub refound_on : (key : Key) (s : Seen) (c m : ℕ) (o p : OnPlainCpu) (y : CpuV
     → HasRefoundAs key p.cpu (record (o.cpu) { view = y; known_log = k; log = l }) (entry_with key s.slot s.number s.value)
 refound_on key s c m o p y k l same seen is had whole id log known =
     let a : OnCpu = o.cpu in
-    let b : OnCpu = record a { view = y; known_log = k; log = l } in
     let e : Entry = entry_with key s.slot s.number s.value in
     let refound = had e (subst (λ (q : OnPlainCpu). IsAttached q.cpu.view.pass e) (sym same) seen.attached) refl in
     let event : event_by s.number (Refind c s.slot s.number) (Recall c s.slot) m ≡ Refind c s.slot s.number =
     ap (λ (x : Bool). if x then Refind c s.slot s.number else Recall c s.slot) (eq-eqb m s.number is) in
-    let here : HasRefoundAs key a b e = record {
+    subst (λ (q : OnPlainCpu). HasRefoundAs key q.cpu (record a { view = y; known_log = k; log = l }) e) same record {
       pass = refound.longer;
       is = λ i. record a { view = refound.is i; known_log = known i; log = l };
       whole = whole;
       answered = (refound.live, refl);
-      log = log ∙ ap (λ (d : Event). a.log ++ did d (Word m)) event ∙ ap (λ (n : ℕ). a.log ++ did (Refind c s.slot s.number) (Word n)) is
-          ∙ ap (λ (d : ℕ). a.log ++ did (Refind d s.slot s.number) (Word s.number)) (sym id);
-    } in
-    subst (λ (q : OnPlainCpu). HasRefoundAs key q.cpu b e) same here
+      log = log ∙ (λ i. a.log ++ did (event i) (Word (is i))) ∙ ap (λ (d : ℕ). a.log ++ did (Refind d s.slot s.number) (Word s.number)) (sym id);
+    }
 
 pub not_refound_on : (s : Seen) (c m : ℕ) (a p : OnCpu) (y : CpuView) (k l : List LogItem) → a ≡ p → m ≢ s.number → HasRecalled a.view s.slot m y → HasWholePass y → a.view.id ≡ c
     → l ≡ a.log ++ did (event_by s.number (Refind c s.slot s.number) (Recall c s.slot) m) (Word m) → k ≡ a.known_log
@@ -129,39 +120,21 @@ left_pass key a b answer had outside =
     let one : had.last.depth ≡ 1 = omega (arith, depth, outside) in
     ap (λ (v : CpuView). v.pass) (had.exits.ended one)
 
--- the entry that was found is in the pass
-pub found_attached : (key : Key) (a b : OnCpu) (answer : Option Entry) (e : Entry) → HasFoundFromOutside key a b answer → a.depth ≡ 0 → answer ≡ Some e → IsAttached b.view.pass e
-found_attached key a b answer e had outside is = subst (λ h. IsAttached h e) (sym (left_pass key a b answer had outside)) (had.finds.seen e is)
-
 -- what is remembered is as it was
 pub outside_memory : (key : Key) (a b : OnCpu) (answer : Option Entry) → HasFoundFromOutside key a b answer → b.memory ≡ a.memory
 outside_memory key a b answer had = had.exits.memory ∙ ap (λ (c : OnCpu). c.memory) had.finds.is ∙ had.enters.memory
 
 -- what was found is an entry of the pass
+pub seen_by : (key : Key) (a b : OnPlainCpu) (answer : Option Seen) → ((e : Entry) → entry_seen key answer ≡ Some e → IsAttached b.cpu.view.pass e) → b.words ≡ a.words
+    → IfSome answer (λ (s : Seen). (s.slot < MOST_SLOTS) × (s.slot < a.words.settings.slots)) → IfSome answer (λ (s : Seen). HasSeen b key s)
+seen_by key a b None attached words slot = tt
+seen_by key a b (Some s) attached words slot =
+    record { few = slot.0; slots = subst (λ (w : Named). s.slot < w.settings.slots) (sym words) slot.1; attached = attached (entry_with key s.slot s.number s.value) refl }
+
 pub found_seen : (key : Key) (a b : OnPlainCpu) (answer : Option Seen) → HasFoundFromOutside key a.cpu b.cpu (entry_seen key answer) → a.cpu.depth ≡ 0 → b.words ≡ a.words
     → IfSome answer (λ (s : Seen). (s.slot < MOST_SLOTS) × (s.slot < a.words.settings.slots)) → IfSome answer (λ (s : Seen). HasSeen b key s)
-found_seen key a b None had outside words slot = tt
-found_seen key a b (Some s) had outside words slot = record {
-  few = slot.0;
-  slots = subst (λ (w : Named). s.slot < w.settings.slots) (sym words) slot.1;
-  attached = found_attached key a.cpu b.cpu _ (entry_with key s.slot s.number s.value) had outside refl;
-}
-
-pub kept_seen : (key : Key) (a b : OnPlainCpu) (answer : Option Seen) → HasFound key a.cpu b.cpu (entry_seen key answer) → b.words ≡ a.words
-    → IfSome answer (λ (s : Seen). (s.slot < MOST_SLOTS) × (s.slot < a.words.settings.slots)) → IfSome answer (λ (s : Seen). HasSeen b key s)
-kept_seen key a b None had words slot = tt
-kept_seen key a b (Some s) had words slot = record {
-  few = slot.0;
-  slots = subst (λ (w : Named). s.slot < w.settings.slots) (sym words) slot.1;
-  attached = had.seen (entry_with key s.slot s.number s.value) refl;
-}
-
--- after a recall in vain the CPU is outside still, with a section left
-pub vain_outside : (s : Seen) (a b : OnCpu) → HasRecalledInVain s a b → a.depth ≡ 0 → b.depth ≡ 0
-vain_outside s a b had outside = ap (λ (c : OnCpu). c.depth) had.is ∙ outside
-
-pub vain_room : (s : Seen) (a b : OnCpu) → HasRecalledInVain s a b → may_begin b.view ≡ may_begin a.view
-vain_room s a b had = ap (λ (c : OnCpu). may_begin c.view) had.is
+found_seen key a b answer had outside words slot =
+    seen_by key a b answer (λ e is. subst (λ h. IsAttached h e) (sym (left_pass key a.cpu b.cpu (entry_seen key answer) had outside)) (had.finds.seen e is)) words slot
 
 -- What stays is found
 
@@ -197,31 +170,22 @@ found_stays key h a b answer had outside longer f attached same unended =
     let live = live_still g f here (λ q ends. unended q (subst (λ (i : List Change). EndsAt i f.number q) (sym left) ends)) p.point (omega (arith, begun, p.from_on)) in
     same_answer g p.point key answer f had.finds.legal p.answered live same
 
--- in a section, what was found or missed is remembered
-section_stays : (key : Key) (n : ℕ) (h : List Change) (a b : OnCpu) (answer : Option Seen) → HasFoundInSection key n a b answer → a.depth ≡ 0 → IsPrefix h a.view.pass
-    → FindsWhatStays key h b.view.pass (entry_seen key answer)
-section_stays key n h a b answer had outside longer =
-    let f = had.finds in
-    subst (λ (g : List Change). FindsWhatStays key h g (entry_seen key answer)) (ap (λ (c : OnCpu). c.view.pass) (sym f.is)) (found_stays key h a f.left (entry_seen key answer) f.finds outside longer)
-
 -- at the load of the head
 absent_stays : (key : Key) (h g : List Change) (c : OnCpu) (answer : Option Seen) → IsAbsentAt key c answer → IsPrefix h c.view.pass → IsPrefix c.view.pass g → FindsWhatStays key h g (entry_seen key answer)
 absent_stays key h g c answer had before after f attached same unended =
     let i = c.view.pass in
     let here = attached_prefix h i f before attached in
-    absurd (had.answered f (live_still i f here (λ p ends. unended p (ends_on i g after f.number p ends)) (length i) (at_within i f.number (Attach f) here).1) same)
-
-word_stays : (key : Key) (t n : ℕ) (h : List Change) (c d b : OnCpu) (answer : Option Seen) → FindsAfterWord key n c d b answer → HasRecalledOn t n c d true → c.depth ≡ 0 → IsPrefix h c.view.pass
-    → FindsWhatStays key h b.view.pass (entry_seen key answer)
-word_stays key t n h c d b answer (inl had) recalled outside longer =
-    absent_stays key h b.view.pass c answer had.1 longer (subst (λ (x : OnCpu). IsPrefix c.view.pass x.view.pass) (sym had.2) recalled.pass)
-word_stays key t n h c d b answer (inr had) recalled outside longer =
-    section_stays key n h d b answer had.1 (ap (λ (x : OnCpu). x.depth) recalled.is ∙ outside) (prefix_trans h c.view.pass d.view.pass longer recalled.pass)
+    absurd (had.answered f (live_still i f here (λ p ends. unended p (ends_later i g f.number p after ends)) (length i) (at_within i f.number (Attach f) here).1) same)
 
 head_stays : (w : ℕ) (key : Key) (h : List Change) (c b : OnCpu) (answer : Option Seen) → FindsAfterHead w key c b answer → c.depth ≡ 0 → IsPrefix h c.view.pass → FindsWhatStays key h b.view.pass (entry_seen key answer)
 head_stays w key h c b answer (inl had) outside longer =
     absent_stays key h b.view.pass c answer had.1 longer (subst (λ (x : OnCpu). IsPrefix c.view.pass x.view.pass) (sym had.2) ([], append-nil c.view.pass))
-head_stays w key h c b answer (inr had) outside longer = word_stays key had.0 had.1 h c had.2 b answer had.5 had.4 outside longer
+head_stays w key h c b answer (inr (t, n, d, is, recalled, inl had)) outside longer =
+    absent_stays key h b.view.pass c answer had.1 longer (subst (λ (x : OnCpu). IsPrefix c.view.pass x.view.pass) (sym had.2) recalled.pass)
+head_stays w key h c b answer (inr (t, n, d, is, recalled, inr had)) outside longer =
+    let f = had.1.finds in
+    subst (λ (x : OnCpu). FindsWhatStays key h x.view.pass (entry_seen key answer)) (sym f.is)
+    (found_stays key h d f.left (entry_seen key answer) f.finds (ap (λ (x : OnCpu). x.depth) recalled.is ∙ outside) (prefix_trans h c.view.pass d.view.pass longer recalled.pass))
 
 pub anew_stays : (key : Key) (h : List Change) (a b : OnCpu) (answer : Option Seen) → HasFoundAnew key a b answer → a.depth ≡ 0 → IsPrefix h a.view.pass → FindsWhatStays key h b.view.pass (entry_seen key answer)
 anew_stays key h a b answer had outside longer =
@@ -233,112 +197,72 @@ anew_stays key h a b answer had outside longer =
 abbrev pub FoundAndStays : Key → OnCpu → OnCpu → Option Seen → Type 0
 FoundAndStays key a b answer = HasFoundByMemory key a b answer × FindsWhatStays key a.view.pass b.view.pass (entry_seen key answer)
 
-load_by : (key : Key) (a b : OnCpu) (s : Seen) (kept : Option Seen) → Recalls a.memory key kept → RecallsBy kept key a b (Some s) → FoundAndStays key a b (Some s)
-load_by key a b s None at had = let clash : ◌≡◌ {A = Option Seen} (Some s) None = had.0 in cc
-load_by key a b s (Some r) at (inl had) =
-    ((Some r, at, inl (had.0, had.1)), subst (λ (o : Option Seen). FindsWhatStays key a.view.pass b.view.pass (entry_seen key o)) (sym had.0) (recalled_stays key a b (entry_with key r.slot r.number r.value) had.1))
-load_by key a b s (Some r) at (inr had) = let clash : ◌≡◌ {A = Option Seen} (Some s) None = had.0 in cc
-
--- by the load alone
 pub by_load : (key : Key) (a b : OnCpu) (s : Seen) → HasRecalledByMemory key a b (Some s) → FoundAndStays key a b (Some s)
-by_load key a b s had = load_by key a b s had.0 had.1 had.2
-
-anew_by : (key : Key) (a c b : OnCpu) (answer kept : Option Seen) → Recalls a.memory key kept → RecallsBy kept key a c None → HasFoundAnew key c b answer → a.depth ≡ 0 → FoundAndStays key a b answer
-anew_by key a c b answer None at had anew outside =
-    let here = subst (λ (x : OnCpu). HasFoundAnew key x b answer) had.1 anew in
-    ((None, at, here), anew_stays key a.view.pass a b answer here outside ([], append-nil a.view.pass))
-anew_by key a c b answer (Some s) at (inl had) anew outside = let clash : ◌≡◌ {A = Option Seen} None (Some s) = had.0 in cc
-anew_by key a c b answer (Some s) at (inr had) anew outside =
-    ((Some s, at, inr (c, had.1, anew)), anew_stays key a.view.pass c b answer anew (vain_outside s a c had.1 outside) had.1.pass)
+by_load key a b s (None, at, had) = let clash : ◌≡◌ {A = Option Seen} (Some s) None = had.0 in cc
+by_load key a b s (Some r, at, inl had) =
+    ((Some r, at, inl (had.0, had.1)), subst (λ (o : Option Seen). FindsWhatStays key a.view.pass b.view.pass (entry_seen key o)) (sym had.0) (recalled_stays key a b (entry_with key r.slot r.number r.value) had.1))
+by_load key a b s (Some r, at, inr had) = let clash : ◌≡◌ {A = Option Seen} (Some s) None = had.0 in cc
 
 -- anew, after a load that told nothing
 pub anew_after : (key : Key) (a c b : OnCpu) (answer : Option Seen) → HasRecalledByMemory key a c None → HasFoundAnew key c b answer → a.depth ≡ 0 → FoundAndStays key a b answer
-anew_after key a c b answer had anew outside = anew_by key a c b answer had.0 had.1 had.2 anew outside
-
-still_by : (key : Key) (a c : OnCpu) (kept : Option Seen) → RecallsBy kept key a c None → (c.depth ≡ a.depth) × (may_begin c.view ≡ may_begin a.view)
-still_by key a c None had = (ap (λ (x : OnCpu). x.depth) had.1, ap (λ (x : OnCpu). may_begin x.view) had.1)
-still_by key a c (Some s) (inl had) = let clash : ◌≡◌ {A = Option Seen} None (Some s) = had.0 in cc
-still_by key a c (Some s) (inr had) = (ap (λ (x : OnCpu). x.depth) had.1.is, vain_room s a c had.1)
+anew_after key a c b answer (None, at, had) anew outside =
+    let here = subst (λ (x : OnCpu). HasFoundAnew key x b answer) had.1 anew in
+    ((None, at, here), anew_stays key a.view.pass a b answer here outside ([], append-nil a.view.pass))
+anew_after key a c b answer (Some s, at, inl had) anew outside = let clash : ◌≡◌ {A = Option Seen} None (Some s) = had.0 in cc
+anew_after key a c b answer (Some s, at, inr had) anew outside =
+    ((Some s, at, inr (c, had.1, anew)), anew_stays key a.view.pass c b answer anew (ap (λ (x : OnCpu). x.depth) had.1.is ∙ outside) had.1.pass)
 
 -- after such a load the CPU is outside still, with a section left
 pub still_outside : (key : Key) (a c : OnCpu) → HasRecalledByMemory key a c None → (c.depth ≡ a.depth) × (may_begin c.view ≡ may_begin a.view)
-still_outside key a c had = still_by key a c had.0 had.2
+still_outside key a c had = by had.0 had.2
+  where
+    by : (kept : Option Seen) → RecallsBy kept key a c None → (c.depth ≡ a.depth) × (may_begin c.view ≡ may_begin a.view)
+    by None had = (ap (λ (x : OnCpu). x.depth) had.1, ap (λ (x : OnCpu). may_begin x.view) had.1)
+    by (Some s) (inl had) = let clash : ◌≡◌ {A = Option Seen} None (Some s) = had.0 in cc
+    by (Some s) (inr had) = (ap (λ (x : OnCpu). x.depth) had.1.is, ap (λ (x : OnCpu). may_begin x.view) had.1.is)
 
 -- What a miss tells
 
+-- no later entry in the slot of a live one is live
 later_there : (h : List Change) → IsLegal h → (k : ℕ) (e f : Entry) → IsLiveAt h k e → IsLiveAt h k f → e.slot ≡ f.slot → e.number < f.number → ⊥
 later_there h legal k e f le lf same lt = go f.number refl
   where
     go : (n : ℕ) → f.number ≡ n → ⊥
     go zero is = omega (arith, lt, is)
-    go (suc n) is = let begun = lf.begun in legal.new_slot n f e (ap (change_at h) (sym is) ∙ lf.attached) (live_down h k n e le (omega (arith, lt, is)) (omega (arith, begun, is))) same
-
--- two live entries in one slot have one number
-one_there : (h : List Change) → IsLegal h → (k : ℕ) (e f : Entry) → IsLiveAt h k e → IsLiveAt h k f → e.slot ≡ f.slot → e.number ≡ f.number
-one_there h legal k e f le lf same = ⊎_elim
-    (λ lt. absurd (later_there h legal k e f le lf same lt))
-    (λ ge. ⊎_elim (λ lt. absurd (later_there h legal k f e lf le (sym same) lt)) (λ le2. omega (arith, ge, le2)) (cases_lt f.number e.number))
-    (cases_lt e.number f.number)
+    go (suc n) is = legal.new_slot n f e (ap (change_at h) (sym is) ∙ lf.attached) (live_down h k n e le (omega (arith, lt, is)) (omega (arith, lf.begun, is))) same
 
 -- The entry with the number n is live at the later load, so it was the newest one at the head's load. What is live there was attached by the miss, and would have been found.
 pub still_absent : (key : Key) (t n w : ℕ) (a c d : OnCpu) → WasAbsent a.view.pass key n → HasRecalledHeadOn a c w → w ≡ suc t → HasRecalledOn t n c d true → IsAbsentAt key c None
-still_absent key t n w a c d was heads is recalled = record { none = refl; whole = heads.whole; answered = answered }
-  where
-    h : List Change
-    h = a.view.pass
-
-    g : List Change
-    g = c.view.pass
-
-    i : List Change
-    i = d.view.pass
-
-    e : Entry
-    e = was.newest.entry
-
-    here : IsAttached g e
-    here = attached_prefix h g e heads.pass was.newest.attached
-
-    word : recalled.word ≡ n
-    word = eqb-true recalled.word n (sym recalled.found)
-
-    there : IsLiveAt i (length i) e × (e.slot ≡ t)
-    there = recalled.live.only e (attached_prefix g i e recalled.pass here) (was.newest.number ∙ sym word)
-
-    live : IsLiveAt g (length g) e
-    live = record {
-      attached = here;
-      begun = (at_within g e.number (Attach e) here).1;
-      unended = λ p ends.
-          let after = there.0.unended p (ends_on g i recalled.pass e.number p ends) in
-          let within = (at_within g p (Detach e.number) ends).1 in
-          let more = length_longer g i recalled.pass in
-          absurd (omega (arith, after, within, more));
+still_absent key t n w a c d was heads is recalled =
+    let g = c.view.pass in
+    let i = d.view.pass in
+    let e = was.newest.entry in
+    let here : IsAttached g e = attached_prefix a.view.pass g e heads.pass was.newest.attached in
+    let there : IsLiveAt i (length i) e × (e.slot ≡ t) =
+    recalled.live.only e (attached_prefix g i e recalled.pass here) (was.newest.number ∙ sym (eqb-true recalled.word n (sym recalled.found))) in
+    let live : IsLiveAt g (length g) e = live_before g i (length g) (length i) e recalled.pass (at_within g e.number (Attach e) here).1 (omega arith) (prefix_length g i recalled.pass) there.0 in
+    record {
+      none = refl;
+      whole = heads.whole;
+      answered = λ f other same.
+          let top = heads.newest.newest t is in
+          let most : top.0.number ≤ e.number = ⊎_elim
+          (λ (lt : e.number < top.0.number). absurd (later_there g (whole_legal c.view heads.whole) (length g) e top.0 live top.1 (there.1 ∙ sym top.2) lt))
+          (λ (le : top.0.number ≤ e.number). le)
+          (cases_lt e.number top.0.number) in
+          let begun : f.number ≤ was.point = omega (arith, most, top.3 f other, was.newest.number, was.from_on) in
+          was.answered f (live_before a.view.pass g was.point (length g) f heads.pass begun was.up_to (omega (arith, was.up_to, prefix_length a.view.pass g heads.pass)) other) same;
     }
-
-    answered : IsLookup g (length g) key None
-    answered f other same =
-        let top = heads.newest.newest t is in
-        let one : top.0.number ≡ e.number = one_there g (whole_legal c.view heads.whole) (length g) top.0 e top.1 live (top.2 ∙ sym there.1) in
-        let least = top.3 f other in
-        let number = was.newest.number in
-        let from_on = was.from_on in
-        let few = was.up_to in
-        let more = length_longer h g heads.pass in
-        was.answered f (live_back h g heads.pass was.point f few (live_down g (length g) was.point f other (omega (arith, one, least, number, from_on)) (omega (arith, few, more)))) same
 
 -- a miss in a section
 pub section_absent : (key : Key) (n : ℕ) (a b : OnCpu) → HasFoundFromOutside key a b None → a.depth ≡ 0 → HasNumbered a.view.pass n → WasAbsent b.view.pass key n
 section_absent key n a b had outside seen =
     let first = numbered_longer a.view.pass had.first.view.pass n (had.enters.begun outside).0 seen in
     let p = had.finds.lawful in
-    let begun = (at_within had.first.view.pass first.entry.number (Attach first.entry) first.attached).1 in
-    let number = first.number in
-    let from_on = p.from_on in
     subst (λ (g : List Change). WasAbsent g key n) (sym (left_pass key a b None had outside)) (record {
       newest = numbered_longer had.first.view.pass had.last.view.pass n had.finds.pass first;
       point = p.point;
-      from_on = omega (arith, begun, number, from_on);
+      from_on = omega (arith, (at_within had.first.view.pass first.entry.number (Attach first.entry) first.attached).1, first.number, p.from_on);
       up_to = p.up_to;
       answered = p.answered;
     })
@@ -350,8 +274,7 @@ nothing None is = refl
 nothing (Some s) is = absurd (false≢true (sym is))
 
 pub something : (o : Option Seen) → is_some o ≡ true → o ≡ None → ⊥
-something None is none = absurd (false≢true is)
-something (Some s) is none = absurd (false≢true (sym (ap is_some none)))
+something o is none = absurd (false≢true (sym (ap is_some none) ∙ is))
 
 section_found : (key : Key) (a l r : OnCpu) (answer : Option Seen) → HasFoundFromOutside key a l (entry_seen key answer) → r ≡ record l { memory = r.memory } → RemembersAnswer key l.memory r.memory answer
     → FindsAndRemembers (HasFoundFromOutside key a) key a r answer
@@ -381,17 +304,13 @@ section_missed key n a l r b answer had is remembers same none known missed =
       missed = inl (none, known, ap (λ (k : Memory). k.missed) m ∙ ap (λ (k : Missed). (with_miss (record r.memory { missed = k }) key n).missed) (same ∙ ap (λ (k : Memory). k.missed) (outside_memory key a l _ had)));
     }
 
--- what a miss that is remembered says of its key
-miss_absent : (h : List Change) (key : Key) (n : ℕ) (m : Miss) → IsTrueMiss h m → IsMiss key n m → WasAbsent h key n
-miss_absent h key n m so is =
-    let same : m ≡ record { number = n; kind = key.kind; name = key.name } = λ i. record { number = is.number i; kind = is.kind i; name = is.name i } in
-    subst (λ (x : Miss). WasAbsent h (record { kind = x.kind; name = x.name }) x.number) same (so (λ zero. is.some (sym is.number ∙ zero)))
-
 pub absent_anew : (key : Key) (t n w : ℕ) (a c d : OnCpu) (m : Miss) → HasRecalledHeadOn a c w → w ≡ suc t → HasRecalledOn t n c d true → m ≡ miss_of a.memory.missed key
     → IsTrueMiss a.view.pass m → IsMiss key n m → HasFoundAnew key a d None
 absent_anew key t n w a c d m heads head recalled at so is =
     let misses : Misses c.memory key n = subst (IsMiss key n) (at ∙ ap (λ (x : OnCpu). miss_of x.memory.missed key) (sym heads.is)) is in
-    record { head = w; at_head = c; heads = heads; finds = inr (t, n, d, head, recalled, inl (misses, still_absent key t n w a c d (miss_absent a.view.pass key n m so is) heads head recalled, refl)) }
+    let same : m ≡ record { number = n; kind = key.kind; name = key.name } = λ i. record { number = is.number i; kind = is.kind i; name = is.name i } in
+    let was = subst (λ (x : Miss). WasAbsent a.view.pass (record { kind = x.kind; name = x.name }) x.number) same (so (λ zero. is.some (sym is.number ∙ zero))) in
+    record { head = w; at_head = c; heads = heads; finds = inr (t, n, d, head, recalled, inl (misses, still_absent key t n w a c d was heads head recalled, refl)) }
 
 pub section_anew : (key : Key) (t n w : ℕ) (a c d b : OnCpu) (m : Miss) (answer : Option Seen) → HasRecalledHeadOn a c w → w ≡ suc t → HasRecalledOn t n c d true
     → m ≡ miss_of a.memory.missed key → (IsMiss key n m → ⊥) → HasFoundInSection key n d b answer → HasFoundAnew key a b answer

@@ -1,20 +1,19 @@
 -- Collections, and references that are given up: what the rows say, and that what the keeper has agrees with what its seat knows then.
-use Rattle.std.proofs.Common.{◌≡◌, ℕ, ◌+◌, ◌-◌, ◌*◌, ◌^◌, ◌<◌, ◌≤◌, List, ◌++◌, length, get_or, set, Some, true, refl, sym, ap, ◌∙◌, subst, arith, length-set, [], inl, inr, ⊎_elim}
-use Rattle.std.proofs.Math.Seq.{map-set_same}
+use Rattle.std.proofs.Common.{◌≡◌, ℕ, ◌+◌, ◌-◌, ◌*◌, ◌<◌, ◌≤◌, List, length, get_or, set, Some, true, refl, sym, ap, ◌∙◌, subst, arith, length-set, [], inl, inr, ⊎_elim}
 use Rattle.std.proofs.lemmas.List.{set-get_or}
 use Rattle.atomic_table.specs.Seated.{TableId}
-use Rattle.passive_list.specs.Types.{Entry, Collect, TotalAdd, Done, Word, Settings, Rest, Mark, Vacant, Retired, MOST_CPUS, KeeperView, LogItem, Keeper, JoinKeeper, TotalSub, Due, ReferenceView, Reference}
+use Rattle.passive_list.specs.Types.{Entry, TotalAdd, Done, Settings, Rest, Mark, Vacant, Retired, MOST_CPUS, KeeperView, LogItem, Keeper, TotalSub, Due, Subtracting, ReferenceView}
 use Rattle.registry_values.specs.Common.{mark_after_collect, are_collected, bias, slot_at}
 use Rattle.protocol.specs.Common.{mark_at, total_at}
 use Rattle.protocol.proofs.Cells.{total_here, total_other}
 use Rattle.protocol.proofs.keeps.ListKeeps.{rows_put}
 use Rattle.protocol.proofs.Occupied.{not_vacant}
-use Rattle.cpu_words.specs.Common.{row_of, HasCollected, MayTotalAdd, HasAdded, IsShown, did, Makes, IsFoundCollected, MayJoinKeeper, keeper_after_join, JoinsBy, one_more}
+use Rattle.cpu_words.specs.Common.{row_of, HasCollected, HasAdded, IsShown, Makes, IsFoundCollected, MayJoinKeeper, keeper_after_join, one_more}
 use Rattle.cpu_words.specs.Draining.{HasSubtracted}
 use Rattle.cpu_words.proofs.seats.Seating.{step_is_shown}
-use Rattle.passive_list.specs.Common.{KeptSlot, OnKeeper, OnPlainKeeper, on_keeper, no_row, row_at, state_of, states_of, total_or_bias, IsAtRest, MarksAgree, RowsAgree, IsOurKeeper, keeper_after_collect, HasCollectedInto, AreHeld, RowAgrees, HasGivenUp}
+use Rattle.passive_list.specs.Common.{KeptSlot, OnKeeper, OnPlainKeeper, on_keeper, row_at, states_of, total_or_bias, IsAtRest, MarksAgree, RowsAgree, IsOurKeeper, AreHeld, RowAgrees}
 use Rattle.passive_list.proofs.Marks.{mark_read, marks_set}
-use Rattle.passive_list.proofs.Rows.{state_at, not_vacant_within, retired_in, row_stays, rows_set, none_at_rest, total_collected, bias_within, adding_fits, IsHeldIn, held_given_up}
+use Rattle.passive_list.proofs.Rows.{state_at, not_vacant_within, retired_in, keeper_on, row_stays, rows_set, none_at_rest, total_collected, IsHeldIn, held_given_up}
 
 -- Collections: what the rows say where a count word is collected, and where all are.
 
@@ -26,27 +25,6 @@ with_total k t marks total given_up = record k { marks = set k.marks t marks; to
 abbrev pub row_with_total : KeptSlot → ℕ → KeptSlot
 row_with_total r total = record { state = r.state; total = Some total; keeps = r.keeps }
 
-with_total_at_rest : (a : Settings) (k : KeeperView) (t : ℕ) (marks : List Mark) (total : ℕ) (given_up : List ℕ) → IsAtRest a k → length marks ≡ MOST_CPUS
-    → IsAtRest a (with_total k t marks total given_up)
-with_total_at_rest a k t marks total given_up at size = record {
-  settings = at.settings;
-  fit = at.fit;
-  rest = refl;
-  seated = at.seated;
-  sized = record {
-    slots = at.sized.slots;
-    marks = length-set k.marks t marks ∙ at.sized.marks;
-    mark_rows = rows_put k.marks t marks size at.sized.mark_rows;
-    keeps = at.sized.keeps;
-    next = at.sized.next;
-    rows = at.sized.rows;
-    totals = length-set k.totals t total ∙ at.sized.totals;
-    counts = at.sized.counts;
-    count_rows = at.sized.count_rows;
-  };
-  room = at.room;
-}
-
 pub with_total_rows : (a : Settings) (k : KeeperView) (rows : List KeptSlot) (t : ℕ) (marks : List Mark) (total : ℕ) (given_up : List ℕ) → IsAtRest a k → RowsAgree a k rows
     → (slot_at (states_of rows) t ≡ Vacant → ⊥)
     → RowsAgree a (with_total k t marks total given_up) (set rows t (row_with_total (row_at rows t) total))
@@ -54,13 +32,12 @@ with_total_rows a k rows t marks total given_up at agree some =
     let l = with_total k t marks total given_up in
     let lt = not_vacant_within a k rows t agree some in
     let had = agree.each t lt in
-    let off : (row_at rows t).state ≡ Vacant → ⊥ = λ vacant. some (state_at rows t ∙ vacant) in
     rows_set a k l rows t (row_with_total (row_at rows t) total) lt agree
     record {
       state = had.state;
-      total = sym (total_here k.totals t total (let size = at.sized.totals in omega (arith, lt, size)));
+      total = sym (total_here k.totals t total (omega (arith, lt, at.sized.totals)));
       keeps = had.keeps;
-      unused = λ vacant. absurd (off vacant);
+      unused = λ vacant. absurd (some (state_at rows t ∙ vacant));
     }
     (λ u other was. row_stays k l u (row_at rows u) refl (total_other k.totals t total u other) refl was)
 
@@ -68,43 +45,15 @@ with_total_rows a k rows t marks total given_up at agree some =
 pub with_total_keeper : (a : Settings) (k l : KeeperView) (rows : List KeptSlot) (n t : ℕ) (marks : List Mark) (total : ℕ) (given_up : List ℕ)
     → IsOurKeeper a k rows n → (slot_at (states_of rows) t ≡ Vacant → ⊥) → length marks ≡ MOST_CPUS → l ≡ with_total k t marks total given_up → IsShown l
     → IsOurKeeper a l (set rows t (row_with_total (row_at rows t) total)) n
-with_total_keeper a k l rows n t marks total given_up our some size change is_shown = record {
-  view = subst (IsAtRest a) (sym change) (with_total_at_rest a k t marks total given_up our.view size);
-  is_shown = is_shown;
-  changes = our.changes ∙ sym (ap (λ (x : KeeperView). length x.history) change);
-  rows = subst (λ (x : KeeperView). RowsAgree a x (set rows t (row_with_total (row_at rows t) total))) (sym change) (with_total_rows a k rows t marks total given_up our.view our.rows some);
-}
+with_total_keeper a k l rows n t marks total given_up our some size change is_shown =
+    let sized = our.view.sized in
+    keeper_on a l (with_total k t marks total given_up) (set rows t (row_with_total (row_at rows t) total)) n change is_shown
+    (assumption (length-set k.marks t marks ∙ sized.marks, rows_put k.marks t marks size sized.mark_rows, length-set k.totals t total ∙ sized.totals))
+    our.changes (with_total_rows a k rows t marks total given_up our.view our.rows some)
 
 -- A collection
 
--- the word w was collected for the retired entry of t, and is to be added to v, the total in the slot's row
-pub record CollectionTells (a : Settings) (k : KeeperView) (t v w : ℕ) : Type 0 where
-  pub place : t < a.slots
-  pub floor : bias ≤ v + w
-  pub fits : v + w < 2 ^ 64
-  pub may : (old : ℕ) × MayTotalAdd k t old (v + w - bias)
-
-pub collection_tells : {log : List LogItem} (a : Settings) (k l : KeeperView) (rows : List KeptSlot) (n : ℕ) (x : OnKeeper) (t c v w : ℕ) (e : Entry) → IsOurKeeper a k rows n
-    → record { view = k; slots = states_of rows; log = log } ≡ x → v ≡ total_or_bias (row_at rows t)
-    → slot_at x.slots t ≡ Retired e → HasCollected k t c w l → Makes (Collect t c) (Word w) (Keeper k) (Keeper l) → CollectionTells a l t v w
-collection_tells a k l rows n x t c v w e our is read retired change made =
-    let lt = (retired_in a k rows t e our.rows (ap (λ (y : OnKeeper). slot_at y.slots t) is ∙ retired)).0 in
-    let due = ap (λ (v : KeeperView). v.due) change in
-    let total : v ≡ total_at l.totals t = read ∙ (our.rows.each t lt).total ∙ sym (ap (λ (y : KeeperView). total_at y.totals t) change) in
-    let range = adding_fits l t w (step_is_shown made) due in
-    record {
-      place = lt;
-      floor = omega (arith, range.0, total);
-      fits = omega (arith, range.1, total);
-      may = (w, record { due = due; sum = ap (λ (u : ℕ). u + w - bias) total });
-    }
-
--- the view after it, with the new total v and the mark m
-added_is : (k l b : KeeperView) (t c v w : ℕ) (m : Mark) → HasCollected k t c w l → m ≡ mark_after_collect (mark_at k.marks t c) → HasAdded l t v b
-    → b ≡ with_total k t (set (row_of k t) c m) v k.given_up
-added_is k l b t c v w m change mark added =
-    added ∙ ap (λ (x : KeeperView). record x { totals = set x.totals t v; due = Rest }) change ∙ sym (ap (λ (x : Mark). with_total k t (set (row_of k t) c x) v k.given_up) mark)
-
+-- the keeper's data agree with the view after it, with the new total v and the mark m
 pub collected_keeper : {log : List LogItem} (a : Settings) (k l b : KeeperView) (rows : List KeptSlot) (ms : List Mark) (n : ℕ) (x : OnKeeper) (t c p v w : ℕ) (e : Entry) (q m : Mark)
     → IsOurKeeper a k rows n → MarksAgree a k ms → record { view = k; slots = states_of rows; log = log } ≡ x
     → slot_at x.slots t ≡ Retired e → c < a.cpus → p ≡ t * a.cpus + c → q ≡ get_or ms p q → HasCollected k t c w l → m ≡ mark_after_collect q → HasAdded l t v b
@@ -113,31 +62,13 @@ pub collected_keeper : {log : List LogItem} (a : Settings) (k l b : KeeperView) 
 collected_keeper a k l b rows ms n x t c p v w e q m our marks is retired cpu place read change made_of added made =
     let here = ap (λ (y : OnKeeper). slot_at y.slots t) is ∙ retired in
     let lt = (retired_in a k rows t e our.rows here).0 in
-    let size = our.view.sized.marks in
     let mark : m ≡ mark_after_collect (mark_at k.marks t c) = made_of ∙ ap mark_after_collect (mark_read a k ms t c p q marks lt cpu place read) in
-    let long : length (set (row_of k t) c m) ≡ MOST_CPUS = length-set (row_of k t) c m ∙ our.view.sized.mark_rows t (omega (arith, lt, size)) in
-    let now = added_is k l b t c v w m change mark added in (
+    let long : length (set (row_of k t) c m) ≡ MOST_CPUS = length-set (row_of k t) c m ∙ our.view.sized.mark_rows t (omega (arith, lt, our.view.sized.marks)) in
+    let now : b ≡ with_total k t (set (row_of k t) c m) v k.given_up = added ∙ ap (λ (x : KeeperView). record x { totals = set x.totals t v; due = Rest }) change
+    ∙ sym (ap (λ (x : Mark). with_total k t (set (row_of k t) c x) v k.given_up) mark) in (
       with_total_keeper a k b rows n t (set (row_of k t) c m) v k.given_up our (λ vacant. let q : Retired e ≡ Vacant = sym here ∙ vacant in cc) long now (step_is_shown made),
       marks_set a k b ms t c p m our.view marks lt cpu place (ap (λ (y : KeeperView). y.marks) now),
     )
-
-pub collected_into : {log between later : List LogItem} (a : Settings) (k l b : KeeperView) (rows : List KeptSlot) (n : ℕ) (x : OnKeeper) (t c v w : ℕ) (e : Entry) (r : KeptSlot)
-    → IsOurKeeper a k rows n → record { view = k; slots = states_of rows; log = log } ≡ x → v ≡ total_or_bias (row_at rows t)
-    → slot_at x.slots t ≡ Retired e → HasCollected k t c w l → Makes (Collect t c) (Word w) (Keeper k) (Keeper l) → HasAdded l t (v + w - bias) b
-    → Makes (TotalAdd t) Done (Keeper l) (Keeper b) → r.state ≡ (row_at rows t).state
-    → between ≡ log ++ did (Collect t c) (Word w) → later ≡ between ++ did (TotalAdd t) Done → HasCollectedInto x t c (record { view = b; slots = states_of (set rows t r); log = later })
-collected_into {log} {later} a k l b rows n x t c v w e r our is read retired change made added made_too state first then =
-    let lt = (retired_in a k rows t e our.rows (ap (λ (y : OnKeeper). slot_at y.slots t) is ∙ retired)).0 in
-    let total : v + w - bias ≡ total_at k.totals t + w - bias = ap (λ (u : ℕ). u + w - bias) (read ∙ (our.rows.each t lt).total) in
-    subst (λ (y : OnKeeper). HasCollectedInto y t c (record { view = b; slots = states_of (set rows t r); log = later })) is record {
-      word = w;
-      collected = subst (λ (y : KeeperView). Makes (Collect t c) (Word w) (Keeper k) (Keeper y)) change made;
-      added = subst (λ (y : KeeperView). Makes (TotalAdd t) Done (Keeper y) (Keeper b)) change made_too;
-      view = added ∙ ap (λ (y : KeeperView). record y { totals = set y.totals t (v + w - bias); due = Rest }) change
-          ∙ (λ i. record (keeper_after_collect k t c w) { totals = set k.totals t (total i); due = sym our.view.rest i });
-      slots = map-set_same state_of rows t r no_row state;
-      log = then ∙ ap (λ (ds : List LogItem). ds ++ did (TotalAdd t) Done) first;
-    }
 
 -- Once all words are collected
 
@@ -155,7 +86,8 @@ total_tells a k rows n x t v e our is read retired all =
     let total : v ≡ total_at k.totals t = read ∙ (our.rows.each t here.0).total in
     let told : are_collected k.settings.cpus (row_of k t) ≡ true =
     ap (λ (z : Settings). are_collected z.cpus (row_of k t)) our.view.settings ∙ (ap (λ (y : OnPlainKeeper). are_collected y.words.settings.cpus (row_of y.keeper.view t)) is ∙ all) in
-    let floor = bias_within k t e our.is_shown our.view.rest here.1 told in
+    let now = our.is_shown in
+    let floor : bias ≤ total_at k.totals t = omega (arith, total_collected now.g k t e now.good now.shown (none_at_rest k.due t our.view.rest) here.1 told) in
     subst (λ (y : OnPlainKeeper). TotalTells y.keeper.view t v) is record {
       floor = omega (arith, floor, total);
       is = omega (arith, floor, total);
@@ -181,17 +113,15 @@ pub record HeldRow (a : Settings) (k : KeeperView) (rows : List KeptSlot) (t : �
 
 pub held_row : (a : Settings) (k : KeeperView) (rows : List KeptSlot) (t : ℕ) → IsAtRest a k → RowsAgree a k rows → IsHeldIn k t → HeldRow a k rows t
 held_row a k rows t at agree held =
-    let within = held.slot in
-    let same = ap (λ (z : Settings). z.slots) at.settings in
-    let had = agree.each t (omega (arith, within, same)) in
-    let shown = sym had.state in
+    let lt = subst (λ (z : Settings). t < z.slots) at.settings held.slot in
+    let had = agree.each t lt in
     record {
       agrees = had;
-      slot = omega (arith, within, same);
-      shown = shown;
-      some = λ vacant. not_vacant held.e (slot_at k.slots t) (sym shown ∙ (sym (state_at rows t) ∙ vacant)) held.occupied;
-      positive = let total = had.total in let some = held.positive in omega (arith, total, some);
-      size = let wide = at.sized.marks in at.sized.mark_rows t (omega (arith, within, same, wide));
+      slot = lt;
+      shown = sym had.state;
+      some = λ vacant. not_vacant held.e (slot_at k.slots t) (had.state ∙ (sym (state_at rows t) ∙ vacant)) held.occupied;
+      positive = omega (arith, had.total, held.positive);
+      size = at.sized.mark_rows t (omega (arith, lt, at.sized.marks));
     }
 
 -- Its total is one less
@@ -231,26 +161,13 @@ may_take_in a k rows n v w x our is is_too found = record {
       (subst (λ (y : OnKeeper). IsFoundCollected y.slots y.view.marks v) (sym is) (subst (IsFoundCollected x.slots x.view.marks) (sym is_too) found));
 }
 
--- the reference that the keeper takes in is held until it is subtracted
-held_before : (k j l : KeeperView) (v : ReferenceView) → j ≡ keeper_after_join k v → Makes (TotalSub v.entry.slot) Done (Keeper j) (Keeper l) → IsHeldIn k v.entry.slot
-held_before k j l v joined made =
-    let t = v.entry.slot in
-    let there = held_given_up j t record { g = made.g; good = made.good; shown = made.before } (ap (λ (x : KeeperView). x.due) joined) in
-    let held = subst (λ (x : KeeperView). IsHeldIn x t) joined there in
-    record {
-      e = held.e;
-      occupied = held.occupied;
-      slot = held.slot;
-      positive = held.positive;
-      near = held.near;
-    }
-
--- so its slot's row has it
+-- the reference that the keeper takes in is held until it is subtracted, so its slot's row has it
 pub given_row : (a : Settings) (k j l : KeeperView) (rows : List KeptSlot) (n t : ℕ) (v : ReferenceView) → IsOurKeeper a k rows n → v.entry.slot ≡ t → j ≡ keeper_after_join k v
     → Makes (TotalSub t) Done (Keeper j) (Keeper l) → HeldRow a k rows t
 given_row a k j l rows n t v our slot joined made =
-    let held = held_before k j l v joined (subst (λ (u : ℕ). Makes (TotalSub u) Done (Keeper j) (Keeper l)) (sym slot) made) in
-    held_row a k rows t our.view our.rows (subst (IsHeldIn k) slot held)
+    let there = held_given_up j t record { g = made.g; good = made.good; shown = made.before } (ap (λ (x : KeeperView). x.due) joined ∙ ap Subtracting slot) in
+    let held = subst (λ (x : KeeperView). IsHeldIn x t) joined there in
+    held_row a k rows t our.view our.rows record { e = held.e; occupied = held.occupied; slot = held.slot; positive = held.positive; near = held.near }
 
 -- what the two steps tell
 pub given_is : (k j l : KeeperView) (t : ℕ) (v : ReferenceView) → k.due ≡ Rest → j ≡ keeper_after_join k v → HasSubtracted j t l → l ≡ less k t (one_more k.given_up v.entry.number)
@@ -265,25 +182,3 @@ given_keeper a k j l rows n t u v our slot joined made told read =
     let given_up = one_more k.given_up v.entry.number in
     with_total_keeper a k l rows n t (get_or k.marks t []) (u - 1) given_up our row.some row.size
     (given_is k j l t v our.view.rest joined told ∙ less_is a k rows t u given_up our.view.rest row read) (step_is_shown made)
-
--- what is left of the keeper
-pub has_given_up : {log between later : List LogItem} (k j l : KeeperView) (rows : List KeptSlot) (t n : ℕ) (v w : ReferenceView) (x : OnKeeper) (r : KeptSlot) → state_of r ≡ state_of (row_at rows t)
-    → record { view = k; slots = states_of rows; log = log } ≡ x → v ≡ w → k.due ≡ Rest → v.entry.slot ≡ t → j ≡ keeper_after_join k v
-    → JoinsBy JoinKeeper (Keeper k) (Reference v) (Keeper j) → Makes (TotalSub t) Done (Keeper j) (Keeper l) → HasSubtracted j t l
-    → between ≡ log ++ did (JoinKeeper v.entry.number) Done → later ≡ between ++ did (TotalSub t) Done
-    → HasGivenUp x w (record { view = l; slots = states_of (set rows t (row_less r n)); log = later })
-has_given_up {log} {later} k j l rows t n v w x r state is is_too rest slot joined joins made told first then =
-    let after = states_of (set rows t (row_less r n)) in
-    let s = v.entry.slot in
-    let made_there : Makes (TotalSub s) Done (Keeper j) (Keeper l) = subst (λ (u : ℕ). Makes (TotalSub u) Done (Keeper j) (Keeper l)) (sym slot) made in
-    let told_there : HasSubtracted j s l = subst (λ (u : ℕ). HasSubtracted j u l) (sym slot) told in
-    let both : later ≡ log ++ did (JoinKeeper v.entry.number) Done ++ did (TotalSub s) Done =
-    then ∙ ap (λ (ds : List LogItem). ds ++ did (TotalSub t) Done) first ∙ ap (λ (u : ℕ). log ++ did (JoinKeeper v.entry.number) Done ++ did (TotalSub u) Done) (sym slot) in
-    subst (λ (y : OnKeeper). HasGivenUp y w (record { view = l; slots = after; log = later })) is
-    (subst (λ (u : ReferenceView). HasGivenUp (record { view = k; slots = states_of rows; log = log }) u (record { view = l; slots = after; log = later })) is_too record {
-      joined = subst (λ (y : KeeperView). JoinsBy JoinKeeper (Keeper k) (Reference v) (Keeper y)) joined joins;
-      subtracted = subst (λ (y : KeeperView). Makes (TotalSub s) Done (Keeper y) (Keeper l)) joined made_there;
-      view = given_is k j l s v rest joined told_there;
-      slots = map-set_same state_of rows t (row_less r n) no_row state;
-      log = both;
-    })

@@ -10,14 +10,14 @@ use Rattle.std.proofs.lemmas.Bool.{cases_lt, and_parts}
 use Rattle.std.proofs.lemmas.Bool.Decides.{Decides-eqb}
 use Rattle.std.specs.List.{AllPairs, Contains, list_any}
 use mathlib.Core.List.{IsPrefix}
-use Rattle.passive_list.specs.Types.{Entry, Kind, Iface, Name, Change, MOST_SLOTS, AtNext, AtNumber, AtKind, AtHigh, AtLow, On, Search, CpuView}
+use Rattle.passive_list.specs.Types.{Entry, Kind, Iface, Name, Change, MOST_SLOTS, AtNext, AtNumber, Search, CpuView}
 use Rattle.registry_values.specs.Names.{are_key_words}
 use Rattle.registry_values.specs.Common.{are_words_of, kind_word}
-use Rattle.protocol.specs.Common.{StandsOn, loaded_at}
+use Rattle.protocol.specs.Common.{StandsOn}
 use Rattle.protocol.proofs.History.{one_entry}
-use Rattle.cpu_words.specs.Common.{MayLoadLink, PassTells, SkipsNone, Descends, LinkHolds, every_word, HasLoadedLink, HasLoadedWord, HasFollowed, IsValueThere, cpu_after_seek, cpu_after_link, search_for}
+use Rattle.cpu_words.specs.Common.{MayLoadLink, PassTells, SkipsNone, Descends, LinkHolds, HasLoadedLink, HasLoadedWord, HasFollowed, IsValueThere, cpu_after_seek, cpu_after_link, search_for}
 use Rattle.passive_list.specs.Common.{OnCpu, search_at, IsUnderWay, cpu_with_search_at, after_visit, nobody, AreStoodOn, MayGoBy, HasGoneByFrom, HasGoneByOne, view_at_link, IsLiveSince, GoesOnAt, IsGoingOver, HasGoneOver, HasGoneOverBy, HasWalked, IsWritten}
-use Rattle.passive_list.proofs.Walking.{prefix_trans, on_word, judged_at, may_follow, prefix_length, stands_later, live_before, stood_was_live}
+use Rattle.passive_list.proofs.Walking.{HasPassed, passed, prefix_trans, may_follow, prefix_length, stands_later, live_before, stood_was_live}
 
 -- One slot
 
@@ -32,90 +32,28 @@ unnamed kind high low named = by_cases (are_words_of nobody kind high low) refl
     by_cases : (b : Bool) → are_words_of nobody kind high low ≡ b → are_words_of nobody kind high low ≡ false
     by_cases false is = is
     by_cases true is =
-        let name = (and_parts (kind == 1) (high == 0 && low == 0) is).1 in
-        let both = and_parts (high == 0) (low == 0) name in
-        let h : high ≡ 0 = eqb-true high 0 both.0 in
-        let l : low ≡ 0 = eqb-true low 0 both.1 in
-        absurd (no_zeros (sym (λ i. are_key_words (h i) (l i)) ∙ named))
+        let both = and_parts (high == 0) (low == 0) (and_parts (kind == 1) (high == 0 && low == 0) is).1 in
+        absurd (no_zeros (sym (λ i. are_key_words (eqb-true high 0 both.0 i) (eqb-true low 0 both.1 i)) ∙ named))
 
--- the words that the search compares were loaded: they are those of an entry on which it may stand, and not those that it seeks
-pub record HasCompared (x : CpuView) (from t n k h l : ℕ) (y : CpuView) : Type 0 where
-  pub is : y ≡ cpu_with_search_at x nobody from (AtNext t)
-  pub entry : Entry
-  pub stands : StandsOn x.pass from (length x.pass) t entry
-  pub number : entry.number ≡ n
-  pub kind : kind_word entry.rec.kind ≡ k
-  pub high : entry.rec.name.high ≡ h
-  pub low : entry.rec.name.low ≡ l
-
+-- the words are not those that the search seeks
 pub compared : (x y1 y2 y3 y4 : CpuView) (from t n k h l : ℕ) → HasLoadedWord x n y1 → HasLoadedWord y1 k y2 → HasLoadedWord y2 h y3 → HasLoadedWord y3 l y4
-    → IsUnderWay x nobody from (AtNumber t) → PassTells x.begin from x.pass → HasCompared x from t n k h l y4
+    → IsUnderWay x nobody from (AtNumber t) → PassTells x.begin from x.pass → HasPassed x nobody from t n k h l (AtNext t) y4
 compared x y1 y2 y3 y4 from t n k h l had1 had2 had3 had4 at tells =
-    let key = nobody in
-    let is1 : y1 ≡ cpu_with_search_at x key from (AtKind t n) = on_word x y1 key from (AtNumber t) (AtKind t n) n n at refl had1 in
-    let at1 : IsUnderWay y1 key from (AtKind t n) = ap (λ (v : CpuView). v.search) is1 in
-    let is2 : y2 ≡ cpu_with_search_at y1 key from (AtHigh t n k) = on_word y1 y2 key from (AtKind t n) (AtHigh t n k) k k at1 refl had2 in
-    let at2 : IsUnderWay y2 key from (AtHigh t n k) = ap (λ (v : CpuView). v.search) is2 in
-    let is3 : y3 ≡ cpu_with_search_at y2 key from (AtLow t n k h) = on_word y2 y3 key from (AtHigh t n k) (AtLow t n k h) h h at2 refl had3 in
-    let at3 : IsUnderWay y3 key from (AtLow t n k h) = ap (λ (v : CpuView). v.search) is3 in
-    let q = after_visit t n (are_words_of key k h l) in
-    let on : loaded_at (search_at key from (AtLow t n k h)) (AtLow t n k h) (every_word l) ≡ Some (On q l) = ap Some (judged_at t n l (are_words_of key k h l)) in
-    let is4 : y4 ≡ cpu_with_search_at y3 key from q = on_word y3 y4 key from (AtLow t n k h) q l l at3 on had4 in
-    let pass1 : y1.pass ≡ x.pass = ap (λ (v : CpuView). v.pass) is1 in
-    let pass2 : y2.pass ≡ x.pass = ap (λ (v : CpuView). v.pass) is2 ∙ pass1 in
-    let pass3 : y3.pass ≡ x.pass = ap (λ (v : CpuView). v.pass) is3 ∙ pass2 in
-    let pass4 : y4.pass ≡ x.pass = ap (λ (v : CpuView). v.pass) is4 ∙ pass3 in
-    let s1 = had1 (search_at key from (AtNumber t)) at in
-    let s2 = had2 (search_at key from (AtKind t n)) at1 in
-    let s3 = had3 (search_at key from (AtHigh t n k)) at2 in
-    let s4 = had4 (search_at key from (AtLow t n k h)) at3 in
-    let number = s1.number t refl in
-    let e = number.0 in
-    let stands : StandsOn x.pass from (length x.pass) t e = subst (λ (p : List Change). StandsOn p from (length p) t e) pass1 number.1 in
-    let kind : kind_word e.rec.kind ≡ k = s2.words t 1 e (refl, refl) (subst (λ (p : List Change). StandsOn p from (length p) t e) (sym pass2) stands) in
-    let high : e.rec.name.high ≡ h = s3.words t 2 e (refl, refl) (subst (λ (p : List Change). StandsOn p from (length p) t e) (sym pass3) stands) in
-    let low : e.rec.name.low ≡ l = s4.words t 3 e (refl, refl) (subst (λ (p : List Change). StandsOn p from (length p) t e) (sym pass4) stands) in
-    let named : are_key_words h l ≡ true = sym (λ i. are_key_words (high i) (low i)) ∙ tells.named t e stands in
-    let none : are_words_of key k h l ≡ false = unnamed k h l named in
-    record {
-      is = is4 ∙ ap (λ v. cpu_with_search_at v key from q) (is3 ∙ ap (λ v. cpu_with_search_at v key from (AtLow t n k h)) (is2 ∙ ap (λ v. cpu_with_search_at v key from (AtHigh t n k)) is1))
-          ∙ ap (λ (b : Bool). cpu_with_search_at x key from (after_visit t n b)) none;
-      entry = e;
-      stands = stands;
-      number = number.2;
-      kind = kind;
-      high = high;
-      low = low;
-    }
-
-pub may_load_value : (x y : CpuView) (from t n k h l : ℕ) → HasCompared x from t n k h l y → MayLoadLink y t
-may_load_value x y from t n k h l had = may_follow y nobody from t (ap (λ (v : CpuView). v.search) had.is)
+    let v = passed x y1 y2 y3 y4 nobody from t n k h l had1 had2 had3 had4 at in
+    let named : are_key_words h l ≡ true = sym (λ i. are_key_words (v.high i) (v.low i)) ∙ tells.named t v.entry v.stands in
+    subst (λ (b : Bool). HasPassed x nobody from t n k h l (after_visit t n b) y4) (unnamed k h l named) v
 
 -- and so was the value
-pub gone_by : (x y z : CpuView) (from t n k h l value : ℕ) (kind : Kind) (name : Name) → HasCompared x from t n k h l y → IsValueThere y t value → z ≡ y
+pub gone_by : (x y z : CpuView) (from t n k h l value : ℕ) (kind : Kind) (name : Name) → HasPassed x nobody from t n k h l (AtNext t) y → IsValueThere y t value → z ≡ y
     → ((c : Kind) → k ≡ kind_word c → kind ≡ c) → name ≡ record { high = h; low = l } → HasGoneByFrom x from t (record { number = n; slot = t; rec = record { kind = kind; name = name; value = value } }) z
-gone_by x y z from t n k h l value kind name had there same kinds named = record {
-  is = same ∙ had.is;
-  stands = subst (StandsOn x.pass from (length x.pass) t) entry_is had.stands;
-}
-  where
-    e : Entry
-    e = had.entry
-
-    pass : y.pass ≡ x.pass
-    pass = ap (λ (v : CpuView). v.pass) had.is
-
-    value_is : e.rec.value ≡ value
-    value_is = there (search_at nobody from (AtNext t)) e (ap (λ (v : CpuView). v.search) had.is) (subst (λ (p : List Change). StandsOn p from (length p) t e) (sym pass) had.stands)
-
-    kind_is : kind ≡ e.rec.kind
-    kind_is = kinds e.rec.kind (sym had.kind)
-
-    name_is : e.rec.name ≡ name
-    name_is = (λ i. record { high = had.high i; low = had.low i }) ∙ sym named
-
-    entry_is : e ≡ record { number = n; slot = t; rec = record { kind = kind; name = name; value = value } }
-    entry_is = λ i. record { number = had.number i; slot = had.stands.at i; rec = record { kind = sym kind_is i; name = name_is i; value = value_is i } }
+gone_by x y z from t n k h l value kind name had there same kinds named =
+    let e = had.entry in
+    let value_is : e.rec.value ≡ value = there (search_at nobody from (AtNext t)) e (ap (λ (v : CpuView). v.search) had.is)
+    (subst (λ (p : List Change). StandsOn p from (length p) t e) (sym (ap (λ (v : CpuView). v.pass) had.is)) had.stands) in
+    let name_is : e.rec.name ≡ name = (λ i. record { high = had.high i; low = had.low i }) ∙ sym named in
+    let entry_is : e ≡ record { number = n; slot = t; rec = record { kind = kind; name = name; value = value } } =
+    λ i. record { number = had.number i; slot = had.stands.at i; rec = record { kind = sym (kinds e.rec.kind (sym had.kind)) i; name = name_is i; value = value_is i } } in
+    record { is = same ∙ had.is; stands = subst (StandsOn x.pass from (length x.pass) t) entry_is had.stands }
 
 -- No more than there are slots
 
@@ -159,13 +97,17 @@ few_stood_on begin h from slots es tells on = (few slots (λ e there. (on.slot e
 
 -- From one slot to the next
 
+-- none
+pub none_stood_on : (h : List Change) (from slots : ℕ) → AreStoodOn h from slots []
+none_stood_on h from slots = record { stands = λ e there. absurd (omega (arith, there.1)); slot = λ e there. absurd (omega (arith, there.1)); newest_first = λ i j d lt within. absurd (omega (arith, within)) }
+
 -- the head was loaded
 pub going_begins : (x y : CpuView) (m : ℕ) → HasFollowed (cpu_after_seek nobody x) (search_for nobody x) m y → IsGoingOver x [] m y
 going_begins x y m had = record {
   pass = had.pass;
   is = is_at m had.is;
   tells = had.tells;
-  over = record { stands = λ e there. absurd (omega (arith, there.1)); slot = λ e there. absurd (omega (arith, there.1)); newest_first = λ i j d lt within. absurd (omega (arith, within)) };
+  over = none_stood_on y.pass (length x.pass) x.settings.slots;
   goes_on = goes_on m had.holds (had.first refl);
 }
   where
@@ -188,20 +130,26 @@ pub gone_by_there : (x y z : CpuView) (es : List Entry) (t : ℕ) (e : Entry) �
 gone_by_there x y z es t e at had = had (length x.pass) (going_on x y es t at) (tells_on x y es t at)
 
 -- the entry there is one more
-with_next : (x y : CpuView) (es : List Entry) (t : ℕ) (e : Entry) → IsGoingOver x es (suc t) y → StandsOn y.pass (length x.pass) (length y.pass) t e
-    → AreStoodOn y.pass (length x.pass) x.settings.slots (es ++ e ∷ [])
-with_next x y es t e at stands = record {
+pub stood_on_more : (h : List Change) (from slots t : ℕ) (es : List Entry) (e : Entry) → AreStoodOn h from slots es → StandsOn h from (length h) t e → (t < slots) × (t < MOST_SLOTS)
+    → ((f : Entry) → Contains es f → e.number < f.number) → AreStoodOn h from slots (es ++ e ∷ [])
+stood_on_more h from slots t es e on stands low newer = record {
   stands = λ f there. ⊎_elim
-      (λ (old : Contains es f). at.over.stands f old)
-      (λ (same : e ≡ f). subst (λ (g : Entry). StandsOn y.pass (length x.pass) (length y.pass) g.slot g) same
-      (subst (λ (u : ℕ). StandsOn y.pass (length x.pass) (length y.pass) u e) (sym stands.at) stands))
+      (λ (old : Contains es f). on.stands f old)
+      (λ (same : e ≡ f). subst (λ (g : Entry). StandsOn h from (length h) g.slot g) same (subst (λ (u : ℕ). StandsOn h from (length h) u e) (sym stands.at) stands))
       (Contains-push_cases es e f there);
   slot = λ f there. ⊎_elim
-      (λ (old : Contains es f). at.over.slot f old)
-      (λ (same : e ≡ f). subst (λ (g : Entry). (g.slot < x.settings.slots) × (g.slot < MOST_SLOTS)) same (omega (arith, stands.at, at.goes_on.0.0), omega (arith, stands.at, at.goes_on.0.1)))
+      (λ (old : Contains es f). on.slot f old)
+      (λ (same : e ≡ f). subst (λ (u : ℕ). (u < slots) × (u < MOST_SLOTS)) (sym stands.at ∙ ap (λ (g : Entry). g.slot) same) low)
       (Contains-push_cases es e f there);
-  newest_first = all_pairs_push (λ (d f : Entry). f.number < d.number) es e at.over.newest_first (λ k d lt. (at.goes_on.1 e stands).0 (get_or es k d) (Contains-get_or es k d lt));
+  newest_first = all_pairs_push (λ (d f : Entry). f.number < d.number) es e on.newest_first (λ k d lt. newer (get_or es k d) (Contains-get_or es k d lt));
 }
+
+pub stood_later : (p h : List Change) (from slots : ℕ) (es : List Entry) → IsPrefix p h → from ≤ length p → AreStoodOn p from slots es → AreStoodOn h from slots es
+stood_later p h from slots es more low on = record { stands = λ e there. stands_later p h from e.slot e more low (on.stands e there); slot = on.slot; newest_first = on.newest_first }
+
+with_next : (x y : CpuView) (es : List Entry) (t : ℕ) (e : Entry) → IsGoingOver x es (suc t) y → StandsOn y.pass (length x.pass) (length y.pass) t e
+    → AreStoodOn y.pass (length x.pass) x.settings.slots (es ++ e ∷ [])
+with_next x y es t e at stands = stood_on_more y.pass (length x.pass) x.settings.slots t es e at.over stands at.goes_on.0 (at.goes_on.1 e stands).0
 
 -- so there is room for it
 pub room_for_next : (x y z : CpuView) (es : List Entry) (t : ℕ) (e : Entry) → IsGoingOver x es (suc t) y → HasGoneByOne y t e z → length es < MOST_SLOTS
@@ -222,10 +170,10 @@ pub goes_by_next : (x y z w : CpuView) (es : List Entry) (t m : ℕ) (e : Entry)
     → IsGoingOver x (es ++ e ∷ []) m w
 goes_by_next x y z w es t m e at had loaded_link =
     record {
-      pass = pass;
+      pass = prefix_trans x.pass y.pass w.pass at.pass more;
       is = view_after x y z w t m at.is v.is followed.is;
-      tells = tells;
-      over = over_on;
+      tells = subst (λ (b : Option ℕ). PassTells b from w.pass) (ap (λ (u : CpuView). u.begin) v.is ∙ ap (λ (u : CpuView). u.begin) at.is) followed.tells;
+      over = stood_later y.pass w.pass from x.settings.slots (es ++ e ∷ []) more low (with_next x y es t e at v.stands);
       goes_on = goes_on m followed.holds (followed.next t e refl stands_z) (followed.descends t refl);
     }
   where
@@ -244,29 +192,11 @@ goes_by_next x y z w es t m e at had loaded_link =
     more : IsPrefix y.pass w.pass
     more = subst (λ p. IsPrefix p w.pass) same followed.pass
 
-    pass : IsPrefix x.pass w.pass
-    pass = prefix_trans x.pass y.pass w.pass at.pass more
-
     low : from ≤ length y.pass
     low = prefix_length x.pass y.pass at.pass
 
-    begin : z.begin ≡ x.begin
-    begin = ap (λ (u : CpuView). u.begin) v.is ∙ ap (λ (u : CpuView). u.begin) at.is
-
-    settings : z.settings.slots ≡ x.settings.slots
-    settings = ap (λ (u : CpuView). u.settings.slots) v.is ∙ ap (λ (u : CpuView). u.settings.slots) at.is
-
-    tells : PassTells x.begin from w.pass
-    tells = subst (λ (b : Option ℕ). PassTells b from w.pass) begin followed.tells
-
     stands_z : StandsOn z.pass from (length z.pass) t e
     stands_z = subst (λ (p : List Change). StandsOn p from (length p) t e) (sym same) v.stands
-
-    before : AreStoodOn y.pass from x.settings.slots (es ++ e ∷ [])
-    before = with_next x y es t e at v.stands
-
-    over_on : AreStoodOn w.pass from x.settings.slots (es ++ e ∷ [])
-    over_on = record { stands = λ f there. stands_later y.pass w.pass from f.slot f more low (before.stands f there); slot = before.slot; newest_first = before.newest_first }
 
     -- live since, in the longer pass, so in the shorter one
     earlier : (f : Entry) → IsLiveSince w.pass from f → IsLiveSince y.pass from f
@@ -291,7 +221,7 @@ goes_by_next x y z w es t m e at had loaded_link =
         → GoesOnAt w.pass from x.settings.slots (es ++ e ∷ []) m
     goes_on zero holds skips falls = λ f live. ⊎_elim (λ (lt : f.number < e.number). absurd (skips f live.0 live.1 lt)) (λ there. there) (cases f live)
     goes_on (suc u) holds skips falls = (
-      subst (λ (slots : ℕ). (u < slots) × (u < MOST_SLOTS)) settings holds,
+      subst (λ (slots : ℕ). (u < slots) × (u < MOST_SLOTS)) (ap (λ (i : CpuView). i.settings.slots) v.is ∙ ap (λ (i : CpuView). i.settings.slots) at.is) holds,
       λ g stands. (
         λ f there.
             let below : g.number < e.number = falls e g stands_z stands in
@@ -324,69 +254,42 @@ none_written written row = record { first = sym (take_all (length row) [] (omega
 
 pub one_more_written : {P : Type 0} (written : Entry → P) (es : List Entry) (e : Entry) (first old : List P) → length old ≡ length first → IsWritten written es first old
     → IsWritten written (es ++ e ∷ []) first (set old (length es) (written e))
-one_more_written {P} written es e first old size had = ⊎_elim within past (cases_lt k n)
-  where
-    k : ℕ
-    k = length es
-
-    n : ℕ
-    n = length first
-
-    more : length (es ++ e ∷ []) ≡ k + 1
-    more = length-append es (e ∷ [])
-
-    grown : map written (es ++ e ∷ []) ≡ map written es ++ written e ∷ []
-    grown = map-append written es (e ∷ [])
-
-    sized : length (map written es) ≡ k
-    sized = length-map es written
-
-    next_drop : (row : List P) → drop (k + 1) row ≡ drop 1 (drop k row)
-    next_drop row = sym (drop-drop 1 k row)
-
-    within : k < n → IsWritten written (es ++ e ∷ []) first (set old k (written e))
-    within lt = record {
+one_more_written {P} written es e first old size had =
+    let k = length es in
+    let n = length first in
+    let more : length (es ++ e ∷ []) ≡ k + 1 = length-append es (e ∷ []) in
+    let grown : map written (es ++ e ∷ []) ≡ map written es ++ written e ∷ [] = map-append written es (e ∷ []) in
+    let sized : length (map written es) ≡ k = length-map es written in
+    let rest : drop (k + 1) old ≡ drop (length (es ++ e ∷ [])) first =
+    sym (drop-drop 1 k old) ∙ ap (drop 1) had.rest ∙ drop-drop 1 k first ∙ sym (ap (λ (m : ℕ). drop m first) more) in
+    ⊎_elim
+    (λ (lt : k < n). record {
       first = ap (λ (m : ℕ). take m (set old k (written e))) more ∙ take_more_set old k (written e) (omega (arith, lt, size))
           ∙ ap (λ (row : List P). row ++ written e ∷ []) (had.first ∙ take_all n (map written es) (omega (arith, sized, lt)))
           ∙ sym (take_all n (map written (es ++ e ∷ [])) (omega (arith, length-map (es ++ e ∷ []) written, more, lt)) ∙ grown);
-      rest = ap (λ (m : ℕ). drop m (set old k (written e))) more ∙ drop-set-lt (k + 1) old k (written e) (omega arith)
-          ∙ next_drop old ∙ ap (drop 1) had.rest ∙ sym (next_drop first) ∙ sym (ap (λ (m : ℕ). drop m first) more);
-    }
-
-    past : n ≤ k → IsWritten written (es ++ e ∷ []) first (set old k (written e))
-    past le = subst (IsWritten written (es ++ e ∷ []) first) (sym (set_past old k (written e) (omega (arith, le, size)))) (record {
+      rest = ap (λ (m : ℕ). drop m (set old k (written e))) more ∙ drop-set-lt (k + 1) old k (written e) (omega arith) ∙ rest;
+    })
+    (λ (le : n ≤ k). subst (IsWritten written (es ++ e ∷ []) first) (sym (set_past old k (written e) (omega (arith, le, size)))) (record {
       first = take_all (length (es ++ e ∷ [])) old (omega (arith, more, le, size)) ∙ sym (take_all k old (omega (arith, le, size))) ∙ had.first
           ∙ sym (take-append-le n (map written es) (written e ∷ []) (omega (arith, sized, le))) ∙ ap (take n) (sym grown);
-      rest = ap (λ (m : ℕ). drop m old) more ∙ next_drop old ∙ ap (drop 1) had.rest ∙ sym (next_drop first) ∙ sym (ap (λ (m : ℕ). drop m first) more);
-    })
+      rest = ap (λ (m : ℕ). drop m old) more ∙ rest;
+    }))
+    (cases_lt k n)
 
 -- as they are, into a row that has room
 pub all_written : (es old new : List Entry) → length es ≤ length old → IsWritten (λ (e : Entry). e) es old new → take (length es) new ≡ es
 all_written es old new room had = had.first ∙ ap (take (length old)) (map-id es) ∙ take_all (length old) es room
-
--- the search has gone by no more entries than there are slots
-pub few_gone_over : (x y : CpuView) (es : List Entry) (m : ℕ) → IsGoingOver x es m y → length es ≤ x.settings.slots
-few_gone_over x y es m at = (few_stood_on x.begin y.pass (length x.pass) x.settings.slots es at.tells at.over).0
 
 -- it is the same CPU's view
 pub going_id : (x y : CpuView) (es : List Entry) (m : ℕ) → IsGoingOver x es m y → y.id ≡ x.id
 going_id x y es zero at = ap (λ (v : CpuView). v.id) at.is
 going_id x y es (suc t) at = ap (λ (v : CpuView). v.id) at.is
 
-pub slot_id : (x y z : CpuView) (es : List Entry) (t : ℕ) (e : Entry) → IsGoingOver x es (suc t) y → HasGoneByOne y t e z → z.id ≡ y.id
-slot_id x y z es t e at had = ap (λ (v : CpuView). v.id) (gone_by_there x y z es t e at had).is
-
 -- The whole walk
 
 pub gone_over : (x y : CpuView) (es : List Entry) → IsGoingOver x es 0 y → HasGoneOver x y es
-gone_over x y es at = record {
-  pass = at.pass;
-  is = at.is;
-  since = at.tells.since;
-  all = at.goes_on;
-  each = λ e there. stood_was_live y.pass (length x.pass) e.slot e at.tells.legal (prefix_length x.pass y.pass at.pass) (at.over.stands e there);
-  newest_first = at.over.newest_first;
-}
+gone_over x y es at =
+    assumption (at, λ (e : Entry) (there : Contains es e). stood_was_live y.pass (length x.pass) e.slot e at.tells.legal (prefix_length x.pass y.pass at.pass) (at.over.stands e there))
 
 -- to a contract
 pub walked : (a b : OnCpu) (row : List Entry) → a.view.search ≡ None → HasGoneOver a.view b.view row → b.depth ≡ a.depth → b.made ≡ a.made → b.memory ≡ a.memory → b.known_log ≡ a.known_log
@@ -412,12 +315,4 @@ walked a b row idle had depth made memory known_log log = record {
 
 -- what its calls have made is none of the walk's
 pub walked_by : (x y : OnCpu) (made : ℕ) (row : List Entry) → HasWalked x y row → HasWalked (record x { made = made }) (record y { made = made }) row
-walked_by x y made row had = record {
-  pass = had.pass;
-  is = ap (λ (v : OnCpu). record v { made = made }) had.is;
-  all = had.all;
-  each = had.each;
-  held = had.held;
-  newest_first = had.newest_first;
-  log = had.log;
-}
+walked_by x y made row had = assumption (ap (λ (v : OnCpu). record v { made = made }) had.is, had)

@@ -1,6 +1,7 @@
 -- The newest live entry below a number and the oldest above it are found by one walk over the slots.
-use Rattle.std.proofs.Common.{◌≡◌, inl, ⊎_elim, ℕ, zero, suc, ◌<◌, ◌≤◌, true, false, nat_lt, List, length, Option, Some, None, refl, sym, ap, ◌∙◌, subst, arith, lt-ltb, le-ltb}
+use Rattle.std.proofs.Common.{◌≡◌, inl, ⊎_elim, ℕ, zero, suc, ◌<◌, ◌≤◌, Bool, true, false, ◌&&◌, if◌then◌else◌, nat_lt, List, length, Option, Some, None, refl, sym, ap, ◌∙◌, subst, arith, Decides}
 use Rattle.std.proofs.lemmas.Bool.{cases_eq, cases_lt}
+use Rattle.std.proofs.lemmas.Bool.Decides.{Decides-and, Decides-ltb, not_from_Decides}
 use Rattle.std.proofs.lemmas.List.{length-map}
 use Rattle.std.proofs.Math.Numerals.{add-one}
 use Rattle.passive_list.specs.Types.{Entry, Slot, Vacant, Live, Retired}
@@ -8,6 +9,7 @@ use Rattle.registry_values.specs.Common.{slot_at}
 use Rattle.protocol.proofs.Occupied.{in_within}
 use Rattle.cpu_words.specs.Common.{LeadsBelow, IsBefore, IsLinkPlace, To_end, To_slot}
 use Rattle.passive_list.specs.Common.{KeptSlot, At, row_at, state_of, states_of, newer_of, older_of, link_to, place_of}
+use Rattle.passive_list.specs.Publishing.{is_newer, is_older}
 use Rattle.passive_list.proofs.Rows.{state_at}
 
 -- of the first d slots
@@ -19,39 +21,30 @@ abbrev pub oldest_to : List KeptSlot → ℕ → ℕ → Option At
 oldest_to rows n zero = None
 oldest_to rows n (suc d) = older_of n d (oldest_to rows n d) (row_at rows d).state
 
--- it is live and below n, and no live entry below n so far is newer
-record IsNewest (slots : List Slot) (n d : ℕ) (at : At) : Type 0 where
-  f : Entry
-  live : slot_at slots at.slot ≡ Live f
-  number : f.number ≡ at.number
-  below : f.number < n
-  most : (u : ℕ) (h : Entry) → u < d → slot_at slots u ≡ Live h → h.number < n → h.number ≤ f.number
+-- x is below y, or, with `up`, above it
+abbrev IsBelow : Bool → ℕ → ℕ → Type 0
+IsBelow false x y = x < y
+IsBelow true x y = y < x
 
-abbrev Newest : List Slot → ℕ → ℕ → Option At → Type 0
-Newest slots n d None = (u : ℕ) (h : Entry) → u < d → slot_at slots u ≡ Live h → h.number < n → ⊥
-Newest slots n d (Some at) = IsNewest slots n d at
+-- nearer to the number than what was found
+abbrev IsBetter : Bool → ℕ → Option At → Type 0
+IsBetter up x None = Unit
+IsBetter up x (Some at) = IsBelow up at.number x
 
-record IsOldest (slots : List Slot) (n d : ℕ) (at : At) : Type 0 where
-  f : Entry
-  live : slot_at slots at.slot ≡ Live f
-  number : f.number ≡ at.number
-  above : n < f.number
-  within : at.slot < d
-  least : (u : ℕ) (h : Entry) → u < d → slot_at slots u ≡ Live h → n < h.number → f.number ≤ h.number
+abbrev IsFound : Bool → List Slot → ℕ → Option At → Type 0
+IsFound up slots n None = Unit
+IsFound up slots n (Some at) = (f : Entry) × (slot_at slots at.slot ≡ Live f) × (f.number ≡ at.number) × IsBelow up f.number n
 
-abbrev Oldest : List Slot → ℕ → ℕ → Option At → Type 0
-Oldest slots n d None = (u : ℕ) (h : Entry) → u < d → slot_at slots u ≡ Live h → n < h.number → ⊥
-Oldest slots n d (Some at) = IsOldest slots n d at
+-- it is live and below n, and no live entry below n in the first d slots is better
+abbrev IsBest : Bool → List Slot → ℕ → ℕ → Option At → Type 0
+IsBest up slots n d best = IsFound up slots n best × ((u : ℕ) (h : Entry) → u < d → slot_at slots u ≡ Live h → IsBelow up h.number n → IsBetter up h.number best → ⊥)
 
 -- a live entry in the first d + 1 slots is in the first d, or is the one in d
 one_of : (slots : List Slot) (d u : ℕ) (e h : Entry) (P : Entry → Type 0) → slot_at slots d ≡ Live e → u < suc d → slot_at slots u ≡ Live h → P e → (u < d → P h) → P h
 one_of slots d u e h P here lt live at_d before = ⊎_elim
-    (λ (is : u ≡ d). subst P (same e h (sym here ∙ (ap (slot_at slots) (sym is) ∙ live))) at_d)
+    (λ (is : u ≡ d). let same : e ≡ h = let q : Live e ≡ Live h = sym here ∙ (ap (slot_at slots) (sym is) ∙ live) in cc in subst P same at_d)
     (λ (off : u ≡ d → ⊥). before (omega (arith, lt, off)))
     (cases_eq u d)
-  where
-    same : (x y : Entry) → Live x ≡ Live y → x ≡ y
-    same x y q = cc
 
 -- and where d has none, it is in the first d
 none_at : (slots : List Slot) (d u : ℕ) (x : Slot) (h : Entry) → slot_at slots d ≡ x → ((e : Entry) → x ≡ Live e → ⊥) → u < suc d → slot_at slots u ≡ Live h → u < d
@@ -60,162 +53,89 @@ none_at slots d u x h here off lt live = ⊎_elim
     (λ (other : u ≡ d → ⊥). omega (arith, lt, other))
     (cases_eq u d)
 
-newest_same : (slots : List Slot) (n d : ℕ) (x : Slot) (best : Option At) → slot_at slots d ≡ x → ((e : Entry) → x ≡ Live e → ⊥) → Newest slots n d best → Newest slots n (suc d) best
-newest_same slots n d x None here off had = λ u h lt live below. had u h (none_at slots d u x h here off lt live) live below
-newest_same slots n d x (Some at) here off had = record {
-  f = had.f;
-  live = had.live;
-  number = had.number;
-  below = had.below;
-  most = λ u h lt live below. had.most u h (none_at slots d u x h here off lt live) live below;
-}
+never : (up : Bool) (x : ℕ) → IsBelow up x x → ⊥
+never false x lt = omega (arith, lt)
+never true x lt = omega (arith, lt)
 
-newest_live : (slots : List Slot) (n d : ℕ) (e : Entry) (best : Option At) → slot_at slots d ≡ Live e → Newest slots n d best → Newest slots n (suc d) (newer_of n d best (Live e))
-newest_live slots n d e None here had = ⊎_elim
-    (λ (lt : e.number < n). let test : nat_lt e.number n ≡ true = lt-ltb e.number n lt in
-    rw (test) record {
-      f = e;
-      live = here;
-      number = refl;
-      below = lt;
-      most = λ u h within live below. one_of slots d u e h (λ x. x.number ≤ e.number) here within live (omega arith) (λ before. absurd (had u h before live below));
-    })
-    (λ (ge : n ≤ e.number). let test : nat_lt e.number n ≡ false = le-ltb e.number n ge in
-    rw (test) (λ u h within live below. one_of slots d u e h (λ x. x.number < n → ⊥) here within live (λ (no_ : e.number < n). omega (arith, no_, ge)) (λ before _. had u h before live below) below))
-    (cases_lt e.number n)
-newest_live slots n d e (Some at) here had = ⊎_elim
-    (λ (lt : e.number < n). let test : nat_lt e.number n ≡ true = lt-ltb e.number n lt in ⊎_elim
-    (λ (newer : at.number < e.number). let is : nat_lt at.number e.number ≡ true = lt-ltb at.number e.number newer in let number = had.number in
-    rw (test, is) record {
-      f = e;
-      live = here;
-      number = refl;
-      below = lt;
-      most = λ u h within live below. one_of slots d u e h (λ x. x.number ≤ e.number) here within live (omega arith)
-          (λ before. let most = had.most u h before live below in omega (arith, most, newer, number));
-    })
-    (λ (older : e.number ≤ at.number). let is : nat_lt at.number e.number ≡ false = le-ltb at.number e.number older in let number = had.number in
-    rw (test, is) record {
-      f = had.f;
-      live = had.live;
-      number = had.number;
-      below = had.below;
-      most = λ u h within live below. one_of slots d u e h (λ x. x.number ≤ had.f.number) here within live (omega (arith, older, number)) (λ before. had.most u h before live below);
-    })
-    (cases_lt at.number e.number))
-    (λ (ge : n ≤ e.number). let test : nat_lt e.number n ≡ false = le-ltb e.number n ge in
-    rw (test) record {
-      f = had.f;
-      live = had.live;
-      number = had.number;
-      below = had.below;
-      most = λ u h within live below. one_of slots d u e h (λ x. x.number < n → x.number ≤ had.f.number) here within live (λ (no_ : e.number < n). absurd (omega (arith, no_, ge)))
-          (λ before lt. had.most u h before live lt) below;
-    })
-    (cases_lt e.number n)
+further : (up : Bool) (best : Option At) (x y : ℕ) → IsBetter up x best → IsBelow up x y → IsBetter up y best
+further up None x y better lt = tt
+further false (Some at) x y better lt = omega (arith, better, lt)
+further true (Some at) x y better lt = omega (arith, better, lt)
 
-newest_more : (slots : List Slot) (n d : ℕ) (x : Slot) (best : Option At) → slot_at slots d ≡ x → Newest slots n d best → Newest slots n (suc d) (newer_of n d best x)
-newest_more slots n d Vacant best here had = newest_same slots n d Vacant best here (λ e q. cc) had
-newest_more slots n d (Live e) best here had = newest_live slots n d e best here had
-newest_more slots n d (Retired f) best here had = newest_same slots n d (Retired f) best here (λ e q. cc) had
+-- one slot more, without a live entry
+best_same : (up : Bool) (slots : List Slot) (n d : ℕ) (x : Slot) (best : Option At) → slot_at slots d ≡ x → ((e : Entry) → x ≡ Live e → ⊥) → IsBest up slots n d best → IsBest up slots n (suc d) best
+best_same up slots n d x best here off had = (had.0, λ u h lt live. had.1 u h (none_at slots d u x h here off lt live) live)
 
-newest_is : (rows : List KeptSlot) (n d : ℕ) → Newest (states_of rows) n d (newest_to rows n d)
-newest_is rows n zero = λ u h lt live below. omega (arith, lt)
+-- and with one
+best_live : (up : Bool) (slots : List Slot) (n d : ℕ) (e : Entry) (best : Option At) (b : Bool) → slot_at slots d ≡ Live e → Decides b (IsBelow up e.number n × IsBetter up e.number best) → IsBest up slots n d best
+    → IsBest up slots n (suc d) (if b then Some (record { slot = d; number = e.number }) else best)
+best_live up slots n d e best true here test had =
+    let is = test.0 refl in
+    let none = λ (u : ℕ) (h : Entry) (lt : u < suc d) (live : slot_at slots u ≡ Live h) (below : IsBelow up h.number n).
+    one_of slots d u e h (λ x. IsBelow up e.number x.number → ⊥) here lt live (never up e.number) (λ before more. had.1 u h before live below (further up best e.number h.number is.1 more)) in
+    ((e, here, refl, is.0), none)
+best_live up slots n d e best false here test had =
+    let none = λ (u : ℕ) (h : Entry) (lt : u < suc d) (live : slot_at slots u ≡ Live h). one_of slots d u e h (λ x. IsBelow up x.number n → IsBetter up x.number best → ⊥) here lt live
+    (λ below better. not_from_Decides false test refl (below, better)) (λ before. had.1 u h before live) in
+    (had.0, none)
+
+-- The newest below
+
+newer_test : (x : ℕ) (best : Option At) → Decides (is_newer x best) (IsBetter false x best)
+newer_test x None = (λ _. tt, λ _. refl)
+newer_test x (Some at) = Decides-ltb at.number x
+
+newest_more : (slots : List Slot) (n d : ℕ) (x : Slot) (best : Option At) → slot_at slots d ≡ x → IsBest false slots n d best → IsBest false slots n (suc d) (newer_of n d best x)
+newest_more slots n d Vacant best here had = best_same false slots n d Vacant best here (λ e q. cc) had
+newest_more slots n d (Live e) best here had =
+    best_live false slots n d e best (nat_lt e.number n && is_newer e.number best) here (Decides-and (nat_lt e.number n) (is_newer e.number best) (Decides-ltb e.number n) (newer_test e.number best)) had
+newest_more slots n d (Retired f) best here had = best_same false slots n d (Retired f) best here (λ e q. cc) had
+
+newest_is : (rows : List KeptSlot) (n d : ℕ) → IsBest false (states_of rows) n d (newest_to rows n d)
+newest_is rows n zero = (tt, λ u h lt live below better. omega (arith, lt))
 newest_is rows n (suc d) = newest_more (states_of rows) n d (row_at rows d).state (newest_to rows n d) (state_at rows d) (newest_is rows n d)
 
 -- a live slot is among them
 
 live_within : (rows : List KeptSlot) (d : ℕ) → length rows ≡ d → (u : ℕ) (h : Entry) → slot_at (states_of rows) u ≡ Live h → u < d
-live_within rows d size u h live = let within = in_within (states_of rows) u h (inl live) in let long = length-map rows state_of in omega (arith, within, long, size)
+live_within rows d size u h live = omega (arith, in_within (states_of rows) u h (inl live), length-map rows state_of, size)
 
-leads_from : (slots : List Slot) (n d : ℕ) (best : Option At) → ((u : ℕ) (h : Entry) → slot_at slots u ≡ Live h → u < d) → Newest slots n d best → LeadsBelow slots n (link_to best)
-leads_from slots n d None all had = To_end (λ u h live below. had u h (all u h live) live below)
-leads_from slots n d (Some at) all had = rw add-one (To_slot at.slot had.f had.live had.below (λ u h live below. had.most u h (all u h live) live below))
+leads_from : (slots : List Slot) (n d : ℕ) (best : Option At) → ((u : ℕ) (h : Entry) → slot_at slots u ≡ Live h → u < d) → IsBest false slots n d best → LeadsBelow slots n (link_to best)
+leads_from slots n d None all had = To_end (λ u h live below. had.1 u h (all u h live) live below tt)
+leads_from slots n d (Some at) all had = rw add-one (To_slot at.slot had.0.0 had.0.1 had.0.3 (λ u h live below. ⊎_elim
+    (λ (more : at.number < h.number). absurd (had.1 u h (all u h live) live below more))
+    (λ (le : h.number ≤ at.number). omega (arith, le, had.0.2))
+    (cases_lt at.number h.number)))
 
 pub newest_leads : (rows : List KeptSlot) (n d : ℕ) → length rows ≡ d → LeadsBelow (states_of rows) n (link_to (newest_to rows n d))
 newest_leads rows n d size = leads_from (states_of rows) n d (newest_to rows n d) (live_within rows d size) (newest_is rows n d)
 
 -- The oldest above
 
-oldest_same : (slots : List Slot) (n d : ℕ) (x : Slot) (best : Option At) → slot_at slots d ≡ x → ((e : Entry) → x ≡ Live e → ⊥) → Oldest slots n d best → Oldest slots n (suc d) best
-oldest_same slots n d x None here off had = λ u h lt live above. had u h (none_at slots d u x h here off lt live) live above
-oldest_same slots n d x (Some at) here off had = record {
-  f = had.f;
-  live = had.live;
-  number = had.number;
-  above = had.above;
-  within = let w = had.within in omega (arith, w);
-  least = λ u h lt live above. had.least u h (none_at slots d u x h here off lt live) live above;
-}
+older_test : (x : ℕ) (best : Option At) → Decides (is_older x best) (IsBetter true x best)
+older_test x None = (λ _. tt, λ _. refl)
+older_test x (Some at) = Decides-ltb x at.number
 
-oldest_live : (slots : List Slot) (n d : ℕ) (e : Entry) (best : Option At) → slot_at slots d ≡ Live e → Oldest slots n d best → Oldest slots n (suc d) (older_of n d best (Live e))
-oldest_live slots n d e None here had = ⊎_elim
-    (λ (lt : n < e.number). let test : nat_lt n e.number ≡ true = lt-ltb n e.number lt in
-    rw (test) record {
-      f = e;
-      live = here;
-      number = refl;
-      above = lt;
-      within = omega arith;
-      least = λ u h within live above. one_of slots d u e h (λ x. e.number ≤ x.number) here within live (omega arith) (λ before. absurd (had u h before live above));
-    })
-    (λ (ge : e.number ≤ n). let test : nat_lt n e.number ≡ false = le-ltb n e.number ge in
-    rw (test) (λ u h within live above. one_of slots d u e h (λ x. n < x.number → ⊥) here within live (λ (no_ : n < e.number). omega (arith, no_, ge)) (λ before _. had u h before live above) above))
-    (cases_lt n e.number)
-oldest_live slots n d e (Some at) here had = ⊎_elim
-    (λ (lt : n < e.number). let test : nat_lt n e.number ≡ true = lt-ltb n e.number lt in ⊎_elim
-    (λ (older : e.number < at.number). let is : nat_lt e.number at.number ≡ true = lt-ltb e.number at.number older in let number = had.number in
-    rw (test, is) record {
-      f = e;
-      live = here;
-      number = refl;
-      above = lt;
-      within = omega arith;
-      least = λ u h within live above. one_of slots d u e h (λ x. e.number ≤ x.number) here within live (omega arith)
-          (λ before. let least = had.least u h before live above in omega (arith, least, older, number));
-    })
-    (λ (newer : at.number ≤ e.number). let is : nat_lt e.number at.number ≡ false = le-ltb e.number at.number newer in let number = had.number in let w = had.within in
-    rw (test, is) record {
-      f = had.f;
-      live = had.live;
-      number = had.number;
-      above = had.above;
-      within = omega (arith, w);
-      least = λ u h within live above. one_of slots d u e h (λ x. had.f.number ≤ x.number) here within live (omega (arith, newer, number)) (λ before. had.least u h before live above);
-    })
-    (cases_lt e.number at.number))
-    (λ (ge : e.number ≤ n). let test : nat_lt n e.number ≡ false = le-ltb n e.number ge in let w = had.within in
-    rw (test) record {
-      f = had.f;
-      live = had.live;
-      number = had.number;
-      above = had.above;
-      within = omega (arith, w);
-      least = λ u h within live above. one_of slots d u e h (λ x. n < x.number → had.f.number ≤ x.number) here within live (λ (no_ : n < e.number). absurd (omega (arith, no_, ge)))
-          (λ before lt. had.least u h before live lt) above;
-    })
-    (cases_lt n e.number)
+oldest_more : (slots : List Slot) (n d : ℕ) (x : Slot) (best : Option At) → slot_at slots d ≡ x → IsBest true slots n d best → IsBest true slots n (suc d) (older_of n d best x)
+oldest_more slots n d Vacant best here had = best_same true slots n d Vacant best here (λ e q. cc) had
+oldest_more slots n d (Live e) best here had =
+    best_live true slots n d e best (nat_lt n e.number && is_older e.number best) here (Decides-and (nat_lt n e.number) (is_older e.number best) (Decides-ltb n e.number) (older_test e.number best)) had
+oldest_more slots n d (Retired f) best here had = best_same true slots n d (Retired f) best here (λ e q. cc) had
 
-oldest_more : (slots : List Slot) (n d : ℕ) (x : Slot) (best : Option At) → slot_at slots d ≡ x → Oldest slots n d best → Oldest slots n (suc d) (older_of n d best x)
-oldest_more slots n d Vacant best here had = oldest_same slots n d Vacant best here (λ e q. cc) had
-oldest_more slots n d (Live e) best here had = oldest_live slots n d e best here had
-oldest_more slots n d (Retired f) best here had = oldest_same slots n d (Retired f) best here (λ e q. cc) had
-
-oldest_is : (rows : List KeptSlot) (n d : ℕ) → Oldest (states_of rows) n d (oldest_to rows n d)
-oldest_is rows n zero = λ u h lt live above. omega (arith, lt)
+oldest_is : (rows : List KeptSlot) (n d : ℕ) → IsBest true (states_of rows) n d (oldest_to rows n d)
+oldest_is rows n zero = (tt, λ u h lt live above better. omega (arith, lt))
 oldest_is rows n (suc d) = oldest_more (states_of rows) n d (row_at rows d).state (oldest_to rows n d) (state_at rows d) (oldest_is rows n d)
 
-before_from : (slots : List Slot) (n d : ℕ) (best : Option At) → ((u : ℕ) (h : Entry) → slot_at slots u ≡ Live h → u < d) → Oldest slots n d best → IsBefore slots n (place_of best)
-before_from slots n d None all had = λ u h live. ⊎_elim (λ (lt : n < h.number). absurd (had u h (all u h live) live lt)) (λ (le : h.number ≤ n). le) (cases_lt n h.number)
-before_from slots n d (Some at) all had = (had.f, had.live, had.above, λ u h live above. had.least u h (all u h live) live above)
-
-place_from : (slots : List Slot) (n d : ℕ) (best : Option At) → Oldest slots n d best → IsLinkPlace d (place_of best)
-place_from slots n d None had = tt
-place_from slots n d (Some at) had = had.within
+before_from : (slots : List Slot) (n d : ℕ) (best : Option At) → ((u : ℕ) (h : Entry) → slot_at slots u ≡ Live h → u < d) → IsBest true slots n d best
+    → IsBefore slots n (place_of best) × IsLinkPlace d (place_of best)
+before_from slots n d None all had = (λ u h live. ⊎_elim (λ (lt : n < h.number). absurd (had.1 u h (all u h live) live lt tt)) (λ (le : h.number ≤ n). le) (cases_lt n h.number), tt)
+before_from slots n d (Some at) all had =
+    let least : (u : ℕ) (h : Entry) → slot_at slots u ≡ Live h → n < h.number → had.0.0.number ≤ h.number = λ u h live above. ⊎_elim
+    (λ (less : h.number < at.number). absurd (had.1 u h (all u h live) live above less))
+    (λ (ge : at.number ≤ h.number). omega (arith, ge, had.0.2))
+    (cases_lt h.number at.number) in
+    ((had.0.0, had.0.1, had.0.3, least), all at.slot had.0.0 had.0.1)
 
 pub oldest_before : (rows : List KeptSlot) (n d : ℕ) → length rows ≡ d
     → IsBefore (states_of rows) n (place_of (oldest_to rows n d)) × IsLinkPlace d (place_of (oldest_to rows n d))
-oldest_before rows n d size = (
-  before_from (states_of rows) n d (oldest_to rows n d) (live_within rows d size) (oldest_is rows n d),
-  place_from (states_of rows) n d (oldest_to rows n d) (oldest_is rows n d),
-)
+oldest_before rows n d size = before_from (states_of rows) n d (oldest_to rows n d) (live_within rows d size) (oldest_is rows n d)

@@ -1,20 +1,21 @@
 -- The keeper's marks: where a slot's lie, what is so as one is written or all snapshots are taken, and looks.
-use Rattle.std.proofs.Common.{◌≡◌, ◌≢◌, inl, inr, ⊎_elim, ◌⊎◌, ℕ, ◌+◌, ◌*◌, ◌<◌, ◌≤◌, List, [], ◌++◌, length, take, drop, get_or, set, replicate, refl, sym, ap, ◌∙◌, subst, arith, length-set, get_or-set_same, get_or-set_other, true, ◌&&◌, ◌==◌, None, eqb-true, append_assoc, Bool, nat_lt, if◌then◌else◌, lt-ltb}
+use Rattle.std.proofs.Common.{◌≡◌, ◌≢◌, inl, inr, ⊎_elim, ◌⊎◌, ℕ, ◌+◌, ◌*◌, ◌<◌, ◌≤◌, List, [], ◌++◌, length, take, drop, get_or, set, replicate, refl, sym, ap, ◌∙◌, subst, arith, length-set, get_or-set_same, get_or-set_other, true, ◌&&◌, ◌==◌, eqb-true, Bool, nat_lt, if◌then◌else◌, lt-ltb}
 use Rattle.std.proofs.lemmas.Bool.{cases_eq, cases_lt, and_parts}
-use Rattle.std.proofs.lemmas.List.{length-replicate, length-drop, length-take-le, get_or-replicate, get_or-take, get_or-drop, get_or_read, ext_get_or, take-append-le, take_all, map-set, set-get_or, set-set}
+use Rattle.std.proofs.lemmas.List.{length-replicate, length-drop, length-take-le, get_or-replicate, get_or-take, get_or-drop, get_or_read, ext_get_or, take-append-le, take_all, set-get_or, set-set}
 use Rattle.std.proofs.lemmas.Nat.{row_fits, same_from_place}
 use Rattle.std.specs.List.{list_all}
-use Rattle.passive_list.specs.Types.{Mark, Settings, MOST_CPUS, KeeperView, Entry, Event, Hear, Vacate, Reply, Done, Vacant, Retired, LogItem, Keeper, Due, Rest, Snapshots}
+use Rattle.atomic_table.specs.Seated.{TableId}
+use Rattle.passive_list.specs.Types.{Mark, Settings, MOST_CPUS, KeeperView, Entry, Event, Reply, Vacant, Retired, LogItem, Keeper, Due, Rest, Snapshots}
 use Rattle.registry_values.specs.Common.{no_mark, is_passed, is_clear, is_collected, is_retired, live_count, slot_at, have_passed, are_clear, are_collected, bias}
 use Rattle.registry_values.proofs.Fit.{ranges}
 use Rattle.protocol.specs.Common.{with_cell, mark_at, snapshot_mark}
-use Rattle.protocol.proofs.Cells.{by_cell, cell_here, cell_other, get_or_all, slot_here, slot_other}
+use Rattle.protocol.proofs.Cells.{by_cell, cell_here, cell_other, get_or_all}
 use Rattle.protocol.proofs.keeps.ListKeeps.{live_count_put, rows_cell, rows_put}
 use Rattle.protocol.proofs.Occupied.{is_retired_tells}
-use Rattle.cpu_words.specs.Common.{keeper_with, MayLook, keeper_after_look, IsFreedFrom, IsShown, did, Makes, keeper_after_vacate, HasSnapshot}
+use Rattle.cpu_words.specs.Common.{keeper_with, MayLook, keeper_after_look, IsShown, Makes, keeper_after_vacate, HasSnapshot}
 use Rattle.cpu_words.proofs.seats.Seating.{step_is_shown}
-use Rattle.passive_list.specs.Common.{AreWritten, IsAtRest, MarksAgree, KeptSlot, OnKeeper, row_at, state_of, states_of, total_or_bias, RowsAgree, IsOurKeeper, HasVacated, IsDrainedOn, is_drained_row, AreFresh, AreSnapshots}
-use Rattle.passive_list.proofs.Rows.{state_at, retired_in, row_stays, rows_set}
+use Rattle.passive_list.specs.Common.{AreWritten, IsAtRest, MarksAgree, KeptSlot, OnPlainKeeper, on_keeper, row_at, states_of, total_or_bias, RowsAgree, IsOurKeeper, IsDrainedOn, is_drained_row, AreFresh, AreSnapshots}
+use Rattle.passive_list.proofs.Rows.{state_at, state_set, retired_in, keeper_on, rows_stay}
 
 -- The keeper's marks: where a slot's lie, and what they say of a view as one mark, or all of a slot, are written.
 
@@ -25,16 +26,12 @@ pub slot_below : (a : Settings) (t : ℕ) → t < a.slots → t * a.cpus + a.cpu
 slot_below a t lt = row_fits t a.cpus a.slots a.cpus lt (omega arith)
 
 pub mark_below : (a : Settings) (k : KeeperView) (ms : List Mark) (t c at : ℕ) → MarksAgree a k ms → t < a.slots → c < a.cpus → at ≡ t * a.cpus + c → at < length ms
-mark_below a k ms t c at had lt cpu place = let all = had.size in let fits = slot_below a t lt in omega (arith, all, fits, cpu, place)
+mark_below a k ms t c at had lt cpu place = omega (arith, had.size, slot_below a t lt, cpu, place)
 
 -- what is read there is the view's
 pub mark_read : (a : Settings) (k : KeeperView) (ms : List Mark) (t c at : ℕ) (m : Mark) → MarksAgree a k ms → t < a.slots → c < a.cpus → at ≡ t * a.cpus + c → m ≡ get_or ms at m → m ≡ mark_at k.marks t c
 mark_read a k ms t c at m had lt cpu place is =
     get_or_read ms at m (mark_below a k ms t c at had lt cpu place) is no_mark ∙ (ap (λ (p : ℕ). get_or ms p no_mark) place ∙ had.each t c lt cpu)
-
--- two places that are one are of one slot and CPU
-apart : (a : Settings) (t c u d : ℕ) → c < a.cpus → d < a.cpus → (u ≡ t → d ≡ c → ⊥) → u * a.cpus + d ≢ t * a.cpus + c
-apart a t c u d cpu also off same = let p = same_from_place u d t c a.cpus also cpu same in off p.0 p.1
 
 -- At the start
 
@@ -53,20 +50,23 @@ marks_stay a k l ms same had = record {
   each = λ t c lt cpu. had.each t c lt cpu ∙ sym (ap (λ (rows : List (List Mark)). mark_at rows t c) same);
 }
 
+-- a mark has its place
+mark_in : (a : Settings) (k : KeeperView) (t c : ℕ) → IsAtRest a k → t < a.slots → c < a.cpus → (t < length k.marks) × (c < length (get_or k.marks t []))
+mark_in a k t c at lt cpu =
+    let within : t < length k.marks = omega (arith, lt, at.sized.marks) in (within, omega (arith, at.sized.mark_rows t within, (ranges a at.fit).cpus, cpu))
+
 -- one mark
 pub marks_set : (a : Settings) (k l : KeeperView) (ms : List Mark) (t c p : ℕ) (m : Mark) → IsAtRest a k → MarksAgree a k ms → t < a.slots → c < a.cpus → p ≡ t * a.cpus + c
     → l.marks ≡ with_cell k.marks t c m → MarksAgree a l (set ms p m)
 marks_set a k l ms t c p m at had lt cpu place same =
-    let size = at.sized.marks in
-    let few = (ranges a at.fit).cpus in
-    let within : t < length k.marks = omega (arith, lt, size) in
-    let long = at.sized.mark_rows t within in
+    let within = mark_in a k t c at lt cpu in
     record {
       size = length-set ms p m ∙ had.size;
       each = λ u d low also. by_cell (λ (v e : ℕ). e < a.cpus → get_or (set ms p m) (v * a.cpus + e) no_mark ≡ mark_at l.marks v e) t c u d
           (λ _. ap (λ (q : ℕ). get_or (set ms p m) q no_mark) (sym place) ∙ (get_or-set_same ms p m no_mark (mark_below a k ms t c p had lt cpu place)
-          ∙ sym (ap (λ (rows : List (List Mark)). mark_at rows t c) same ∙ cell_here no_mark k.marks t c m within (omega (arith, long, few, cpu)))))
-          (λ off _. get_or-set_other ms p (u * a.cpus + d) m no_mark (λ (is : u * a.cpus + d ≡ p). apart a t c u d cpu also off (is ∙ place))
+          ∙ sym (ap (λ (rows : List (List Mark)). mark_at rows t c) same ∙ cell_here no_mark k.marks t c m within.0 within.1)))
+          (λ off _. get_or-set_other ms p (u * a.cpus + d) m no_mark
+          (λ (is : u * a.cpus + d ≡ p). let q = same_from_place u d t c a.cpus also cpu (is ∙ place) in off q.0 q.1)
           ∙ (had.each u d low also ∙ sym (ap (λ (rows : List (List Mark)). mark_at rows u d) same ∙ cell_other no_mark k.marks t c m u d off)))
           also;
     }
@@ -100,15 +100,14 @@ one_written from n row old ms m place in_row had = record {
   size = length-set ms (from + n) m ∙ had.size;
   here = λ c lt. ⊎_elim
       (λ (is : c ≡ n). subst (λ (d : ℕ). get_or (set ms (from + n) m) (from + d) no_mark ≡ get_or (set row n m) d no_mark) (sym is)
-      (get_or-set_same ms (from + n) m no_mark (let size = had.size in omega (arith, size, place)) ∙ sym (get_or-set_same row n m no_mark in_row)))
+      (get_or-set_same ms (from + n) m no_mark (omega (arith, had.size, place)) ∙ sym (get_or-set_same row n m no_mark in_row)))
       (λ (off : c ≡ n → ⊥). get_or-set_other ms (from + n) (from + c) m no_mark (λ (same : from + c ≡ from + n). off (omega (arith, same)))
       ∙ (had.here c (omega (arith, lt, off)) ∙ sym (get_or-set_other row n c m no_mark off)))
       (cases_eq c n);
-  others = λ p out. get_or-set_other ms (from + n) p m no_mark (λ (same : p ≡ from + n). ⊎_elim
-      (λ (low : p < from). absurd (omega (arith, low, same)))
-      (λ (high : from + (n + 1) ≤ p). absurd (omega (arith, high, same)))
-      out)
-      ∙ had.others p (⊎_elim (λ (low : p < from). inl low) (λ (high : from + (n + 1) ≤ p). inr (omega (arith, high))) out);
+  others = λ p out. ⊎_elim
+      (λ (low : p < from). get_or-set_other ms (from + n) p m no_mark (λ (same : p ≡ from + n). omega (arith, low, same)) ∙ had.others p (inl low))
+      (λ (high : from + (n + 1) ≤ p). get_or-set_other ms (from + n) p m no_mark (λ (same : p ≡ from + n). omega (arith, high, same)) ∙ had.others p (inr (omega (arith, high))))
+      out;
 }
 
 -- what is written through a slice of a whole list is then the list
@@ -124,14 +123,8 @@ marks_from a k ms t at had lt =
     let n = a.cpus in
     let xs = drop (t * n) ms in
     let ys = get_or k.marks t [] in
-    let size = at.sized.marks in
-    let few = (ranges a at.fit).cpus in
-    let long = at.sized.mark_rows t (omega (arith, lt, size)) in
-    let fits = slot_below a t lt in
-    let all = had.size in
-    let left = length-drop (t * n) ms in
-    let here : length (take n xs) ≡ n = length-take-le n xs (omega (arith, fits, all, left)) in
-    let there : length (take n ys) ≡ n = length-take-le n ys (omega (arith, long, few)) in
+    let here : length (take n xs) ≡ n = length-take-le n xs (omega (arith, slot_below a t lt, had.size, length-drop (t * n) ms)) in
+    let there : length (take n ys) ≡ n = length-take-le n ys (omega (arith, at.sized.mark_rows t (omega (arith, lt, at.sized.marks)), (ranges a at.fit).cpus)) in
     ext_get_or no_mark (take n xs) (take n ys) (here ∙ sym there) (λ c low. let cpu : c < n = omega (arith, here, low) in
     get_or-take n xs c no_mark cpu ∙ (get_or-drop (t * n) ms c no_mark ∙ (had.each t c lt cpu ∙ sym (get_or-take n ys c no_mark cpu))))
 
@@ -139,141 +132,72 @@ marks_from a k ms t at had lt =
 
 -- Looks
 
--- a slot that is retired in the rows may be looked at
-pub may_look : (a : Settings) (k : KeeperView) (rows : List KeptSlot) (t c : ℕ) (e : Entry) → IsAtRest a k → RowsAgree a k rows → slot_at (states_of rows) t ≡ Retired e → c < a.cpus → MayLook k t c
-may_look a k rows t c e rest agree is lt = record {
-  glance = record { rest = rest.rest; cpu = subst (λ (z : Settings). c < z.cpus) (sym rest.settings) lt };
-  retired = (e, (retired_in a k rows t e agree is).1);
-}
+-- a slot that is retired in the rows, and a CPU
+looked_in : {table : TableId} {log : List LogItem} (a : Settings) (k : KeeperView) (rows : List KeptSlot) (t c : ℕ) (e : Entry) (x : OnPlainKeeper) → RowsAgree a k rows → on_keeper table a k rows log ≡ x
+    → slot_at x.keeper.slots t ≡ Retired e → c < x.words.settings.cpus → (t < a.slots) × (slot_at k.slots t ≡ Retired e) × (c < a.cpus)
+looked_in a k rows t c e x agree is retired low =
+    let here = retired_in a k rows t e agree (ap (λ (y : OnPlainKeeper). slot_at y.keeper.slots t) is ∙ retired) in
+    (here.0, here.1, subst (λ (y : OnPlainKeeper). c < y.words.settings.cpus) (sym is) low)
+
+-- so it may be looked at
+pub may_look : {table : TableId} {log : List LogItem} (a : Settings) (k : KeeperView) (rows : List KeptSlot) (t c : ℕ) (e : Entry) (x : OnPlainKeeper) → IsAtRest a k → RowsAgree a k rows
+    → on_keeper table a k rows log ≡ x → slot_at x.keeper.slots t ≡ Retired e → c < x.words.settings.cpus → MayLook k t c
+may_look a k rows t c e x rest agree is retired low =
+    let it = looked_in a k rows t c e x agree is retired low in
+    record { glance = record { rest = rest.rest; cpu = subst (λ (z : Settings). c < z.cpus) (sym rest.settings) it.2 }; retired = (e, it.1) }
+
+-- and its mark is among them
+pub look_below : {table : TableId} {log : List LogItem} (a : Settings) (k : KeeperView) (rows : List KeptSlot) (ms : List Mark) (t c p : ℕ) (e : Entry) (x : OnPlainKeeper) → RowsAgree a k rows → MarksAgree a k ms
+    → on_keeper table a k rows log ≡ x → slot_at x.keeper.slots t ≡ Retired e → c < x.words.settings.cpus → p ≡ t * a.cpus + c → p < length ms
+look_below a k rows ms t c p e x agree marks is retired low place = let it = looked_in a k rows t c e x agree is retired low in mark_below a k ms t c p marks it.0 it.2 place
 
 abbrev pub marked : KeeperView → Event → Reply → ℕ → ℕ → Mark → KeeperView
 marked k ev r t c m = record (keeper_after_look k ev r) { marks = with_cell k.marks t c m }
 
-marked_at_rest : (a : Settings) (k : KeeperView) (ev : Event) (r : Reply) (t c : ℕ) (m : Mark) → IsAtRest a k → IsAtRest a (marked k ev r t c m)
-marked_at_rest a k ev r t c m at = record {
-  settings = at.settings;
-  fit = at.fit;
-  rest = at.rest;
-  seated = at.seated;
-  sized = record {
-    slots = at.sized.slots;
-    marks = length-set k.marks t _ ∙ at.sized.marks;
-    mark_rows = rows_cell k.marks t c m at.sized.mark_rows;
-    keeps = at.sized.keeps;
-    next = at.sized.next;
-    rows = at.sized.rows;
-    totals = at.sized.totals;
-    counts = at.sized.counts;
-    count_rows = at.sized.count_rows;
-  };
-  room = at.room;
-}
-
-marked_rows : (a : Settings) (k : KeeperView) (rows : List KeptSlot) (ev : Event) (r : Reply) (t c : ℕ) (m : Mark) → RowsAgree a k rows → RowsAgree a (marked k ev r t c m) rows
-marked_rows a k rows ev r t c m agree = record {
-  size = agree.size;
-  each = λ u lt. row_stays k (marked k ev r t c m) u (row_at rows u) refl refl refl (agree.each u lt);
-}
-
 -- after a look that made f of the mark, in the keeper's marks as in the view, these agree
-pub looked_keeper : (a : Settings) (k l : KeeperView) (rows : List KeptSlot) (ms : List Mark) (n : ℕ) (ev : Event) (r : Reply) (t c p : ℕ) (f : Mark → Mark) (q m : Mark) (e : Entry)
-    → IsOurKeeper a k rows n → MarksAgree a k ms → slot_at (states_of rows) t ≡ Retired e → c < a.cpus → p ≡ t * a.cpus + c → q ≡ get_or ms p q → m ≡ f q
+pub looked_keeper : {table : TableId} {log : List LogItem} (a : Settings) (k l : KeeperView) (rows : List KeptSlot) (ms : List Mark) (n : ℕ) (ev : Event) (r : Reply) (t c p : ℕ) (f : Mark → Mark) (q m : Mark) (e : Entry) (x : OnPlainKeeper)
+    → IsOurKeeper a k rows n → MarksAgree a k ms → on_keeper table a k rows log ≡ x → slot_at x.keeper.slots t ≡ Retired e → c < x.words.settings.cpus → p ≡ t * a.cpus + c → q ≡ get_or ms p q → m ≡ f q
     → l ≡ marked k ev r t c (f (mark_at k.marks t c)) → Makes ev r (Keeper k) (Keeper l)
     → IsOurKeeper a l rows n × MarksAgree a l (set ms p m)
-looked_keeper a k l rows ms n ev r t c p f q m e our marks is cpu place read made change event =
-    let lt = (retired_in a k rows t e our.rows is).0 in
-    let now : l ≡ marked k ev r t c m = change ∙ ap (marked k ev r t c) (sym (made ∙ ap f (mark_read a k ms t c p q marks lt cpu place read))) in (
-      record {
-        is_shown = step_is_shown event;
-        view = subst (IsAtRest a) (sym now) (marked_at_rest a k ev r t c m our.view);
-        changes = our.changes ∙ sym (ap (λ (x : KeeperView). length x.history) now);
-        rows = subst (λ (x : KeeperView). RowsAgree a x rows) (sym now) (marked_rows a k rows ev r t c m our.rows);
-      },
-      marks_set a k l ms t c p m our.view marks lt cpu place (ap (λ (x : KeeperView). x.marks) now),
+looked_keeper a k l rows ms n ev r t c p f q m e x our marks is retired low place read made change event =
+    let at = our.view in
+    let it = looked_in a k rows t c e x our.rows is retired low in
+    let v = marked k ev r t c m in
+    let now : l ≡ v = change ∙ ap (marked k ev r t c) (sym (made ∙ ap f (mark_read a k ms t c p q marks it.0 it.2 place read))) in (
+      keeper_on a l v rows n now (step_is_shown event)
+          (assumption (length-set k.marks t (set (get_or k.marks t []) c m) ∙ at.sized.marks, rows_cell k.marks t c m at.sized.mark_rows)) our.changes (rows_stay a k v rows refl refl refl our.rows),
+      marks_set a k l ms t c p m at marks it.0 it.2 place (ap (λ (x : KeeperView). x.marks) now),
     )
 
 -- the mark that it made is the view's
-pub looked_mark : (a : Settings) (k l : KeeperView) (rows : List KeptSlot) (ms : List Mark) (n : ℕ) (ev : Event) (r : Reply) (t c p : ℕ) (f : Mark → Mark) (q m : Mark) (e : Entry)
-    → IsOurKeeper a k rows n → MarksAgree a k ms → slot_at (states_of rows) t ≡ Retired e → c < a.cpus → p ≡ t * a.cpus + c → q ≡ get_or ms p q → m ≡ f q
-    → l ≡ marked k ev r t c (f (mark_at k.marks t c))
-    → m ≡ mark_at l.marks t c
-looked_mark a k l rows ms n ev r t c p f q m e our marks is cpu place read made change =
-    let at = our.view in
-    let lt = (retired_in a k rows t e our.rows is).0 in
-    let size = at.sized.marks in
-    let few = (ranges a at.fit).cpus in
-    let within : t < length k.marks = omega (arith, lt, size) in
-    let long = at.sized.mark_rows t within in
-    made ∙ ap f (mark_read a k ms t c p q marks lt cpu place read) ∙ sym (ap (λ (x : KeeperView). mark_at x.marks t c) change
-    ∙ cell_here no_mark k.marks t c (f (mark_at k.marks t c)) within (omega (arith, long, few, cpu)))
+pub looked_mark : {table : TableId} {log : List LogItem} (a : Settings) (k l : KeeperView) (rows : List KeptSlot) (ms : List Mark) (n : ℕ) (ev : Event) (r : Reply) (t c p : ℕ) (f : Mark → Mark) (q m : Mark) (e : Entry) (x : OnPlainKeeper)
+    → IsOurKeeper a k rows n → MarksAgree a k ms → on_keeper table a k rows log ≡ x → slot_at x.keeper.slots t ≡ Retired e → c < x.words.settings.cpus → p ≡ t * a.cpus + c → q ≡ get_or ms p q → m ≡ f q
+    → l ≡ marked k ev r t c (f (mark_at k.marks t c)) → m ≡ mark_at l.marks t c
+looked_mark a k l rows ms n ev r t c p f q m e x our marks is retired low place read made change =
+    let it = looked_in a k rows t c e x our.rows is retired low in
+    let within = mark_in a k t c our.view it.0 it.2 in
+    made ∙ ap f (mark_read a k ms t c p q marks it.0 it.2 place read) ∙ sym (ap (λ (x : KeeperView). mark_at x.marks t c) change
+    ∙ cell_here no_mark k.marks t c (f (mark_at k.marks t c)) within.0 within.1)
 
 -- The end of a drain
 
 abbrev pub row_vacated : KeptSlot → KeptSlot
 row_vacated r = record { state = Vacant; total = r.total; keeps = r.keeps }
 
-vacated_at_rest : (a : Settings) (k : KeeperView) (t : ℕ) (e : Entry) → IsAtRest a k → t < a.slots → slot_at k.slots t ≡ Retired e → IsAtRest a (keeper_after_vacate k t)
-vacated_at_rest a k t e at lt retired = record {
-  settings = at.settings;
-  fit = at.fit;
-  rest = at.rest;
-  seated = at.seated;
-  sized = record {
-    slots = length-set k.slots t Vacant ∙ at.sized.slots;
-    marks = at.sized.marks;
-    mark_rows = at.sized.mark_rows;
-    keeps = at.sized.keeps;
-    next = at.sized.next;
-    rows = at.sized.rows;
-    totals = at.sized.totals;
-    counts = length-set k.counts t (replicate MOST_CPUS 0) ∙ at.sized.counts;
-    count_rows = rows_put k.counts t (replicate MOST_CPUS 0) refl at.sized.count_rows;
-  };
-  room =
-      let size = at.sized.slots in
-      let same : live_count (set k.slots t Vacant) + 0 ≡ live_count k.slots + 0 = live_count_put k.slots t (Retired e) Vacant (omega (arith, lt, size)) retired in
-      let room = at.room in
-      omega (arith, same, room);
-}
+pub vacated_at_rest : (a : Settings) (k : KeeperView) (t : ℕ) (e : Entry) → IsAtRest a k → t < a.slots → slot_at k.slots t ≡ Retired e → IsAtRest a (keeper_after_vacate k t)
+vacated_at_rest a k t e at lt retired =
+    let same : live_count (set k.slots t Vacant) + 0 ≡ live_count k.slots + 0 = live_count_put k.slots t (Retired e) Vacant (omega (arith, lt, at.sized.slots)) retired in
+    let room : length k.history + live_count (set k.slots t Vacant) ≤ a.change_limit = omega (arith, same, at.room) in
+    assumption (room, length-set k.slots t Vacant ∙ at.sized.slots, length-set k.counts t (replicate MOST_CPUS 0) ∙ at.sized.counts, rows_put k.counts t (replicate MOST_CPUS 0) refl at.sized.count_rows)
 
 pub vacated_keeper : {log : List LogItem} (a : Settings) (k l : KeeperView) (rows : List KeptSlot) (n t : ℕ) → IsOurKeeper a k rows n
     → IsDrainedOn (record { view = k; slots = states_of rows; log = log }) t
     → l ≡ keeper_after_vacate k t → IsShown l → IsOurKeeper a l (set rows t (row_vacated (row_at rows t))) n
 vacated_keeper a k l rows n t our is change is_shown =
     let here = retired_in a k rows t is.retired.0 our.rows is.retired.1 in
-    let lt = here.0 in
-    let size = our.view.sized.slots in
-    let had = our.rows.each t lt in
     let m = keeper_after_vacate k t in
-    let after = set rows t (row_vacated (row_at rows t)) in
-    record {
-      view = subst (IsAtRest a) (sym change) (vacated_at_rest a k t is.retired.0 our.view lt here.1);
-      is_shown = is_shown;
-      changes = our.changes ∙ sym (ap (λ (y : KeeperView). length y.history) change);
-      rows = subst (λ (y : KeeperView). RowsAgree a y after) (sym change) (rows_set a k m rows t (row_vacated (row_at rows t)) lt our.rows
-          record {
-            state = slot_here k.slots t Vacant (omega (arith, lt, size));
-            total = had.total;
-            keeps = had.keeps;
-            unused = λ vacant. had.total ∙ is.drained.total;
-          }
-          (λ u off was. row_stays k m u (row_at rows u) (slot_other k.slots t Vacant u off) refl refl was));
-    }
-
--- what it leaves of the keeper
-pub has_vacated : {log later : List LogItem} (a : Settings) (k l : KeeperView) (rows : List KeptSlot) (t : ℕ) (r : KeptSlot) (x : OnKeeper) → record { view = k; slots = states_of rows; log = log } ≡ x
-    → RowsAgree a k rows → Makes (Vacate t) Done (Keeper k) (Keeper l) → Makes (Hear None) Done (Keeper l) (Keeper l)
-    → l ≡ keeper_after_vacate k t → later ≡ log ++ (did (Vacate t) Done ++ did (Hear None) Done) → ((e : Entry) → slot_at k.slots t ≡ Retired e → IsFreedFrom t e.number later)
-    → HasVacated x t (record { view = l; slots = states_of (set rows t (row_vacated r)); log = later })
-has_vacated {later} a k l rows t r x is agree made heard change goes_on freed =
-    subst (λ (y : OnKeeper). HasVacated y t (record { view = l; slots = states_of (set rows t (row_vacated r)); log = later })) is record {
-      made = made;
-      heard = heard;
-      view = change;
-      slots = map-set state_of rows t (row_vacated r);
-      log = rw append_assoc goes_on;
-      freed = λ e at. freed e (retired_in a k rows t e agree at).1;
-    }
+    keeper_on a l m (set rows t (row_vacated (row_at rows t))) n change is_shown (vacated_at_rest a k t is.retired.0 our.view here.0 here.1) our.changes
+    (state_set a k m rows t Vacant our.view our.rows here.0 refl refl refl (λ _. is.drained.total))
 
 -- as many marks as there are CPUs, by the view's settings
 marks_taken : (a : Settings) (k : KeeperView) (ms : List Mark) (t cpus : ℕ) → IsAtRest a k → cpus ≡ a.cpus → take a.cpus ms ≡ take a.cpus (get_or k.marks t [])

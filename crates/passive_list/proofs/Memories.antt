@@ -1,43 +1,23 @@
 -- What a row that is remembered tells, what stays remembered, and what is remembered from then on.
 use Rattle.passive_list.specs.Common.{Memory, HasCleared, HasForgotten, HasNumbered, IsOfRow, IsRow, IsTrueMiss, KeepsOthers, Missed, Recalls, RecallsAt, Remembers, Seen, WasAbsent, IsCount, entry_of, hint_of, hinted, is_for, keeps, memo_at, memo_of, miss_at, miss_of, missed_as, no_hint, no_memo, no_memory, no_miss, with_miss, with_seen}
 use Rattle.std.specs.Prelude.{slice_index_or}
-use Rattle.std.proofs.Common.{◌≡◌, ◌≢◌, ◌⊎◌, ⊎_elim, inl, inr, ℕ, ◌+◌, ◌*◌, ◌/◌, ◌%◌, ◌^◌, ◌<◌, ◌≤◌, ◌==◌, if◌then◌else◌, min, Bool, true, false, List, length, replicate, set, get_or-set_same, get_or-set_other, Some, None, refl, sym, ap, ◌∙◌, subst, arith, length-append}
+use Rattle.std.proofs.Common.{◌≡◌, ◌≢◌, ⊎_elim, inl, inr, ℕ, ◌+◌, ◌*◌, ◌/◌, ◌%◌, ◌^◌, ◌<◌, ◌≤◌, ◌==◌, if◌then◌else◌, min, Bool, true, false, List, length, set, get_or-set_same, get_or-set_other, Some, None, refl, sym, ap, ◌∙◌, subst, arith}
 use Rattle.std.proofs.lemmas.Bool.{cases_eq, cases_lt, eqb-true}
 use Rattle.std.proofs.lemmas.List.{length-replicate, length-set, set_past}
-use Rattle.std.proofs.lemmas.Nat.{mul-lt}
 use Rattle.std.proofs.Math.Nat.{mul-lt-mul_of_pos_right}
 use mathlib.Core.List.{IsPrefix}
-use Rattle.passive_list.specs.Types.{Change, Detach, Entry, Key, Name, MOST_SLOTS}
-use Rattle.protocol.specs.Common.{EndsAt, IsAttached, IsLiveAt, entry_with}
-use Rattle.protocol.specs.History.{change_at}
-use Rattle.protocol.proofs.History.{at_prefix, at_within}
+use Rattle.passive_list.specs.Types.{Change, Key, Name, MOST_SLOTS}
+use Rattle.protocol.specs.Common.{IsAttached, entry_with}
 use Rattle.protocol.proofs.Cells.{get_or_all}
+use Rattle.protocol.proofs.Occupied.{place_cases}
 use Rattle.cpu_words.proofs.shown.Seeing.{attached_prefix}
 use Rattle.passive_list.specs.declared.memory.Hint.{Hint}
 use Rattle.passive_list.specs.declared.memory.Memo.{Memo}
 use Rattle.passive_list.specs.declared.memory.Miss.{Miss}
+use Rattle.passive_list.proofs.Walking.{live_before, prefix_length}
 use Rattle.passive_list.specs.declared.memory.TheConstants.{HALF, HINTS, MIX, MOST_MISSES, SPARE_MISSES}
 
 -- A pass and a longer one
-
-at_longer : (h g : List Change) → IsPrefix h g → (k : ℕ) → k ≤ length h → change_at g k ≡ change_at h k
-at_longer h g longer k le = subst (λ (l : List Change). change_at l k ≡ change_at h k) longer.1 (at_prefix h longer.0 k le)
-
-pub ends_on : (h g : List Change) → IsPrefix h g → (n p : ℕ) → EndsAt h n p → EndsAt g n p
-ends_on h g longer n p ends = at_longer h g longer p (at_within h p (Detach n) ends).1 ∙ ends
-
-pub length_longer : (h g : List Change) → IsPrefix h g → length h ≤ length g
-length_longer h g longer =
-    let whole : length h + length longer.0 ≡ length g = sym (length-append h longer.0) ∙ ap (λ (l : List Change). length l) longer.1 in
-    omega (arith, whole)
-
--- what was live then is live then in the shorter one too
-pub live_back : (h g : List Change) → IsPrefix h g → (k : ℕ) (e : Entry) → k ≤ length h → IsLiveAt g k e → IsLiveAt h k e
-live_back h g longer k e le live = record {
-  attached = sym (at_longer h g longer e.number (let begun = live.begun in omega (arith, begun, le))) ∙ live.attached;
-  begun = live.begun;
-  unended = λ p ends. live.unended p (ends_on h g longer e.number p ends);
-}
 
 pub numbered_longer : (h g : List Change) (n : ℕ) → IsPrefix h g → HasNumbered h n → HasNumbered g n
 numbered_longer h g n longer had = record { entry = had.entry; attached = attached_prefix h g had.entry longer had.attached; number = had.number }
@@ -47,8 +27,8 @@ absent_longer h g key n longer was = record {
   newest = numbered_longer h g n longer was.newest;
   point = was.point;
   from_on = was.from_on;
-  up_to = let more = length_longer h g longer in let few = was.up_to in omega (arith, more, few);
-  answered = λ e live. was.answered e (live_back h g longer was.point e was.up_to live);
+  up_to = omega (arith, prefix_length h g longer, was.up_to);
+  answered = λ e live. was.answered e (live_before h g was.point was.point e longer live.begun was.up_to (omega arith) live);
 }
 
 -- what is remembered stays, as the pass grows
@@ -62,31 +42,23 @@ stays z h g m longer had = record {
 
 -- Places of hints
 
-count_of : (n m : ℕ) → n ≡ m → IsCount m → IsCount n
-count_of n m is few = subst IsCount (sym is) few
-
-pub hint_within : (x c : ℕ) → x < 2 ^ 64 → IsCount c → x / HALF * c / HALF < c
-hint_within x c lt few =
-    let high : x / HALF < HALF = omega (arith, lt) in
+hint_few : (c : ℕ) (n : Name) → IsCount c → hint_of c n < c
+hint_few c n few =
+    let x = (n.high + n.low) % 2 ^ 64 * MIX % 2 ^ 64 in
+    let high : x / HALF < HALF = omega arith in
     let more : x / HALF * c < HALF * c = mul-lt-mul_of_pos_right high few.0 in
     omega (arith, more)
-
-hint_few : (c : ℕ) (n : Name) → IsCount c → hint_of c n < c
-hint_few c n few = hint_within ((n.high + n.low) % 2 ^ 64 * MIX % 2 ^ 64) c (omega arith) few
 
 -- nothing is remembered at first
 pub none_remembered : (z : ℕ) (h : List Change) → 0 < z → z ≤ MOST_SLOTS → Remembers z h (no_memory z)
 none_remembered z h some most = record {
   size = length-replicate z no_memo;
-  hints = count_of _ _ (length-replicate (HINTS * z) no_hint) (omega (arith, some), omega (arith, most));
+  hints = subst IsCount (sym (length-replicate (HINTS * z) no_hint)) (omega (arith, some), omega (arith, most));
   each = λ t some. absurd (some (ap (λ (m : Memo). m.number) (get_or_all z no_memo t)));
   absent = λ i some. absurd (some (ap (λ (m : Miss). m.number) (get_or_all (min (z + SPARE_MISSES) MOST_MISSES) no_miss i)));
 }
 
 -- One row more
-
-row_here : (m : Memory) (key : Key) (s : Seen) → s.slot < length m.rows → memo_at (set m.rows s.slot (memo_of key s)) s.slot ≡ memo_of key s
-row_here m key s few = get_or-set_same m.rows s.slot (memo_of key s) no_memo few
 
 -- the hints keep their number
 same_length : (b : Bool) (xs ys : List Hint) → length ys ≡ length xs → length (if b then xs else ys) ≡ length xs
@@ -97,26 +69,15 @@ pub remembers_more : (z : ℕ) (h : List Change) (m : Memory) (key : Key) (s : S
     → Remembers z h (with_seen m key s)
 remembers_more z h m key s had low attached = record {
   size = length-set m.rows s.slot (memo_of key s) ∙ had.size;
-  hints = count_of _ _ (same_length ((hinted m.hints key.name).last == s.slot) m.hints _ (length-set m.hints _ _)) had.hints;
-  each = each;
+  hints = subst IsCount (sym (same_length ((hinted m.hints key.name).last == s.slot) m.hints _ (length-set m.hints _ _))) had.hints;
+  each = λ t some. ⊎_elim
+      (λ (here : (t ≡ s.slot) × (memo_at (set m.rows s.slot (memo_of key s)) t ≡ memo_of key s)).
+      subst (λ (r : Memo). (t < z) × IsAttached h (entry_of t r)) (sym here.1) (subst (λ (u : ℕ). (u < z) × IsAttached h (entry_of u (memo_of key s))) (sym here.0) (low, attached)))
+      (λ (off : (t ≡ s.slot → ⊥) × (memo_at (set m.rows s.slot (memo_of key s)) t ≡ memo_at m.rows t)).
+      subst (λ (r : Memo). (t < z) × IsAttached h (entry_of t r)) (sym off.1) (had.each t (λ none. some (ap (λ (r : Memo). r.number) off.1 ∙ none))))
+      (place_cases no_memo m.rows s.slot (memo_of key s) t (omega (arith, low, had.size)));
   absent = had.absent;
 }
-  where
-    rows : List Memo
-    rows = set m.rows s.slot (memo_of key s)
-
-    few : s.slot < length m.rows
-    few = let size = had.size in omega (arith, low, size)
-
-    each : (t : ℕ) → (memo_at rows t).number ≢ 0 → (t < z) × IsAttached h (entry_of t (memo_at rows t))
-    each t some = ⊎_elim
-        (λ (same : t ≡ s.slot).
-        let now : memo_at rows t ≡ memo_of key s = ap (memo_at rows) same ∙ row_here m key s few in
-        subst (λ (m : Memo). (t < z) × IsAttached h (entry_of t m)) (sym now) (subst (λ (u : ℕ). (u < z) × IsAttached h (entry_of u (memo_of key s))) (sym same) (low, attached)))
-        (λ (off : t ≢ s.slot).
-        let was : memo_at rows t ≡ memo_at m.rows t = get_or-set_other m.rows s.slot t (memo_of key s) no_memo off in
-        subst (λ (m : Memo). (t < z) × IsAttached h (entry_of t m)) (sym was) (had.each t (λ none. some (ap (λ (m : Memo). m.number) was ∙ none))))
-        (cases_eq t s.slot)
 
 -- the hint of a name, where the hint of the name n is set to x
 hint_here : (hints : List Hint) (n : Name) (x : Hint) → IsCount (length hints) → hinted (set hints (hint_of (length hints) n) x) n ≡ x
@@ -130,7 +91,7 @@ hint_other hints n other x off =
     ap (λ (c : ℕ). slice_index_or (set hints i x) (hint_of c other) no_hint) (length-set hints i x) ∙ get_or-set_other hints i (hint_of (length hints) other) x no_hint off
 
 row_few : (rows : List Memo) (m : Memo) (t u : ℕ) → u < length rows → u < length (set rows t m)
-row_few rows m t u few = let size = length-set rows t m in omega (arith, few, size)
+row_few rows m t u few = omega (arith, few, length-set rows t m)
 
 -- the newer hint leads to its slot
 leads_by : (b : Bool) (m : Memory) (key : Key) (s : Seen) (x : Hint) → IsCount (length m.hints) → x.last ≡ s.slot → (hinted m.hints key.name).last == s.slot ≡ b
@@ -141,9 +102,10 @@ leads_by false m key s x few at is = ap (λ (h : Hint). h.last) (hint_here m.hin
 -- it is what the key is remembered as
 pub recalls_seen : (z : ℕ) (h : List Change) (m : Memory) (key : Key) (s : Seen) → Remembers z h m → s.slot < z → s.number ≢ 0 → Recalls (with_seen m key s) key (Some s)
 recalls_seen z h m key s had low some =
-    let size = had.size in
-    let few : s.slot < length m.rows = omega (arith, low, size) in
-    inl (s, refl, (sym (leads_by ((hinted m.hints key.name).last == s.slot) m key s _ had.hints refl refl), record { few = row_few m.rows (memo_of key s) s.slot s.slot few; some = some; is = row_here m key s few }))
+    let few : s.slot < length m.rows = omega (arith, low, had.size) in
+    let row : IsOfRow (set m.rows s.slot (memo_of key s)) key s =
+    record { few = row_few m.rows (memo_of key s) s.slot s.slot few; some = some; is = get_or-set_same m.rows s.slot (memo_of key s) no_memo few } in
+    inl (s, refl, (sym (leads_by ((hinted m.hints key.name).last == s.slot) m key s _ had.hints refl refl), row))
 
 -- a hint of another name
 other_by : (b : Bool) (hints : List Hint) (n other : Name) (x : Hint) → hint_of (length hints) other ≢ hint_of (length hints) n
@@ -160,121 +122,68 @@ row_stays rows m t other o off row = record { few = row_few rows m t o.slot row.
 -- where a slot didn't have the key, it doesn't, as a row of another name is set
 none_stays : (rows : List Memo) (key other : Key) (s : Seen) (t count : ℕ) → hint_of count other.name ≢ hint_of count key.name → RecallsAt rows other t None
     → RecallsAt (set rows s.slot (memo_of key s)) other t None
-none_stays rows key other s t count apart none low row = ⊎_elim
+none_stays rows key other s t count apart none low row =
+    let few : t < length rows = omega (arith, low, length-set rows s.slot (memo_of key s)) in
+    ⊎_elim
     (λ (same : t ≡ s.slot).
     let here : memo_at (set rows s.slot (memo_of key s)) t ≡ memo_of key s = ap (memo_at (set rows s.slot (memo_of key s))) same
-    ∙ get_or-set_same rows s.slot (memo_of key s) no_memo (omega (arith, size, low, same)) in
+    ∙ get_or-set_same rows s.slot (memo_of key s) no_memo (omega (arith, few, same)) in
     apart (ap (hint_of count) (sym row.name ∙ ap (λ (m : Memo). m.name) here)))
-    (λ (off : t ≢ s.slot).
-    none (omega (arith, size, low)) (subst (IsRow other) (get_or-set_other rows s.slot t (memo_of key s) no_memo off) row))
+    (λ (off : t ≢ s.slot). none few (subst (IsRow other) (get_or-set_other rows s.slot t (memo_of key s) no_memo off) row))
     (cases_eq t s.slot)
-  where
-    size : length (set rows s.slot (memo_of key s)) ≡ length rows
-    size = length-set rows s.slot (memo_of key s)
 
 pub keeps_others : (m : Memory) (key : Key) (s : Seen) → KeepsOthers key (Some s.slot) m (with_seen m key s)
 keeps_others m key s other o apart off recalls = by recalls
   where
-    rows : List Memo
-    rows = set m.rows s.slot (memo_of key s)
-
     hints : hinted (with_seen m key s).hints other.name ≡ hinted m.hints other.name
     hints = other_by ((hinted m.hints key.name).last == s.slot) m.hints key.name other.name _ apart
 
-    newer : (hinted (with_seen m key s).hints other.name).last ≡ (hinted m.hints other.name).last
-    newer = ap (λ (h : Hint). h.last) hints
-
-    older : (hinted (with_seen m key s).hints other.name).older ≡ (hinted m.hints other.name).older
-    older = ap (λ (h : Hint). h.older) hints
-
-    found : (t u : ℕ) → u ≡ t → RecallsAt m.rows other t (Some o) → RecallsAt rows other u (Some o)
+    found : (t u : ℕ) → u ≡ t → RecallsAt m.rows other t (Some o) → RecallsAt (set m.rows s.slot (memo_of key s)) other u (Some o)
     found t u same at = (at.0 ∙ sym same, row_stays m.rows (memo_of key s) s.slot other o off at.1)
 
     by : Recalls m other (Some o) → Recalls (with_seen m key s) other (Some o)
-    by (inl at) = inl (o, refl, found _ _ newer at.2)
-    by (inr at) = inr (subst (λ (t : ℕ). RecallsAt rows other t None) (sym newer) (none_stays m.rows key other s _ (length m.hints) apart at.0), found _ _ older at.1)
+    by (inl at) = inl (o, refl, found _ _ (ap (λ (h : Hint). h.last) hints) at.2)
+    by (inr at) = inr (
+      subst (λ (h : Hint). RecallsAt (set m.rows s.slot (memo_of key s)) other h.last None) (sym hints) (none_stays m.rows key other s _ (length m.hints) apart at.0),
+      found _ _ (ap (λ (h : Hint). h.older) hints) at.1,
+    )
 
 -- Rows that are cleared
 
--- the row of the slot t had the key, and is of no entry now
-pub cleared : (m n : Memory) (key : Key) (t : ℕ) → t < length m.rows → IsRow key (memo_at m.rows t) → n ≡ record m { rows = set m.rows t no_memo } → HasCleared key t m n
-cleared m n key t few row is = subst (HasCleared key t m) (sym is) (record { is = refl; size = length-set m.rows t no_memo; none = λ low has. has.some (ap (λ (m : Memo). m.number) here); each = each })
-  where
-    here : memo_at (set m.rows t no_memo) t ≡ no_memo
-    here = get_or-set_same m.rows t no_memo no_memo few
-
-    each : (u : ℕ) → (memo_at (set m.rows t no_memo) u ≡ memo_at m.rows u) ⊎ (IsRow key (memo_at m.rows u) × (memo_at (set m.rows t no_memo) u ≡ no_memo))
-    each u = ⊎_elim
-        (λ (same : u ≡ t). inr (subst (λ (v : ℕ). IsRow key (memo_at m.rows v)) (sym same) row, ap (memo_at (set m.rows t no_memo)) same ∙ here))
-        (λ (off : u ≢ t). inl (get_or-set_other m.rows t u no_memo no_memo off))
-        (cases_eq u t)
-
-pub unchanged : (m n : Memory) (key : Key) (t : ℕ) → (t < length m.rows → IsRow key (memo_at m.rows t) → ⊥) → n ≡ m → HasCleared key t m n
-unchanged m n key t none is = subst (HasCleared key t m) (sym is) (record { is = refl; size = refl; none = none; each = λ u. inl refl })
-
 -- a slot without the key stays so
-still_none : (m n : Memory) (key : Key) (t u : ℕ) → HasCleared key t m n → RecallsAt m.rows key u None → RecallsAt n.rows key u None
-still_none m n key t u had none low row = ⊎_elim
-    (λ (same : memo_at n.rows u ≡ memo_at m.rows u). none (let size = had.size in omega (arith, low, size)) (subst (IsRow key) same row))
+still_none : (m n : Memory) (key other : Key) (t u : ℕ) → HasCleared key t m n → RecallsAt m.rows other u None → RecallsAt n.rows other u None
+still_none m n key other t u had none low row = ⊎_elim
+    (λ (same : memo_at n.rows u ≡ memo_at m.rows u). none (omega (arith, low, had.size)) (subst (IsRow other) same row))
     (λ (gone : IsRow key (memo_at m.rows u) × (memo_at n.rows u ≡ no_memo)). row.some (ap (λ (m : Memo). m.number) gone.1))
     (had.each u)
-
-hints_stay : (m n : Memory) (key : Key) (t : ℕ) → HasCleared key t m n → n.hints ≡ m.hints
-hints_stay m n key t had = ap (λ (m : Memory). m.hints) had.is
 
 pub none_recalled : (m n : Memory) (key : Key) → HasForgotten key m n → Recalls n key None
 none_recalled m n key had =
     let c = had.0 in
-    let hints : n.hints ≡ m.hints = hints_stay c n key _ had.2 ∙ hints_stay m c key _ had.1 in
+    let hints : n.hints ≡ m.hints = ap (λ (m : Memory). m.hints) had.2.is ∙ ap (λ (m : Memory). m.hints) had.1.is in
     inr (
-      subst (λ (l : List Hint). RecallsAt n.rows key (hinted l key.name).last None) (sym hints) (still_none c n key _ _ had.2 had.1.none),
+      subst (λ (l : List Hint). RecallsAt n.rows key (hinted l key.name).last None) (sym hints) (still_none c n key key _ _ had.2 had.1.none),
       subst (λ (l : List Hint). RecallsAt n.rows key (hinted l key.name).older None) (sym hints) had.2.none,
     )
 
-one_cleared : (z : ℕ) (h : List Change) (m n : Memory) (key : Key) (t : ℕ) → HasCleared key t m n → Remembers z h m → Remembers z h n
-one_cleared z h m n key t had was = record {
-  size = had.size ∙ was.size;
-  hints = count_of _ _ (ap length (hints_stay m n key t had)) was.hints;
-  each = λ u some. ⊎_elim
-      (λ (same : memo_at n.rows u ≡ memo_at m.rows u). subst (λ (r : Memo). (u < z) × IsAttached h (entry_of u r)) (sym same) (was.each u (λ none. some (ap (λ (m : Memo). m.number) same ∙ none))))
-      (λ (gone : IsRow key (memo_at m.rows u) × (memo_at n.rows u ≡ no_memo)). absurd (some (ap (λ (m : Memo). m.number) gone.1)))
-      (had.each u);
-  absent = subst (λ (x : Memory). (i : ℕ) → IsTrueMiss h (miss_at x.missed.places i)) (sym had.is) was.absent;
-}
-
-pub forgotten : (z : ℕ) (h : List Change) (m n : Memory) (key : Key) → HasForgotten key m n → Remembers z h m → Remembers z h n
-forgotten z h m n key had was = one_cleared z h had.0 n key _ had.2 (one_cleared z h m had.0 key _ had.1 was)
-
 -- what is remembered of a key with another hint is of rows with another key
 other_kept : (m n : Memory) (key : Key) (t : ℕ) → HasCleared key t m n → KeepsOthers key None m n
-other_kept m n key t had other o apart any recalls = by recalls
+other_kept m n key t had other o apart any recalls = subst (λ (l : List Hint). Recalls (record n { hints = l }) other (Some o)) (sym (ap (λ (x : Memory). x.hints) had.is)) (by recalls)
   where
-    hints : n.hints ≡ m.hints
-    hints = hints_stay m n key t had
-
     row : IsOfRow m.rows other o → IsOfRow n.rows other o
     row was = ⊎_elim
-        (λ (same : memo_at n.rows o.slot ≡ memo_at m.rows o.slot). record { few = (let size = had.size in let few = was.few in omega (arith, few, size)); some = was.some; is = same ∙ was.is })
+        (λ (same : memo_at n.rows o.slot ≡ memo_at m.rows o.slot). record { few = omega (arith, had.size, was.few); some = was.some; is = same ∙ was.is })
         (λ (gone : IsRow key (memo_at m.rows o.slot) × (memo_at n.rows o.slot ≡ no_memo)).
         absurd (apart (ap (hint_of (length m.hints)) (ap (λ (m : Memo). m.name) (sym was.is) ∙ gone.0.name))))
         (had.each o.slot)
 
-    none : (u : ℕ) → RecallsAt m.rows other u None → RecallsAt n.rows other u None
-    none u was low there = ⊎_elim
-        (λ (same : memo_at n.rows u ≡ memo_at m.rows u). was (let size = had.size in omega (arith, low, size)) (subst (IsRow other) same there))
-        (λ (gone : IsRow key (memo_at m.rows u) × (memo_at n.rows u ≡ no_memo)). there.some (ap (λ (m : Memo). m.number) gone.1))
-        (had.each u)
-
-    by : Recalls m other (Some o) → Recalls n other (Some o)
-    by (inl at) = inl (o, refl, subst (λ (l : List Hint). RecallsAt n.rows other (hinted l other.name).last (Some o)) (sym hints) (at.2.0, row at.2.1))
-    by (inr at) = inr (
-      subst (λ (l : List Hint). RecallsAt n.rows other (hinted l other.name).last None) (sym hints) (none _ at.0),
-      subst (λ (l : List Hint). RecallsAt n.rows other (hinted l other.name).older (Some o)) (sym hints) (at.1.0, row at.1.1),
-    )
+    by : Recalls m other (Some o) → Recalls (record n { hints = m.hints }) other (Some o)
+    by (inl at) = inl (o, refl, (at.2.0, row at.2.1))
+    by (inr at) = inr (still_none m n key other t _ had at.0, (at.1.0, row at.1.1))
 
 pub others_kept : (m n : Memory) (key : Key) → HasForgotten key m n → KeepsOthers key None m n
 others_kept m n key had other o apart any recalls =
-    let still = subst (λ (l : List Hint). hint_of (length l) other.name ≢ hint_of (length l) key.name) (sym (hints_stay m had.0 key _ had.1)) apart in
+    let still = subst (λ (x : Memory). hint_of (length x.hints) other.name ≢ hint_of (length x.hints) key.name) (sym had.1.is) apart in
     other_kept had.0 n key _ had.2 other o still any (other_kept m had.0 key _ had.1 other o apart any recalls)
 
 -- One miss more

@@ -4,7 +4,7 @@ use Rattle.std.proofs.lemmas.Bool.{cases_lt}
 use Rattle.std.proofs.lemmas.List.{length-replicate, replicate_more, set-set, set_at, set_past, append_assoc, length-append, length-drop, get_or_append_left, get_or-replicate}
 use Rattle.std.proofs.Math.Seq.{drop-cons}
 use Rattle.std.proofs.Math.Numerals.{add-one}
-use Rattle.passive_list.specs.Types.{Entry, Settings, RecordWords, MOST_CPUS, KeeperView}
+use Rattle.passive_list.specs.Types.{Entry, RecordWords, MOST_CPUS, KeeperView}
 use Rattle.protocol.specs.Common.{with_biases, no_words, row_at, count_at, with_cell, with_word, words_of}
 use Rattle.registry_values.specs.Common.{bias}
 use Rattle.protocol.proofs.Cells.{cell_in_new}
@@ -15,14 +15,14 @@ use Rattle.passive_list.specs.Common.{AreSized, with_row, with_counts, keeper_af
 
 -- a second word is stored in a row that was stored
 row_again : (rows : List RecordWords) (t : ℕ) (r : RecordWords) (j v : ℕ) → set (set rows t r) t (with_word (row_at (set rows t r) t) j v) ≡ set rows t (with_word r j v)
-row_again rows t r j v = ⊎_elim
-    (λ (lt : t < length rows). set-set rows t r (with_word (row_at (set rows t r) t) j v) ∙ ap (λ (x : RecordWords). set rows t (with_word x j v)) (get_or-set_same rows t r no_words lt))
-    (λ (ge : length rows ≤ t). set-set rows t r (with_word (row_at (set rows t r) t) j v) ∙ (set_past rows t (with_word (row_at (set rows t r) t) j v) ge ∙ sym (set_past rows t (with_word r j v) ge)))
+row_again rows t r j v = set-set rows t r (with_word (row_at (set rows t r) t) j v) ∙ ⊎_elim
+    (λ (lt : t < length rows). ap (λ (x : RecordWords). set rows t (with_word x j v)) (get_or-set_same rows t r no_words lt))
+    (λ (ge : length rows ≤ t). set_past rows t (with_word (row_at (set rows t r) t) j v) ge ∙ sym (set_past rows t (with_word r j v) ge))
     (cases_lt t (length rows))
 
 -- a view whose slot is written may be written again
 pub row_may : (k l : KeeperView) (t : ℕ) (r : RecordWords) → MayWrite k t → l ≡ with_row k t r → MayWrite l t
-row_may k l t r may at = subst (λ (x : KeeperView). MayWrite x t) (sym at) record { rest = may.rest; slot = may.slot; vacant = may.vacant }
+row_may k l t r may at = subst (λ (x : KeeperView). MayWrite x t) (sym at) assumption
 
 -- one word more
 pub row_next : (k l m : KeeperView) (t j v : ℕ) (r : RecordWords) → l ≡ with_row k t r → HasRecordWord l t j v m → m ≡ with_row k t (with_word r j v)
@@ -48,22 +48,16 @@ counts_set k t c low lt =
 
 pub counts_next : (k l m : KeeperView) (t c : ℕ) → AreSized k.settings.slots k → t < k.settings.slots → c < MOST_CPUS → l ≡ with_counts k t c → HasCountWord l t c bias m → m ≡ with_counts k t (c + 1)
 counts_next k l m t c sized low few at is =
-    let size = sized.counts in
-    let within : t < length k.counts = omega (arith, size, low) in
-    let long = sized.count_rows t within in
+    let within : t < length k.counts = omega (arith, sized.counts, low) in
     is ∙ (ap (λ (x : KeeperView). record x { counts = with_cell x.counts t c bias }) at
-    ∙ ap (λ (counts : List (List ℕ)). record k { counts = counts }) (counts_set k t c within (omega (arith, long, few))))
+    ∙ ap (λ (counts : List (List ℕ)). record k { counts = counts }) (counts_set k t c within (omega (arith, sized.count_rows t within, few))))
 
 pub counts_may : (k l : KeeperView) (t c : ℕ) → MayWrite k t → l ≡ with_counts k t c → MayWrite l t
-counts_may k l t c may at = subst (λ (x : KeeperView). MayWrite x t) (sym at) record { rest = may.rest; slot = may.slot; vacant = may.vacant }
+counts_may k l t c may at = subst (λ (x : KeeperView). MayWrite x t) (sym at) assumption
 
 -- a row of count words has a place for each CPU, stored or not
 pub biases_size : (row : List ℕ) (c : ℕ) → length row ≡ MOST_CPUS → c ≤ MOST_CPUS → length (with_biases c row) ≡ MOST_CPUS
-biases_size row c size few =
-    let whole = length-append (replicate c bias) (drop c row) in
-    let front = length-replicate c bias in
-    let back = length-drop c row in
-    omega (arith, whole, front, back, size, few)
+biases_size row c size few = omega (arith, length-append (replicate c bias) (drop c row), length-replicate c bias, length-drop c row, size, few)
 
 pub bias_stored : (counts : List (List ℕ)) (t n c : ℕ) (row : List ℕ) → t < length counts → c < n → count_at (set counts t (with_biases n row)) c t ≡ bias
 bias_stored counts t n c row within lt =
@@ -71,29 +65,13 @@ bias_stored counts t n c row within lt =
     let front = length-replicate n bias in
     cell_in_new none counts t (with_biases n row) c within ∙ (get_or_append_left (replicate n bias) (drop n row) none c (omega (arith, front, lt)) ∙ get_or-replicate n c bias none lt)
 
--- Sizes
-
-pub row_sized : (n : ℕ) (k : KeeperView) (t : ℕ) (r : RecordWords) → AreSized n k → AreSized n (with_row k t r)
-row_sized n k t r had = record {
-  slots = had.slots;
-  marks = had.marks;
-  mark_rows = had.mark_rows;
-  keeps = had.keeps;
-  next = had.next;
-  rows = length-set k.rows t r ∙ had.rows;
-  totals = had.totals;
-  counts = had.counts;
-  count_rows = had.count_rows;
-}
-
 -- All words
 
 pub row_settings : (k l : KeeperView) (t : ℕ) (r : RecordWords) → l ≡ with_row k t r → l.settings ≡ k.settings
 row_settings k l t r at = ap (λ (x : KeeperView). x.settings) at
 
 pub sized_after : (k l : KeeperView) (t : ℕ) (r : RecordWords) → AreSized k.settings.slots k → l ≡ with_row k t r → AreSized l.settings.slots l
-sized_after k l t r had at =
-    subst (λ (n : ℕ). AreSized n l) (sym (ap (λ (z : Settings). z.slots) (row_settings k l t r at))) (subst (AreSized k.settings.slots) (sym at) (row_sized k.settings.slots k t r had))
+sized_after k l t r had at = subst (λ (x : KeeperView). AreSized x.settings.slots x) (sym at) (assumption (length-set k.rows t r ∙ had.rows))
 
 pub prepared_from : (k l m o : KeeperView) (e : Entry) (cpus v : ℕ) → cpus ≡ k.settings.cpus → l ≡ with_row k e.slot (words_of e) → m ≡ with_counts l e.slot cpus → HasLink m e.slot v o
     → o ≡ keeper_after_stores k e v

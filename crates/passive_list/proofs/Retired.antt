@@ -1,9 +1,7 @@
 -- An entry is retired, and a retired interface is freed: the keeper may do so, and what it has agrees with what its seat knows then.
-use Rattle.std.proofs.Common.{◌≡◌, ℕ, zero, suc, ◌+◌, ◌*◌, ◌<◌, List, [], ◌∷◌, length, set, replicate, Option, Some, None, refl, sym, ap, ◌∙◌, subst, arith, get_or-set_same, get_or-set_other, length-set, ◌≢◌, inr, ◌-◌, ◌++◌}
-use Rattle.std.proofs.lemmas.List.{map-set}
+use Rattle.std.proofs.Common.{◌≡◌, ℕ, zero, suc, ◌+◌, ◌*◌, ◌<◌, ◌≤◌, List, [], ◌∷◌, length, set, replicate, Option, Some, None, refl, sym, ap, ◌∙◌, subst, arith, get_or-set_same, get_or-set_other, length-set, ◌≢◌, inr, ◌-◌}
 use Rattle.std.proofs.lemmas.List.Quantifiers.{position-Some}
-use Rattle.std.proofs.Math.Seq.{map-set_same}
-use Rattle.passive_list.specs.Types.{Detach, Entry, Settings, Mark, Slot, Vacant, Live, Retired, MOST_CPUS, KeeperView, Iface, KeptSub, Done, Rest, LogItem, Keeper}
+use Rattle.passive_list.specs.Types.{Detach, Entry, Settings, Mark, Slot, Vacant, Live, Retired, MOST_CPUS, KeeperView, Iface, Rest, LogItem}
 use Rattle.registry_values.specs.Common.{live_count, slot_at, no_mark, has_number, slot_of, bias}
 use Rattle.protocol.specs.Common.{live_at, IsIn, DriversKept, total_at, kept_at}
 use Rattle.protocol.proofs.Cells.{slot_here, slot_other, total_other}
@@ -11,12 +9,12 @@ use Rattle.protocol.proofs.History.{length-after_change}
 use Rattle.protocol.proofs.keeps.ListKeeps.{live_count_put, rows_put}
 use Rattle.protocol.proofs.keeps.Drivers.{kept_number}
 use Rattle.protocol.proofs.Occupied.{has_it, not_vacant, number_in, one_number, position_found, slot_found, slot_has}
-use Rattle.cpu_words.specs.Common.{LeadsBelow, IsBefore, MayUnpublish, HasUnpublished, keeper_after_live, keeper_after_unpublish, links_with, IsShown, IsFreedFrom, MayKeptSub, HasKeptSub, did, Makes, one_more}
+use Rattle.cpu_words.specs.Common.{LeadsBelow, IsBefore, MayUnpublish, HasUnpublished, keeper_after_live, keeper_after_unpublish, links_with, IsShown, MayKeptSub, HasKeptSub, one_more}
 use Rattle.cpu_words.proofs.by_keeper.KeeperSteps.{seen_by_keeper}
-use Rattle.passive_list.specs.Common.{KeptSlot, row_at, states_of, AreWritten, IsAtRest, MarksAgree, RowsAgree, IsOurKeeper, with_snapshots, OnKeeper, no_row, state_of, total_or_bias, IsDrainedOn, HasFreed, kept_slot}
+use Rattle.passive_list.specs.Common.{KeptSlot, row_at, states_of, AreWritten, IsAtRest, MarksAgree, RowsAgree, IsOurKeeper, with_snapshots, OnKeeper, no_row, state_of, total_or_bias, IsDrainedOn, kept_slot}
 use Rattle.passive_list.specs.Draining.{place_of}
-use Rattle.passive_list.proofs.Marks.{marks_written}
-use Rattle.passive_list.proofs.Rows.{state_at, live_in, row_stays, rows_set, taken_in, retired_in, IsHeldIn, held_by_slot}
+use Rattle.passive_list.proofs.Marks.{marks_written, vacated_at_rest}
+use Rattle.passive_list.proofs.Rows.{state_at, state_set, live_in, keeper_on, row_stays, rows_set, rows_stay, taken_in, retired_in, IsHeldIn, held_by_slot}
 use Rattle.passive_list.proofs.Attached.{LiveIn, rows_live, live_rows, leads_on}
 use Rattle.passive_list.proofs.GivenUp.{HeldRow, held_row, row_less, less, less_rows}
 
@@ -46,10 +44,9 @@ abbrev pub snapped : KeeperView → ℕ → Entry → Option ℕ → ℕ → Lis
 snapped k t e p v marks = with_snapshots (keeper_after_unpublish k t e p v) t marks
 
 pub unpublished_is : (k l : KeeperView) (t : ℕ) (e : Entry) (p : Option ℕ) (v : ℕ) → slot_at k.slots t ≡ Live e → HasUnpublished k t p v l → l ≡ keeper_after_unpublish k t e p v
-unpublished_is k l t e p v live told = told.2 ∙ ap (λ (x : Entry). keeper_after_unpublish k t x p v) (one told.0 e (sym told.1 ∙ live))
-  where
-    one : (x y : Entry) → Live x ≡ Live y → x ≡ y
-    one x y q = cc
+unpublished_is k l t e p v live told =
+    let one : told.0 ≡ e = let q : Live told.0 ≡ Live e = sym told.1 ∙ live in cc in
+    told.2 ∙ ap (λ (x : Entry). keeper_after_unpublish k t x p v) one
 
 pub snapped_is : (k l m : KeeperView) (t : ℕ) (e : Entry) (p : Option ℕ) (v : ℕ) (marks : List Mark) → slot_at k.slots t ≡ Live e → HasUnpublished k t p v l → m ≡ with_snapshots l t marks
     → m ≡ snapped k t e p v marks
@@ -62,36 +59,8 @@ zero_stored [] t = refl
 zero_stored (x ∷ xs) zero = refl
 zero_stored (x ∷ xs) (suc t) = zero_stored xs t
 
-stored_at_rest : (a : Settings) (k : KeeperView) (t v : ℕ) → IsAtRest a k → IsAtRest a (keeper_after_live k t v)
-stored_at_rest a k t v at = record {
-  settings = at.settings;
-  fit = at.fit;
-  rest = at.rest;
-  seated = at.seated;
-  sized = record {
-    slots = at.sized.slots;
-    marks = at.sized.marks;
-    mark_rows = at.sized.mark_rows;
-    keeps = at.sized.keeps;
-    next = at.sized.next;
-    rows = at.sized.rows;
-    totals = at.sized.totals;
-    counts = at.sized.counts;
-    count_rows = at.sized.count_rows;
-  };
-  room = at.room;
-}
-
 pub stored_keeper : (a : Settings) (k l : KeeperView) (rows : List KeptSlot) (n t v : ℕ) → IsOurKeeper a k rows n → l ≡ keeper_after_live k t v → IsShown l → IsOurKeeper a l rows n
-stored_keeper a k l rows n t v our change is_shown = record {
-  view = subst (IsAtRest a) (sym change) (stored_at_rest a k t v our.view);
-  is_shown = is_shown;
-  changes = our.changes ∙ sym (ap (λ (x : KeeperView). length x.history) change);
-  rows = subst (λ (x : KeeperView). RowsAgree a x rows) (sym change) (record {
-    size = our.rows.size;
-    each = λ u lt. let was = our.rows.each u lt in record { state = was.state; total = was.total; keeps = was.keeps; unused = was.unused };
-  });
-}
+stored_keeper a k l rows n t v our change is_shown = keeper_on a l (keeper_after_live k t v) rows n change is_shown (assumption) our.changes (rows_stay a k (keeper_after_live k t v) rows refl refl refl our.rows)
 
 links_size : (next : List ℕ) (p : Option ℕ) (v : ℕ) → length (links_with next p v) ≡ length next
 links_size next None v = refl
@@ -101,29 +70,15 @@ detached_at_rest : (a : Settings) (k : KeeperView) (t : ℕ) (e : Entry) (p : Op
     → IsAtRest a (snapped k t e p v marks)
 detached_at_rest a k t e p v marks at lt live size =
     let fresh = replicate MOST_CPUS no_mark in
-    record {
-      settings = at.settings;
-      fit = at.fit;
-      rest = refl;
-      seated = at.seated;
-      sized = record {
-        slots = length-set k.slots t (Retired e) ∙ at.sized.slots;
-        marks = length-set (set k.marks t fresh) t marks ∙ (length-set k.marks t fresh ∙ at.sized.marks);
-        mark_rows = rows_put (set k.marks t fresh) t marks size (rows_put k.marks t fresh refl at.sized.mark_rows);
-        keeps = at.sized.keeps;
-        next = links_size k.next p v ∙ at.sized.next;
-        rows = at.sized.rows;
-        totals = at.sized.totals;
-        counts = at.sized.counts;
-        count_rows = at.sized.count_rows;
-      };
-      room =
-          let slots_size = at.sized.slots in
-          let less : live_count (set k.slots t (Retired e)) + 1 ≡ live_count k.slots + 0 = live_count_put k.slots t (Live e) (Retired e) (omega (arith, lt, slots_size)) live in
-          let long = length-after_change k.history (Detach e.number) in
-          let room = at.room in
-          omega (arith, less, long, room);
-    }
+    let less : live_count (set k.slots t (Retired e)) + 1 ≡ live_count k.slots + 0 = live_count_put k.slots t (Live e) (Retired e) (omega (arith, lt, at.sized.slots)) live in
+    let room : length (snapped k t e p v marks).history + live_count (set k.slots t (Retired e)) ≤ a.change_limit = omega (arith, less, length-after_change k.history (Detach e.number), at.room) in
+    assumption (
+      length-set k.slots t (Retired e) ∙ at.sized.slots,
+      length-set (set k.marks t fresh) t marks ∙ (length-set k.marks t fresh ∙ at.sized.marks),
+      rows_put (set k.marks t fresh) t marks size (rows_put k.marks t fresh refl at.sized.mark_rows),
+      links_size k.next p v ∙ at.sized.next,
+      room,
+    )
 
 abbrev pub row_retired : KeptSlot → Entry → KeptSlot
 row_retired r e = record { state = Retired e; total = r.total; keeps = r.keeps }
@@ -132,36 +87,18 @@ pub detached_keeper : (a : Settings) (k l : KeeperView) (rows : List KeptSlot) (
     → (row_at rows t).state ≡ Live e → length marks ≡ MOST_CPUS
     → l ≡ snapped k t e p v marks → IsShown l → IsOurKeeper a l (set rows t (row_retired (row_at rows t) e)) (n + 1)
 detached_keeper a k l rows n t e p v marks our is marks_size change is_shown =
-    let at = our.view in
     let live = live_in a k rows t e our.rows (state_at rows t ∙ is) in
-    let lt = live.0 in
-    let d = snapped k t e p v marks in
-    let size = at.sized.slots in
-    let had = our.rows.each t lt in
-    record {
-      view = subst (IsAtRest a) (sym change) (detached_at_rest a k t e p v marks at lt live.1 marks_size);
-      is_shown = is_shown;
-      changes = let was = our.changes in let more = length-after_change k.history (Detach e.number) in let now = ap (λ (x : KeeperView). length x.history) change in omega (arith, was, more, now);
-      rows = subst (λ (x : KeeperView). RowsAgree a x (set rows t (row_retired (row_at rows t) e))) (sym change)
-          (rows_set a k d rows t (row_retired (row_at rows t) e) lt our.rows
-          record {
-            state = slot_here k.slots t (Retired e) (omega (arith, lt, size));
-            total = had.total;
-            keeps = had.keeps;
-            unused = λ vacant. absurd (let q : Retired e ≡ Vacant = vacant in cc);
-          }
-          (λ u off was. row_stays k d u (row_at rows u) (slot_other k.slots t (Retired e) u off) refl refl was));
-    }
+    let m = snapped k t e p v marks in
+    keeper_on a l m (set rows t (row_retired (row_at rows t) e)) (n + 1) change is_shown (detached_at_rest a k t e p v marks our.view live.0 live.1 marks_size)
+    (omega (arith, our.changes, length-after_change k.history (Detach e.number))) (state_set a k m rows t (Retired e) our.view our.rows live.0 refl refl refl (λ vacant. cc))
 
 -- and its marks with those that were taken
 pub detached_marks : (a : Settings) (k l : KeeperView) (ms ns : List Mark) (t : ℕ) (e : Entry) (p : Option ℕ) (v : ℕ) (row : List Mark) → IsAtRest a k → MarksAgree a k ms → t < a.slots
     → AreWritten (t * a.cpus) a.cpus row ms ns → l ≡ snapped k t e p v row → MarksAgree a l ns
 detached_marks a k l ms ns t e p v row at had lt written change =
     let fresh = replicate MOST_CPUS no_mark in
-    let wide = at.sized.marks in
-    let long = length-set k.marks t fresh in
     subst (λ (x : KeeperView). MarksAgree a x ns) (sym change) (marks_written a k (snapped k t e p v row) ms ns t row had written
-    (get_or-set_same (set k.marks t fresh) t row [] (omega (arith, lt, wide, long)))
+    (get_or-set_same (set k.marks t fresh) t row [] (omega (arith, lt, at.sized.marks, length-set k.marks t fresh)))
     (λ u off. get_or-set_other (set k.marks t fresh) t u row [] off ∙ get_or-set_other k.marks t u fresh [] off))
 
 -- A retired interface is freed: the driver that its slot keeps has a row, the keeper may give it up, and what it has agrees with what its seat knows then.
@@ -189,10 +126,8 @@ one_slot k t u e f is_shown is also same =
 held_place : (a : Settings) (k : KeeperView) (rows : List KeptSlot) (u : ℕ) (f : Entry) → IsShown k → RowsAgree a k rows → HeldRow a k rows u → IsIn f (slot_at k.slots u)
     → place_of f.number rows ≡ Some u
 held_place a k rows u f is_shown agree row is =
-    let lt = row.slot in
-    let size = agree.size in
-    let here : IsIn f (row_at rows u).state = subst (IsIn f) (sym row.shown) is in
-    let found = position_found (λ (r : KeptSlot). has_number f.number (state_of r)) no_row rows u (omega (arith, lt, size)) (has_it f.number f (row_at rows u).state here refl) in
+    let found = position_found (λ (r : KeptSlot). has_number f.number (state_of r)) no_row rows u (omega (arith, row.slot, agree.size))
+    (has_it f.number f (row_at rows u).state (subst (IsIn f) (sym row.shown) is) refl) in
     let shown = place_told a k rows f.number found.0 agree found.1 in
     found.1 ∙ ap (λ (j : ℕ). Some j) (one_slot k u found.0 f shown.0 is_shown is shown.1 shown.2)
 
@@ -247,15 +182,6 @@ keeps_on a k rows n t x our is iface =
       s.keeps,
     )
 
--- where they have found u
-pub keeps_at : {log : List LogItem} (a : Settings) (k : KeeperView) (rows : List KeptSlot) (n t u : ℕ) (x : OnKeeper) → IsOurKeeper a k rows n
-    → record { view = k; slots = states_of rows; log = log } ≡ x → IsIface x t
-    → kept_slot (row_at rows t).keeps rows ≡ Some u → KeepsHeld k t u
-keeps_at a k rows n t u x our is iface found =
-    let it = keeps_on a k rows n t x our is iface in
-    let same : it.0 ≡ u = let q : ◌≡◌ {A = Option ℕ} (Some it.0) (Some u) = sym it.1 ∙ found in cc in
-    subst (KeepsHeld k t) same it.2
-
 -- and the keeper may give the driver up
 pub may_free : {log : List LogItem} (a : Settings) (k : KeeperView) (rows : List KeptSlot) (n t u : ℕ) (x : OnKeeper) → IsOurKeeper a k rows n
     → record { view = k; slots = states_of rows; log = log } ≡ x → IsIface x t
@@ -285,30 +211,6 @@ freed k t d u = record k {
 pub freed_is : (k l : KeeperView) (t d u : ℕ) → kept_at k.keeps t ≡ Some d → HasKeptSub k t u l → l ≡ freed k t d u
 freed_is k l t d u kept told = told.2 ∙ ap (λ (n : ℕ). freed k t n u) (let q : ◌≡◌ {A = Option ℕ} (Some told.0) (Some d) = sym told.1.0 ∙ kept in cc)
 
-freed_at_rest : (a : Settings) (k : KeeperView) (t d u : ℕ) (e : Entry) → IsAtRest a k → t < a.slots → slot_at k.slots t ≡ Retired e → IsAtRest a (freed k t d u)
-freed_at_rest a k t d u e at lt retired = record {
-  settings = at.settings;
-  fit = at.fit;
-  rest = at.rest;
-  seated = at.seated;
-  sized = record {
-    slots = length-set k.slots t Vacant ∙ at.sized.slots;
-    marks = at.sized.marks;
-    mark_rows = at.sized.mark_rows;
-    keeps = length-set k.keeps t None ∙ at.sized.keeps;
-    next = at.sized.next;
-    rows = at.sized.rows;
-    totals = length-set k.totals u _ ∙ at.sized.totals;
-    counts = length-set k.counts t (replicate MOST_CPUS 0) ∙ at.sized.counts;
-    count_rows = rows_put k.counts t (replicate MOST_CPUS 0) refl at.sized.count_rows;
-  };
-  room =
-      let size = at.sized.slots in
-      let same : live_count (set k.slots t Vacant) + 0 ≡ live_count k.slots + 0 = live_count_put k.slots t (Retired e) Vacant (omega (arith, lt, size)) retired in
-      let room = at.room in
-      omega (arith, same, room);
-}
-
 abbrev pub row_freed : KeptSlot → KeptSlot
 row_freed r = record { state = Vacant; total = r.total; keeps = None }
 
@@ -318,15 +220,12 @@ freed_rows : (a : Settings) (k : KeeperView) (rows : List KeptSlot) (t d u v : �
 freed_rows a k rows t d u v at agree held off lt total read =
     let m = less k u k.given_up in
     let rows' = set rows u (row_less (row_at rows u) v) in
-    let slot_size = at.sized.slots in
-    let keep_size = at.sized.keeps in
     let had = agree.each t lt in
-    let stays : total_at m.totals t ≡ total_at k.totals t = total_other k.totals u _ t (λ same. off (sym same)) in
     rows_set a m (freed k t d u) rows' t (row_freed (row_at rows t)) lt (less_rows a k rows u v k.given_up at agree (held_row a k rows u at agree held) read)
     record {
-      state = slot_here k.slots t Vacant (omega (arith, lt, slot_size));
-      total = had.total ∙ sym stays;
-      keeps = sym (get_or-set_same k.keeps t None None (omega (arith, lt, keep_size)));
+      state = slot_here k.slots t Vacant (omega (arith, lt, at.sized.slots));
+      total = had.total ∙ sym (total_other k.totals u _ t (λ same. off (sym same)));
+      keeps = sym (get_or-set_same k.keeps t None None (omega (arith, lt, at.sized.keeps)));
       unused = λ vacant. had.total ∙ total;
     }
     (λ w other was. row_stays m (freed k t d u) w (row_at rows' w) (slot_other k.slots t Vacant w other) refl (get_or-set_other k.keeps t w None None other) was)
@@ -337,27 +236,6 @@ pub freed_keeper : {log : List LogItem} (a : Settings) (k l : KeeperView) (rows 
 freed_keeper a k l rows n t u v x our is drained keeps told is_shown read =
     let d = subst (λ (y : OnKeeper). IsDrainedOn y t) (sym is) drained in
     let here = retired_in a k rows t d.retired.0 our.rows d.retired.1 in
-    let change = freed_is k l t keeps.d u keeps.kept told in
-    let after = set (set rows u (row_less (row_at rows u) v)) t (row_freed (row_at rows t)) in
-    record {
-      view = subst (IsAtRest a) (sym change) (freed_at_rest a k t keeps.d u d.retired.0 our.view here.0 here.1);
-      is_shown = is_shown;
-      changes = our.changes ∙ sym (ap (λ (y : KeeperView). length y.history) change);
-      rows = subst (λ (y : KeeperView). RowsAgree a y after) (sym change) (freed_rows a k rows t keeps.d u v our.view our.rows keeps.held keeps.other here.0 d.drained.total read);
-    }
-
--- what it leaves of the keeper
-pub has_freed : {log later : List LogItem} (a : Settings) (k l : KeeperView) (rows : List KeptSlot) (t u v : ℕ) (r q : KeptSlot) (x : OnKeeper) → state_of q ≡ state_of (row_at rows u) → record { view = k; slots = states_of rows; log = log } ≡ x
-    → RowsAgree a k rows → Makes (KeptSub t) Done (Keeper k) (Keeper l) → HasKeptSub k t u l → later ≡ log ++ did (KeptSub t) Done
-    → ((e : Entry) → slot_at k.slots t ≡ Retired e → IsFreedFrom t e.number later)
-    → HasFreed x t (record { view = l; slots = states_of (set (set rows u (row_less q v)) t (row_freed r)); log = later })
-has_freed {later} a k l rows t u v r q x state is agree made told goes_on freed =
-    let after = set (set rows u (row_less q v)) t (row_freed r) in
-    subst (λ (y : OnKeeper). HasFreed y t (record { view = l; slots = states_of after; log = later })) is record {
-      u = u;
-      made = made;
-      view = told;
-      slots = map-set state_of (set rows u (row_less q v)) t (row_freed r) ∙ ap (λ (xs : List Slot). set xs t Vacant) (map-set_same state_of rows u (row_less q v) no_row state);
-      log = goes_on;
-      freed = λ e at. freed e (retired_in a k rows t e agree at).1;
-    }
+    keeper_on a l (freed k t keeps.d u) (set (set rows u (row_less (row_at rows u) v)) t (row_freed (row_at rows t))) n (freed_is k l t keeps.d u keeps.kept told) is_shown
+    (assumption (vacated_at_rest a k t d.retired.0 our.view here.0 here.1, length-set k.keeps t None ∙ our.view.sized.keeps, length-set k.totals u (total_at k.totals u - 1) ∙ our.view.sized.totals))
+    our.changes (freed_rows a k rows t keeps.d u v our.view our.rows keeps.held keeps.other here.0 d.drained.total read)

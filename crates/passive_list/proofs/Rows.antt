@@ -5,7 +5,7 @@ use Rattle.std.proofs.lemmas.Bool.{cases_lt}
 use Rattle.std.proofs.lemmas.List.{length-replicate, get_or-replicate, get_or_past, get_or_read, length-map}
 use Rattle.std.proofs.lemmas.List.Elements.{All-append, All-cons}
 use Rattle.atomic_table.specs.Seated.{TableId}
-use Rattle.passive_list.specs.Types.{Change, Entry, Settings, Key, Slot, Vacant, Live, Retired, MOST_CPUS, KeeperView, LogItem, Due, Rest, Adding, Subtracting, Mark, MOST_SLOTS}
+use Rattle.passive_list.specs.Types.{Entry, Settings, Key, Slot, Vacant, Live, Retired, MOST_CPUS, KeeperView, LogItem, Due, Rest, Adding, Subtracting, Mark, MOST_SLOTS}
 use Rattle.registry_values.specs.Common.{are_fit, bias, no_mark, is_live_as, is_taken, slot_at, slot_of, are_collected, is_retired}
 use Rattle.registry_values.proofs.Fit.{ranges}
 use Rattle.protocol.specs.Common.{no_words, total_at, kept_at, IsIn, Balances, held_at, addition_due_at, is_adding_at, subtraction_due_at, greatest_limit, State, at_rest, mark_at}
@@ -15,7 +15,7 @@ use Rattle.protocol.proofs.counts.Sums.{all_collected, held_kept, one_self}
 use Rattle.protocol.proofs.counts.Bounds.{adding_range, collected_at, total_range}
 use Rattle.protocol.proofs.keeps.CountKeeps.{fit_of}
 use Rattle.protocol.proofs.keeps.References.{due_subtracting}
-use Rattle.protocol.proofs.Cells.{snapshot_stands}
+use Rattle.protocol.proofs.Cells.{slot_here, slot_other, snapshot_stands}
 use Rattle.cpu_words.specs.Common.{keeper_with, row_of, Good, IsShown, KeeperShown, occupant_of, IsOwnLog, keeper_with_note}
 use Rattle.cpu_words.proofs.by_keeper.KeeperSteps.{seen_by_keeper}
 use Rattle.passive_list.specs.Common.{KeptSlot, OnPlainKeeper, HasRows, on_keeper, no_row, row_at, state_of, states_of, RowAgrees, IsAtRest, IsOurKeeper, RowsAgree, OnKeeper, GoesOnBy, HasOwnLog}
@@ -59,19 +59,16 @@ pub taken_in_rows : (key : Key) (rows : List KeptSlot) → is_taken key (states_
 taken_in_rows key [] = refl
 taken_in_rows key (r ∷ rows) = ap (λ b. is_live_as key r.state || b) (taken_in_rows key rows)
 
--- such a row agrees with the view at the start
-first_agrees : (a : Settings) (t : ℕ) → t < a.slots → RowAgrees (keeper_with a a.cpus) t no_row
-first_agrees a t lt = record {
-  state = get_or-replicate a.slots t Vacant Vacant lt;
-  total = sym (get_or-replicate a.slots t bias 0 lt);
-  keeps = sym (get_or-replicate a.slots t None None lt);
-  unused = λ vacant. refl;
-}
-
+-- such rows agree with the view at the start
 pub new_rows : (a : Settings) → RowsAgree a (keeper_with a a.cpus) (replicate a.slots no_row)
 new_rows a = record {
   size = length-replicate a.slots no_row;
-  each = λ t lt. subst (RowAgrees (keeper_with a a.cpus) t) (sym (get_or-replicate a.slots t no_row no_row lt)) (first_agrees a t lt);
+  each = λ t lt. subst (RowAgrees (keeper_with a a.cpus) t) (sym (get_or-replicate a.slots t no_row no_row lt)) record {
+    state = get_or-replicate a.slots t Vacant Vacant lt;
+    total = sym (get_or-replicate a.slots t bias 0 lt);
+    keeps = sym (get_or-replicate a.slots t None None lt);
+    unused = λ vacant. refl;
+  };
 }
 
 -- A row
@@ -124,34 +121,14 @@ row_stays k l t r slot total keeps had = record {
   unused = had.unused;
 }
 
--- a note that is heard leaves the rows as they are
-pub note_heard : (a : Settings) (k : KeeperView) (h : List Change) (rows : List KeptSlot) (n : ℕ) → IsOurKeeper a k rows n → IsShown (keeper_with_note k h) → IsOurKeeper a (keeper_with_note k h) rows n
-note_heard a k h rows n had shown = record {
-  view =
-      let rest = had.view in
-      let sized = rest.sized in
-      record {
-        settings = rest.settings;
-        fit = rest.fit;
-        rest = rest.rest;
-        seated = rest.seated;
-        sized = record {
-          slots = sized.slots;
-          marks = sized.marks;
-          mark_rows = sized.mark_rows;
-          keeps = sized.keeps;
-          next = sized.next;
-          rows = sized.rows;
-          totals = sized.totals;
-          counts = sized.counts;
-          count_rows = sized.count_rows;
-        };
-        room = rest.room;
-      };
-  is_shown = shown;
-  changes = had.changes;
-  rows = record { size = had.rows.size; each = λ t lt. row_stays k (keeper_with_note k h) t (row_at rows t) refl refl refl (had.rows.each t lt) };
-}
+-- a view with the same slots, totals and kept numbers
+pub rows_stay : (a : Settings) (k l : KeeperView) (rows : List KeptSlot) → l.slots ≡ k.slots → l.totals ≡ k.totals → l.keeps ≡ k.keeps → RowsAgree a k rows → RowsAgree a l rows
+rows_stay a k l rows slots totals keeps agree =
+    record { size = agree.size; each = λ t lt. row_stays k l t (row_at rows t) (λ i. slot_at (slots i) t) (λ i. total_at (totals i) t) (λ i. kept_at (keeps i) t) (agree.each t lt) }
+
+-- the keeper's data agree with the view m, so with l
+pub keeper_on : (a : Settings) (l m : KeeperView) (rows : List KeptSlot) (n : ℕ) → l ≡ m → IsShown l → IsAtRest a m → n ≡ length m.history → RowsAgree a m rows → IsOurKeeper a l rows n
+keeper_on a l m rows n same is_shown at changes agree = subst (λ (x : KeeperView). IsOurKeeper a x rows n) (sym same) (assumption (subst IsShown same is_shown))
 
 -- one row changes with its slot, and the others stay
 pub rows_set : (a : Settings) (k l : KeeperView) (rows : List KeptSlot) (t : ℕ) (r : KeptSlot) → t < a.slots → RowsAgree a k rows → RowAgrees l t r
@@ -164,6 +141,16 @@ rows_set a k l rows t r lt agree here others = record {
       (λ (off : (u ≡ t → ⊥) × (row_at (set rows t r) u ≡ row_at rows u)). subst (RowAgrees l u) (sym off.1) (others u off.0 (agree.each u within)))
       (place_cases no_row rows t r u (let size = agree.size in omega arith));
 }
+
+-- the slot t becomes x
+pub state_set : (a : Settings) (k l : KeeperView) (rows : List KeptSlot) (t : ℕ) (x : Slot) → IsAtRest a k → RowsAgree a k rows → t < a.slots
+    → l.slots ≡ set k.slots t x → l.totals ≡ k.totals → l.keeps ≡ k.keeps → (x ≡ Vacant → total_at k.totals t ≡ bias) → RowsAgree a l (set rows t (record (row_at rows t) { state = x }))
+state_set a k l rows t x at agree lt slots totals keeps unused =
+    let had = agree.each t lt in
+    let m : KeeperView = record k { slots = set k.slots t x } in
+    rows_stay a m l (set rows t (record (row_at rows t) { state = x })) slots totals keeps (rows_set a k m rows t (record (row_at rows t) { state = x }) lt agree
+    record { state = slot_here k.slots t x (omega (arith, lt, at.sized.slots)); total = had.total; keeps = had.keeps; unused = λ vacant. had.total ∙ unused vacant }
+    (λ u off was. row_stays k m u (row_at rows u) (slot_other k.slots t x u off) refl refl was))
 
 -- The keeper as contracts see it: it has the rows that are in it
 pub has_rows : {table : TableId} {log : List LogItem} (a : Settings) (k : KeeperView) (rows : List KeptSlot) (n : ℕ) (x : OnPlainKeeper) → IsOurKeeper a k rows n → on_keeper table a k rows log ≡ x
@@ -192,9 +179,6 @@ NothingToAdd due t = (addition_due_at t due ≡ 0) × (is_adding_at t due ≡ 0)
 
 pub none_at_rest : (due : Due) (t : ℕ) → due ≡ Rest → NothingToAdd due t
 none_at_rest due t rest = (ap (addition_due_at t) rest, ap (is_adding_at t) rest)
-
-pub none_at_subtraction : (due : Due) (t u : ℕ) → due ≡ Subtracting u → NothingToAdd due t
-none_at_subtraction due t u is = (ap (addition_due_at t) is, ap (is_adding_at t) is)
 
 -- the total of a retired entry's slot is what is held, once all words are collected
 pub total_collected : (g : State) (k : KeeperView) (t : ℕ) (e : Entry) → Good g → KeeperShown g k → NothingToAdd k.due t → slot_at k.slots t ≡ Retired e
@@ -237,10 +221,6 @@ adding_fits k t old is_shown due =
     let range = adding_range is_shown.g t old is_shown.good.holds (sym seen.due ∙ due) in
     (omega (arith, range.0, total), omega (arith, range.1, total))
 
--- the keeper is at rest, and the slot's entry is retired with all words collected
-pub bias_within : (k : KeeperView) (t : ℕ) (e : Entry) → IsShown k → k.due ≡ Rest → slot_at k.slots t ≡ Retired e → are_collected k.settings.cpus (row_of k t) ≡ true → bias ≤ total_at k.totals t
-bias_within k t e is_shown rest retired all = omega (arith, total_collected is_shown.g k t e is_shown.good is_shown.shown (none_at_rest k.due t rest) retired all)
-
 -- The entry of t, live or retired, is held: one can be subtracted from the total.
 pub record IsHeldIn (k : KeeperView) (t : ℕ) : Type 0 where
   pub e : Entry
@@ -253,14 +233,10 @@ held_from : (g : State) (k : KeeperView) (t : ℕ) (e : Entry) → Good g → Ke
 held_from g k t e good had none is some =
     let seen = seen_by_keeper g k good had in
     let near = total_near g k t e good had none is in
-    let in_list = in_within k.slots t e is in
-    let slots = ap (λ (x : List Slot). length x) seen.slots in
-    let size = good.holds.shape.slots in
-    let settings = ap (λ (z : Settings). z.slots) seen.settings in
     record {
       e = e;
       occupied = is;
-      slot = omega (arith, in_list, slots, size, settings);
+      slot = omega (arith, in_within k.slots t e is, ap (λ (x : List Slot). length x) seen.slots, good.holds.shape.slots, ap (λ (z : Settings). z.slots) seen.settings);
       positive = omega (arith, near.0);
       near = near.1;
     }
@@ -273,7 +249,7 @@ held_given_up k t is_shown due =
     let of : g.due ≡ Subtracting t = sym seen.due ∙ due in
     let gone = due_subtracting g.settings.cpus g.slots g.hands g.due g.locals t of is_shown.good.holds.references in
     let one : subtraction_due_at t g.due ≡ 1 = ap (subtraction_due_at t) of ∙ one_self t t refl in
-    held_from g k t gone.0 is_shown.good is_shown.shown (none_at_subtraction k.due t t due) (inr (ap (λ (x : List Slot). slot_at x t) seen.slots ∙ gone.1)) (omega (arith, one))
+    held_from g k t gone.0 is_shown.good is_shown.shown (ap (addition_due_at t) due, ap (is_adding_at t) due) (inr (ap (λ (x : List Slot). slot_at x t) seen.slots ∙ gone.1)) (omega (arith, one))
 
 -- by the reference that the slot s keeps
 pub held_by_slot : (k : KeeperView) (s d t : ℕ) → IsShown k → k.due ≡ Rest → kept_at k.keeps s ≡ Some d → slot_of k.slots d ≡ Some t → IsHeldIn k t
@@ -322,9 +298,7 @@ pub few_slots : (z : Settings) (k : OnKeeper) → HasOwnLog z k → length k.slo
 few_slots z k own =
     let shown = own.counts.1 in
     let seen = seen_by_keeper shown.g (keeper_with_note k.view own.counts.0) shown.good shown.shown in
-    let most = (ranges shown.g.settings shown.good.holds.fit).slots in
-    let same = ap (λ (s : Settings). s.slots) (sym own.settings ∙ seen.settings) in
-    omega (arith, own.size, most, same)
+    omega (arith, own.size, (ranges shown.g.settings shown.good.holds.fit).slots, ap (λ (s : Settings). s.slots) (sym own.settings ∙ seen.settings))
 
 pub own_log : (a : Settings) (k : KeeperView) (rows : List KeptSlot) (n : ℕ) (log note : List LogItem) → IsOurKeeper a k rows n → IsOwnLog log note k
     → HasOwnLog a (record { view = k; slots = states_of rows; log = log })

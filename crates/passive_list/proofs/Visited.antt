@@ -1,16 +1,15 @@
 -- The entries that a lookup has visited: its search may be at each of them, so they are no more than there are slots.
-use Rattle.std.proofs.Common.{◌≡◌, ⊎_elim, ℕ, ◌+◌, ◌<◌, ◌≤◌, Bool, true, false, List, [], ◌∷◌, ◌++◌, length, get_or, Option, refl, sym, ap, subst, arith, length-append}
+use Rattle.std.proofs.Common.{◌≡◌, ⊎_elim, ℕ, ◌+◌, ◌≤◌, Bool, true, false, List, [], ◌∷◌, ◌++◌, length, Option, refl, ap, subst, arith, length-append}
 use Rattle.std.proofs.lemmas.List.{append-nil}
-use Rattle.std.proofs.lemmas.List.Elements.{Contains-get_or, Contains-push_cases}
-use Rattle.std.proofs.lemmas.List.Quantifiers.{all_pairs_push}
+use Rattle.std.proofs.lemmas.List.Elements.{Contains-push_cases}
 use Rattle.std.specs.List.{Contains}
 use mathlib.Core.List.{IsPrefix}
-use Rattle.passive_list.specs.Types.{Entry, Change, Key, MOST_SLOTS, Found, Search, AtNext, CpuView}
-use Rattle.protocol.specs.Common.{StandsOn, entry_with}
+use Rattle.passive_list.specs.Types.{Entry, Change, Key, Found, Search, AtNext, CpuView}
+use Rattle.protocol.specs.Common.{entry_with}
 use Rattle.cpu_words.specs.Common.{HasLoadedLink, PassTells, loaded_of, loaded_answer}
-use Rattle.passive_list.specs.Common.{search_at, HasVisitedFrom, HasVisited, HasMissed, IsOn, AreStoodOn}
-use Rattle.passive_list.proofs.Walking.{on_way, prefix_length, stands_later}
-use Rattle.passive_list.proofs.GoingOver.{few_stood_on}
+use Rattle.passive_list.specs.Common.{search_at, HasVisited, IsOn, AreStoodOn}
+use Rattle.passive_list.proofs.Walking.{on_way, prefix_length}
+use Rattle.passive_list.proofs.GoingOver.{few_stood_on, none_stood_on, stood_later, stood_on_more}
 
 -- the search begun in the view x has visited so many entries, the newest first, as the pass p tells; the number `last` is above none of theirs
 pub record HasGoneBy (x : CpuView) (visited last : ℕ) (p : List Change) : Type 0 where
@@ -20,51 +19,27 @@ pub record HasGoneBy (x : CpuView) (visited last : ℕ) (p : List Change) : Type
   pub over : (e : Entry) → Contains entries e → last ≤ e.number
 
 pub gone_by_none : (x : CpuView) (last : ℕ) (p : List Change) → HasGoneBy x 0 last p
-gone_by_none x last p = record {
-  entries = [];
-  size = refl;
-  stood = record { stands = λ e there. absurd (omega (arith, there.1)); slot = λ e there. absurd (omega (arith, there.1)); newest_first = λ i j d lt within. absurd (omega (arith, within)) };
-  over = λ e there. absurd (omega (arith, there.1));
-}
+gone_by_none x last p = record { entries = []; size = refl; stood = none_stood_on p (length x.pass) x.settings.slots; over = λ e there. absurd (omega (arith, there.1)) }
 
 -- one more was visited, and the pass may have grown since
 one_more_gone_by : (key : Key) (x y z : CpuView) (t n last visited : ℕ) (b : Bool) (p : List Change) → IsOn key x t last y → HasVisited y key t n b z → IsPrefix y.pass p
     → HasGoneBy x visited last y.pass → HasGoneBy x (visited + 1) n p
-one_more_gone_by key x y z t n last visited b p on had more so_far = record {
-  entries = so_far.entries ++ e ∷ [];
-  size = omega (arith, length-append so_far.entries (e ∷ []), so_far.size);
-  stood = record {
-    stands = λ f there. stands_later y.pass p from f.slot f more low (⊎_elim
-        (λ (old : Contains so_far.entries f). so_far.stood.stands f old)
-        (λ (same : e ≡ f). subst (λ (g : Entry). StandsOn y.pass from (length y.pass) g.slot g) same (subst (λ (u : ℕ). StandsOn y.pass from (length y.pass) u e) (sym v.stands.at) v.stands))
-        (Contains-push_cases so_far.entries e f there));
-    slot = λ f there. ⊎_elim
-        (λ (old : Contains so_far.entries f). so_far.stood.slot f old)
-        (λ (same : e ≡ f). subst (λ (g : Entry). (g.slot < x.settings.slots) × (g.slot < MOST_SLOTS)) same (omega (arith, v.stands.at, on.slot.0), omega (arith, v.stands.at, on.slot.1)))
-        (Contains-push_cases so_far.entries e f there);
-    newest_first = all_pairs_push (λ (d f : Entry). f.number < d.number) so_far.entries e so_far.stood.newest_first
-        (λ k d lt. omega (arith, below, so_far.over (get_or so_far.entries k d) (Contains-get_or so_far.entries k d lt)));
-  };
-  over = λ f there. ⊎_elim
-      (λ (old : Contains so_far.entries f). omega (arith, below, v.number, so_far.over f old))
-      (λ (same : e ≡ f). omega (arith, v.number, ap (λ (g : Entry). g.number) same))
-      (Contains-push_cases so_far.entries e f there);
-}
-  where
-    from : ℕ
-    from = length x.pass
-
-    v : HasVisitedFrom y key from t n b z
-    v = had from (on_way key x y t last on)
-
-    e : Entry
-    e = v.entry
-
-    below : e.number < last
-    below = on.below e v.stands
-
-    low : from ≤ length y.pass
-    low = prefix_length x.pass y.pass on.pass
+one_more_gone_by key x y z t n last visited b p on had more so_far =
+    let from = length x.pass in
+    let v = had from (on_way key x y t last on) in
+    let e = v.entry in
+    let es = so_far.entries in
+    let below = on.below e v.stands in
+    record {
+      entries = es ++ e ∷ [];
+      size = omega (arith, length-append es (e ∷ []), so_far.size);
+      stood = stood_later y.pass p from x.settings.slots (es ++ e ∷ []) more (prefix_length x.pass y.pass on.pass)
+          (stood_on_more y.pass from x.settings.slots t es e so_far.stood v.stands on.slot (λ f there. omega (arith, below, so_far.over f there)));
+      over = λ f there. ⊎_elim
+          (λ (old : Contains es f). omega (arith, below, v.number, so_far.over f old))
+          (λ (same : e ≡ f). omega (arith, v.number, ap (λ (g : Entry). g.number) same))
+          (Contains-push_cases es e f there);
+    }
 
 -- its link was loaded
 pub gone_by_next : (key : Key) (x y z w : CpuView) (t n m last visited : ℕ) → IsOn key x t last y → HasVisited y key t n false z → HasLoadedLink z m w → HasGoneBy x visited last y.pass
@@ -76,11 +51,8 @@ gone_by_next key x y z w t n m last visited on had loaded_link so_far =
 
 -- At the end no more than the slots
 
-few_gone_by : (x : CpuView) (visited last : ℕ) (p : List Change) → PassTells x.begin (length x.pass) p → HasGoneBy x visited last p → visited ≤ x.settings.slots
+pub few_gone_by : (x : CpuView) (visited last : ℕ) (p : List Change) → PassTells x.begin (length x.pass) p → HasGoneBy x visited last p → visited ≤ x.settings.slots
 few_gone_by x visited last p tells so_far = omega (arith, (few_stood_on x.begin p (length x.pass) x.settings.slots so_far.entries tells so_far.stood).0, so_far.size)
-
-pub few_missed : (key : Key) (x y : CpuView) (visited last : ℕ) → HasMissed key x y → HasGoneBy x visited last y.pass → visited ≤ x.settings.slots
-few_missed key x y visited last had so_far = few_gone_by x visited last y.pass had.tells so_far
 
 pub few_found : (key : Key) (x y z : CpuView) (t n last visited : ℕ) → IsOn key x t last y → HasVisited y key t n true z → HasGoneBy x visited last y.pass → visited + 1 ≤ x.settings.slots
 few_found key x y z t n last visited on had so_far =

@@ -5,14 +5,14 @@ use Rattle.std.proofs.lemmas.List.Elements.{All-append}
 use Rattle.std.proofs.lemmas.Bool.{cases_lt}
 use mathlib.Core.List.{IsPrefix}
 use Rattle.passive_list.specs.Types.{Entry, Kind, Name, Key, Seek, LoadLink, LoadRecord, Compared, Reply, Done, Found, LogItem, Change, Detach, Settings, MOST_SLOTS, SearchPlace, AtNext, AtNumber, AtKind, AtHigh, AtLow, AtValue, On, CpuView}
-use Rattle.registry_values.specs.Common.{are_words_of}
+use Rattle.registry_values.specs.Common.{are_words_of, kind_word}
 use Rattle.protocol.specs.Common.{IsAttached, EndsAt, IsLegal, IsLiveAt, StandsOn, IsLawful, loaded_at, loaded_of_name, entry_with}
 use Rattle.protocol.specs.declared.event.RecordOf.TheVariants.{Search as OfSearch}
 use Rattle.protocol.specs.History.{change_at}
 use Rattle.protocol.proofs.History.{at_within, ends_after, at_prefix}
 use Rattle.cpu_words.specs.Common.{did, key_with, link_answer, MayLoadLink, MayLoadSearched, IsAtWord, every_word, cpu_after_record_word, HasLoadedLink, HasLoadedWord, HasFollowed, PassTells}
 use Rattle.cpu_words.proofs.shown.Seeing.{attached_prefix}
-use Rattle.passive_list.specs.Common.{IsLoad, IsWalkLoad, GoesOnBySoMany, GoesOnByLoads, HasSearchedFor, SearchesOnce, HasWalkedBy, HasGoneOverBy, nobody, WasLive, Seen, entry_seen, search_at, IsUnderWay, cpu_with_search_at, after_visit, HasVisitedFrom, HasVisited, HasTaken, HasMissed, IsOn, IsAtLink, HasLookedUp}
+use Rattle.passive_list.specs.Common.{IsLoad, IsWalkLoad, GoesOnBySoMany, GoesOnByLoads, HasSearchedFor, SearchesOnce, HasWalkedBy, HasGoneOverBy, nobody, WasLive, Seen, entry_seen, search_at, IsUnderWay, cpu_with_search_at, after_visit, HasVisitedFrom, HasVisited, HasTaken, IsOn, IsAtLink, HasLookedUp}
 use Rattle.passive_list.proofs.Rows.{one_item}
 
 more_items : (P : LogItem → Type 0) (m n : ℕ) (old between new : List LogItem) → GoesOnBySoMany P m old between → GoesOnBySoMany P n between new → GoesOnBySoMany P (m + n) old new
@@ -23,40 +23,32 @@ more_items P m n old between new first then = record {
   count = let both = length-append first.since then.since in omega (arith, both, first.count, then.count);
 }
 
-more_loads : (c m n : ℕ) (old between new : List LogItem) → GoesOnByLoads c m old between → GoesOnByLoads c n between new → GoesOnByLoads c (m + n) old new
-more_loads c m n old between new first then = more_items (IsLoad c) m n old between new first then
-
 pub link_loaded : (c : ℕ) (reply : Reply) (old new : List LogItem) → new ≡ old ++ did (LoadLink c) reply → GoesOnByLoads c 1 old new
 link_loaded c reply old new is = record { since = did (LoadLink c) reply; are = is; only = one_item (IsLoad c) _ (inl refl); count = refl }
 
 pub word_loaded : (c : ℕ) (reply : Reply) (old new : List LogItem) → new ≡ old ++ did (LoadRecord (OfSearch c)) reply → GoesOnByLoads c 1 old new
 word_loaded c reply old new is = record { since = did (LoadRecord (OfSearch c)) reply; are = is; only = one_item (IsLoad c) _ (inr refl); count = refl }
 
-pub so_many : (c m n : ℕ) (old new : List LogItem) → m ≡ n → GoesOnByLoads c m old new → GoesOnByLoads c n old new
-so_many c m n old new same goes = subst (λ (k : ℕ). GoesOnByLoads c k old new) same goes
-
 -- four words of a slot
 pub four_loaded : (c : ℕ) (r s t u : Reply) (l0 l1 l2 l3 l4 : List LogItem) → l1 ≡ l0 ++ did (LoadRecord (OfSearch c)) r → l2 ≡ l1 ++ did (LoadRecord (OfSearch c)) s
     → l3 ≡ l2 ++ did (LoadRecord (OfSearch c)) t → l4 ≡ l3 ++ did (LoadRecord (OfSearch c)) u
     → GoesOnByLoads c 4 l0 l4
 four_loaded c r s t u l0 l1 l2 l3 l4 first second third fourth =
-    so_many c (1 + (1 + (1 + 1))) 4 l0 l4 refl
-    (more_loads c 1 (1 + (1 + 1)) l0 l1 l4 (word_loaded c r l0 l1 first)
-    (more_loads c 1 (1 + 1) l1 l2 l4 (word_loaded c s l1 l2 second) (more_loads c 1 1 l2 l3 l4 (word_loaded c t l2 l3 third) (word_loaded c u l3 l4 fourth))))
+    more_items (IsLoad c) 1 3 l0 l1 l4 (word_loaded c r l0 l1 first)
+    (more_items (IsLoad c) 1 2 l1 l2 l4 (word_loaded c s l1 l2 second) (more_items (IsLoad c) 1 1 l2 l3 l4 (word_loaded c t l2 l3 third) (word_loaded c u l3 l4 fourth)))
 
 -- the search begins
 pub search_begun : (c : ℕ) (kind : Kind) (name : Name) (reply : Reply) (old new : List LogItem) → new ≡ old ++ (did (Seek c kind name) Done ++ did (LoadLink c) reply)
     → HasSearchedFor c (key_with kind name) 0 old new
-search_begun c kind name reply old new is =
-    so_many c 1 (1 + 5 * 0) (old ++ did (Seek c kind name) Done) new refl
-    (link_loaded c reply (old ++ did (Seek c kind name) Done) new (rw append_assoc is))
+search_begun c kind name reply old new is = link_loaded c reply (old ++ did (Seek c kind name) Done) new (rw append_assoc is)
 
 -- one entry more was visited
 pub one_visited : (c : ℕ) (key : Key) (n : ℕ) (old before between new : List LogItem) → HasSearchedFor c key n old before → GoesOnByLoads c 4 before between → GoesOnByLoads c 1 between new
     → HasSearchedFor c key (n + 1) old new
 one_visited c key n old before between new so_far four last =
-    so_many c (1 + 5 * n + (4 + 1)) (1 + 5 * (n + 1)) (old ++ did (Seek c key.kind key.name) Done) new (let same : 1 + 5 * n + (4 + 1) ≡ 1 + 5 * (n + 1) = omega arith in same)
-    (more_loads c (1 + 5 * n) (4 + 1) (old ++ did (Seek c key.kind key.name) Done) before new so_far (more_loads c 4 1 before between new four last))
+    let same : 1 + 5 * n + 5 ≡ 1 + 5 * (n + 1) = omega arith in
+    let begun = old ++ did (Seek c key.kind key.name) Done in
+    subst (λ (k : ℕ). GoesOnByLoads c k begun new) same (more_items (IsLoad c) (1 + 5 * n) 5 begun before new so_far (more_items (IsLoad c) 4 1 before between new four last))
 
 -- The end of a search
 
@@ -86,13 +78,11 @@ search_found c slots key e reply visited old between new is few loads last = rec
 of_search : (c n : ℕ) (old new : List LogItem) → GoesOnByLoads c n old new → GoesOnBySoMany (IsWalkLoad c) n old new
 of_search c n old new goes = record { since = goes.since; are = goes.are; only = λ k d lt. inl (goes.only k d lt); count = goes.count }
 
-value_loaded : (c : ℕ) (reply : Reply) (old new : List LogItem) → new ≡ old ++ did (LoadRecord (Compared c)) reply → GoesOnBySoMany (IsWalkLoad c) 1 old new
-value_loaded c reply old new is = record { since = did (LoadRecord (Compared c)) reply; are = is; only = one_item (IsWalkLoad c) _ (inr refl); count = refl }
-
 -- the words of a slot
 pub five_loaded : (c : ℕ) (reply : Reply) (old between new : List LogItem) → GoesOnByLoads c 4 old between → new ≡ between ++ did (LoadRecord (Compared c)) reply
     → GoesOnBySoMany (IsWalkLoad c) 5 old new
-five_loaded c reply old between new four last = more_items (IsWalkLoad c) 4 1 old between new (of_search c 4 old between four) (value_loaded c reply between new last)
+five_loaded c reply old between new four last = more_items (IsWalkLoad c) 4 1 old between new (of_search c 4 old between four)
+    record { since = did (LoadRecord (Compared c)) reply; are = last; only = one_item (IsWalkLoad c) _ (inr refl); count = refl }
 
 pub walk_begun : (c : ℕ) (reply : Reply) (old new : List LogItem) → new ≡ old ++ (did (Seek c nobody.kind nobody.name) Done ++ did (LoadLink c) reply) → HasWalkedBy c 0 old new
 walk_begun c reply old new is = of_search c 1 (old ++ did (Seek c nobody.kind nobody.name) Done) new (search_begun c nobody.kind nobody.name reply old new is)
@@ -101,10 +91,10 @@ walk_begun c reply old new is = of_search c 1 (old ++ did (Seek c nobody.kind no
 pub one_gone_by : (c n : ℕ) (reply : Reply) (old before between new : List LogItem) → HasWalkedBy c n old before → GoesOnBySoMany (IsWalkLoad c) 5 before between
     → new ≡ between ++ did (LoadLink c) reply → HasWalkedBy c (n + 1) old new
 one_gone_by c n reply old before between new so_far five last =
-    let same : 1 + 6 * n + (5 + 1) ≡ 1 + 6 * (n + 1) = omega arith in
-    subst (λ (k : ℕ). GoesOnBySoMany (IsWalkLoad c) k (old ++ did (Seek c nobody.kind nobody.name) Done) new) same
-    (more_items (IsWalkLoad c) (1 + 6 * n) (5 + 1) (old ++ did (Seek c nobody.kind nobody.name) Done) before new so_far
-    (more_items (IsWalkLoad c) 5 1 before between new five (of_search c 1 between new (link_loaded c reply between new last))))
+    let same : 1 + 6 * n + 6 ≡ 1 + 6 * (n + 1) = omega arith in
+    let begun = old ++ did (Seek c nobody.kind nobody.name) Done in
+    subst (λ (k : ℕ). GoesOnBySoMany (IsWalkLoad c) k begun new) same
+    (more_items (IsWalkLoad c) (1 + 6 * n) 6 begun before new so_far (more_items (IsWalkLoad c) 5 1 before between new five (of_search c 1 between new (link_loaded c reply between new last))))
 
 -- the link leads nowhere, so the walk is over
 pub walk_over : (c slots n visited : ℕ) (old new : List LogItem) → n ≡ 0 → visited ≤ slots → HasWalkedBy c visited old new → EndsAtLink c n new → HasGoneOverBy c slots visited old new
@@ -114,39 +104,30 @@ walk_over c slots n visited old new none few loads last =
 -- What stays so of an entry as a pass grows.
 
 pub prefix_length : (p h : List Change) → IsPrefix p h → length p ≤ length h
-prefix_length p h pre =
-    let whole : length p + length pre.0 ≡ length h = sym (length-append p pre.0) ∙ ap (λ (l : List Change). length l) pre.1 in
-    omega (arith, whole)
+prefix_length p h pre = omega (arith, length-append p pre.0, ap (λ (l : List Change). length l) pre.1)
 
 -- a prefix has what the whole has there
 same_at : (p h : List Change) (k : ℕ) → IsPrefix p h → k ≤ length p → change_at h k ≡ change_at p k
 same_at p h k pre le = ap (λ l. change_at l k) (sym pre.1) ∙ at_prefix p pre.0 k le
 
-pub attached_before : (p h : List Change) (e : Entry) → IsPrefix p h → e.number ≤ length p → IsAttached h e → IsAttached p e
-attached_before p h e pre le attached = sym (same_at p h e.number pre le) ∙ attached
-
-ends_later : (p h : List Change) (n k : ℕ) → IsPrefix p h → EndsAt p n k → EndsAt h n k
+pub ends_later : (p h : List Change) (n k : ℕ) → IsPrefix p h → EndsAt p n k → EndsAt h n k
 ends_later p h n k pre ends = same_at p h k pre (at_within p k (Detach n) ends).1 ∙ ends
-
--- what ends in the whole after `from`, if it ends in the prefix only after that
-unended_later : (p h : List Change) (n from : ℕ) → IsPrefix p h → from ≤ length p → ((k : ℕ) → EndsAt p n k → from < k) → (k : ℕ) → EndsAt h n k → from < k
-unended_later p h n from pre le unended k ends = ⊎_elim
-    (λ (lt : length p < k). omega (arith, lt, le))
-    (λ (ge : k ≤ length p). unended k (sym (same_at p h k pre ge) ∙ ends))
-    (cases_lt (length p) k)
 
 pub stands_later : (p h : List Change) (from t : ℕ) (e : Entry) → IsPrefix p h → from ≤ length p → StandsOn p from (length p) t e → StandsOn h from (length h) t e
 stands_later p h from t e pre le stands = record {
   attached = attached_prefix p h e pre stands.attached;
   at = stands.at;
   begun = omega (arith, stands.begun, prefix_length p h pre);
-  unended = unended_later p h e.number from pre le stands.unended;
+  unended = λ k ends. ⊎_elim
+      (λ (lt : length p < k). omega (arith, lt, le))
+      (λ (ge : k ≤ length p). stands.unended k (sym (same_at p h k pre ge) ∙ ends))
+      (cases_lt (length p) k);
 }
 
 -- live at a later point of a longer pass, so at an earlier one of the pass
 pub live_before : (p h : List Change) (j k : ℕ) (e : Entry) → IsPrefix p h → e.number ≤ j → j ≤ length p → j ≤ k → IsLiveAt h k e → IsLiveAt p j e
 live_before p h j k e pre begun within le live = record {
-  attached = attached_before p h e pre (omega (arith, begun, within)) live.attached;
+  attached = sym (same_at p h e.number pre (omega (arith, begun, within))) ∙ live.attached;
   begun = begun;
   unended = λ i ends. omega (arith, le, live.unended i (ends_later p h e.number i pre ends));
 }
@@ -199,25 +180,46 @@ pub judged_at : (t n l : ℕ) (b : Bool) → loaded_of_name t n l b ≡ On (afte
 judged_at t n l true = refl
 judged_at t n l false = refl
 
-pub visited : (x y1 y2 y3 y4 : CpuView) (key : Key) (t n k h l : ℕ) → HasLoadedWord x n y1 → HasLoadedWord y1 k y2 → HasLoadedWord y2 h y3 → HasLoadedWord y3 l y4
-    → HasVisited x key t n (are_words_of key k h l) y4
-visited x y1 y2 y3 y4 key t n k h l had1 had2 had3 had4 from at =
+-- the words that the search compares were loaded: they are those of an entry on which it may stand, and it is at q then
+pub record HasPassed (x : CpuView) (key : Key) (from t n k h l : ℕ) (q : SearchPlace) (y : CpuView) : Type 0 where
+  pub is : y ≡ cpu_with_search_at x key from q
+  pub entry : Entry
+  pub stands : StandsOn x.pass from (length x.pass) t entry
+  pub number : entry.number ≡ n
+  pub kind : kind_word entry.rec.kind ≡ k
+  pub high : entry.rec.name.high ≡ h
+  pub low : entry.rec.name.low ≡ l
+
+pub passed : (x y1 y2 y3 y4 : CpuView) (key : Key) (from t n k h l : ℕ) → HasLoadedWord x n y1 → HasLoadedWord y1 k y2 → HasLoadedWord y2 h y3 → HasLoadedWord y3 l y4
+    → IsUnderWay x key from (AtNumber t) → HasPassed x key from t n k h l (after_visit t n (are_words_of key k h l)) y4
+passed x y1 y2 y3 y4 key from t n k h l had1 had2 had3 had4 at =
     let is1 : y1 ≡ cpu_with_search_at x key from (AtKind t n) = on_word x y1 key from (AtNumber t) (AtKind t n) n n at refl had1 in
     let at1 : IsUnderWay y1 key from (AtKind t n) = ap (λ (v : CpuView). v.search) is1 in
-    let is2 : y2 ≡ cpu_with_search_at y1 key from (AtHigh t n k) = on_word y1 y2 key from (AtKind t n) (AtHigh t n k) k k at1 refl had2 in
+    let is2 : y2 ≡ cpu_with_search_at x key from (AtHigh t n k) =
+    on_word y1 y2 key from (AtKind t n) (AtHigh t n k) k k at1 refl had2 ∙ ap (λ v. cpu_with_search_at v key from (AtHigh t n k)) is1 in
     let at2 : IsUnderWay y2 key from (AtHigh t n k) = ap (λ (v : CpuView). v.search) is2 in
-    let is3 : y3 ≡ cpu_with_search_at y2 key from (AtLow t n k h) = on_word y2 y3 key from (AtHigh t n k) (AtLow t n k h) h h at2 refl had3 in
+    let is3 : y3 ≡ cpu_with_search_at x key from (AtLow t n k h) =
+    on_word y2 y3 key from (AtHigh t n k) (AtLow t n k h) h h at2 refl had3 ∙ ap (λ v. cpu_with_search_at v key from (AtLow t n k h)) is2 in
     let at3 : IsUnderWay y3 key from (AtLow t n k h) = ap (λ (v : CpuView). v.search) is3 in
     let q = after_visit t n (are_words_of key k h l) in
     let on : loaded_at (search_at key from (AtLow t n k h)) (AtLow t n k h) (every_word l) ≡ Some (On q l) = ap Some (judged_at t n l (are_words_of key k h l)) in
-    let is4 : y4 ≡ cpu_with_search_at y3 key from q = on_word y3 y4 key from (AtLow t n k h) q l l at3 on had4 in
+    let is4 : y4 ≡ cpu_with_search_at x key from q = on_word y3 y4 key from (AtLow t n k h) q l l at3 on had4 ∙ ap (λ v. cpu_with_search_at v key from q) is3 in
     let number = (had1 (search_at key from (AtNumber t)) at).number t refl in
+    let stands : StandsOn x.pass from (length x.pass) t number.0 = subst (λ (p : List Change). StandsOn p from (length p) t number.0) (ap (λ (v : CpuView). v.pass) is1) number.1 in
+    let there = λ (p : List Change) (same : p ≡ x.pass). subst (λ (i : List Change). StandsOn i from (length i) t number.0) (sym same) stands in
     record {
-      is = is4 ∙ ap (λ v. cpu_with_search_at v key from q) (is3 ∙ ap (λ v. cpu_with_search_at v key from (AtLow t n k h)) (is2 ∙ ap (λ v. cpu_with_search_at v key from (AtHigh t n k)) is1));
+      is = is4;
       entry = number.0;
-      stands = subst (λ (p : List Change). StandsOn p from (length p) t number.0) (ap (λ (v : CpuView). v.pass) is1) number.1;
+      stands = stands;
       number = number.2;
+      kind = (had2 (search_at key from (AtKind t n)) at1).words t 1 number.0 (refl, refl) (there y2.pass (ap (λ (v : CpuView). v.pass) is2));
+      high = (had3 (search_at key from (AtHigh t n k)) at2).words t 2 number.0 (refl, refl) (there y3.pass (ap (λ (v : CpuView). v.pass) is3));
+      low = (had4 (search_at key from (AtLow t n k h)) at3).words t 3 number.0 (refl, refl) (there y4.pass (ap (λ (v : CpuView). v.pass) is4));
     }
+
+pub visited : (x y1 y2 y3 y4 : CpuView) (key : Key) (t n k h l : ℕ) → HasLoadedWord x n y1 → HasLoadedWord y1 k y2 → HasLoadedWord y2 h y3 → HasLoadedWord y3 l y4
+    → HasVisited x key t n (are_words_of key k h l) y4
+visited x y1 y2 y3 y4 key t n k h l had1 had2 had3 had4 from at = let v = passed x y1 y2 y3 y4 key from t n k h l had1 had2 had3 had4 at in record { is = v.is; entry = v.entry; stands = v.stands; number = v.number }
 
 took : (x y : CpuView) (key : Key) (t n value : ℕ) → HasLoadedWord x value y → HasTaken x key t n (entry_with key t n value) y
 took x y key t n value had from at =
@@ -236,18 +238,13 @@ pub on_slot : (key : Key) (x y : CpuView) (n last : ℕ) → n ≢ 0 → IsAtLin
 on_slot key x y zero last some at = absurd (some refl)
 on_slot key x y (suc t) last some at = let same : suc t - 1 ≡ t = omega arith in subst (λ u. IsOn key x u last y) (sym same) at
 
-pub at_end : (key : Key) (x y : CpuView) (n last : ℕ) → n ≡ 0 → IsAtLink key x n last y → HasMissed key x y
-at_end key x y n last none at = subst (λ m. IsAtLink key x m last y) none at
-
 -- the search is under way there
 pub on_way : (key : Key) (x y : CpuView) (t last : ℕ) → IsOn key x t last y → IsUnderWay y key (length x.pass) (AtNumber t)
 on_way key x y t last on = ap (λ (v : CpuView). v.search) on.is
 
 -- the number there is below the last one
 pub number_falls : (key : Key) (x y z : CpuView) (t n last : ℕ) (b : Bool) → IsOn key x t last y → HasVisited y key t n b z → n < last
-number_falls key x y z t n last b on had =
-    let v = had (length x.pass) (on_way key x y t last on) in
-    omega (arith, on.below v.entry v.stands, v.number)
+number_falls key x y z t n last b on had = let v = had (length x.pass) (on_way key x y t last on) in omega (arith, on.below v.entry v.stands, v.number)
 
 -- the view after the visit
 left_slot : (key : Key) (x y z : CpuView) (t n last : ℕ) (b : Bool) → IsOn key x t last y → HasVisitedFrom y key (length x.pass) t n b z
@@ -259,9 +256,8 @@ followed_on : (key : Key) (x y z w : CpuView) (t n m last : ℕ) → IsOn key x 
     → IsAtLink key x m n w
 followed_on key x y z w t n zero last on v had =
     let left = left_slot key x y z t n last false on v in
-    let pass : z.pass ≡ y.pass = ap (λ (u : CpuView). u.pass) left in
     record {
-      pass = prefix_trans x.pass y.pass w.pass on.pass (subst (λ p. IsPrefix p w.pass) pass had.pass);
+      pass = prefix_trans x.pass y.pass w.pass on.pass (subst (λ p. IsPrefix p w.pass) (ap (λ (u : CpuView). u.pass) left) had.pass);
       is = had.is ∙ ap (λ (u : CpuView). record u { pass = w.pass; search = None; found = None }) left;
       lawful = had.holds;
       tells = subst (λ (b : Option ℕ). PassTells b (length x.pass) w.pass) (ap (λ (u : CpuView). u.begin) left) had.tells;
@@ -273,9 +269,7 @@ followed_on key x y z w t n (suc u) last on v had =
       pass = prefix_trans x.pass y.pass w.pass on.pass (subst (λ p. IsPrefix p w.pass) pass had.pass);
       is = had.is ∙ ap (λ (i : CpuView). record i { pass = w.pass; search = Some (search_at key (length x.pass) (AtNumber u)) }) left;
       slot = (subst (λ (n : ℕ). u < n) (ap (λ (i : CpuView). i.settings.slots) left) had.holds.0, had.holds.1);
-      below = λ f stands.
-          let from_here = subst (λ (p : List Change). StandsOn p (length x.pass) (length p) t v.entry) (sym pass) v.stands in
-          omega (arith, had.descends t refl v.entry f from_here stands, v.number);
+      below = λ f stands. omega (arith, had.descends t refl v.entry f (subst (λ (p : List Change). StandsOn p (length x.pass) (length p) t v.entry) (sym pass) v.stands) stands, v.number);
       tells = subst (λ (b : Option ℕ). PassTells b (length x.pass) w.pass) (ap (λ (u : CpuView). u.begin) left) had.tells;
     }
 

@@ -1,6 +1,6 @@
 -- A CPU's passive references: what its places say of them, and how they agree with its view as one is added, copied or taken away.
-use Rattle.std.proofs.Common.{◌≡◌, ◌≢◌, ◌⊎◌, ⊎_elim, ℕ, ◌<◌, List, true, false, Some, None, nat_lt, ◌==◌, refl, sym, ap, ◌∙◌, subst, arith, ◌+◌, ◌-◌, ◌∷◌, length, set, get_or-set_same, get_or-set_other, Option, ◌++◌}
-use Rattle.std.proofs.lemmas.Bool.{eq-eqb, eqb-true, lt-ltb, ltb-true, ltb-false, cases_Bool, and_parts, cases_eq}
+use Rattle.std.proofs.Common.{◌≡◌, ◌≢◌, ◌⊎◌, ⊎_elim, ℕ, ◌<◌, ◌≤◌, List, true, Some, None, nat_lt, ◌==◌, refl, sym, ap, ◌∙◌, subst, arith, ◌+◌, ◌-◌, ◌∷◌, set, get_or-set_same, get_or-set_other, Option, ◌++◌}
+use Rattle.std.proofs.lemmas.Bool.{eq-eqb, eqb-true, lt-ltb, ltb-true, and_parts, cases_eq, cases_lt}
 use Rattle.std.proofs.lemmas.Option.{none-some}
 use Rattle.std.proofs.lemmas.List.Quantifiers.{position-Some}
 use Rattle.std.specs.Prelude.{position, Result, Ok, Err}
@@ -12,6 +12,7 @@ use Rattle.registry_values.specs.Common.{Answers}
 use Rattle.protocol.specs.Common.{IsAttached, word, words_of}
 use Rattle.protocol.proofs.History.{one_entry, at_within}
 use Rattle.protocol.proofs.Cells.{position_passes}
+use Rattle.protocol.proofs.Occupied.{place_cases}
 use Rattle.cpu_words.specs.Common.{references_to, IsAt, IsShownCpu, without, IsAloneAt, HasSubtracted, IsWordOf, did}
 use Rattle.cpu_words.specs.Passives.{HasAdded}
 use Rattle.cpu_words.proofs.shown.ReferenceLists.{counts, some_of, to_same, to_other, in_cons, one_less, others_stay, was_in}
@@ -26,16 +27,14 @@ use Rattle.passive_ref.specs.{IsHeldAt, counts_for, OnPsref, IsAdded, IsNew, IsA
 -- an entry of the pass with the number of a place was attached in its slot
 pub place_of : (x : CpuView) (ps : List NumberedCount) (t : ℕ) (e : Entry) → PassiveAgree x ps → IsAttached x.pass e → (place_at ps t).number ≡ e.number → e.slot ≡ t
 place_of x ps t e agree attached same =
-    let above = (at_within x.pass e.number _ attached).0 in
-    let here = agree.placed t (λ (none : (place_at ps t).number ≡ 0). absurd (omega (arith, same, none, above))) in
+    let here = agree.placed t (λ (none : (place_at ps t).number ≡ 0). absurd (omega (arith, same, none, (at_within x.pass e.number _ attached).0))) in
     let one : e ≡ here.entry = one_entry x.pass e here.entry attached here.attached (sym same ∙ sym here.number) in
     ap (λ (f : Entry). f.slot) one ∙ here.slot
 
 -- a place that counts for n is the slot of an entry that the CPU refers to
 pub held_at : (x : CpuView) (ps : List NumberedCount) (n t : ℕ) → PassiveAgree x ps → t < x.settings.slots → (place_at ps t).number ≡ n → 0 < (place_at ps t).count → IsHeldAt x t n
 held_at x ps n t agree few number some =
-    let count = agree.counts t ∙ ap (λ k. references_to k x.references) number in
-    let one = some_of n x.references (omega (arith, some, count)) in
+    let one = some_of n x.references (omega (arith, some, agree.counts t ∙ ap (λ k. references_to k x.references) number)) in
     let attached = (agree.each one.entry one.among).1 in
     record { entry = one.entry; at = record { slot = place_of x ps t one.entry agree attached (number ∙ sym one.number); number = one.number }; held = one.among; attached = attached; few = few }
 
@@ -43,37 +42,31 @@ held_at x ps n t agree few number some =
 pub held_counts : (x : CpuView) (ps : List NumberedCount) (n t : ℕ) → PassiveAgree x ps → IsHeldAt x t n → 0 < (place_at ps t).count
 held_counts x ps n t agree held =
     let number : (place_at ps t).number ≡ n = ap (λ u. (place_at ps u).number) (sym held.at.slot) ∙ (agree.each held.entry held.held).2 ∙ held.at.number in
-    let count = agree.counts t ∙ ap (λ k. references_to k x.references) number in
-    let some = counts x.references held.entry n held.held held.at.number in
-    omega (arith, count, some)
+    omega (arith, agree.counts t ∙ ap (λ k. references_to k x.references) number, counts x.references held.entry n held.held held.at.number)
 
 -- the first place that counts for n
 pub held_here : (x : CpuView) (ps : List NumberedCount) (n t : ℕ) → PassiveAgree x ps → position (counts_for n) ps ≡ Some t → IsHeldAt x t n
 held_here x ps n t agree is =
     let at = position-Some (counts_for n) ps t no_place is in
     let both = and_parts ((place_at ps t).number == n) (nat_lt 0 (place_at ps t).count) at.1 in
-    let size = agree.size in
-    held_at x ps n t agree (omega (arith, at.0, size))
-    (eqb-true (place_at ps t).number n both.0)
-    (ltb-true 0 (place_at ps t).count both.1)
+    held_at x ps n t agree (omega (arith, at.0, agree.size)) (eqb-true (place_at ps t).number n both.0) (ltb-true 0 (place_at ps t).count both.1)
+
+-- what the CPU has no entry for, it has no reference to
+none_to : (x : CpuView) (n : ℕ) → ((e : Entry) → Contains x.references e → e.number ≡ n → ⊥) → references_to n x.references ≡ 0
+none_to x n off = ⊎_elim
+    (λ (some : 0 < references_to n x.references). let one = some_of n x.references some in absurd (off one.entry one.among one.number))
+    (λ (none : references_to n x.references ≤ 0). omega (arith, none))
+    (cases_lt 0 (references_to n x.references))
 
 -- where no place counts for n, the CPU has no reference to it
 pub none_here : (x : CpuView) (ps : List NumberedCount) (n : ℕ) → PassiveAgree x ps → position (counts_for n) ps ≡ None → references_to n x.references ≡ 0
-none_here x ps n agree is = ⊎_elim
-    (λ (some : nat_lt 0 (references_to n x.references) ≡ true).
-    let one = some_of n x.references (ltb-true 0 (references_to n x.references) some) in
-    let its = agree.each one.entry one.among in
-    let t = one.entry.slot in
-    let size = agree.size in
-    let number : (place_at ps t).number ≡ n = its.2 ∙ one.number in
-    let more : 0 < references_to n x.references = ltb-true 0 (references_to n x.references) some in
-    let count = agree.counts t ∙ ap (λ k. references_to k x.references) number in
-    let counted : 0 < (place_at ps t).count = omega (arith, count, more) in
-    let test : counts_for n (place_at ps t) ≡ true = rw (eq-eqb (place_at ps t).number n number, lt-ltb 0 (place_at ps t).count counted) refl in
-    let found = position_passes (counts_for n) ps t no_place (omega (arith, its.0, size)) test in
-    absurd (none-some found.0 (sym is ∙ found.1)))
-    (λ (none : nat_lt 0 (references_to n x.references) ≡ false). let few = ltb-false 0 (references_to n x.references) none in omega (arith, few))
-    (cases_Bool (nat_lt 0 (references_to n x.references)))
+none_here x ps n agree is = none_to x n (λ e among same.
+    let its = agree.each e among in
+    let number : (place_at ps e.slot).number ≡ n = its.2 ∙ same in
+    let counted : 0 < (place_at ps e.slot).count = omega (arith, agree.counts e.slot ∙ ap (λ k. references_to k x.references) number, counts x.references e n among same) in
+    let test : counts_for n (place_at ps e.slot) ≡ true = rw (eq-eqb (place_at ps e.slot).number n number, lt-ltb 0 (place_at ps e.slot).count counted) refl in
+    let found = position_passes (counts_for n) ps e.slot no_place (omega (arith, its.0, agree.size)) test in
+    none-some found.0 (sym is ∙ found.1))
 
 -- an entry that the CPU found last or refers to is in the pass
 pub known_attached : (x : CpuView) (ps : List NumberedCount) (e : Entry) → PassiveAgree x ps → ((f : Entry) → x.found ≡ Some f → IsAttached x.pass f) → (x.found ≡ Some e) ⊎ Contains x.references e
@@ -87,154 +80,101 @@ within x z t n e shown same at has = subst (λ (y : Settings). t < y.slots) same
 -- where the place of an entry's slot is of another number, the CPU has no reference to that entry
 pub uncounted_here : (x : CpuView) (ps : List NumberedCount) (t n : ℕ) (e : Entry) → PassiveAgree x ps → IsAt e t n → IsAttached x.pass e → (place_at ps t).number ≢ n
     → references_to n x.references ≡ 0
-uncounted_here x ps t n e agree at attached off = ⊎_elim
-    (λ (some : nat_lt 0 (references_to n x.references) ≡ true).
-    let one = some_of n x.references (ltb-true 0 (references_to n x.references) some) in
-    let its = agree.each one.entry one.among in
-    let same : one.entry ≡ e = one_entry x.pass one.entry e its.1 attached (one.number ∙ sym at.number) in
-    let slot : one.entry.slot ≡ t = ap (λ (f : Entry). f.slot) same ∙ at.slot in
-    absurd (off (sym (ap (λ u. (place_at ps u).number) slot) ∙ its.2 ∙ one.number)))
-    (λ (none : nat_lt 0 (references_to n x.references) ≡ false). let few = ltb-false 0 (references_to n x.references) none in omega (arith, few))
-    (cases_Bool (nat_lt 0 (references_to n x.references)))
+uncounted_here x ps t n e agree at attached off = none_to x n (λ f among number.
+    let its = agree.each f among in
+    let slot : f.slot ≡ t = ap (λ (g : Entry). g.slot) (one_entry x.pass f e its.1 attached (number ∙ sym at.number)) ∙ at.slot in
+    off (sym (ap (λ u. (place_at ps u).number) slot) ∙ its.2 ∙ number))
 
 -- A CPU's plain data agree with its view as one reference is added, or taken away.
-
--- the places of a CPU with p at t
-place_here : (ps : List NumberedCount) (t z : ℕ) (p : NumberedCount) → length ps ≡ z → t < z → place_at (set ps t p) t ≡ p
-place_here ps t z p size few = get_or-set_same ps t p no_place (omega (arith, size, few))
-
-place_other : (ps : List NumberedCount) (t u : ℕ) (p : NumberedCount) → u ≢ t → place_at (set ps t p) u ≡ place_at ps u
-place_other ps t u p off = get_or-set_other ps t u p no_place off
 
 -- an entry of the pass and the place of another slot have different numbers
 apart : (x : CpuView) (ps : List NumberedCount) (e : Entry) (t u : ℕ) → PassiveAgree x ps → e.slot ≡ t → IsAttached x.pass e → u ≢ t → (place_at ps u).number ≢ e.number
 apart x ps e t u agree at attached off same = off (sym (place_of x ps u e agree attached same) ∙ at)
 
--- a place at the slot t is of e
-is_of : (x : CpuView) (e : Entry) (t n : ℕ) → IsAt e t n → IsAttached x.pass e → IsPlaceOf x.pass t n
-is_of x e t n at attached = record { entry = e; attached = attached; slot = at.slot; number = at.number }
-
 -- one reference more
 pub added_passive : (x : CpuView) (ps : List NumberedCount) (e : Entry) (t n m : ℕ) → PassiveAgree x ps → IsAt e t n → IsAttached x.pass e → t < x.settings.slots → IsAloneAt x t n
     → m ≡ references_to n x.references
     → PassiveAgree (record x { references = e ∷ x.references }) (set ps t (record { number = n; count = m + 1 }))
-added_passive x ps e t n m agree at attached few alone is = record { size = length-set ps t new ∙ agree.size; counts = counted; placed = placed; each = each }
+added_passive x ps e t n m agree at attached few alone is = record {
+  size = length-set ps t new ∙ agree.size;
+  counts = λ u. ⊎_elim
+      (λ (on : (u ≡ t) × (place_at (set ps t new) u ≡ new)).
+      let one : m + 1 ≡ references_to n (e ∷ x.references) = omega (arith, to_same n e x.references at.number, is) in
+      subst (λ (p : NumberedCount). p.count ≡ references_to p.number (e ∷ x.references)) (sym on.1) one)
+      (λ (off : (u ≡ t → ⊥) × (place_at (set ps t new) u ≡ place_at ps u)).
+      let old = to_other (place_at ps u).number e x.references (λ q. apart x ps e t u agree at.slot attached off.0 (sym q)) in
+      subst (λ (p : NumberedCount). p.count ≡ references_to p.number (e ∷ x.references)) (sym off.1) (agree.counts u ∙ sym old))
+      (cases u);
+  placed = λ u some. ⊎_elim
+      (λ (on : (u ≡ t) × (place_at (set ps t new) u ≡ new)). subst (λ (p : NumberedCount). IsPlaceOf x.pass u p.number) (sym on.1)
+      record { entry = e; attached = attached; slot = at.slot ∙ sym on.0; number = at.number })
+      (λ (off : (u ≡ t → ⊥) × (place_at (set ps t new) u ≡ place_at ps u)).
+      subst (λ (p : NumberedCount). IsPlaceOf x.pass u p.number) (sym off.1) (agree.placed u (λ q. some (ap (λ (p : NumberedCount). p.number) off.1 ∙ q))))
+      (cases u);
+  each = λ f among. ⊎_elim
+      (λ (same : e ≡ f). subst (λ (h : Entry). (h.slot < x.settings.slots) × IsAttached x.pass h × ((place_at (set ps t new) h.slot).number ≡ h.number) × (0 < h.number)) same
+      (omega (arith, few, at.slot), attached, here e at.slot ∙ sym at.number, (at_within x.pass e.number _ attached).0))
+      (λ (old : Contains x.references f).
+      let had = agree.each f old in
+      let number : (place_at (set ps t new) f.slot).number ≡ f.number = ⊎_elim
+      (λ (same : f.slot ≡ t). here f same ∙ sym (alone f old same))
+      (λ (off : f.slot ≢ t). ap (λ (p : NumberedCount). p.number) (get_or-set_other ps t f.slot new no_place off) ∙ had.2)
+      (cases_eq f.slot t) in
+      (had.0, had.1, number, had.3))
+      (in_cons e f x.references among);
+}
   where
     new : NumberedCount
     new = record { number = n; count = m + 1 }
 
-    here : place_at (set ps t new) t ≡ new
-    here = place_here ps t x.settings.slots new agree.size few
+    cases : (u : ℕ) → ((u ≡ t) × (place_at (set ps t new) u ≡ new)) ⊎ ((u ≡ t → ⊥) × (place_at (set ps t new) u ≡ place_at ps u))
+    cases u = place_cases no_place ps t new u (omega (arith, agree.size, few))
 
-    counted : (u : ℕ) → (place_at (set ps t new) u).count ≡ references_to (place_at (set ps t new) u).number (e ∷ x.references)
-    counted u = ⊎_elim
-        (λ (same : u ≡ t).
-        let now : place_at (set ps t new) u ≡ new = ap (place_at (set ps t new)) same ∙ here in
-        let more = to_same n e x.references at.number in
-        let one : m + 1 ≡ references_to n (e ∷ x.references) = omega (arith, more, is) in
-        subst (λ (p : NumberedCount). p.count ≡ references_to p.number (e ∷ x.references)) (sym now) one)
-        (λ (off : u ≢ t).
-        let old = to_other (place_at ps u).number e x.references (λ q. apart x ps e t u agree at.slot attached off (sym q)) in
-        subst (λ (p : NumberedCount). p.count ≡ references_to p.number (e ∷ x.references)) (sym (place_other ps t u new off)) (agree.counts u ∙ sym old))
-        (cases_eq u t)
-
-    placed : (u : ℕ) → (place_at (set ps t new) u).number ≢ 0 → IsPlaceOf x.pass u (place_at (set ps t new) u).number
-    placed u some = ⊎_elim
-        (λ (same : u ≡ t).
-        let now : place_at (set ps t new) u ≡ new = ap (place_at (set ps t new)) same ∙ here in
-        subst (λ (p : NumberedCount). IsPlaceOf x.pass u p.number) (sym now) (subst (λ v. IsPlaceOf x.pass v n) (sym same) (is_of x e t n at attached)))
-        (λ (off : u ≢ t).
-        let now = place_other ps t u new off in
-        subst (λ (p : NumberedCount). IsPlaceOf x.pass u p.number) (sym now) (agree.placed u (λ q. some (ap (λ (p : NumberedCount). p.number) now ∙ q))))
-        (cases_eq u t)
-
-    later : (f : Entry) → Contains x.references f → (f.slot < x.settings.slots) × IsAttached x.pass f × ((place_at (set ps t new) f.slot).number ≡ f.number) × (0 < f.number)
-    later f among =
-        let old = agree.each f among in
-        let number : (place_at (set ps t new) f.slot).number ≡ f.number = ⊎_elim
-        (λ (same : f.slot ≡ t). ap (λ v. (place_at (set ps t new) v).number) same ∙ ap (λ (p : NumberedCount). p.number) here ∙ sym (alone f among same))
-        (λ (off : f.slot ≢ t). ap (λ (p : NumberedCount). p.number) (place_other ps t f.slot new off) ∙ old.2)
-        (cases_eq f.slot t) in
-        (old.0, old.1, number, old.3)
-
-    first : (e.slot < x.settings.slots) × IsAttached x.pass e × ((place_at (set ps t new) e.slot).number ≡ e.number) × (0 < e.number)
-    first =
-        let slot = at.slot in (
-          omega (arith, few, slot),
-          attached,
-          ap (λ v. (place_at (set ps t new) v).number) at.slot ∙ ap (λ (p : NumberedCount). p.number) here ∙ sym at.number,
-          (at_within x.pass e.number _ attached).0,
-        )
-
-    each : (f : Entry) → Contains (e ∷ x.references) f → (f.slot < x.settings.slots) × IsAttached x.pass f × ((place_at (set ps t new) f.slot).number ≡ f.number) × (0 < f.number)
-    each f among = ⊎_elim
-        (λ (same : e ≡ f). subst (λ (h : Entry). (h.slot < x.settings.slots) × IsAttached x.pass h × ((place_at (set ps t new) h.slot).number ≡ h.number) × (0 < h.number)) same first)
-        (λ (old : Contains x.references f). later f old)
-        (in_cons e f x.references among)
+    here : (f : Entry) → f.slot ≡ t → (place_at (set ps t new) f.slot).number ≡ n
+    here f same = ap (λ v. (place_at (set ps t new) v).number) same ∙ ap (λ (p : NumberedCount). p.number) (get_or-set_same ps t new no_place (omega (arith, agree.size, few)))
 
 -- one reference less
 pub less_passive : (x : CpuView) (ps : List NumberedCount) (e : Entry) (t n : ℕ) → PassiveAgree x ps → IsAt e t n → Contains x.references e
     → PassiveAgree (record x { references = without n x.references }) (set ps t (record { number = (place_at ps t).number; count = (place_at ps t).count - 1 }))
-less_passive x ps e t n agree at among = record { size = length-set ps t new ∙ agree.size; counts = counted; placed = placed; each = each }
+less_passive x ps e t n agree at among = record {
+  size = length-set ps t new ∙ agree.size;
+  counts = λ u. ⊎_elim
+      (λ (on : (u ≡ t) × (place_at (set ps t new) u ≡ new)).
+      let old : (place_at ps t).count ≡ references_to n x.references = agree.counts t ∙ ap (λ k. references_to k x.references) number in
+      let one : (place_at ps t).count - 1 ≡ references_to n (without n x.references) = omega (arith, old, one_less n x.references (counts x.references e n among at.number)) in
+      subst (λ (p : NumberedCount). p.count ≡ references_to p.number (without n x.references)) (sym on.1) (one ∙ ap (λ k. references_to k (without n x.references)) (sym number)))
+      (λ (off : (u ≡ t → ⊥) × (place_at (set ps t new) u ≡ place_at ps u)).
+      let other = others_stay n (place_at ps u).number x.references (λ q. apart x ps e t u agree at.slot its.1 off.0 (q ∙ sym at.number)) in
+      subst (λ (p : NumberedCount). p.count ≡ references_to p.number (without n x.references)) (sym off.1) (agree.counts u ∙ sym other))
+      (cases u);
+  placed = λ u some. subst (λ k. IsPlaceOf x.pass u k) (sym (same_number u)) (agree.placed u (λ q. some (same_number u ∙ q)));
+  each = λ f left. let old = agree.each f (was_in n x.references f left) in (old.0, old.1, same_number f.slot ∙ old.2, old.3);
+}
   where
     new : NumberedCount
     new = record { number = (place_at ps t).number; count = (place_at ps t).count - 1 }
 
-    few : t < x.settings.slots
-    few = let its = (agree.each e among).0 in let slot = at.slot in omega (arith, its, slot)
+    its : (e.slot < x.settings.slots) × IsAttached x.pass e × ((place_at ps e.slot).number ≡ e.number) × (0 < e.number)
+    its = agree.each e among
 
-    here : place_at (set ps t new) t ≡ new
-    here = place_here ps t x.settings.slots new agree.size few
+    cases : (u : ℕ) → ((u ≡ t) × (place_at (set ps t new) u ≡ new)) ⊎ ((u ≡ t → ⊥) × (place_at (set ps t new) u ≡ place_at ps u))
+    cases u = place_cases no_place ps t new u (omega (arith, its.0, at.slot, agree.size))
 
     number : (place_at ps t).number ≡ n
-    number = ap (λ v. (place_at ps v).number) (sym at.slot) ∙ (agree.each e among).2 ∙ at.number
+    number = ap (λ v. (place_at ps v).number) (sym at.slot) ∙ its.2 ∙ at.number
 
     same_number : (u : ℕ) → (place_at (set ps t new) u).number ≡ (place_at ps u).number
     same_number u = ⊎_elim
-        (λ (same : u ≡ t). ap (λ v. (place_at (set ps t new) v).number) same ∙ ap (λ (p : NumberedCount). p.number) here ∙ ap (λ v. (place_at ps v).number) (sym same))
-        (λ (off : u ≢ t). ap (λ (p : NumberedCount). p.number) (place_other ps t u new off))
-        (cases_eq u t)
-
-    counted : (u : ℕ) → (place_at (set ps t new) u).count ≡ references_to (place_at (set ps t new) u).number (without n x.references)
-    counted u = ⊎_elim
-        (λ (same : u ≡ t).
-        let now : place_at (set ps t new) u ≡ new = ap (place_at (set ps t new)) same ∙ here in
-        let old : (place_at ps t).count ≡ references_to n x.references = agree.counts t ∙ ap (λ k. references_to k x.references) number in
-        let less = one_less n x.references (counts x.references e n among at.number) in
-        let one : (place_at ps t).count - 1 ≡ references_to n (without n x.references) = omega (arith, old, less) in
-        subst (λ (p : NumberedCount). p.count ≡ references_to p.number (without n x.references)) (sym now) (one ∙ ap (λ k. references_to k (without n x.references)) (sym number)))
-        (λ (off : u ≢ t).
-        let other = others_stay n (place_at ps u).number x.references (λ q. apart x ps e t u agree at.slot (agree.each e among).1 off (q ∙ sym at.number)) in
-        subst (λ (p : NumberedCount). p.count ≡ references_to p.number (without n x.references)) (sym (place_other ps t u new off)) (agree.counts u ∙ sym other))
-        (cases_eq u t)
-
-    placed : (u : ℕ) → (place_at (set ps t new) u).number ≢ 0 → IsPlaceOf x.pass u (place_at (set ps t new) u).number
-    placed u some = subst (λ k. IsPlaceOf x.pass u k) (sym (same_number u)) (agree.placed u (λ q. some (same_number u ∙ q)))
-
-    each : (f : Entry) → Contains (without n x.references) f → (f.slot < x.settings.slots) × IsAttached x.pass f × ((place_at (set ps t new) f.slot).number ≡ f.number) × (0 < f.number)
-    each f left =
-        let old = agree.each f (was_in n x.references f left) in
-        (old.0, old.1, same_number f.slot ∙ old.2, old.3)
+        (λ (on : (u ≡ t) × (place_at (set ps t new) u ≡ new)). ap (λ (p : NumberedCount). p.number) on.1 ∙ ap (λ v. (place_at ps v).number) (sym on.0))
+        (λ (off : (u ≡ t → ⊥) × (place_at (set ps t new) u ≡ place_at ps u)). ap (λ (p : NumberedCount). p.number) off.1)
+        (cases u)
 
 -- a CPU with other references, and places that agree with them
 with_references : (z : TableId) (a : Settings) (t u : TableId) (x : CpuView) (c w d : ℕ) (o : Found) (ps qs ns : List NumberedCount) (ms : Memory) (references : List Entry)
     → IsOurCpu z a t x c w d o ps ns ms → u ≡ t → IsShownCpu (record x { references = references }) → PassiveAgree (record x { references = references }) qs
     → IsOurCpu z a u (record x { references = references }) c w d o qs ns ms
-with_references z a t u x c w d o ps qs ns ms references our same is_shown agree = record {
-  table = same ∙ our.table;
-  settings = our.settings;
-  fit = our.fit;
-  id = our.id;
-  few = our.few;
-  section = record { word = our.section.word; limit = our.section.limit };
-  idle = record { search = our.idle.search; hand = our.idle.hand };
-  depth = our.depth;
-  found = our.found;
-  passive = agree;
-  net = net_same x (record x { references = references }) ns refl refl refl refl our.net;
-  memory = our.memory;
-  is_shown = is_shown;
-}
+with_references z a t u x c w d o ps qs ns ms references our same is_shown agree =
+    assumption (same ∙ our.table, net_same x (record x { references = references }) ns refl refl refl refl our.net, our)
 
 -- a reference was added
 pub added_agrees : (z : TableId) (a : Settings) (t u : TableId) (x y : CpuView) (c w d : ℕ) (o : Found) (ps ns : List NumberedCount) (ms : Memory) (s n m : ℕ)
@@ -254,12 +194,6 @@ less_agrees z a t u x y c w d o ps ns ms e s n our same is_shown at among had =
 
 -- A reference that was added is to the entry that was known.
 
--- it is a new reference to that entry
-new_of : (n t : ℕ) (e : Entry) (a b : OnCpu) (p : OnPsref) → IsAttached a.view.pass e → e.number ≡ n → IsAdded t n a b p → IsNew e a b p
-new_of n t e a b p attached number added =
-    let one : added.0 ≡ e = one_entry a.view.pass added.0 e added.2 attached (added.1.number ∙ sym number) in
-    subst (λ (f : Entry). IsNew f a b p) one added.3
-
 -- of the last found entry, by what is kept of it
 pub acquired : (k : Found) (a b : OnCpu) (r : Result OnPsref Refusal) → IsFoundAs a.view k → Answers (why_full a.view k.number) (IsAdded k.slot k.number a b) r
     → Answers (why_not_acquired a.view a.view.found) (IsAcquired a b) r
@@ -267,7 +201,9 @@ acquired k a b r kept answer = subst (λ (o : Option Entry). Answers (why_not_ac
     (subst (λ n. Answers (why_full a.view n) (IsAcquired a b) r) kept.number (with_answer r answer))
   where
     with_answer : (s : Result OnPsref Refusal) → Answers (why_full a.view k.number) (IsAdded k.slot k.number a b) s → Answers (why_full a.view k.number) (IsAcquired a b) s
-    with_answer (Ok p) had = (had.0, (kept.entry, kept.found, new_of k.number k.slot kept.entry a b p kept.attached (sym kept.number) had.1))
+    with_answer (Ok p) (room, added) =
+        let one : added.0 ≡ kept.entry = one_entry a.view.pass added.0 kept.entry added.2 kept.attached (added.1.number ∙ kept.number) in
+        (room, (kept.entry, kept.found, subst (λ (f : Entry). IsNew f a b p) one added.3))
     with_answer (Err f) had = had
 
 pub not_acquired : (a b : OnCpu) → a.view.found ≡ None → Answers (why_not_acquired a.view a.view.found) (IsAcquired a b) (Err NothingFound)

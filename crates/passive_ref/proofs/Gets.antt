@@ -1,7 +1,6 @@
 -- A get by memory: where it may try, what it has then, how the data agree, and that a share of a ledger changes nothing of it.
-use Rattle.std.proofs.Common.{◌≡◌, ◌⊎◌, ℕ, Option, Some, None, inl, inr, ap, ◌≢◌, ⊎_elim, ◌+◌, ◌<◌, Bool, IfSome, if◌then◌else◌, List, ◌∷◌, ◌++◌, length, set, refl, sym, ◌∙◌, subst, arith}
+use Rattle.std.proofs.Common.{◌≡◌, ℕ, Option, Some, None, inl, inr, ap, ◌≢◌, ⊎_elim, ◌+◌, ◌<◌, Bool, IfSome, if◌then◌else◌, List, ◌∷◌, ◌++◌, length, set, refl, sym, ◌∙◌, subst, arith}
 use Rattle.std.proofs.lemmas.Bool.{cases_eq, eq-eqb, ne_eqb}
-use Rattle.std.specs.List.{Contains}
 use mathlib.Core.List.{IsPrefix}
 use Rattle.atomic_table.specs.Seated.{TableId}
 use Rattle.passive_list.specs.Types.{Entry, Key, Settings, Try, Confirm, TakeBack, Recall, Word, CpuView, LogItem}
@@ -18,29 +17,20 @@ use Rattle.passive_list.specs.declared.place.NumberedCount.{NumberedCount}
 use Rattle.passive_list.proofs.Sharing.{sharing}
 use Rattle.passive_list.proofs.Memories.{stays}
 use Rattle.passive_list.proofs.Agreeing.{net_same, noted_agrees, own_agrees, passive_longer}
-use Rattle.passive_ref.specs.{OnPsref, entry_got, GetsBy, HasGivenUp, HasGotByMemory, HasGotOn, HasGotRemembered, IsGot, counted_for, EndsInVain, EndsWell, HasSeen, IsTakenAs, IsVain}
+use Rattle.passive_ref.specs.{OnPsref, HasGivenUp, HasGotByMemory, HasGotOn, IsGot, counted_for, EndsInVain, EndsWell, HasSeen, IsTakenAs, IsVain}
 use Rattle.passive_ref.proofs.Changing.{added_passive, uncounted_here}
 
 -- A CPU that has a share of a ledger, and the CPU without it: what is told of a get by the one is told of the other. And what a get without a reference leaves.
 
-is_got : (m t n : ℕ) (a b : OnCpu) (p : OnPsref) → IsGot t n a b p → IsGot t n (sharing m a) (sharing m b) p
-is_got m t n a b p had = record { entry = had.entry; at = had.at; pass = had.pass; live = had.live; word = had.word; is = ap (sharing m) had.is; cpu = had.cpu; number = had.number }
-
-given_up_sharing : (m t n : ℕ) (a b : OnCpu) → HasGivenUp t n a b → HasGivenUp t n (sharing m a) (sharing m b)
-given_up_sharing m t n a b had = record { pass = had.pass; is = ap (sharing m) had.is; log = had.log }
-
 got_sharing : (m t n : ℕ) (a b : OnCpu) (r : Option OnPsref) → HasGotOn t n a b r → HasGotOn t n (sharing m a) (sharing m b) r
-got_sharing m t n a b (Some p) had = is_got m t n a b p had
+got_sharing m t n a b (Some p) had = record { entry = had.entry; at = had.at; pass = had.pass; live = had.live; word = had.word; is = ap (sharing m) had.is; cpu = had.cpu; number = had.number }
 got_sharing m t n a b None (inl same) = inl (ap (sharing m) same.0, same.1)
-got_sharing m t n a b None (inr had) = inr (given_up_sharing m t n a b had)
-
-gets_by : (m : ℕ) (o : Option Seen) (key : Key) (a b : OnCpu) (r : Option (Seen × OnPsref)) → GetsBy o key a b r → GetsBy o key (sharing m a) (sharing m b) r
-gets_by m None key a b r had = (had.0, ap (sharing m) had.1)
-gets_by m (Some s) key a b None had = got_sharing m s.slot s.number a b None had
-gets_by m (Some s) key a b (Some g) had = (had.0, got_sharing m s.slot s.number a b (Some g.1) had.1, had.2)
+got_sharing m t n a b None (inr had) = inr (record { pass = had.pass; is = ap (sharing m) had.is; log = had.log })
 
 pub got_by_memory : (m : ℕ) (key : Key) (a b : OnCpu) (r : Option (Seen × OnPsref)) → HasGotByMemory key a b r → HasGotByMemory key (sharing m a) (sharing m b) r
-got_by_memory m key a b r had = (had.0, had.1, gets_by m had.0 key a b r had.2)
+got_by_memory m key a b r (None, at, had) = (None, at, (had.0, ap (sharing m) had.1))
+got_by_memory m key a b None (Some s, at, had) = (Some s, at, got_sharing m s.slot s.number a b None had)
+got_by_memory m key a b (Some g) (Some s, at, had) = (Some s, at, (had.0, got_sharing m s.slot s.number a b (Some g.1) had.1, had.2))
 
 -- A get without a reference
 
@@ -51,35 +41,14 @@ as_deep a b = (b.depth ≡ a.depth) × (may_begin b.view ≡ may_begin a.view)
 same_deep : (a b : OnCpu) → b ≡ a → as_deep a b
 same_deep a b same = (ap (λ (c : OnCpu). c.depth) same, ap (λ (c : OnCpu). may_begin c.view) same)
 
-not_got : (t n : ℕ) (a b : OnCpu) → HasGotOn t n a b None → as_deep a b
-not_got t n a b (inl same) = same_deep a b same.0
-not_got t n a b (inr had) = (ap (λ (c : OnCpu). c.depth) had.is, ap (λ (c : OnCpu). may_begin c.view) had.is)
-
-none_by : (o : Option Seen) (key : Key) (a b : OnCpu) → GetsBy o key a b None → as_deep a b
-none_by None key a b had = same_deep a b had.1
-none_by (Some s) key a b had = not_got s.slot s.number a b had
-
 pub none_got : (key : Key) (a b : OnCpu) → HasGotByMemory key a b None → as_deep a b
-none_got key a b had = none_by had.0 key a b had.2
-
-none_of : (key : Key) (a b : OnCpu) (got : Option (Seen × OnPsref)) → None ≡ entry_got key got → HasGotByMemory key a b got → as_deep a b
-none_of key a b None is had = none_got key a b had
-none_of key a b (Some g) is had = let clash : ◌≡◌ {A = Option (Entry × OnPsref)} None (entry_got key (Some g)) = is in cc
-
-pub none_remembered : (key : Key) (a b : OnCpu) → HasGotRemembered key a b None → as_deep a b
-none_remembered key a b had = none_of key a b had.0 had.1 had.2
+none_got key a b (None, at, had) = same_deep a b had.1
+none_got key a b (Some s, at, inl same) = same_deep a b same.0
+none_got key a b (Some s, at, inr had) = (ap (λ (c : OnCpu). c.depth) had.is, ap (λ (c : OnCpu). may_begin c.view) had.is)
 
 -- A get by memory: where it may try, what it has then, and how the data agree.
 
 -- Where a CPU may try
-
--- the place of a slot counts the references into it
-room_at : (x : CpuView) (ps : List NumberedCount) (t limit : ℕ) → PassiveAgree x ps → (place_at ps t).count < limit → (f : Entry) → Contains x.references f → f.slot ≡ t
-    → references_to f.number x.references < limit
-room_at x ps t limit agree few f among same =
-    let number : (place_at ps t).number ≡ f.number = ap (λ (u : ℕ). (place_at ps u).number) (sym same) ∙ (agree.each f among).2 in
-    let count : (place_at ps t).count ≡ references_to f.number x.references = agree.counts t ∙ ap (λ (k : ℕ). references_to k x.references) number in
-    omega (arith, few, count)
 
 pub may_try : (x : CpuView) (t n : ℕ) (ps : List NumberedCount) → HasSeen x t n → IsIdle x → PassiveAgree x ps → (place_at ps t).count < x.settings.passive_limit → MayTry x t n
 may_try x t n ps seen idle agree few = record {
@@ -88,7 +57,9 @@ may_try x t n ps seen idle agree few = record {
   entry = seen.entry;
   at = seen.at;
   attached = seen.attached;
-  room = room_at x ps t x.settings.passive_limit agree few;
+  room = λ f among same.
+      let number : (place_at ps t).number ≡ f.number = ap (λ (u : ℕ). (place_at ps u).number) (sym same) ∙ (agree.each f among).2 in
+      omega (arith, few, agree.counts t ∙ ap (λ (k : ℕ). references_to k x.references) number);
 }
 
 -- the view while it tries
@@ -124,14 +95,10 @@ may_take_back x y z t n may tried late = record {
 pub vain : (x y z w : CpuView) (t n : ℕ) → MayTry x t n → HasTried x n y → HasSeenMore y z → HasTakenBack z w → IsVain x w
 vain x y z w t n may tried late back =
     let first = tried_is x y t n may tried in
-    let last : w ≡ record x { pass = z.pass; hand = NoEntry } =
-    back ∙ (ap (λ (v : CpuView). with_hand v NoEntry) late.1 ∙ ap (λ (v : CpuView). record v { pass = z.pass; hand = NoEntry }) first) in
-    let pass : w.pass ≡ z.pass = ap (λ (v : CpuView). v.pass) back in
-    let is : w ≡ record x { pass = z.pass } = last ∙ ap (λ (h : InHand). record x { pass = z.pass; hand = h }) (sym may.idle.hand) in
-    let longer : IsPrefix x.pass z.pass = subst (λ (v : CpuView). IsPrefix v.pass z.pass) first late.0 in record {
-      longer = subst (IsPrefix x.pass) (sym pass) longer;
-      is = is ∙ ap (λ p. record x { pass = p }) (sym pass);
-    }
+    let is : w ≡ record x { pass = z.pass } = back ∙ (ap (λ (v : CpuView). with_hand v NoEntry) late.1 ∙ ap (λ (v : CpuView). record v { pass = z.pass; hand = NoEntry }) first)
+    ∙ ap (λ (h : InHand). record x { pass = z.pass; hand = h }) (sym may.idle.hand) in
+    let pass : z.pass ≡ w.pass = sym (ap (λ (v : CpuView). v.pass) back) in
+    record { longer = subst (IsPrefix x.pass) pass (subst (λ (v : CpuView). IsPrefix v.pass z.pass) first late.0); is = is ∙ ap (λ p. record x { pass = p }) pass }
 
 -- the data agree with the view then
 pub vain_agrees : (z : TableId) (a : Settings) (t u : TableId) (x y : CpuView) (c w d : ℕ) (e : Found) (ps ns : List NumberedCount) (ms : Memory) → IsOurCpu z a t x c w d e ps ns ms → IsShownCpu y → u ≡ t → IsVain x y
@@ -141,14 +108,11 @@ vain_agrees z a t u x y c w d e ps ns ms our is_shown same v =
 
 -- It has its reference
 
-one_trying : (e f : Entry) → TryingEntry e ≡ TryingEntry f → e ≡ f
-one_trying e f is = cc
-
 pub taken_as : (x y z : CpuView) (t n : ℕ) → MayTry x t n → HasTried x n y → HasConfirmed y z → IsTakenAs x z t n
 taken_as x y z t n may tried confirmed =
     let e = may.entry in
     let had : HasConfirmed (with_hand x (TryingEntry e)) z = subst (λ (v : CpuView). HasConfirmed v z) (tried_is x y t n may tried) confirmed in
-    let one : e ≡ had.entry = one_trying e had.entry had.trying in record {
+    let one : e ≡ had.entry = let q : TryingEntry e ≡ TryingEntry had.entry = had.trying in cc in record {
       entry = e;
       at = may.at;
       attached = may.attached;
@@ -177,76 +141,30 @@ taken_agrees z a t u x y c w d o ps ns ms s n m our is_shown same few taken coun
     let z0 : CpuView = record x { pass = y.pass; references = e ∷ x.references } in
     let agree : PassiveAgree v ps = passive_longer x v ps refl refl taken.longer our.passive in
     let attached : IsAttached y.pass e = attached_prefix x.pass y.pass e taken.longer taken.attached in
-    let count : m ≡ references_to n x.references = counted ∙ counted_here v ps e s n agree taken.at attached in
-    let p = added_passive v ps e s n m agree taken.at attached few taken.alone count in
     let qs = set ps s (record { number = n; count = m + 1 }) in
-    let there : IsOurCpu z a u z0 c w d o qs ns ms = record {
-      table = same ∙ our.table;
-      settings = our.settings;
-      fit = our.fit;
-      id = our.id;
-      few = our.few;
-      section = record { word = our.section.word; limit = our.section.limit };
-      idle = record { search = our.idle.search; hand = our.idle.hand };
-      depth = our.depth;
-      found = our.found;
-      passive = record { size = p.size; counts = p.counts; placed = p.placed; each = p.each };
-      net = net_same x z0 ns refl refl refl refl our.net;
-      memory = stays x.settings.slots x.pass y.pass ms taken.longer our.memory;
-      is_shown = subst IsShownCpu taken.is is_shown;
-    } in
+    let there : IsOurCpu z a u z0 c w d o qs ns ms = assumption (
+      same ∙ our.table,
+      added_passive v ps e s n m agree taken.at attached few taken.alone (counted ∙ counted_here v ps e s n agree taken.at attached),
+      net_same x z0 ns refl refl refl refl our.net,
+      stays x.settings.slots x.pass y.pass ms taken.longer our.memory,
+      subst IsShownCpu taken.is is_shown,
+      our,
+    ) in
     own_agrees z a u y c w d o qs ns ms (subst (λ (q : CpuView). IsOurCpu z a u q c w d o qs ns ms) (sym taken.is) there)
 
 -- How the log goes on
-
--- two items more
-two_more : (l0 l1 l2 a b : List LogItem) → l1 ≡ l0 ++ a → l2 ≡ l1 ++ b → l2 ≡ l0 ++ a ++ b
-two_more l0 l1 l2 a b first second = second ∙ ap (λ (l : List LogItem). l ++ b) first
 
 pub ends_well : (d c s n m w : ℕ) (l0 l1 l2 : List LogItem) → d ≡ c → m ≡ n → l1 ≡ l0 ++ did (Try c s n) (Word w) → l2 ≡ l1 ++ did (event_by n (Confirm c) (Recall c s) m) (Word m)
     → EndsWell d s n l0 l2
 ends_well d c s n m w l0 l1 l2 id same first second =
     let event : event_by n (Confirm c) (Recall c s) m ≡ Confirm c = ap (λ (b : Bool). if b then Confirm c else Recall c s) (eq-eqb m n same) in
-    subst (λ (i : ℕ). EndsWell i s n l0 l2) (sym id)
-    (w, two_more l0 l1 l2 (did (Try c s n) (Word w)) (did (Confirm c) (Word n)) first (second ∙ (λ k. l1 ++ did (event k) (Word (same k)))))
+    subst (λ (i : ℕ). EndsWell i s n l0 l2) (sym id) (w, second ∙ (λ k. first k ++ did (event k) (Word (same k))))
 
 pub ends_in_vain : (d c s n m w v : ℕ) (l0 l1 l2 l3 : List LogItem) → d ≡ c → m ≢ n → l1 ≡ l0 ++ did (Try c s n) (Word w) → l2 ≡ l1 ++ did (event_by n (Confirm c) (Recall c s) m) (Word m)
     → l3 ≡ l2 ++ did (TakeBack c) (Word v) → EndsInVain d s n l0 l3
 ends_in_vain d c s n m w v l0 l1 l2 l3 id off first second third =
     let event : event_by n (Confirm c) (Recall c s) m ≡ Recall c s = ap (λ (b : Bool). if b then Confirm c else Recall c s) (ne_eqb m n off) in
-    let a = did (Try c s n) (Word w) in
-    let b = did (Recall c s) (Word m) in
-    let e = did (TakeBack c) (Word v) in
-    let both : l2 ≡ l0 ++ a ++ b = two_more l0 l1 l2 a b first (second ∙ (λ k. l1 ++ did (event k) (Word m))) in
-    subst (λ (i : ℕ). EndsInVain i s n l0 l3) (sym id) (w, m, v, off, third ∙ ap (λ (l : List LogItem). l ++ e) both)
-
--- By the CPU
-
-got : (t n : ℕ) (a : OnCpu) (y : CpuView) (log : List LogItem) (b : OnCpu) (p : OnPsref) → IsTakenAs a.view y t n → EndsWell a.view.id t n a.log log → b ≡ record a { view = y; log = log }
-    → p.cpu ≡ a.view.id → p.number ≡ n → IsGot t n a b p
-got t n a y log b p taken ends is cpu number =
-    let pass : b.view.pass ≡ y.pass = ap (λ (c : OnCpu). c.view.pass) is in
-    let view : y ≡ record a.view { pass = b.view.pass; references = taken.entry ∷ a.view.references } =
-    taken.is ∙ ap (λ h. record a.view { pass = h; references = taken.entry ∷ a.view.references }) (sym pass) in record {
-      entry = taken.entry;
-      at = taken.at;
-      pass = subst (IsPrefix a.view.pass) (sym pass) taken.longer;
-      live = subst (λ h. IsLiveAt h (length h) taken.entry) (sym pass) taken.live;
-      word = ends.0;
-      is = is ∙ (λ k. record a { view = view k; log = ends.1 k });
-      cpu = cpu;
-      number = number;
-    }
-
-given_up : (t n : ℕ) (a : OnCpu) (y : CpuView) (log : List LogItem) (b : OnCpu) → IsVain a.view y → EndsInVain a.view.id t n a.log log → b ≡ record a { view = y; log = log } → HasGivenUp t n a b
-given_up t n a y log b vain ends is =
-    let same : b.log ≡ log = ap (λ (c : OnCpu). c.log) is in
-    let pass : b.view.pass ≡ y.pass = ap (λ (c : OnCpu). c.view.pass) is in
-    let view : y ≡ record a.view { pass = b.view.pass } = vain.is ∙ ap (λ p. record a.view { pass = p }) (sym pass) in record {
-      pass = subst (IsPrefix a.view.pass) (sym pass) vain.longer;
-      is = is ∙ (λ k. record a { view = view k; log = sym same k });
-      log = subst (EndsInVain a.view.id t n a.log) (sym same) ends;
-    }
+    subst (λ (i : ℕ). EndsInVain i s n l0 l3) (sym id) (w, m, v, off, third ∙ ap (λ (l : List LogItem). l ++ did (TakeBack c) (Word v)) (second ∙ (λ k. first k ++ did (event k) (Word m))))
 
 -- the entry that was got is the one that the CPU had seen, and is the registry's answer for its key
 pub got_answer : (key : Key) (s : Seen) (o : OnPlainCpu) (b : OnCpu) (r : Option OnPsref) → HasSeenOf o key s → HasGotOn s.slot s.number o.cpu b r
@@ -264,16 +182,20 @@ pub got_on : (t n : ℕ) (o : OnPlainCpu) (w : Named) (x y : CpuView) (depth : �
     → ◌≡◌ {A = OnPlainCpu} (record { words = w; cpu = record { view = x; depth = depth; made = 0; memory = mm; known_log = k0; log = l0 } }) o → IsTakenAs x y t n → EndsWell x.id t n l0 l1 → k1 ≡ k0
     → p.cpu ≡ x.id → p.number ≡ n → IsGot t n o.cpu (record { view = y; depth = depth; made = 0; memory = mm; known_log = k1; log = l1 }) p
 got_on t n o w x y depth mm k0 k1 l0 l1 p is taken ends known cpu number =
-    let a : OnCpu = record { view = x; depth = depth; made = 0; memory = mm; known_log = k0; log = l0 } in
-    let b : OnCpu = record { view = y; depth = depth; made = 0; memory = mm; known_log = k1; log = l1 } in
-    let after : b ≡ record a { view = y; log = l1 } = λ i. record { view = y; depth = depth; made = 0; memory = mm; known_log = known i; log = l1 } in
-    subst (λ (m : OnPlainCpu). IsGot t n m.cpu b p) is (got t n a y l1 b p taken ends after cpu number)
+    subst (λ (m : OnPlainCpu). IsGot t n m.cpu (record { view = y; depth = depth; made = 0; memory = mm; known_log = k1; log = l1 }) p) is record {
+      entry = taken.entry;
+      at = taken.at;
+      pass = taken.longer;
+      live = taken.live;
+      word = ends.0;
+      is = λ i. record { view = taken.is i; depth = depth; made = 0; memory = mm; known_log = known i; log = ends.1 i };
+      cpu = cpu;
+      number = number;
+    }
 
 pub given_on : (t n : ℕ) (o : OnPlainCpu) (w : Named) (x y : CpuView) (depth : ℕ) (mm : Memory) (k0 k1 l0 l1 : List LogItem)
     → ◌≡◌ {A = OnPlainCpu} (record { words = w; cpu = record { view = x; depth = depth; made = 0; memory = mm; known_log = k0; log = l0 } }) o → IsVain x y → EndsInVain x.id t n l0 l1 → k1 ≡ k0
     → HasGivenUp t n o.cpu (record { view = y; depth = depth; made = 0; memory = mm; known_log = k1; log = l1 })
 given_on t n o w x y depth mm k0 k1 l0 l1 is vain ends known =
-    let a : OnCpu = record { view = x; depth = depth; made = 0; memory = mm; known_log = k0; log = l0 } in
-    let b : OnCpu = record { view = y; depth = depth; made = 0; memory = mm; known_log = k1; log = l1 } in
-    let after : b ≡ record a { view = y; log = l1 } = λ i. record { view = y; depth = depth; made = 0; memory = mm; known_log = known i; log = l1 } in
-    subst (λ (m : OnPlainCpu). HasGivenUp t n m.cpu b) is (given_up t n a y l1 b vain ends after)
+    subst (λ (m : OnPlainCpu). HasGivenUp t n m.cpu (record { view = y; depth = depth; made = 0; memory = mm; known_log = k1; log = l1 })) is
+    record { pass = vain.longer; is = λ i. record { view = vain.is i; depth = depth; made = 0; memory = mm; known_log = known i; log = l1 }; log = ends }

@@ -1,4 +1,3 @@
--- `total`: what it returns; that nothing overflows.
 use Rattle.std.proofs.Common.{◌≡◌, ◌∙◌, ap, rules}
 use Rattle.registry_values.specs.Common.{slot_at}
 use Rattle.passive_list.specs.Common.{OnPlainKeeper, row_at, total_or_bias}

@@ -1,9 +1,8 @@
--- A look at a passive word makes `mark_after_passive_look` of the CPU's mark.
-use Rattle.std.proofs.Common.{◌∙◌, ◌<◌, ap, length, subst, sym, rules}
+use Rattle.std.proofs.Common.{◌∙◌, ◌<◌, ap, subst, sym, rules}
 use Rattle.passive_list.specs.Types.{Mark, Settings}
 use Rattle.registry_values.specs.Common.{slot_at, mark_after_passive_look}
 use Rattle.passive_list.specs.Common.{OnPlainKeeper}
-use Rattle.passive_list.proofs.Marks.{mark_below, looked_keeper, looked_mark}
+use Rattle.passive_list.proofs.Marks.{look_below, looked_keeper, looked_mark}
 use Rattle.passive_list.proofs.Rows.{retired_in}
 use Rattle.passive_list.proofs.grace.look_passive.Goals as goal
 
@@ -18,33 +17,21 @@ passive_look-word-requires-clause-place c =
 
 pub index-requires : goal.index-requires
 index-requires c =
-    let retired = ap (λ (x : OnPlainKeeper). slot_at x.keeper.slots c.args.slot) c.keeper.view_is ∙ c.requires.retired.1 in
-    let within = subst (λ (x : OnPlainKeeper). c.args.cpu < x.words.settings.cpus) (sym c.keeper.view_is) c.requires.cpu in
-    let place : c.mark_place-at.result < length c.keeper.inside.marks.items =
-    mark_below _ _ _ _ _ _ c.keeper.invariant.1 (retired_in _ _ _ _ _ c.keeper.invariant.0.rows retired).0 within c.mark_place-at.ensures in
-    search (rules, place)
+    search (rules, look_below _ _ _ _ _ _ _ _ _ c.keeper.invariant.0.rows c.keeper.invariant.1 c.keeper.view_is c.requires.retired.1 c.requires.cpu c.mark_place-at.ensures)
 
 pub index_mut-requires : goal.index_mut-requires
 index_mut-requires c =
-    let retired = ap (λ (x : OnPlainKeeper). slot_at x.keeper.slots c.args.slot) c.keeper.view_is ∙ c.requires.retired.1 in
-    let within = subst (λ (x : OnPlainKeeper). c.args.cpu < x.words.settings.cpus) (sym c.keeper.view_is) c.requires.cpu in
-    let place : c.mark_place-at.result < length c.keeper.inside.marks.items =
-    mark_below _ _ _ _ _ _ c.keeper.invariant.1 (retired_in _ _ _ _ _ c.keeper.invariant.0.rows retired).0 within c.mark_place-at.ensures in
-    search (rules, place)
+    search (rules, look_below _ _ _ _ _ _ _ _ _ c.keeper.invariant.0.rows c.keeper.invariant.1 c.keeper.view_is c.requires.retired.1 c.requires.cpu c.mark_place-at.ensures)
 
 pub invariant_of-keeper : goal.invariant_of-keeper
 invariant_of-keeper c =
-    let retired = ap (λ (x : OnPlainKeeper). slot_at x.keeper.slots c.args.slot) c.keeper.view_is ∙ c.requires.retired.1 in
-    let within = subst (λ (x : OnPlainKeeper). c.args.cpu < x.words.settings.cpus) (sym c.keeper.view_is) c.requires.cpu in
-    looked_keeper _ _ _ _ _ _ _ _ _ _ _ (λ m. mark_after_passive_look m c.passive_look-word.result) _ _ _ c.keeper.invariant.0 c.keeper.invariant.1 retired within c.mark_place-at.ensures c.index.ensures c.cleared-mark.ensures
-    c.passive_look-word.ensures.change c.passive_look-word.ensures.step.event
+    looked_keeper _ _ _ _ _ _ _ _ _ _ _ (λ m. mark_after_passive_look m c.passive_look-word.result) _ _ _ _ c.keeper.invariant.0 c.keeper.invariant.1 c.keeper.view_is c.requires.retired.1 c.requires.cpu
+    c.mark_place-at.ensures c.index.ensures c.cleared-mark.ensures c.passive_look-word.ensures.change c.passive_look-word.ensures.step.event
 
 pub returns-clause-clear : goal.returns-clause-clear
 returns-clause-clear c =
-    let retired = ap (λ (x : OnPlainKeeper). slot_at x.keeper.slots c.args.slot) c.keeper.view_is ∙ c.requires.retired.1 in
-    let within = subst (λ (x : OnPlainKeeper). c.args.cpu < x.words.settings.cpus) (sym c.keeper.view_is) c.requires.cpu in
-    ap (λ (m : Mark). m.clear) (looked_mark _ _ _ _ _ _ _ _ _ _ _ (λ m. mark_after_passive_look m c.passive_look-word.result) _ _ _ c.keeper.invariant.0 c.keeper.invariant.1 retired within c.mark_place-at.ensures
-    c.index.ensures c.cleared-mark.ensures c.passive_look-word.ensures.change)
+    ap (λ (m : Mark). m.clear) (looked_mark _ _ _ _ _ _ _ _ _ _ _ (λ m. mark_after_passive_look m c.passive_look-word.result) _ _ _ _ c.keeper.invariant.0 c.keeper.invariant.1 c.keeper.view_is c.requires.retired.1 c.requires.cpu
+    c.mark_place-at.ensures c.index.ensures c.cleared-mark.ensures c.passive_look-word.ensures.change)
 
 pub returns-clause-slots : goal.returns-clause-slots
 returns-clause-slots c = ap (λ (x : OnPlainKeeper). x.keeper.slots) c.keeper.view_is

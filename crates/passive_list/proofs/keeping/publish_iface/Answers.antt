@@ -1,12 +1,13 @@
 -- The slot keeps the reference, and then the interface is published there.
-use Rattle.std.proofs.Common.{◌≡◌, ◌+◌, ◌++◌, ◌<◌, ◌∙◌, ℕ, List, sym, ap, subst, set}
+use Rattle.std.proofs.Common.{◌≡◌, ◌+◌, ◌++◌, ◌<◌, ◌∙◌, ℕ, List, Some, None, length, sym, ap, subst, set, get_or-set_same, arith}
 use Rattle.std.proofs.lemmas.List.{map-set}
 use Rattle.passive_list.specs.Types.{Entry, Keep, Done, LogItem, Settings, Slot, Live, KeeperView, ReferenceView, Keeper, Reference}
+use Rattle.protocol.specs.Common.{kept_at}
 use Rattle.cpu_words.specs.Common.{JoinsBy, did, keeper_after_keep}
 use Rattle.cpu_words.proofs.seats.Seating.{step_is_shown}
 use Rattle.passive_list.specs.Common.{KeptSlot, LogsAttach, OnKeeper, OnPlainRef, IsOurKeeper, RowsAgree, row_at, state_of, states_of, MayAttach, HasEntry, HasAttachedKeeping}
 use Rattle.passive_list.proofs.Rows.{keeper_is, row_read, settings_are}
-use Rattle.passive_list.proofs.Attached.{published_keeper, row_live, keeps_it, row_keeping, rows_keeping, states_keeping, may_attach, same_history}
+use Rattle.passive_list.proofs.Attached.{published_keeper, row_live, row_keeping, rows_keeping, states_keeping, may_attach}
 use Rattle.passive_list.proofs.Marks.{marks_stay}
 use Rattle.passive_list.proofs.keeping.publish_iface.Goals.{After-index_mut}
 use Rattle.passive_list.proofs.keeping.publish_iface.Goals as goal
@@ -14,10 +15,8 @@ use Rattle.passive_list.proofs.keeping.publish_iface.Goals as goal
 -- the rows with what is kept, as they are once that was written
 kept : (c : After-index_mut) → set c.keeper.inside.rows.items c.args.slot (row_keeping c.index_mut.result.now c.reference.inside.number) ≡ rows_keeping c.keeper.inside.rows.items c.args.slot c.reference.inside.number
 kept c =
-    let inside = c.keeper.inside in
     let within = subst (λ (z : Settings). c.args.slot < z.slots) (sym (settings_are c.keeper.view_is)) c.requires.vacant.0 in
-    ap (λ (r : KeptSlot). set inside.rows.items c.args.slot (row_keeping r c.reference.inside.number))
-    (row_read inside.settings inside.seat.view inside.rows.items c.args.slot c.index_mut.result.now c.keeper.invariant.0.rows within c.index_mut.ensures.value)
+    ap (λ (r : KeptSlot). set c.keeper.inside.rows.items c.args.slot (row_keeping r c.reference.inside.number)) (row_read _ _ _ _ _ c.keeper.invariant.0.rows within c.index_mut.ensures.value)
 
 -- and what is asked of the keeper then
 asked : (c : After-index_mut) → MayAttach c.keeper.inside.settings c.keep.new.keeper.view (rows_keeping c.keeper.inside.rows.items c.args.slot c.reference.inside.number) (record { number = c.keeper.inside.changes + 1; slot = c.args.slot; rec = c.args.rec })
@@ -46,7 +45,7 @@ invariant_of-keeper c =
     let written = set inside.rows.items t (row_keeping c.index_mut.result.now c.reference.inside.number) in
     let row = row_read a k written t c.index_mut-2.result.now (subst (λ (rows : List KeptSlot). RowsAgree a k rows) (sym (kept at)) (asked at).agree) (asked at).slot c.index_mut-2.ensures.value in
     let are = published_keeper a k l (rows_keeping inside.rows.items t c.reference.inside.number) inside.changes e has.link
-    (c.keeper.invariant.0.changes ∙ same_history inside.seat.view k e.slot c.reference.inside.seat.view c.keep.ensures.change) (asked at) has.view (step_is_shown has.shown) in (
+    (c.keeper.invariant.0.changes ∙ sym (ap (λ (x : KeeperView). length x.history) c.keep.ensures.change)) (asked at) has.view (step_is_shown has.shown) in (
       subst (λ (r : KeptSlot). IsOurKeeper a l (set written t (row_live r e)) (inside.changes + 1)) (sym row)
           (subst (λ (rows : List KeptSlot). IsOurKeeper a l (set rows t (row_live (row_at rows t) e)) (inside.changes + 1)) (sym (kept at)) are),
       marks_stay a inside.seat.view l inside.marks.items marks c.keeper.invariant.1,
@@ -64,6 +63,7 @@ returns-clause-change c =
     ap states_of (kept (goal.at.returns-clause-change c).After-index_mut) ∙ states_keeping inside.rows.items t c.reference.inside.number in
     let e : Entry = record { number = inside.changes + 1; slot = t; rec = c.args.rec } in
     let new = row_live c.index_mut-2.result.now e in
+    let within = subst (λ (z : Settings). t < z.slots) (sym (settings_are c.keeper.view_is)) c.requires.vacant.0 in
     let b : OnKeeper = record { view = l; slots = states_of (set written t new); log = c.publish_entry.new.seat.log } in
     subst (λ (w : ReferenceView). HasAttachedKeeping c.args.keeper.now.keeper w e b) (ap (λ (o : OnPlainRef). o.reference) c.reference.view_is) (subst (λ (a : OnKeeper). HasAttachedKeeping a v e b) (keeper_is c.keeper.view_is) record {
       kept = subst (λ (x : KeeperView). JoinsBy (Keep t) (Keeper k) (Reference v) (Keeper x)) c.keep.ensures.change c.keep.ensures.event;
@@ -71,8 +71,8 @@ returns-clause-change c =
         entry = subst (λ (x : KeeperView). HasEntry x e l) c.keep.ensures.change c.publish_entry.ensures.change;
         slots = map-set state_of written t new ∙ ap (λ (xs : List Slot). set xs t (Live e)) same;
       };
-      keeping = c.publish_entry.ensures.attached v.entry.number (keeps_it _ _ _ _ _ t v c.keeper.invariant.0
-          (subst (λ (z : Settings). t < z.slots) (sym (settings_are c.keeper.view_is)) c.requires.vacant.0) c.keep.ensures.change);
+      keeping = c.publish_entry.ensures.attached v.entry.number (ap (λ (x : KeeperView). kept_at x.keeps t) c.keep.ensures.change
+          ∙ get_or-set_same inside.seat.view.keeps t (Some v.entry.number) None (omega (arith, within, c.keeper.invariant.0.view.sized.keeps)));
     })
 
 pub returns-clause-log : goal.returns-clause-log

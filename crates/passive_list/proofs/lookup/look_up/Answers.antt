@@ -4,9 +4,9 @@ use Rattle.passive_list.specs.Types.{Seek, Done}
 use Rattle.protocol.specs.Common.{entry_with}
 use Rattle.cpu_words.specs.Common.{did, key_with}
 use Rattle.cpu_words.proofs.seats.Seating.{step_is_shown}
-use Rattle.passive_list.specs.Common.{IsAtLink, IsOn, HasVisited}
-use Rattle.passive_list.proofs.Walking.{on_slot, on_way, may_take, may_go, number_falls, follows, at_end, found, visit_id, follow_id, search_begun, link_loaded, word_loaded, one_visited, search_missed, search_found}
-use Rattle.passive_list.proofs.Visited.{gone_by_none, gone_by_next, few_missed, few_found, value_replied}
+use Rattle.passive_list.specs.Common.{IsAtLink, IsOn, HasMissed, HasVisited}
+use Rattle.passive_list.proofs.Walking.{on_slot, on_way, may_take, may_go, number_falls, follows, found, visit_id, follow_id, search_begun, link_loaded, word_loaded, one_visited, search_missed, search_found}
+use Rattle.passive_list.proofs.Visited.{gone_by_none, gone_by_next, few_gone_by, few_found, value_replied}
 use Rattle.passive_list.proofs.lookup.look_up.Goals.{After-visit-number}
 use Rattle.passive_list.proofs.lookup.look_up.Goals as goal
 
@@ -102,6 +102,6 @@ returns-clause-log c =
     let key = key_with c.args.kind c.args.name in
     let x = c.args.seat.now.view in
     let so_far = c.loop-link.invariant.visited in
-    let missed = at_end key x c.loop-link.seat.view c.loop-link.link c.loop-link.last c.loop-link-test.false c.loop-link.invariant.at in
+    let missed : HasMissed key x c.loop-link.seat.view = subst (λ m. IsAtLink key x m c.loop-link.last c.loop-link.seat.view) c.loop-link-test.false c.loop-link.invariant.at in
     (search_missed c.args.cpu x.settings.slots key c.loop-link.link so_far.0 _ _ c.loop-link-test.false
-    (few_missed key x c.loop-link.seat.view so_far.0 c.loop-link.last missed so_far.2) so_far.1 c.loop-link.invariant.ends).0
+    (few_gone_by x so_far.0 c.loop-link.last c.loop-link.seat.view.pass missed.tells so_far.2) so_far.1 c.loop-link.invariant.ends).0

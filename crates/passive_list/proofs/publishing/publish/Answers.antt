@@ -1,4 +1,3 @@
--- `publish`: its clauses `change` and `log`; what `publish_entry` requires; the invariant of `keeper`.
 use Rattle.std.proofs.Common.{◌+◌, ◌∙◌, List, sym, ap, subst, set}
 use Rattle.std.proofs.lemmas.List.{map-set}
 use Rattle.passive_list.specs.Types.{Entry, Settings, KeeperView}
@@ -13,25 +12,21 @@ pub publish_entry-requires-clause-may : goal.publish_entry-requires-clause-may
 publish_entry-requires-clause-may c =
     let inside = c.keeper.inside in
     let e : Entry = record { number = inside.changes + 1; slot = c.args.slot; rec = c.args.rec } in
-    let same = ap (λ (x : OnPlainKeeper). x.words.settings) c.keeper.view_is ∙ sym c.requires.words.1 in
     let asked = ask _ _ _ _ c.args.slot c.args.rec _ c.keeper.invariant.0 c.keeper.view_is c.requires.vacant c.requires.keeps c.requires.name c.requires.free c.requires.room in
     subst (λ (rows : List KeptSlot). MayAttach c.args.words.now.settings inside.seat.view rows e) (sym c.deref.ensures.value)
-    (subst (λ (a : Settings). MayAttach a inside.seat.view inside.rows.items e) same asked)
+    (subst (λ (a : Settings). MayAttach a inside.seat.view inside.rows.items e) (ap (λ (x : OnPlainKeeper). x.words.settings) c.keeper.view_is ∙ sym c.requires.words.1) asked)
 
 pub invariant_of-keeper : goal.invariant_of-keeper
 invariant_of-keeper c =
     let inside = c.keeper.inside in
-    let a = inside.settings in
-    let rows = inside.rows.items in
-    let k = inside.seat.view in
     let l = c.publish_entry.new.seat.view in
     let e : Entry = record { number = inside.changes + 1; slot = c.args.slot; rec = c.args.rec } in
     let asked = ask _ _ _ _ c.args.slot c.args.rec _ c.keeper.invariant.0 c.keeper.view_is c.requires.vacant c.requires.keeps c.requires.name c.requires.free c.requires.room in
     let has = c.publish_entry.ensures.change in
-    let row = row_read a k rows c.args.slot c.index_mut.result.now asked.agree asked.slot c.index_mut.ensures.value in (
-      subst (λ (r : KeptSlot). IsOurKeeper a l (set rows c.args.slot (row_live r e)) (inside.changes + 1)) (sym row)
-          (published_keeper a k l rows inside.changes e has.link c.keeper.invariant.0.changes asked has.view (step_is_shown has.shown)),
-      marks_stay a k l inside.marks.items (ap (λ (x : KeeperView). x.marks) has.view) c.keeper.invariant.1,
+    let row = row_read _ _ _ _ _ asked.agree asked.slot c.index_mut.ensures.value in (
+      subst (λ (r : KeptSlot). IsOurKeeper inside.settings l (set inside.rows.items c.args.slot (row_live r e)) (inside.changes + 1)) (sym row)
+          (published_keeper _ _ l _ _ e has.link c.keeper.invariant.0.changes asked has.view (step_is_shown has.shown)),
+      marks_stay _ _ l _ (ap (λ (x : KeeperView). x.marks) has.view) c.keeper.invariant.1,
     )
 
 pub returns-clause-change : goal.returns-clause-change

@@ -1,5 +1,4 @@
--- `publish_entry`: its clauses `change`, `log` and `attached`; what `prepare`, `publish` and `show` require.
-use Rattle.std.proofs.Common.{◌++◌, ◌∙◌, sym, ap, subst, arith}
+use Rattle.std.proofs.Common.{◌∙◌, sym, ap, subst, arith}
 use Rattle.passive_list.specs.Types.{Settings, Publish, Show, Done, KeeperView, Keeper}
 use Rattle.cpu_words.specs.Common.{MayPublish, Makes, keeper_after_live}
 use Rattle.passive_list.specs.Common.{states_of, keeper_after_publish}
@@ -15,9 +14,7 @@ prepare-requires-clause-link c =
     let asked = c.requires.may in
     let within = leads_within k.slots e.number v
     (leads_on (states_of rows) k.slots e.number v (rows_live c.args.words.now.settings k rows asked.agree) (live_rows c.args.words.now.settings k rows asked.at asked.agree) c.link_below-link.ensures) in
-    let size = asked.at.sized.slots in
-    let same = ap (λ (z : Settings). z.slots) asked.at.settings in
-    omega (arith, within, size, same)
+    omega (arith, within, asked.at.sized.slots, ap (λ (z : Settings). z.slots) asked.at.settings)
 
 pub publish-requires-clause-may : goal.publish-requires-clause-may
 publish-requires-clause-may c =

@@ -1,5 +1,3 @@
--- `store_row`: its clause `row`.
-use Rattle.std.proofs.Common.{◌≡◌, ◌++◌, ◌∙◌}
 use Rattle.protocol.specs.Common.{row_at, with_word}
 use Rattle.registry_values.specs.Common.{kind_word}
 use Rattle.passive_list.proofs.Preparing.{row_next}

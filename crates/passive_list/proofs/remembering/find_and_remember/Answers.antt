@@ -2,12 +2,12 @@
 use Rattle.std.proofs.Common.{ap, subst}
 use Rattle.cpu_words.specs.Common.{key_with}
 use Rattle.passive_list.specs.Common.{Memory, OnCpu, RemembersAnswer}
-use Rattle.passive_list.proofs.ByMemory.{kept_seen}
+use Rattle.passive_list.proofs.ByMemory.{seen_by}
 use Rattle.passive_list.proofs.remembering.find_and_remember.Goals as goal
 
 pub remember_on-requires : goal.remember_on-requires
 remember_on-requires c =
-    kept_seen (key_with c.args.kind c.args.name) c.args.cpu.now _ _ c.find_seen-seen.ensures.found c.find_seen-seen.ensures.words c.find_seen-seen.ensures.slot
+    seen_by (key_with c.args.kind c.args.name) c.args.cpu.now _ _ c.find_seen-seen.ensures.found.seen c.find_seen-seen.ensures.words c.find_seen-seen.ensures.slot
 
 pub returns-clause-found : goal.returns-clause-found
 returns-clause-found c =

@@ -1,5 +1,4 @@
 -- What the load told is the answer; else what was found anew.
-use Rattle.std.proofs.Common.{◌∙◌}
 use Rattle.cpu_words.specs.Common.{key_with}
 use Rattle.passive_list.proofs.ByMemory.{anew_after, by_load}
 use Rattle.passive_list.proofs.remembering.find_by_memory.Goals as goal

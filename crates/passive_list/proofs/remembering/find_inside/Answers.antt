@@ -1,4 +1,3 @@
--- `find_inside`: what it returns.
 use Rattle.std.proofs.Common.{subst}
 use Rattle.cpu_words.specs.Common.{key_with}
 use Rattle.passive_list.specs.Common.{HasFoundInside, OnCpu}

@@ -1,4 +1,3 @@
--- `last_miss`: its clause `so`.
 use Rattle.std.proofs.Common.{subst, sym}
 use Rattle.cpu_words.specs.Common.{key_with}
 use Rattle.passive_list.specs.Common.{IsTrueMiss, OnPlainCpu}

@@ -26,8 +26,7 @@ returns-in-Some-clause-remembers c =
     let m = c.cpu.inside.memory in
     let seen : HasSeen c.args.cpu.now key s = subst (λ (o : Option Seen). IfSome o (λ (r : Seen). HasSeen c.args.cpu.now key r)) c.in-Some.is c.requires in
     let here = subst (λ (o : OnPlainCpu). HasSeen o key s) (sym c.cpu.view_is) seen in
-    let begun = (at_within _ s.number (Attach (entry_with key s.slot s.number s.value)) seen.attached).0 in
-    let some : s.number ≢ 0 = λ none. absurd (omega (arith, begun, none)) in
+    let some : s.number ≢ 0 = λ none. absurd (omega (arith, (at_within _ s.number (Attach (entry_with key s.slot s.number s.value)) seen.attached).0, none)) in
     let was : m ≡ c.args.cpu.now.cpu.memory = ap (λ (o : OnPlainCpu). o.cpu.memory) c.cpu.view_is in
     subst (λ (o : Option Seen). RemembersAnswer key c.args.cpu.now.cpu.memory c.remember.new.self o) (sym c.in-Some.is)
     (subst (λ (n : Memory). RemembersAnswer key n c.remember.new.self (Some s)) was

@@ -1,4 +1,3 @@
--- `retire`: its clauses `change` and `log`; what `hide`, `unpublish` and `snapshots` require; the invariant of `keeper`.
 use Rattle.std.proofs.Common.{◌≡◌, ◌++◌, ◌∙◌, ◌+◌, ◌*◌, ◌<◌, ◌≤◌, List, length, vec_len, sym, ap, subst, set, arith, rules}
 use Rattle.std.proofs.lemmas.List.{map-set}
 use Rattle.passive_list.specs.Types.{Settings, Hide, Unpublish, Done, Live, LogItem, Mark, KeeperView, Keeper}
@@ -47,20 +46,18 @@ hide-requires-clause-may c =
 pub unpublish-requires-clause-may : goal.unpublish-requires-clause-may
 unpublish-requires-clause-may c =
     let at = goal.at.unpublish-requires-clause-may c in
-    let inside = c.keeper.inside in
     let our = hidden at.After-hide in
-    may_unpublish inside.settings c.hide.new.keeper.view inside.rows.items c.args.slot c.in-Live.entry c.slot_above-before.result c.link_below-link.result our.view our.rows
-    (is_live at.In-Live) (before at.After-slot_above-before) (leads at.After-link_below-link)
-    (ap (λ (x : KeeperView). live_at x.lives c.args.slot) c.hide.ensures.change ∙ zero_stored inside.seat.view.lives c.args.slot)
+    may_unpublish _ _ _ _ _ _ _ our.view our.rows (is_live at.In-Live) (before at.After-slot_above-before) (leads at.After-link_below-link)
+    (ap (λ (x : KeeperView). live_at x.lives c.args.slot) c.hide.ensures.change ∙ zero_stored c.keeper.inside.seat.view.lives c.args.slot)
 
 pub snapshots-requires-clause-is_shown : goal.snapshots-requires-clause-is_shown
 snapshots-requires-clause-is_shown c = step_is_shown c.unpublish.ensures.step.event
 
 pub snapshots-requires-clause-room : goal.snapshots-requires-clause-room
 snapshots-requires-clause-room c =
-    let inside = c.keeper.inside in
-    let fits = slot_below inside.settings c.args.slot (there (goal.at.snapshots-requires-clause-room c).In-Live).0 in
-    let room : c.args.slot * inside.settings.cpus + inside.settings.cpus ≤ length inside.marks.items = omega (arith, fits, c.keeper.invariant.1.size) in
+    let a = c.keeper.inside.settings in
+    let room : c.args.slot * a.cpus + a.cpus ≤ length c.keeper.inside.marks.items =
+    omega (arith, slot_below a c.args.slot (there (goal.at.snapshots-requires-clause-room c).In-Live).0, c.keeper.invariant.1.size) in
     search (rules, room)
 
 pub invariant_of-keeper : goal.invariant_of-keeper
@@ -68,33 +65,28 @@ invariant_of-keeper c =
     let at = goal.at.invariant_of-keeper c in
     let inside = c.keeper.inside in
     let a = inside.settings in
-    let rows = inside.rows.items in
-    let k = c.hide.new.keeper.view in
-    let l = c.snapshots.new.seat.view in
     let t = c.args.slot in
-    let e = c.in-Live.entry in
     let p = c.slot_above-before.result in
     let v = c.link_below-link.result in
+    let l = c.snapshots.new.seat.view in
     let taken = c.snapshots.ensures.taken in
     let our = hidden at.After-hide in
-    let live = live_in a k rows t e our.rows (state_at rows t ∙ is_live at.In-Live) in
-    let is = snapped_is k c.unpublish.new.keeper.view l t e p v taken.0 live.1 c.unpublish.ensures.change taken.2 in
-    let row = row_read a k rows t c.index_mut.result.now our.rows live.0 c.index_mut.ensures.value in
+    let live = live_in _ _ _ _ c.in-Live.entry our.rows (state_at inside.rows.items t ∙ is_live at.In-Live) in
+    let is = snapped_is c.hide.new.keeper.view _ l t c.in-Live.entry p v taken.0 live.1 c.unpublish.ensures.change taken.2 in
+    let row = row_read _ _ _ _ _ our.rows live.0 c.index_mut.ensures.value in
     let written = subst (λ (ms : List Mark). AreWritten (t * a.cpus) a.cpus taken.0 ms c.snapshots.new.marks) c.deref_mut.ensures.value taken.3 in
-    let marks = marks_stay a inside.seat.view k inside.marks.items (ap (λ (x : KeeperView). x.marks) c.hide.ensures.change) c.keeper.invariant.1 in (
-      subst (λ (r : KeptSlot). IsOurKeeper a l (set rows t (row_retired r e)) (inside.changes + 1)) (sym row)
-          (detached_keeper a k l rows inside.changes t e p v taken.0 our (is_live at.In-Live) taken.1.size is c.snapshots.ensures.is_shown),
+    let marks = marks_stay _ _ c.hide.new.keeper.view _ (ap (λ (x : KeeperView). x.marks) c.hide.ensures.change) c.keeper.invariant.1 in (
+      subst (λ (r : KeptSlot). IsOurKeeper a l (set inside.rows.items t (row_retired r c.in-Live.entry)) (inside.changes + 1)) (sym row)
+          (detached_keeper _ _ _ _ _ _ _ p v _ our (is_live at.In-Live) taken.1.size is c.snapshots.ensures.is_shown),
       subst (λ (ms : List Mark). MarksAgree a l ms) (sym (written_back (vec_len inside.marks) inside.marks.items c.snapshots.new.marks (taken.3.size ∙ c.deref_mut.ensures.len)))
-          (detached_marks a k l inside.marks.items c.snapshots.new.marks t e p v taken.0 our.view marks live.0 written is),
+          (detached_marks _ _ _ _ _ _ _ p v _ our.view marks live.0 written is),
     )
 
 pub returns-clause-change : goal.returns-clause-change
 returns-clause-change c =
     let at = goal.at.returns-clause-change c in
-    let inside = c.keeper.inside in
-    let a = inside.settings in
-    let rows = inside.rows.items in
-    let k = inside.seat.view in
+    let rows = c.keeper.inside.rows.items in
+    let k = c.keeper.inside.seat.view in
     let h = c.hide.new.keeper.view in
     let t = c.args.slot in
     let e = c.in-Live.entry in
@@ -103,14 +95,14 @@ returns-clause-change c =
     let taken = c.snapshots.ensures.taken in
     let our = c.keeper.invariant.0 in
     let hid : h ≡ keeper_after_live k t 0 = c.hide.ensures.change in
-    let live = live_in a h rows t e (hidden at.After-hide).rows (state_at rows t ∙ is_live at.In-Live) in
+    let live = live_in _ h _ _ e (hidden at.After-hide).rows (state_at rows t ∙ is_live at.In-Live) in
     let new = row_retired c.index_mut.result.now e in
     let b : OnKeeper = record { view = c.snapshots.new.seat.view; slots = states_of (set rows t new); log = c.snapshots.new.seat.log } in
     subst (λ (x : OnPlainKeeper). HasDetached x.keeper t e b) c.keeper.view_is record {
       before = p;
-      is_before = before_in a k rows e.number p our.view our.rows (before at.After-slot_above-before);
+      is_before = before_in _ _ _ _ p our.view our.rows (before at.After-slot_above-before);
       link = v;
-      leads = leads_in a k rows e.number v our.view our.rows (leads at.After-link_below-link);
+      leads = leads_in _ _ _ _ v our.view our.rows (leads at.After-link_below-link);
       hidden = subst (λ (x : KeeperView). Makes (Hide t) Done (Keeper k) (Keeper x)) hid c.hide.ensures.step.event;
       made = subst (λ (x : KeeperView). Makes (Unpublish t) Done (Keeper x) (Keeper (keeper_after_unpublish x t e p v))) hid
           (subst (λ (x : KeeperView). Makes (Unpublish t) Done (Keeper h) (Keeper x)) (unpublished_is h c.unpublish.new.keeper.view t e p v live.1 c.unpublish.ensures.change) c.unpublish.ensures.step.event);

@@ -1,4 +1,3 @@
--- `snapshots`: that each turn of its loop keeps the invariants; that an index is in range; its clause `taken`.
 use Rattle.std.proofs.Common.{◌≡◌, ◌+◌, ◌*◌, ℕ, suc, set, sym, ◌∙◌, subst, arith}
 use Rattle.protocol.specs.Common.{snapshot_mark}
 use Rattle.passive_list.specs.Common.{AreWritten, LogsSnapshots}
@@ -13,7 +12,6 @@ loop-c-preserved c =
     let i = c.loop-c.invariant in
     let row = i.1.0 in
     let w = c.snapshot-word.result in
-    let room = c.requires.room in
     let size = i.1.2.size in
     let next : suc c.loop-c.c ≡ c.loop-c.c + 1 = omega arith in (
       c.snapshot-word.ensures.step.table ∙ i.0,
@@ -23,7 +21,7 @@ loop-c-preserved c =
             c.snapshot-word.ensures.change,
         one_taken c.loop-c.c w row (omega (arith, lt, few)) i.1.2,
         subst (λ (p : ℕ). AreWritten (c.args.slot * c.args.cpus) (c.loop-c.c + 1) (set row c.loop-c.c (snapshot_mark w)) c.args.marks.now (set c.loop-c.marks p (snapshot_mark w))) (sym c.mark_place.ensures)
-            (one_written (c.args.slot * c.args.cpus) c.loop-c.c row c.args.marks.now c.loop-c.marks (snapshot_mark w) (omega (arith, room, lt)) (omega (arith, size, lt, few)) i.1.3),
+            (one_written (c.args.slot * c.args.cpus) c.loop-c.c row c.args.marks.now c.loop-c.marks (snapshot_mark w) (omega (arith, c.requires.room, lt)) (omega (arith, size, lt, few)) i.1.3),
       ),
       step_is_shown c.snapshot-word.ensures.step.event,
       subst (λ (n : ℕ). LogsSnapshots c.args.slot n c.args.seat.now.log c.snapshot-word.new.keeper.log) next (c.loop-c.seat.log, w, i.3, c.snapshot-word.ensures.step.log),

@@ -1,10 +1,10 @@
--- `vacate`: its clause `change`; what `vacate` requires; the invariant of `keeper`.
 use Rattle.std.proofs.Common.{◌∙◌, set, sym, ap, subst}
+use Rattle.std.proofs.lemmas.List.{append_assoc, map-set}
 use Rattle.protocol.specs.Common.{kept_at}
 use Rattle.cpu_words.proofs.seats.Seating.{step_is_shown}
-use Rattle.passive_list.specs.Common.{KeptSlot, OnPlainKeeper, IsDrainedOn, IsOurKeeper}
+use Rattle.passive_list.specs.Common.{KeptSlot, OnKeeper, OnPlainKeeper, HasVacated, IsDrainedOn, IsOurKeeper, state_of, states_of}
 use Rattle.passive_list.specs.Types.{KeeperView}
-use Rattle.passive_list.proofs.Marks.{marks_stay, has_vacated, row_vacated, vacated_keeper}
+use Rattle.passive_list.proofs.Marks.{marks_stay, row_vacated, vacated_keeper}
 use Rattle.passive_list.proofs.Rows.{retired_in, row_read}
 use Rattle.passive_list.proofs.vacating.vacate.Goals as goal
 
@@ -16,23 +16,26 @@ vacate-requires-clause-may c = record {
 
 pub invariant_of-keeper : goal.invariant_of-keeper
 invariant_of-keeper c =
-    let inside = c.keeper.inside in
-    let a = inside.settings in
-    let k = inside.seat.view in
+    let i = c.keeper.inside in
     let l = c.vacate.new.keeper.view in
-    let rows = inside.rows.items in
-    let t = c.args.slot in
-    let drained = subst (λ (x : OnPlainKeeper). IsDrainedOn x.keeper t) (sym c.keeper.view_is) c.requires.drained in
+    let drained = subst (λ (x : OnPlainKeeper). IsDrainedOn x.keeper c.args.slot) (sym c.keeper.view_is) c.requires.drained in
     let agree = c.keeper.invariant.0.rows in
-    let row = row_read a k rows t c.index_mut.result.now agree (retired_in a k rows t drained.retired.0 agree drained.retired.1).0 c.index_mut.ensures.value in (
-      subst (λ (r : KeptSlot). IsOurKeeper a l (set rows t (row_vacated r)) inside.changes) (sym row)
-          (vacated_keeper a k l rows inside.changes t c.keeper.invariant.0 drained c.vacate.ensures.change (step_is_shown c.vacate.ensures.event)),
-      marks_stay a k l inside.marks.items (ap (λ (x : KeeperView). x.marks) c.vacate.ensures.change) c.keeper.invariant.1,
+    let row = row_read _ _ _ _ _ agree (retired_in _ _ _ _ _ agree drained.retired.1).0 c.index_mut.ensures.value in (
+      subst (λ (r : KeptSlot). IsOurKeeper i.settings l (set i.rows.items c.args.slot (row_vacated r)) i.changes) (sym row)
+          (vacated_keeper _ _ _ _ _ _ c.keeper.invariant.0 drained c.vacate.ensures.change (step_is_shown c.vacate.ensures.event)),
+      marks_stay _ _ l _ (ap (λ (x : KeeperView). x.marks) c.vacate.ensures.change) c.keeper.invariant.1,
     )
 
 pub returns-clause-change : goal.returns-clause-change
 returns-clause-change c =
-    let inside = c.keeper.inside in
-    has_vacated inside.settings inside.seat.view c.vacate.new.keeper.view inside.rows.items c.args.slot c.index_mut.result.now c.args.keeper.now.keeper
-    (ap (λ (x : OnPlainKeeper). x.keeper) c.keeper.view_is) c.keeper.invariant.0.rows c.vacate.ensures.event c.vacate.ensures.hears c.vacate.ensures.change c.vacate.ensures.step.log
-    c.vacate.ensures.freed
+    let rows = c.keeper.inside.rows.items in
+    let new = row_vacated c.index_mut.result.now in
+    let b : OnKeeper = record { view = c.vacate.new.keeper.view; slots = states_of (set rows c.args.slot new); log = c.vacate.new.keeper.log } in
+    subst (λ (x : OnPlainKeeper). HasVacated x.keeper c.args.slot b) c.keeper.view_is record {
+      made = c.vacate.ensures.event;
+      heard = c.vacate.ensures.hears;
+      view = c.vacate.ensures.change;
+      slots = map-set state_of rows c.args.slot new;
+      log = rw append_assoc c.vacate.ensures.step.log;
+      freed = λ e at. c.vacate.ensures.freed e (retired_in _ _ _ _ _ c.keeper.invariant.0.rows at).1;
+    }

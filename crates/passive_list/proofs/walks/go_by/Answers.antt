@@ -1,8 +1,9 @@
 -- The words of a slot, one after the other.
-use Rattle.std.proofs.Common.{refl}
+use Rattle.std.proofs.Common.{refl, ap}
+use Rattle.passive_list.specs.Types.{CpuView}
 use Rattle.passive_list.specs.Common.{nobody}
-use Rattle.passive_list.proofs.GoingOver.{compared, may_load_value, gone_by}
-use Rattle.passive_list.proofs.Walking.{at_kind, at_high, at_low, may_load}
+use Rattle.passive_list.proofs.GoingOver.{compared, gone_by}
+use Rattle.passive_list.proofs.Walking.{at_kind, at_high, at_low, may_follow, may_load}
 use Rattle.passive_list.proofs.walks.go_by.Goals as goal
 
 pub load_searched-kind-requires-clause-may : goal.load_searched-kind-requires-clause-may
@@ -19,8 +20,8 @@ load_searched-low-requires-clause-may c =
 
 pub load_compared-value-requires-clause-may : goal.load_compared-value-requires-clause-may
 load_compared-value-requires-clause-may c =
-    may_load_value _ _ _ _ _ _ _ _ (compared _ _ _ _ _ _ c.args.slot _ _ _ _
-    c.load_searched-number.ensures.change c.load_searched-kind.ensures.change c.load_searched-high.ensures.change c.load_searched-low.ensures.change c.requires.may.under_way c.requires.may.tells)
+    may_follow _ nobody _ _ (ap (λ (v : CpuView). v.search) (compared _ _ _ _ _ _ c.args.slot _ _ _ _
+    c.load_searched-number.ensures.change c.load_searched-kind.ensures.change c.load_searched-high.ensures.change c.load_searched-low.ensures.change c.requires.may.under_way c.requires.may.tells).is)
 
 pub returns-clause-change : goal.returns-clause-change
 returns-clause-change c = λ from at tells.

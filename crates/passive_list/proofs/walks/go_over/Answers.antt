@@ -1,10 +1,10 @@
 -- One slot on the list after the other.
-use Rattle.std.proofs.Common.{◌≡◌, ◌≤◌, suc, ◌+◌, ◌-◌, ◌<◌, [], ◌∷◌, ◌++◌, length, set, refl, sym, ap, ◌∙◌, subst, arith, length-append, length-set, append_assoc}
-use Rattle.passive_list.specs.Types.{Entry, Iface, Key, Seek, LoadLink, Done, Settings, MOST_SLOTS}
+use Rattle.std.proofs.Common.{◌≡◌, suc, ◌-◌, ◌<◌, [], ◌∷◌, ◌++◌, length, set, refl, sym, ap, ◌∙◌, subst, arith, length-append, length-set, append_assoc}
+use Rattle.passive_list.specs.Types.{Entry, Iface, Key, Seek, LoadLink, Done, Settings, MOST_SLOTS, CpuView}
 use Rattle.cpu_words.specs.Common.{did, HasFollowed, cpu_after_seek, search_for, key_with, link_answer}
 use Rattle.cpu_words.proofs.seats.Seating.{step_is_shown}
-use Rattle.passive_list.specs.Common.{nobody, HasGoneOverBy, IsGoingOver, IsWritten}
-use Rattle.passive_list.proofs.GoingOver.{going_begins, on_slot, slot_within, may_go_by, may_go_on, room_for_next, goes_by_next, none_written, one_more_written, few_gone_over, going_id, slot_id, gone_over}
+use Rattle.passive_list.specs.Common.{nobody, IsGoingOver, IsWritten}
+use Rattle.passive_list.proofs.GoingOver.{going_begins, on_slot, slot_within, may_go_by, may_go_on, room_for_next, goes_by_next, none_written, one_more_written, few_stood_on, going_id, gone_by_there, gone_over}
 use Rattle.passive_list.proofs.Walking.{walk_begun, one_gone_by, walk_over}
 use Rattle.passive_list.proofs.walks.go_over.Given.{Over}
 use Rattle.passive_list.proofs.walks.go_over.Goals.{After-go_by-entry}
@@ -51,21 +51,19 @@ room g c = omega (arith, room_for_next _ _ _ _ _ _ (on g c) c.go_by-entry.ensure
 
 pub load_link-link-requires-clause-cpu : goal.load_link-link-requires-clause-cpu
 load_link-link-requires-clause-cpu g c =
-    (c.requires.cpu.0, slot_id _ _ _ _ _ _ (on g (goal.at.load_link-link-requires-clause-cpu g c).After-go_by-entry) c.go_by-entry.ensures.change ∙ c.loop-link.invariant.cpu)
+    (c.requires.cpu.0, ap (λ (v : CpuView). v.id) (gone_by_there _ _ _ _ _ _ (on g (goal.at.load_link-link-requires-clause-cpu g c).After-go_by-entry) c.go_by-entry.ensures.change).is ∙ c.loop-link.invariant.cpu)
 
 pub load_link-link-requires-clause-slot : goal.load_link-link-requires-clause-slot
 load_link-link-requires-clause-slot g c =
     let within = slot_within _ _ _ _ (on g (goal.at.load_link-link-requires-clause-slot g c).After-go_by-entry) in
-    let same = ap (λ (z : Settings). z.slots) c.requires.settings in
-    (omega (arith, c.loop-link-test.true), omega (arith, within), omega (arith, within, same))
+    (omega (arith, c.loop-link-test.true), omega (arith, within), omega (arith, within, ap (λ (z : Settings). z.slots) c.requires.settings))
 
 pub load_link-link-requires-clause-may : goal.load_link-link-requires-clause-may
 load_link-link-requires-clause-may g c = may_go_on _ _ _ _ _ _ (on g (goal.at.load_link-link-requires-clause-may g c).After-go_by-entry) c.go_by-entry.ensures.change
 
 pub loop-link-smaller : goal.loop-link-smaller
 loop-link-smaller g c =
-    let few = room g (goal.at.loop-link-smaller g c).After-go_by-entry in
-    omega (arith, few)
+    omega (arith, room g (goal.at.loop-link-smaller g c).After-go_by-entry)
 
 pub loop-link-preserved : goal.loop-link-preserved
 loop-link-preserved g c =
@@ -106,5 +104,5 @@ pub returns-clause-log : goal.returns-clause-log
 returns-clause-log g c =
     let x = c.args.seat.now.view in
     let had = c.loop-link.invariant.met in
-    let few = few_gone_over x c.loop-link.seat.view had.0 c.loop-link.link had.2 in
+    let few = (few_stood_on _ _ _ _ had.0 had.2.tells had.2.over).0 in
     walk_over c.args.cpu x.settings.slots c.loop-link.link c.loop-link.count _ _ c.loop-link-test.false (omega (arith, few, had.1)) c.loop-link.invariant.log c.loop-link.invariant.ends

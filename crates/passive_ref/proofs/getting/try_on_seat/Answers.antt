@@ -1,5 +1,4 @@
 -- The steps on the words, one after the other.
-use Rattle.std.proofs.Common.{◌∙◌}
 use Rattle.passive_ref.proofs.Gets.{ends_in_vain, ends_well, taken_as, vain}
 use Rattle.passive_ref.proofs.getting.try_on_seat.Goals as goal
 

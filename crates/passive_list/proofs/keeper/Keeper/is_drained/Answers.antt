@@ -1,4 +1,3 @@
--- `Keeper::is_drained`: what it returns.
 use Rattle.std.proofs.Common.{◌≡◌, ◌∙◌, ◌<◌, [], get_or, take, ap, refl, sym, subst}
 use Rattle.passive_list.specs.Common.{KeptSlot, OnPlainKeeper, IsDrainedOn, is_drained_row}
 use Rattle.passive_list.proofs.Rows.{row_read}

@@ -1,5 +1,4 @@
--- `Keeper::of_seat`: its clause `keeper`; the invariant of `result`.
-use Rattle.std.proofs.Common.{List, sym, ap, subst, arith, ◌∙◌, length}
+use Rattle.std.proofs.Common.{List, sym, ap, subst, arith, length}
 use Rattle.passive_list.specs.Types.{KeeperView, Mark}
 use Rattle.cpu_words.specs.Common.{IsShown, keeper_with}
 use Rattle.cpu_words.proofs.seats.Seating.{seated_is_shown}
