@@ -7,7 +7,7 @@ use Rattle.registry_report.specs.Types.{Kind, Iface, Driver, Entry, Attach, Deta
 use Rattle.registry_values.specs.Common.{key_of_record, is_iface, is_driver, found_answer, least_below, stage_of}
 use Rattle.registry_values.proofs.Answers as answers
 use Rattle.registry_values.proofs.Slots.{none_is, least_none}
-use Rattle.protocol.specs.Common.{keeps_rightly, after_change, IsLegal, IsLiveAt, IsLookup, Model, put, IsDriverHere, Stays, Goes_on, Attaches, Detaches, Sees, EndsAt, with_locals, IsUnheld, Gives_up, Uncounts, Vacates}
+use Rattle.protocol.specs.Common.{MayHold, keeps_rightly, after_change, IsLegal, IsLiveAt, IsLookup, Model, put, IsDriverHere, Stays, Goes_on, Attaches, Detaches, Sees, EndsAt, with_locals, IsUnheld, Gives_up, Uncounts, Vacates}
 use Rattle.protocol.specs.History.{change_at}
 use Rattle.protocol.specs.Model.{Keeps}
 use Rattle.protocol.proofs.History.{hold_was, hold_old, at_new, at_within, attached_old, length-after_change, one_entry}
@@ -16,7 +16,7 @@ use Rattle.protocol.proofs.keeps.Linking.{legal_attach, live_cases, attached_bef
 use Rattle.protocol.proofs.keeps.SectionKeeps.{none_from, some_from}
 use Rattle.protocol.proofs.Either.{either}
 use Rattle.passive_core.proofs.Advancing.{least_some}
-use Rattle.registry_report.specs.Common.{attach_answer, attach_iface_answer, detach_answer, given_entry, command_answer, is_inside, is_available, lookup_now, first_fit, room_of, plug_answer, with_label, entry_of, is_driver_entry, is_driver_number, Registry, HasSlot, IsSound, IsSoundModel, IsLawfulTurn, after_plug, with_attached, with_detached, with_reference_kept, on_ok, on_some, with_attached_iface, with_all_seen, with_entry, advance_answer, has_passive, has_section, held_count, is_this, first_obstacle, retired_slot, slot_of, stage_in, end_of, has_ended, may_hold, after_advance, after_destroy, with_freed, after_stage}
+use Rattle.registry_report.specs.Common.{attach_answer, attach_iface_answer, detach_answer, given_entry, command_answer, is_inside, is_available, lookup_now, first_fit, room_of, with_label, entry_of, is_driver_entry, is_driver_number, Registry, HasSlot, IsSound, IsSoundModel, IsLawfulTurn, with_attached, with_detached, with_reference_kept, on_ok, on_some, with_attached_iface, with_all_seen, with_entry, advance_answer, has_passive, has_section, held_count, is_this, first_obstacle, retired_slot, slot_of, stage_in, end_of, has_ended, may_hold, after_advance, with_freed, after_stage}
 use Rattle.registry_report.proofs.Lookups.{entry_is, lookup_is, end_tells}
 use Rattle.registry_report.proofs.sound.Turns.{dropped_counts, else_ok, hitched_ok, idle_turn, labelled_counts, not_ok, ok_turn, put_capped, put_cases, put_none, same_ok, still_there, count_none, is_this_own, is_this_tells, still_beside}
 
@@ -134,26 +134,14 @@ attached_lawful r c rec e on is =
       refl,
     )
 
-pub attach_turn : (r : Registry) (c : ℕ) (rec : Record) → IsSound r → IsLawfulTurn r (on_ok r (attach_answer r c rec) (with_attached r c))
-attach_turn r c rec on = ok_turn r (attach_answer r c rec) (with_attached r c) on (λ e is. attached_lawful r c rec e on is)
-
 -- Plug
 
 -- a slot takes the reference of a label over
 keep_keeps : (z : Settings) (m : Model) (labels : ℕ → Option ℕ) (t x d : ℕ) → IsSoundModel z m labels → t < z.slots → labels x ≡ Some d → IsSoundModel z (with_reference_kept m t d) (put labels x None)
-keep_keeps z m labels t x d on lt at = record {
-  legal = on.legal;
-  live = on.live;
-  held = on.held;
-  begun = on.begun;
-  seen = on.seen;
-  unsearching = on.unsearching;
-  last_found = on.last_found;
-  referring = on.referring;
-  keeping = λ u n is. either (put_cases m.keeps t (Some d) u) (λ here. omega (arith, here.0)) (λ off. on.keeping u n (sym off.1 ∙ is));
-  labelled = λ y n is. on.labelled y n (put_none labels x y n is).1;
-  counted = dropped_counts labels m.locals x d at on.counted;
-}
+keep_keeps z m labels t x d on lt at =
+    let keeping : (u n : ℕ) → put m.keeps t (Some d) u ≡ Some n → u < z.slots =
+    λ u n is. either (put_cases m.keeps t (Some d) u) (λ here. omega (arith, here.0)) (λ off. on.keeping u n (sym off.1 ∙ is)) in
+    assumption (λ (y n : ℕ) (is : put labels x None y ≡ Some n). on.labelled y n (put_none labels x y n is).1, dropped_counts labels m.locals x d at on.counted)
 
 -- what a label names, and is a driver by its number, is in its slot
 driver_here : (m : Model) (d : ℕ) → HasSlot m.history m.occupants d → is_driver_number m.history d ≡ true → IsDriverHere m d
@@ -186,15 +174,12 @@ plugged_lawful r c rec x d e on iface at is =
       refl,
     )
 
-plug_by : (r : Registry) (c : ℕ) (rec : Record) (x : ℕ) (o : Option ℕ) → IsSound r → is_iface rec.kind ≡ true → r.local_labels x ≡ o
+-- a record that is plugged is an interface's
+pub plug_by : (r : Registry) (c : ℕ) (rec : Record) (x : ℕ) (o : Option ℕ) → IsSound r → is_iface rec.kind ≡ true → r.local_labels x ≡ o
     → IsLawfulTurn r (on_some r o (λ d. on_ok r (with_label o (λ d. command_answer (attach_iface_answer r c rec d))) (λ e. with_attached_iface r c e x d)))
 plug_by r c rec x None on iface at = idle_turn r on
 plug_by r c rec x (Some d) on iface at = ok_turn r (command_answer (attach_iface_answer r c rec d)) (λ e. with_attached_iface r c e x d) on
     (λ e is. plugged_lawful r c rec x d e on iface at (hitched_ok (attach_iface_answer r c rec d) e is))
-
--- a record that is plugged is an interface's
-pub plug_turn : (r : Registry) (c : ℕ) (rec : Record) (x : ℕ) → IsSound r → is_iface rec.kind ≡ true → IsLawfulTurn r (after_plug r c x (plug_answer r c rec x))
-plug_turn r c rec x on iface = plug_by r c rec x (r.local_labels x) on iface refl
 
 -- Detach
 
@@ -213,9 +198,6 @@ detached_lawful r c key e on is =
           (Sees c (length (after_change r.model.history (Detach e.number))) le (omega arith)),
       refl,
     )
-
-pub detach_turn : (r : Registry) (c : ℕ) (key : Key) → IsSound r → IsLawfulTurn r (on_ok r (detach_answer r c key) (with_detached r c))
-detach_turn r c key on = ok_turn r (detach_answer r c key) (with_detached r c) on (λ e is. detached_lawful r c key e on is)
 
 -- If nothing is in the way of a retired entry, its slot is freed by lawful steps.
 
@@ -284,28 +266,16 @@ free_tells r n t on is =
 vacate_keeps : (z : Settings) (m : Model) (labels : ℕ → Option ℕ) (t n p : ℕ) (keeps : ℕ → Option ℕ) → IsSoundModel z m labels → m.occupants t ≡ Some n → EndsAt m.history n p → IsUnheld m n
     → ((u d : ℕ) → keeps u ≡ Some d → m.keeps u ≡ Some d) → IsSoundModel z (record m { occupants = put m.occupants t None; keeps = keeps }) labels
 vacate_keeps z m labels t n p keeps on at ends unheld kept =
-    record {
-      legal = on.legal;
-      live = λ e live. still_beside m.occupants t e.slot n e.number at (on.live e live)
-          (λ same. let late = live.unended p (subst (λ (k : ℕ). EndsAt m.history k p) (sym same) ends) in omega (arith, late, (at_within m.history p _ ends).1));
-      held = λ c b e in_ hold. still_beside m.occupants t e.slot n e.number at (on.held c b e in_ hold) (λ same. unheld.sections c b e in_ hold same);
-      begun = on.begun;
-      seen = on.seen;
-      unsearching = on.unsearching;
-      last_found = on.last_found;
-      referring = on.referring;
-      keeping = λ u d is. on.keeping u d (kept u d is);
-      labelled = λ x k is.
-          let was = on.labelled x k is in
-          record {
-            entry = was.entry;
-            attached = was.attached;
-            numbered = was.numbered;
-            occupant = still_beside m.occupants t was.entry.slot n k at was.occupant
-                (λ same. omega (arith, labelled_counts labels x k is, on.counted k (suc x), ap m.locals same, unheld.locals));
-          };
-      counted = on.counted;
-    }
+    let live : (e : Entry) → IsLiveAt m.history (length m.history) e → put m.occupants t None e.slot ≡ Some e.number =
+    λ e live. still_beside m.occupants t e.slot n e.number at (on.live e live)
+    (λ same. let late = live.unended p (subst (λ (k : ℕ). EndsAt m.history k p) (sym same) ends) in omega (arith, late, (at_within m.history p _ ends).1)) in
+    let held : (c b : ℕ) (e : Entry) → m.sections c ≡ Some b → MayHold m.history b e → put m.occupants t None e.slot ≡ Some e.number =
+    λ c b e in_ hold. still_beside m.occupants t e.slot n e.number at (on.held c b e in_ hold) (λ same. unheld.sections c b e in_ hold same) in
+    let labelled : (x k : ℕ) → labels x ≡ Some k → HasSlot m.history (put m.occupants t None) k = λ x k is.
+    let was = on.labelled x k is in
+    let there = still_beside m.occupants t was.entry.slot n k at was.occupant (λ same. omega (arith, labelled_counts labels x k is, on.counted k (suc x), ap m.locals same, unheld.locals)) in
+    record { entry = was.entry; attached = was.attached; numbered = was.numbered; occupant = there } in
+    assumption (λ (u d : ℕ) (is : keeps u ≡ Some d). on.keeping u d (kept u d is))
 
 -- Freed
 
@@ -326,20 +296,14 @@ freed_by r n t (Some d) on free at =
       refl,
     )
 
-pub freed_lawful : (r : Registry) (n t : ℕ) → IsSound r → advance_answer r n ≡ Ok (Freed t) → IsLawfulTurn r (with_freed r t (r.model.keeps t))
-freed_lawful r n t on is = freed_by r n t (r.model.keeps t) on (free_tells r n t on is) refl
-
 pub staged_lawful : (r : Registry) (n : ℕ) (stage : Stage) → IsSound r → advance_answer r n ≡ Ok stage → IsLawfulTurn r (after_stage r n stage)
 staged_lawful r n (Local k) on is = (on, Stays, refl)
-staged_lawful r n (Freed t) on is = freed_lawful r n t on is
+staged_lawful r n (Freed t) on is = freed_by r n t (r.model.keeps t) on (free_tells r n t on is) refl
 staged_lawful r n _ on is = idle_turn r on
 
 pub advance_turn : (r : Registry) (n : ℕ) → IsSound r → IsLawfulTurn r (after_advance r n)
 advance_turn r n on = ok_turn r (advance_answer r n) (after_stage r n) on (λ stage is. staged_lawful r n stage on is)
 
-destroyed_by : (r : Registry) (n : ℕ) (b : Bool) → IsSound r → IsLawfulTurn r (if b then r else after_advance r n)
+pub destroyed_by : (r : Registry) (n : ℕ) (b : Bool) → IsSound r → IsLawfulTurn r (if b then r else after_advance r n)
 destroyed_by r n true on = idle_turn r on
 destroyed_by r n false on = advance_turn r n on
-
-pub destroy_turn : (r : Registry) (c n : ℕ) → IsSound r → IsLawfulTurn r (after_destroy r c n)
-destroy_turn r c n on = destroyed_by r n (is_inside r c) on

@@ -1,79 +1,59 @@
 -- Enter, exit and find are runs of lawful steps, and so are those of passive and local references.
-use Rattle.std.proofs.Common.{◌≡◌, ℕ, ◌+◌, ◌<◌, length, Option, Some, None, Bool, true, false, not, refl, sym, ap, subst, ◌∙◌, arith, suc, ◌-◌, nat_lt, ltb-true}
+use Rattle.std.proofs.Common.{◌≡◌, ℕ, ◌+◌, ◌<◌, ◌≤◌, length, Option, Some, None, Bool, true, false, not, refl, sym, ap, subst, ◌∙◌, arith, suc, ◌-◌, nat_lt, ltb-true}
 use Rattle.std.specs.Prelude.{Ok, if◌then◌else◌, ◌==◌, Result}
 use Rattle.std.proofs.lemmas.Option.{same_Some, none-some}
 use Rattle.registry_report.specs.Types.{Entry, Attach, Settings, Key, CorePsref, Refusal, NothingFound, NotHeld, WrongCpu}
 use Rattle.registry_values.specs.Common.{why_full}
 use Rattle.registry_values.proofs.Slots.{none_is}
-use Rattle.protocol.specs.Common.{IsLawful, IsLiveAt, IsLookup, Lookup, Model, put, IsModelRun, Stays, TakesNone, Goes_on, Answers, Enters, Exits, Seeks, Sees, with_locals, with_passive, Acquires, Copies, Counts, Releases, Uncounts}
+use Rattle.protocol.specs.Common.{IsLawful, MayHold, IsLiveAt, IsLookup, Lookup, Model, put, IsModelRun, Stays, TakesNone, Goes_on, Answers, Enters, Exits, Seeks, Sees, with_locals, with_passive, Acquires, Copies, Counts, Releases, Uncounts}
 use Rattle.protocol.proofs.History.{at_within}
 use Rattle.protocol.proofs.model.RefiningSections.{Alike, put_here, put_is, put_other, same_model}
 use Rattle.protocol.proofs.keeps.SectionKeeps.{some_from}
 use Rattle.protocol.proofs.Either.{either}
-use Rattle.registry_report.specs.Common.{Hitch, NotInside, enter_answer, exit_answer, find_answer, is_inside, lookup_now, Registry, IsSound, IsSoundModel, IsLawfulTurn, with_section_begun, with_section_entered, with_section_exited, with_found, on_ok, with_all_seen, LabelTaken, NoLabel, acquire_answer, copy_answer, count_answer, command_answer, if_free, misuse, one_more, reference_answer, release_answer, uncount_answer, unless, why_uncounted, with_label, HasSlot, with_one_counted, with_reference, without_reference, with_one_uncounted}
+use Rattle.registry_report.specs.Common.{Hitch, NotInside, exit_answer, find_answer, is_inside, lookup_now, Registry, IsSound, IsSoundModel, IsLawfulTurn, with_section_begun, with_section_exited, with_found, with_all_seen, LabelTaken, NoLabel, acquire_answer, copy_answer, count_answer, command_answer, if_free, misuse, one_more, reference_answer, release_answer, uncount_answer, unless, why_uncounted, with_label, HasSlot, with_one_counted, with_reference, without_reference, with_one_uncounted}
 use Rattle.registry_report.specs.Turns as answers
 use Rattle.registry_report.proofs.Lookups.{lookup_is}
-use Rattle.registry_report.proofs.sound.Turns.{ok_turn, put_capped, put_cases, put_none, same_ok, still_there, then_ok, added_counts, dropped_counts, hitched_ok, labelled_counts, not_ok}
+use Rattle.registry_report.proofs.sound.Turns.{put_capped, put_cases, put_none, same_ok, still_there, then_ok, added_counts, dropped_counts, hitched_ok, labelled_counts, not_ok}
 
 -- Enter
 
 -- a section that begins may hold just who is live
 begin_keeps : (z : Settings) (m : Model) (labels : ℕ → Option ℕ) (c : ℕ) → IsSoundModel z m labels → c < z.cpus → m.sections c ≡ None
     → IsSoundModel z (record (with_all_seen m c) { sections = put m.sections c (Some (length m.history)) }) labels
-begin_keeps z m labels c on lt out = record {
-  legal = on.legal;
-  live = on.live;
-  held = λ d b f in_ hold. either (put_cases m.sections c (Some (length m.history)) d)
-      (λ here.
-      let now : b ≡ length m.history = same_Some b (length m.history) (sym in_ ∙ here.1) in
-      on.live f (record { attached = hold.attached; begun = (at_within m.history f.number (Attach f) hold.attached).1; unended = λ p x. omega (arith, hold.unended p x) }))
-      (λ off. on.held d b f (sym off.1 ∙ in_) hold);
-  begun = λ d b in_. either (put_cases m.sections c (Some (length m.history)) d)
-      (λ here.
-      let now : b ≡ length m.history = same_Some b (length m.history) (sym in_ ∙ here.1) in
-      (omega (arith, here.0), omega arith))
-      (λ off. on.begun d b (sym off.1 ∙ in_));
-  seen = put_capped m.passes c (length m.history) (length m.history) on.seen (omega arith);
-  unsearching = on.unsearching;
-  last_found = λ d f is. let was = on.last_found d f is in (was.0, still_there m.sections c d (Some (length m.history)) was.0 out was.1, was.2);
-  referring = on.referring;
-  keeping = on.keeping;
-  labelled = on.labelled;
-  counted = on.counted;
-}
+begin_keeps z m labels c on lt out =
+    let top = length m.history in
+    let held : (d b : ℕ) (f : Entry) → put m.sections c (Some top) d ≡ Some b → MayHold m.history b f → m.occupants f.slot ≡ Some f.number =
+    λ d b f in_ hold. either (put_cases m.sections c (Some top) d)
+    (λ here.
+    let now : b ≡ top = same_Some b top (sym in_ ∙ here.1) in
+    on.live f (record { attached = hold.attached; begun = (at_within m.history f.number (Attach f) hold.attached).1; unended = λ p x. omega (arith, hold.unended p x) }))
+    (λ off. on.held d b f (sym off.1 ∙ in_) hold) in
+    let begun : (d b : ℕ) → put m.sections c (Some top) d ≡ Some b → (d < z.cpus) × (b ≤ top) = λ d b in_. either (put_cases m.sections c (Some top) d)
+    (λ here. (omega (arith, here.0), omega (arith, same_Some b top (sym in_ ∙ here.1))))
+    (λ off. on.begun d b (sym off.1 ∙ in_)) in
+    let last_found : (d : ℕ) (f : Entry) → m.found d ≡ Some f → (b : ℕ) × (put m.sections c (Some top) d ≡ Some b) × MayHold m.history b f =
+    λ d f is. let was = on.last_found d f is in (was.0, still_there m.sections c d (Some top) was.0 out was.1, was.2) in
+    assumption (put_capped m.passes c top top on.seen (omega arith))
 
-entered_by : (r : Registry) (c : ℕ) (b : Bool) → IsSound r → c < r.settings.cpus → is_inside r c ≡ b
+pub entered_by : (r : Registry) (c : ℕ) (b : Bool) → IsSound r → c < r.settings.cpus → is_inside r c ≡ b
     → IsLawfulTurn r (if b then record r { depths = put r.depths c (r.depths c + 1) } else with_section_begun r c)
 entered_by r c true on lt is = (on, Stays, refl)
 entered_by r c false on lt is =
     let out : r.model.sections c ≡ None = none_is (r.model.sections c) is in
     (begin_keeps r.settings r.model r.local_labels c on lt out, Goes_on r.model _ Stays (Enters c out), refl)
 
-pub entered_lawful : (r : Registry) (c : ℕ) → IsSound r → c < r.settings.cpus → IsLawfulTurn r (with_section_entered r c)
-entered_lawful r c on lt = entered_by r c (is_inside r c) on lt refl
-
-pub enter_turn : (r : Registry) (c : ℕ) → IsSound r → c < r.settings.cpus → IsLawfulTurn r (on_ok r (enter_answer r c) (λ done. with_section_entered r c))
-enter_turn r c on lt = ok_turn r (enter_answer r c) (λ done. with_section_entered r c) on (λ done is. entered_lawful r c on lt)
-
 -- Exit
 
 end_keeps : (z : Settings) (m : Model) (labels : ℕ → Option ℕ) (c : ℕ) → IsSoundModel z m labels → IsSoundModel z (record m { sections = put m.sections c None; found = put m.found c None }) labels
-end_keeps z m labels c on = record {
-  legal = on.legal;
-  live = on.live;
-  held = λ d b f in_ hold. on.held d b f (put_none m.sections c d b in_).1 hold;
-  begun = λ d b in_. on.begun d b (put_none m.sections c d b in_).1;
-  seen = on.seen;
-  unsearching = on.unsearching;
-  last_found = λ d f is.
-      let off = put_none m.found c d f is in
-      let was = on.last_found d f off.1 in
-      (was.0, put_other m.sections c None d off.0 ∙ was.1, was.2);
-  referring = on.referring;
-  keeping = on.keeping;
-  labelled = on.labelled;
-  counted = on.counted;
-}
+end_keeps z m labels c on =
+    let last_found : (d : ℕ) (f : Entry) → put m.found c None d ≡ Some f → (b : ℕ) × (put m.sections c None d ≡ Some b) × MayHold m.history b f = λ d f is.
+    let off = put_none m.found c d f is in
+    let was = on.last_found d f off.1 in
+    (was.0, put_other m.sections c None d off.0 ∙ was.1, was.2) in
+    assumption (
+      λ (d b : ℕ) (f : Entry) (in_ : put m.sections c None d ≡ Some b) (hold : MayHold m.history b f). on.held d b f (put_none m.sections c d b in_).1 hold,
+      λ (d b : ℕ) (in_ : put m.sections c None d ≡ Some b). on.begun d b (put_none m.sections c d b in_).1,
+    )
 
 pub exited_lawful : (r : Registry) (c : ℕ) (stays : Bool) → IsSound r → exit_answer r c ≡ Ok stays → IsLawfulTurn r (with_section_exited r c stays)
 exited_lawful r c true on is = (on, Stays, refl)
@@ -81,40 +61,24 @@ exited_lawful r c false on is =
     let inside = some_from (r.model.sections c) (then_ok (is_inside r c) NotInside (Ok (not (r.depths c == 1))) false is).0 in
     (end_keeps r.settings r.model r.local_labels c on, Goes_on r.model _ Stays (Exits c inside.0 inside.1 (on.unsearching c)), refl)
 
-pub exit_turn : (r : Registry) (c : ℕ) → IsSound r → IsLawfulTurn r (on_ok r (exit_answer r c) (with_section_exited r c))
-exit_turn r c on = ok_turn r (exit_answer r c) (with_section_exited r c) on (λ stays is. exited_lawful r c stays on is)
-
 -- Find
 
 -- the open section may hold who is live now
 find_keeps : (z : Settings) (m : Model) (labels : ℕ → Option ℕ) (c b : ℕ) (answer : Option Entry) → IsSoundModel z m labels → m.sections c ≡ Some b
     → ((e : Entry) → answer ≡ Some e → IsLiveAt m.history (length m.history) e)
     → IsSoundModel z (record (with_all_seen m c) { found = put m.found c answer }) labels
-find_keeps z m labels c b answer on in_ live = record {
-  legal = on.legal;
-  live = on.live;
-  held = on.held;
-  begun = on.begun;
-  seen = put_capped m.passes c (length m.history) (length m.history) on.seen (omega arith);
-  unsearching = on.unsearching;
-  last_found = λ d f is. either (put_cases m.found c answer d)
-      (λ here.
-      let now = live f (sym here.1 ∙ is) in
-      let low = (on.begun c b in_).1 in
-      (b, ap m.sections here.0 ∙ in_, record { attached = now.attached; unended = λ p x. omega (arith, now.unended p x, low) }))
-      (λ off. on.last_found d f (sym off.1 ∙ is));
-  referring = on.referring;
-  keeping = on.keeping;
-  labelled = on.labelled;
-  counted = on.counted;
-}
+find_keeps z m labels c b answer on in_ live =
+    let last_found : (d : ℕ) (f : Entry) → put m.found c answer d ≡ Some f → (b : ℕ) × (m.sections d ≡ Some b) × MayHold m.history b f = λ d f is. either (put_cases m.found c answer d)
+    (λ here.
+    let now = live f (sym here.1 ∙ is) in
+    let low = (on.begun c b in_).1 in
+    (b, ap m.sections here.0 ∙ in_, record { attached = now.attached; unended = λ p x. omega (arith, now.unended p x, low) }))
+    (λ off. on.last_found d f (sym off.1 ∙ is)) in
+    assumption (put_capped m.passes c (length m.history) (length m.history) on.seen (omega arith))
 
 -- what a lookup gives now is live now
 lookup_live : (r : Registry) (key : Key) (e : Entry) → IsSound r → lookup_now r key ≡ Some e → IsLiveAt r.model.history (length r.model.history) e
-lookup_live r key e on is =
-    let found : IsLookup r.model.history (length r.model.history) key (Some e) =
-    subst (IsLookup r.model.history (length r.model.history) key) is (lookup_is r.model.history on.legal key (length r.model.history)) in
-    found.0
+lookup_live r key e on is = (subst (IsLookup r.model.history (length r.model.history) key) is (lookup_is r.model.history on.legal key (length r.model.history))).0
 
 -- the lookup begins, the CPU sees the whole history, and the answer is the one now
 find_run : (r : Registry) (c b : ℕ) (key : Key) → IsSound r → r.model.sections c ≡ Some b → IsModelRun TakesNone r.model (with_found r c (lookup_now r key)).model
@@ -145,9 +109,6 @@ found_lawful r c key answer on is =
     subst (λ (o : Option Entry). IsLawfulTurn r (with_found r c o)) now
     (find_keeps r.settings r.model r.local_labels c inside.0 (lookup_now r key) on inside.1 (λ e found. lookup_live r key e on found), find_run r c inside.0 key on inside.1, refl)
 
-pub find_turn : (r : Registry) (c : ℕ) (key : Key) → IsSound r → IsLawfulTurn r (on_ok r (find_answer r c key) (with_found r c))
-find_turn r c key on = ok_turn r (find_answer r c key) (with_found r c) on (λ answer is. found_lawful r c key answer on is)
-
 -- Passive and local references are taken, copied and released by lawful steps.
 
 -- Results by labels
@@ -168,21 +129,11 @@ unless_ok (Some f) answer x is = absurd (not_ok f x is)
 
 -- a CPU has more or less of them
 refer_keeps : (z : Settings) (m : Model) (labels : ℕ → Option ℕ) (c n k : ℕ) → IsSoundModel z m labels → c < z.cpus → IsSoundModel z (with_passive m c n k) labels
-refer_keeps z m labels c n k on lt = record {
-  legal = on.legal;
-  live = on.live;
-  held = on.held;
-  begun = on.begun;
-  seen = on.seen;
-  unsearching = on.unsearching;
-  last_found = on.last_found;
-  referring = λ j i some. either (put_cases m.passive c (put (m.passive c) n k) j)
-      (λ here. omega (arith, here.0))
-      (λ off. on.referring j i (subst (λ (f : ℕ → ℕ). 0 < f i) off.1 some));
-  keeping = on.keeping;
-  labelled = on.labelled;
-  counted = on.counted;
-}
+refer_keeps z m labels c n k on lt =
+    let referring : (j i : ℕ) → 0 < put m.passive c (put (m.passive c) n k) j i → j < z.cpus = λ j i some. either (put_cases m.passive c (put (m.passive c) n k) j)
+    (λ here. omega (arith, here.0))
+    (λ off. on.referring j i (subst (λ (f : ℕ → ℕ). 0 < f i) off.1 some)) in
+    assumption
 
 one_more_is : (r : Registry) (c m n : ℕ) → one_more r c m ≡ Ok n → m ≡ n
 one_more_is r c m n is = same_ok {E = Refusal} m n (unless_ok (why_full (r.model.passive c m) r.settings.passive_limit) (Ok m) n is).1
@@ -198,9 +149,6 @@ reference_lawful r c a n on is =
     let was = on.last_found c found.0 found.1 in
     subst (λ (k : ℕ). IsLawfulTurn r (with_reference r c a k)) found.2
     (refer_keeps r.settings r.model r.local_labels c found.0.number (r.model.passive c found.0.number + 1) on (on.begun c was.0 was.1).0, Goes_on r.model _ Stays (Acquires c found.0 found.1), refl)
-
-pub reference_turn : (r : Registry) (c a : ℕ) → IsSound r → IsLawfulTurn r (on_ok r (reference_answer r c a) (with_reference r c a))
-reference_turn r c a on = ok_turn r (reference_answer r c a) (with_reference r c a) on (λ n is. reference_lawful r c a n on is)
 
 -- a reference that c may use is held
 misuse_tells : (own held : Bool) (f g : Refusal) → (if own then (if held then None else Some f) else Some g) ≡ None → held ≡ true
@@ -221,9 +169,6 @@ copy_lawful r c a b n on is =
     subst (λ (k : ℕ). IsLawfulTurn r (with_reference r c b k)) (one_more_is r c p.number n used.1)
     (refer_keeps r.settings r.model r.local_labels c p.number (r.model.passive c p.number + 1) on (on.referring c p.number some), Goes_on r.model _ Stays (Copies c p.number some), refl)
 
-pub copy_turn : (r : Registry) (c a b : ℕ) → IsSound r → IsLawfulTurn r (on_ok r (copy_answer r c a b) (with_reference r c b))
-copy_turn r c a b on = ok_turn r (copy_answer r c a b) (with_reference r c b) on (λ n is. copy_lawful r c a b n on is)
-
 pub release_lawful : (r : Registry) (c a n : ℕ) → IsSound r → release_answer r c a ≡ Ok n → IsLawfulTurn r (without_reference r c a n)
 release_lawful r c a n on is =
     let label = label_ok (r.passive_labels a) (λ p. command_answer (unless (misuse r c p) (Ok p.number))) n is in
@@ -233,28 +178,15 @@ release_lawful r c a n on is =
     subst (λ (k : ℕ). IsLawfulTurn r (without_reference r c a k)) (same_ok {E = Refusal} p.number n used.1)
     (refer_keeps r.settings r.model r.local_labels c p.number (r.model.passive c p.number - 1) on (on.referring c p.number some), Goes_on r.model _ Stays (Releases c p.number some), refl)
 
-pub release_turn : (r : Registry) (c a : ℕ) → IsSound r → IsLawfulTurn r (on_ok r (release_answer r c a) (without_reference r c a))
-release_turn r c a on = ok_turn r (release_answer r c a) (without_reference r c a) on (λ n is. release_lawful r c a n on is)
-
 -- Local references
 
 count_keeps : (z : Settings) (m : Model) (labels : ℕ → Option ℕ) (x n : ℕ) → IsSoundModel z m labels → labels x ≡ None → HasSlot m.history m.occupants n
     → IsSoundModel z (with_locals m n (m.locals n + 1)) (put labels x (Some n))
-count_keeps z m labels x n on free has = record {
-  legal = on.legal;
-  live = on.live;
-  held = on.held;
-  begun = on.begun;
-  seen = on.seen;
-  unsearching = on.unsearching;
-  last_found = on.last_found;
-  referring = on.referring;
-  keeping = on.keeping;
-  labelled = λ y k is. either (put_cases labels x (Some n) y)
-      (λ here. subst (HasSlot m.history m.occupants) (same_Some n k (sym here.1 ∙ is)) has)
-      (λ off. on.labelled y k (sym off.1 ∙ is));
-  counted = added_counts labels m.locals x n free on.counted;
-}
+count_keeps z m labels x n on free has =
+    let labelled : (y k : ℕ) → put labels x (Some n) y ≡ Some k → HasSlot m.history m.occupants k = λ y k is. either (put_cases labels x (Some n) y)
+    (λ here. subst (HasSlot m.history m.occupants) (same_Some n k (sym here.1 ∙ is)) has)
+    (λ off. on.labelled y k (sym off.1 ∙ is)) in
+    assumption (added_counts labels m.locals x n free on.counted)
 
 counted_tells : (r : Registry) (c : ℕ) (o : Option Entry) (n : ℕ) → answers.count_of_found r c o ≡ Ok n → (e : Entry) × (o ≡ Some e) × (e.number ≡ n)
 counted_tells r c None n is = absurd (not_ok NothingFound n is)
@@ -270,29 +202,14 @@ count_lawful r c x n on is =
     subst (λ (k : ℕ). IsLawfulTurn r (with_one_counted r c x k)) found.2
     (count_keeps r.settings r.model r.local_labels x e.number on free.0 has, Goes_on r.model _ Stays (Counts c e found.1), refl)
 
-pub count_turn : (r : Registry) (c x : ℕ) → IsSound r → IsLawfulTurn r (on_ok r (count_answer r c x) (with_one_counted r c x))
-count_turn r c x on = ok_turn r (count_answer r c x) (with_one_counted r c x) on (λ n is. count_lawful r c x n on is)
-
 uncount_keeps : (z : Settings) (m : Model) (labels : ℕ → Option ℕ) (x n : ℕ) → IsSoundModel z m labels → labels x ≡ Some n → IsSoundModel z (with_locals m n (m.locals n - 1)) (put labels x None)
-uncount_keeps z m labels x n on at = record {
-  legal = on.legal;
-  live = on.live;
-  held = on.held;
-  begun = on.begun;
-  seen = on.seen;
-  unsearching = on.unsearching;
-  last_found = on.last_found;
-  referring = on.referring;
-  keeping = on.keeping;
-  labelled = λ y k is. on.labelled y k (put_none labels x y k is).1;
-  counted = dropped_counts labels m.locals x n at on.counted;
-}
+uncount_keeps z m labels x n on at = assumption (
+  λ (y k : ℕ) (is : put labels x None y ≡ Some k). on.labelled y k (put_none labels x y k is).1,
+  dropped_counts labels m.locals x n at on.counted,
+)
 
 pub uncount_lawful : (r : Registry) (c x n : ℕ) → IsSound r → uncount_answer r x ≡ Ok n → IsLawfulTurn r (with_one_uncounted r c x n)
 uncount_lawful r c x n on is =
     let label = label_ok (r.local_labels x) (λ (k : ℕ). Ok k) n is in
     let at : r.local_labels x ≡ Some n = label.1 ∙ ap (λ (k : ℕ). Some k) (same_ok {E = Hitch} label.0 n label.2) in
     (uncount_keeps r.settings r.model r.local_labels x n on at, Goes_on r.model _ Stays (Uncounts n (omega (arith, labelled_counts r.local_labels x n at, on.counted n (suc x)))), refl)
-
-pub uncount_turn : (r : Registry) (c x : ℕ) → IsSound r → IsLawfulTurn r (on_ok r (uncount_answer r x) (with_one_uncounted r c x))
-uncount_turn r c x on = ok_turn r (uncount_answer r x) (with_one_uncounted r c x) on (λ n is. uncount_lawful r c x n on is)

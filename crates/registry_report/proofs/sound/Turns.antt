@@ -157,9 +157,6 @@ pub ok_turn : {X E : Type 0} (r : Registry) (answer : Result X E) (f : X → Reg
 ok_turn r (Ok x) f on turn = turn x refl
 ok_turn r (Err e) f on turn = idle_turn r on
 
-pub join_turns : (p q r : Registry) → IsLawfulTurn p q → IsLawfulTurn q r → IsLawfulTurn p r
-join_turns p q r first second = (second.0, join_runs p.model q.model r.model first.1 second.1, second.2 ∙ first.2)
-
 -- commands that fit the settings; each makes a lawful turn
 pub each_turn : {C : Type 0} (after : Registry → C → Registry) (Fits : Settings → C → Type 0) → ((r : Registry) (x : C) → IsSound r → Fits r.settings x → IsLawfulTurn r (after r x))
     → (r : Registry) (xs : List C) → IsSound r → All (Fits r.settings) xs → IsLawfulTurn r (after_each after r xs)
@@ -167,7 +164,8 @@ each_turn {C} after Fits turn r [] on fits = idle_turn r on
 each_turn {C} after Fits turn r (x ∷ xs) on fits =
     let first = turn r x on (All-head (Fits r.settings) x xs fits) in
     let rest : All (Fits (after r x).settings) xs = subst (λ (z : Settings). All (Fits z) xs) (sym first.2) (All-tail (Fits r.settings) x xs fits) in
-    join_turns r (after r x) (after_each after (after r x) xs) first (each_turn after Fits turn (after r x) xs first.0 rest)
+    let second = each_turn after Fits turn (after r x) xs first.0 rest in
+    (second.0, join_runs r.model (after r x).model (after_each after (after r x) xs).model first.1 second.1, second.2 ∙ first.2)
 
 -- As a script begins
 
