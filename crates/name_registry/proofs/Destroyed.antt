@@ -4,7 +4,7 @@ use Rattle.std.proofs.lemmas.List.{length-append}
 use Rattle.std.proofs.lemmas.Option.{none-some, same_Some}
 use mathlib.Core.List.{IsPrefix}
 use Rattle.name_registry.specs.Types.{Change, Entry, Refusal, Settings, Slot, Vacant, Live, Retired, Stage, Grace, Passive, Local, Freed, Mark, Hear, KeptSub, Tell, Vacate, Done, Rest, LogItem, Inside, NotRetired}
-use Rattle.registry_values.specs.Common.{is_retired, is_retired_as, retired_slot, slot_at, IsObstacle, destroy_result, destroy_result_of}
+use Rattle.registry_values.specs.Common.{is_retired, is_retired_as, retired_slot, slot_at, IsObstacle, destroy_result_of}
 use Rattle.registry_values.proofs.Slots.{retired_slot_tells}
 use Rattle.protocol.specs.Common.{addition_due_at, is_adding_at, subtraction_due_at, State, count_at, mark_at, total_at}
 use Rattle.protocol.proofs.keeps.Linking.{within_retired}
@@ -14,7 +14,7 @@ use Rattle.cpu_words.proofs.by_keeper.KeeperSteps.{seen_by_keeper}
 use Rattle.cpu_words.proofs.logs.Slots.{not_attached}
 use Rattle.cpu_words.proofs.laws.Freed.{ended_runs}
 use Rattle.passive_list.specs.Common.{OnCpu, OnKeeper, HasOwnLog, HasHeardOn, as_teller, cpu_after_tell, has_heard, HasFreed}
-use Rattle.name_registry.specs.Common.{EndsIn, HasAdvanced, HasEnded, Meets, MeetsGrace, MeetsLocal, MeetsPassive, HasAdvancedFor, hears_cpu, keeper_after_hear, keeper_after_tell, AnswersBy, HasMet, IsNotRetired, IsRetiredIn, IsTurn, MetLocals, MetReference, MetSection, IsGoneIfFreed, Destroys, DestroysOutside, HasDestroyed, LastMeeting, SomeAdvancedFor, TurnsMeeting, IsDestroyRefusal, IsStageOf, HasLearned, IsDestroyAnswer, ClosesRun}
+use Rattle.name_registry.specs.Common.{EndsIn, HasAdvanced, HasEnded, Meets, MeetsGrace, MeetsLocal, MeetsPassive, HasAdvancedFor, hears_cpu, keeper_after_hear, keeper_after_tell, AnswersBy, HasMet, IsNotRetired, IsRetiredIn, IsTurn, MetLocals, MetReference, MetSection, IsGoneIfFreed, Destroys, DestroysOutside, HasDestroyed, LastMeeting, SomeAdvancedFor, TurnsMeeting, IsDestroyRefusal, HasLearned, IsDestroyAnswer, ClosesRun}
 use Rattle.name_registry.proofs.Noted.{heard_told_again, met_again, prefix_short, learned, by_meeting_again}
 use Rattle.name_registry.proofs.Worked.{prefix_on}
 use Rattle.name_registry.proofs.Waited.{Learns, learns_none, learns_more}
@@ -96,8 +96,7 @@ has_met z a b t n e begin (Grace c) own from at same meets = met_section z a b t
 has_met z a b t n e begin (Passive c) own from at same meets = met_reference z a b t c begin own from meets
 has_met z a b t n e begin (Local k) own from at same meets = met_locals z a b t n k e own at same meets
 has_met z a b t n e begin (Freed u) own from at same meets =
-    let m = meets.1.between in
-    (meets.0, subst (λ (j : ℕ). IsFreedFrom t j b.log) same (ended_freed m t b e meets.1.ended (ap (λ (l : List Slot). slot_at l t) meets.1.leaves.slots ∙ at)))
+    (meets.0, subst (λ (j : ℕ). IsFreedFrom t j b.log) same (ended_freed meets.1.between t b e meets.1.ended (ap (λ (l : List Slot). slot_at l t) meets.1.leaves.slots ∙ at)))
 
 -- The log goes on
 
@@ -155,8 +154,7 @@ made_turn z a h end k b x same after y n answer known seen own heard first made 
   known = known;
   seen =
       let history : h.view.history ≡ a.view.history = ap (λ (o : OnKeeper). o.view.history) heard in
-      let long = ap (λ (l : List Change). length l) (sym seen.1) ∙ length-append x.view.pass seen.0 in
-      omega (arith, long, ap (λ (l : List Change). length l) history, own.changes);
+      omega (arith, ap (λ (l : List Change). length l) (sym seen.1) ∙ length-append x.view.pass seen.0, ap (λ (l : List Change). length l) history, own.changes);
   own = own;
   end = end;
   made = subst (λ (o : OnKeeper). HasAdvanced o n answer end) heard made;
@@ -190,24 +188,18 @@ ends_unretired turn n turns x z y stage refusal answer few last not made told = 
 
 -- by the last turn's answer
 
-stage_freed : (z : Settings) (stage : Stage) → IsStageOf z stage → IfOk (destroy_result stage) (λ t. t < z.slots)
-stage_freed z (Grace c) is = tt
-stage_freed z (Passive c) is = tt
-stage_freed z (Local n) is = tt
-stage_freed z (Freed t) is = is
-
 met_freed : (z : Settings) (number : ℕ) (x y : OnCpu) (met : Result Stage Refusal) → SomeAdvancedFor z number x met y → IfOk (destroy_result_of met) (λ t. t < z.slots)
-met_freed z number x y (Ok stage) is = stage_freed z stage is.1
+met_freed z number x y (Ok (Grace c)) is = tt
+met_freed z number x y (Ok (Passive c)) is = tt
+met_freed z number x y (Ok (Local n)) is = tt
+met_freed z number x y (Ok (Freed t)) is = is.1
 met_freed z number x y (Err refusal) is = tt
 
-stage_refused : (z : Settings) (stage : Stage) → IsStageOf z stage → IfErr (destroy_result stage) (λ f. IsDestroyRefusal z false f)
-stage_refused z (Grace c) is = (refl, is, tt)
-stage_refused z (Passive c) is = (refl, is, tt)
-stage_refused z (Local n) is = (refl, is, tt)
-stage_refused z (Freed t) is = tt
-
 met_refused : (z : Settings) (number : ℕ) (x y : OnCpu) (met : Result Stage Refusal) → SomeAdvancedFor z number x met y → IfErr (destroy_result_of met) (λ f. IsDestroyRefusal z false f)
-met_refused z number x y (Ok stage) is = stage_refused z stage is.1
+met_refused z number x y (Ok (Grace c)) is = (refl, is.1, tt)
+met_refused z number x y (Ok (Passive c)) is = (refl, is.1, tt)
+met_refused z number x y (Ok (Local n)) is = (refl, is.1, tt)
+met_refused z number x y (Ok (Freed t)) is = tt
 met_refused z number x y (Err refusal) is = subst (λ (f : Refusal). IsDestroyRefusal z false f) (sym is.0.2.made.0) refl
 
 pub destroyed_small : (z : Settings) (number turns : ℕ) (inside : Bool) (x y : OnCpu) (answer : Result ℕ Refusal) → inside ≡ false → HasDestroyed z number turns x answer y
@@ -256,19 +248,13 @@ advanced_gone a n (Ok (Local k)) b is = tt
 advanced_gone a n (Ok (Freed t)) b is = advanced_freed a n t b is
 advanced_gone a n (Err refusal) b is = tt
 
-turn_freed : (z : Settings) (n t : ℕ) (x y : OnCpu) → SomeAdvancedFor z n x (Ok (Freed t)) y → IsFreedFrom t n y.known_log
-turn_freed z n t x y is =
+pub met_gone : (z : Settings) (n : ℕ) (x y : OnCpu) (met : Result Stage Refusal) → SomeAdvancedFor z n x met y → IfOk (destroy_result_of met) (λ t. IsFreedFrom t n y.known_log)
+met_gone z n x y (Ok (Grace c)) is = tt
+met_gone z n x y (Ok (Passive c)) is = tt
+met_gone z n x y (Ok (Local k)) is = tt
+met_gone z n x y (Ok (Freed t)) is =
     let turn = is.2 in
     freed_more t n turn.log y.known_log turn.told (subst (λ (u : ℕ). IsFreedFrom u n turn.log) (sym turn.answers.2.0) turn.answers.2.1)
-
-stage_gone : (z : Settings) (n : ℕ) (x y : OnCpu) (stage : Stage) → SomeAdvancedFor z n x (Ok stage) y → IfOk (destroy_result stage) (λ t. IsFreedFrom t n y.known_log)
-stage_gone z n x y (Grace c) is = tt
-stage_gone z n x y (Passive c) is = tt
-stage_gone z n x y (Local k) is = tt
-stage_gone z n x y (Freed t) is = turn_freed z n t x y is
-
-pub met_gone : (z : Settings) (n : ℕ) (x y : OnCpu) (met : Result Stage Refusal) → SomeAdvancedFor z n x met y → IfOk (destroy_result_of met) (λ t. IsFreedFrom t n y.known_log)
-met_gone z n x y (Ok stage) is = stage_gone z n x y stage is
 met_gone z n x y (Err refusal) is = tt
 
 pub destroyed_gone : (z : Settings) (n turns : ℕ) (x y : OnCpu) (answer : Result ℕ Refusal) → HasDestroyed z n turns x answer y → IfOk answer (λ t. IsFreedFrom t n y.known_log)
@@ -309,14 +295,11 @@ turn_since z n x m answer y learns turn = record {
   answers = turn.answers;
 }
 
-stage_told : (z : Settings) (n : ℕ) (x y : OnCpu) (stage : Stage) → IsTurn z n x (Ok stage) y → IsDestroyAnswer z n x (destroy_result stage) y
-stage_told z n x y (Grace c) turn = turn
-stage_told z n x y (Passive c) turn = turn
-stage_told z n x y (Local k) turn = turn
-stage_told z n x y (Freed t) turn = turn
-
 met_told : (z : Settings) (n : ℕ) (x y : OnCpu) (met : Result Stage Refusal) → IsTurn z n x met y → IsDestroyAnswer z n x (destroy_result_of met) y
-met_told z n x y (Ok stage) turn = stage_told z n x y stage turn
+met_told z n x y (Ok (Grace c)) turn = turn
+met_told z n x y (Ok (Passive c)) turn = turn
+met_told z n x y (Ok (Local k)) turn = turn
+met_told z n x y (Ok (Freed t)) turn = turn
 met_told z n x y (Err refusal) turn =
     let is : refusal ≡ NotRetired = turn.answers.0 in
     subst (λ (f : Refusal). IsDestroyAnswer z n x (Err f) y) (sym is) (subst (λ (f : Refusal). IsTurn z n x (Err f) y) is turn)

@@ -97,12 +97,10 @@ pub made_hold : (looks : Looking → Looking → Type 0) (z : Settings) (a h l b
     → looks (looking h) (looking l) → l.slots ≡ h.slots → b ≡ keeper_after_tell l → HasHeardOn l.view.history same y → IsPrefix b.log y.known_log → y.log ≡ same.log ++ has_heard same None
     → Hold looks a x b y
 made_hold looks z a h l b x same y heard pass known own is made slots tells hears told log =
-    let short = prefix_short x.view.pass h.view.history pass in
     let long : length h.view.history ≡ length a.view.history = ap (λ (k : OnKeeper). length k.view.history) heard in
-    let changes = own.changes in
     record {
       known = known;
-      seen = omega (arith, short, long, changes);
+      seen = omega (arith, prefix_short x.view.pass h.view.history pass, long, own.changes);
       end = looking l;
       made = subst (λ (k : OnKeeper). looks (looking k) (looking l)) heard made;
       view = ap (λ (k : OnKeeper). k.view) tells;
@@ -118,8 +116,7 @@ made_hold looks z a h l b x same y heard pass known own is made slots tells hear
 -- the CPU that a turn told is one of the table's
 pub told_small : (z : Settings) (turns : ℕ) (x y : OnCpu) (told : Option ℕ) → HasPerformed z turns x told y → IfSome told (λ c. c < z.cpus)
 told_small z turns x y told is =
-    let least = is.waits.last.3.2.least in
-    subst (λ (o : Option ℕ). IfSome o (λ c. c < z.cpus)) (sym least) (least_small _ z.cpus)
+    subst (λ (o : Option ℕ). IfSome o (λ c. c < z.cpus)) (sym is.waits.last.3.2.least) (least_small _ z.cpus)
 
 pub performs_outside : (z : Settings) (turns : ℕ) (inside : Bool) (x y : OnCpu) (told : Option ℕ) (result : Result (Unit {0}) Refusal) → inside ≡ false → result ≡ wait_answer told
     → HasPerformed z turns x told y → PerformsOutside z turns inside x result y

@@ -111,10 +111,8 @@ held_live k xs g h t e shown live there =
     let seen = seen_by_keeper g (keeper_with_note k.view h) shown.good shown.keeper in
     let each : (c : ℕ) (x : OnCpu) → get_elem? xs c ≡ some x → IsDrawn k t e.number nothing x =
     λ c x at. record { mark = ap (λ (y : Slot). is_retired y && (mark_at k.view.marks t x.view.id).collected) live; net = λ never. absurd (false≢true never) } in
-    let sum = sums k t e.number [] xs (pos 0) each (λ c le. refl) in
     let total = shown.keeper.live_total t e (ap (λ (y : List Slot). slot_at y t) (sym seen.slots) ∙ there) in
-    let same = ap (λ (y : List ℕ). total_at y t) seen.totals in
-    omega (arith, ints, sum, total, same)
+    omega (arith, ints, sums k t e.number [] xs (pos 0) each (λ c le. refl), total, ap (λ (y : List ℕ). total_at y t) seen.totals)
 
 -- a retired one: the total is what was collected, less what was given up
 held_retired : (a : Settings) (k : OnKeeper) (xs : List OnCpu) (g : State) (h : List Change) (t : ℕ) (e : Entry) → IsKeeperOf a k → AreAllCpus a.cpus xs → IsOfKeeper g k h → AreNets g xs t e.number
@@ -130,10 +128,9 @@ held_retired a k xs g h t e known all shown nets gone there =
     let long : length ms ≡ length ns = shape.mark_rows t (omega (arith, within, shape.slots, shape.marks)) ∙ sym (shape.net_rows t (omega (arith, within, shape.slots, shape.nets))) in
     let at : (c : ℕ) → get_or (zip ms ns) c nothing ≡ (get_or ms c no_mark, get_or ns c 0) = λ c. zip_at ms ns c long in
     let each : (c : ℕ) (x : OnCpu) → get_elem? xs c ≡ some x → IsDrawn k t e.number (get_or (zip ms ns) c nothing) x = λ c x is.
-    let id = all.each c x is in
     subst (λ (p : Mark × ℕ). IsDrawn k t e.number p x) (sym (at c)) (record {
       mark = ap (λ (y : Slot). is_retired y && (mark_at k.view.marks t x.view.id).collected) gone
-          ∙ (ap (λ i. (mark_at k.view.marks t i).collected) id ∙ ap (λ (y : List (List Mark)). (mark_at y t c).collected) seen.marks);
+          ∙ (ap (λ i. (mark_at k.view.marks t i).collected) (all.each c x is) ∙ ap (λ (y : List (List Mark)). (mark_at y t c).collected) seen.marks);
       net = λ on. nets c x is (λ j. is_retired (here j) && on j);
     }) in
     let cpus : a.cpus ≡ g.settings.cpus = ap (λ (z : Settings). z.cpus) (sym known.view.settings ∙ seen.settings) in
@@ -143,8 +140,7 @@ held_retired a k xs g h t e known all shown nets gone there =
     let is_adding : is_adding_at t g.due ≡ 0 = ap (is_adding_at t) due in
     let subtracting : subtraction_due_at t g.due ≡ 0 = ap (subtraction_due_at t) due in
     let total = shown.keeper.gives_up t e here in
-    let same = ap (λ (y : List ℕ). total_at y t) seen.totals in
-    omega (arith, ints, sum, total, same, adding, is_adding, subtracting)
+    omega (arith, ints, sum, total, ap (λ (y : List ℕ). total_at y t) seen.totals, adding, is_adding, subtracting)
 
 held_by : (a : Settings) (k : OnKeeper) (xs : List OnCpu) (g : State) (h : List Change) (t : ℕ) (e : Entry) → IsKeeperOf a k → AreAllCpus a.cpus xs → IsOfKeeper g k h → AreNets g xs t e.number
     → IsIn e (slot_at k.slots t) → (tally_of k xs e.number t).held ≡ tally k xs e.number
@@ -160,8 +156,7 @@ own_net g x t e had here = dite (ℕ_discrete (number_at x.view.met t) e.number)
     (λ (same : number_at x.view.met t ≡ e.number). ap (λ b. cond b (net_of e.number x) (pos 0)) (eq-eqb (number_at x.view.met t) e.number same))
     (λ (off : number_at x.view.met t ≢ e.number).
     let place : IsPlaceCount x.view t e.number bias = record { met = λ same. absurd (off same); other = λ _. refl } in
-    let net = place_is g x.view t e bias had here place in
-    ap (λ b. cond b (net_of e.number x) (pos 0)) (ne_eqb (number_at x.view.met t) e.number off) ∙ omega (arith, ints, net))
+    ap (λ b. cond b (net_of e.number x) (pos 0)) (ne_eqb (number_at x.view.met t) e.number off) ∙ omega (arith, ints, place_is g x.view t e bias had here place))
 
 pub locals_same : (f h : OnCpu → ℤ) (xs : List OnCpu) → ((c : ℕ) (x : OnCpu) → get_elem? xs c ≡ some x → f x ≡ h x) → map f xs ≡ map h xs
 locals_same f h [] each = refl
@@ -170,9 +165,7 @@ locals_same f h (x ∷ xs) each = let one = each 0 x refl in let rest = locals_s
 pub own_tally : (a : Settings) (k : OnKeeper) (xs : List OnCpu) (g : State) (t : ℕ) (e : Entry) → IsKeeperOf a k → AreShown g k xs → IsIn e (slot_at k.slots t)
     → tally_met k xs e.number t ≡ tally_of k xs e.number t
 own_tally a k xs g t e known shown is =
-    let seen = seen_by_keeper g k.view shown.good shown.keeper in
-    let there = there_too a k t e known is in
-    let here : IsIn e (slot_at g.slots t) = subst (λ (y : List Slot). IsIn e (slot_at y t)) seen.slots there in
+    let here : IsIn e (slot_at g.slots t) = subst (λ (y : List Slot). IsIn e (slot_at y t)) (seen_by_keeper g k.view shown.good shown.keeper).slots (there_too a k t e known is) in
     ap (λ locals. tally_by k locals e.number t)
     (locals_same (local_met k t e.number) (local_of k t e.number) xs (λ c x at. ap (λ net. local_by k t net x) (own_net g x t e (shown.cpus c x at) here)))
 
@@ -299,8 +292,7 @@ module _ (a : Settings) (k : OnKeeper) (xs ys : List OnCpu) (known : IsKeeperOf 
       let locals = locals_same (local_in log t e.number) (local_of k t e.number) xs (λ c x at. local t e.number x) in
       let held : tally_in log xs e.number ≡ (tally_of k xs e.number t).held =
       ap (λ (m : ℕ). pos (sum_by (acquired_of e.number) xs) -ℤ pos (sum_by (released_of e.number) xs + m)) (sym given) ∙ sym (alike_held a k xs ys known all alike t e is) in
-      let sum = total t e.number has in
-      λ i. record { number = e.number; slot = t; held = held i; locals = locals i; total = sum i }
+      λ i. record { number = e.number; slot = t; held = held i; locals = locals i; total = (total t e.number has) i }
 
   at_slot : (t : ℕ) (x : Slot) → slot_at k.slots t ≡ x → audited_at log xs t (occupant t log) ≡ each_at (tally_of k xs) t x
   at_slot t Vacant is = ap (audited_at log xs t) (by_log t ∙ ap occupant_of is)
@@ -332,8 +324,7 @@ exact_law a k xs s ruled seated =
       listed = λ list is. is.answer;
       tallied = λ list is. is.tally;
       held = λ all list is.
-          let due = sym (seen_by_keeper g k.view run.good shown.keeper).due ∙ is.keeper.view.rest in
-          let rest = run.laws.balance (ap at_rest due) in
+          let rest = run.laws.balance (ap at_rest (sym (seen_by_keeper g k.view run.good shown.keeper).due ∙ is.keeper.view.rest)) in
           all_met (λ y. y.held ≡ pos (held_of g y.number)) k xs a.slots list is.met
           (λ t e there. ap (λ (y : Tally). y.held) (own_tally a k xs g t e is.keeper shown there) ∙ references_held a k xs g t e is.keeper all shown rest there);
     }

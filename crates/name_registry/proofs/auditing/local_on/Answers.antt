@@ -1,7 +1,6 @@
 -- A CPU's place says its net count.
 use Rattle.std.proofs.Common.{◌≡◌, List, ap, sym, ◌∙◌, subst, arith}
 use Rattle.std.proofs.lemmas.Int.{ints}
-use Rattle.registry_values.proofs.Fit.{ranges}
 use Rattle.name_registry.specs.Types.{NumberedCount}
 use Rattle.passive_list.specs.Common.{OnPlainCpu, place_at}
 use Rattle.local_count.specs.{net_by}
@@ -22,6 +21,5 @@ returns-else-is_collected-clause-value c =
 pub returns-else-is_collected-clause-range : goal.returns-else-is_collected-clause-range
 returns-else-is_collected-clause-range c =
     let place = c.net_place.ensures ∙ ap (λ (l : List NumberedCount). place_at l c.args.t) c.as_slice.ensures.value in
-    let says = c.net_count.ensures ∙ ap (λ (p : NumberedCount). net_by p c.args.number) place in
-    let most = net_most _ _ c.args.t c.args.number _ c.cpu.invariant.net says in
+    let most = net_most _ _ c.args.t c.args.number _ c.cpu.invariant.net (c.net_count.ensures ∙ ap (λ (p : NumberedCount). net_by p c.args.number) place) in
     omega (arith, ints, most, c.less_bias.ensures, c.less_bias.type_inv)

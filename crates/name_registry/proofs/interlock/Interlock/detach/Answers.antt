@@ -1,4 +1,3 @@
--- `Interlock::detach`: its clause `ok`.
 use Rattle.std.proofs.Common.{Ok, subst}
 use Rattle.name_registry.specs.Types.{Key}
 use Rattle.passive_list.specs.Common.{OnCpu}
