@@ -45,13 +45,7 @@ given_takes a k rec e is =
     let lt = at.0 in
     let pair = get_or-zip k.slots keeps e.slot (Vacant, None) (omega (arith, lt, size)) (omega (arith, lt, size)) in
     let parts = available_parts (slot_at k.slots e.slot) (kept_at keeps e.slot) (ap is_available (sym pair) ∙ at.1) in
-    record {
-      vacant = parts.0;
-      nothing = parts.1;
-      free = told.free;
-      room = leb-true (length k.view.history + live_count k.slots + 2) a.change_limit told.fits;
-      entry = ap (λ (n : ℕ). record { number = n; slot = e.slot; rec = rec }) (sym (add-one (length k.view.history))) ∙ sym told.entry;
-    }
+    assumption (parts, told.free, leb-true _ _ told.fits, ap (λ (n : ℕ). record { number = n; slot = e.slot; rec = rec }) (sym (add-one (length k.view.history))) ∙ sym told.entry)
 
 -- it was given before the keeper heard the CPU x
 pub taken_tells : (a : Settings) (k : OnKeeper) (x : OnCpu) (m : OnKeeper) (rec : Record) (e : Entry) → m ≡ keeper_after_hear k x → given_entry a k rec ≡ Ok e → MayTake a m rec e

@@ -74,7 +74,6 @@ met_locals z a b t n k e own at same meets =
     let gone : is_retired (slot_at g.slots t) ≡ true = ap is_retired (ap (λ (l : List Slot). slot_at l t) (sym seen.slots) ∙ meets.held.retired) in
     let due : g.due ≡ Rest = sym seen.due ∙ own.rest in
     let adding : addition_due_at t g.due ≡ 0 = ap (addition_due_at t) due in
-    let is_adding : is_adding_at t g.due ≡ 0 = ap (is_adding_at t) due in
     let subtracting : subtraction_due_at t g.due ≡ 0 = ap (subtraction_due_at t) due in
     let totals : total_at b.view.totals t ≡ total_at g.totals t = ap (λ (l : List ℕ). total_at l t) seen.totals in
     let low : (d : ℕ) → d < z.cpus → d < b.view.settings.cpus = λ d lt. subst (λ (y : Settings). d < y.cpus) (sym own.settings) lt in
@@ -83,7 +82,7 @@ met_locals z a b t n k e own at same meets =
       collected = λ d lt.
           let drawn : is_drawn g t d ≡ true = let marked = ap (λ (ms : List (List Mark)). (mark_at ms t d).collected) (sym seen.marks) ∙ meets.collected d (low d lt) in λ i. gone i && marked i in
           (count_at g.nets d t, s.counts.words t d ∙ ap (λ (y : Bool). word_if y (count_at g.nets d t)) drawn);
-      left = let total = s.totals.total t n occupied in let held = meets.total in omega (arith, total, held, totals, adding, is_adding, subtracting);
+      left = let total = s.totals.total t n occupied in let held = meets.total in omega (arith, total, held, totals, adding, ap (is_adding_at t) due, subtracting);
       passed = λ d lt. own.marks.passed t d (meets.passed d (low d lt));
     }
 
@@ -122,8 +121,7 @@ answers_by : (z : Settings) (a h b : OnKeeper) (n : ℕ) (answer : Result Stage 
     → AnswersBy z.cpus n answer a.log b.log
 answers_by z a h b n (Ok stage) own end slots from has =
     let told = (retired_slot_tells h.slots n has.0 has.1).1 in
-    let at : slot_at a.slots has.0 ≡ Retired told.0 = ap (λ (l : List Slot). slot_at l has.0) (sym slots) ∙ told.1 in
-    (has.0, retired_in_log z a has.0 n told.0 own at told.2, has_met z h b has.0 n told.0 a.log stage end from told.1 told.2 has.2)
+    (has.0, retired_in_log z a has.0 n told.0 own (ap (λ (l : List Slot). slot_at l has.0) (sym slots) ∙ told.1) told.2, has_met z h b has.0 n told.0 a.log stage end from told.1 told.2 has.2)
 answers_by z a h b n (Err refusal) own end slots from has = (has.0, not_retired z a n own (ap (λ (l : List Slot). retired_slot l n) (sym slots) ∙ has.1))
 
 -- what the CPU hears has the keeper's log as the turn ended
@@ -237,8 +235,7 @@ pub advanced_freed : (a : OnKeeper) (n t : ℕ) (b : OnKeeper) → HasAdvanced a
 advanced_freed a n t b has =
     let meets = has.2.1 in
     let told = (retired_slot_tells a.slots n has.0 has.1).1 in
-    let at : slot_at meets.between.slots has.0 ≡ Retired told.0 = ap (λ (l : List Slot). slot_at l has.0) meets.leaves.slots ∙ told.1 in
-    let freed : IsFreedFrom has.0 told.0.number b.log = ended_freed meets.between has.0 b told.0 meets.ended at in
+    let freed : IsFreedFrom has.0 told.0.number b.log = ended_freed meets.between has.0 b told.0 meets.ended (ap (λ (l : List Slot). slot_at l has.0) meets.leaves.slots ∙ told.1) in
     subst (λ (p : ℕ × ℕ). IsFreedFrom p.0 p.1 b.log) (λ k. (sym has.2.0 k, told.2 k)) freed
 
 pub advanced_gone : (a : OnKeeper) (n : ℕ) (r : Result Stage Refusal) (b : OnKeeper) → HasAdvanced a n r b → IsGoneIfFreed n r b.log
@@ -315,7 +312,6 @@ pub closes_run : (z : Settings) (a b : OnKeeper) (x : OnCpu) (last : List ℕ) �
     → HasClosed z b.view b.log last → ClosesRun z x last
 closes_run z a b x last is known seen closed =
     let run = ended_runs z b.view b.log last closed in
-    let rest : List LogItem = known.0 ++ hears_cpu x in
     let grown : IsPrefix x.known_log b.log =
-    (rest, sym (append_assoc x.known_log known.0 (hears_cpu x)) ∙ (ap (λ (l : List LogItem). l ++ hears_cpu x) known.1 ∙ ap (λ (k : OnKeeper). k.log) (sym is))) in
+    (known.0 ++ hears_cpu x, sym (append_assoc x.known_log known.0 (hears_cpu x)) ∙ (ap (λ (l : List LogItem). l ++ hears_cpu x) known.1 ∙ ap (λ (k : OnKeeper). k.log) (sym is))) in
     record { keeper = b; run = run; known = grown; seen = seen; gone = λ t n freed. run.gone t n (freed_more t n x.known_log b.log grown freed) }

@@ -12,7 +12,7 @@ use Rattle.passive_list.specs.Common.{OnCpu, OnKeeper, HasOwnLog, HasHeardOn, Wa
 use Rattle.name_registry.specs.Common.{HasLearned, IsNote, AreAllCpus, AreAlike, HasListened, HasToldAll, HaveHeardAndTold, HaveLearned, HavePass, IsAuditBy, IsAuditIn, IsShownOn, KnowAll, KnowTheSame, audited_below, keeper_after_tell, local_met, tallies_met, tally_by, tally_met}
 use Rattle.name_registry.proofs.Audits.{cpu_at, each_same}
 use Rattle.name_registry.proofs.Worked.{prefix_on}
-use Rattle.name_registry.proofs.Noted.{by_passing}
+use Rattle.name_registry.proofs.Noted.{by_passing, learned}
 use Rattle.passive_list.proofs.Rows.{no_more}
 
 at_within : (l : List OnCpu) (i : ℕ) (a : OnCpu) → get_elem? l i ≡ some a → i < length l
@@ -41,20 +41,7 @@ pub record Gathered (xs ys : List OnCpu) (n : ℕ) (log note : List LogItem) : T
   pub rest : (c : ℕ) → n ≤ c → get_elem? ys c ≡ get_elem? xs c
 
 pub learned_of : (note : List Change) (x y : OnCpu) → HasHeardOn note x y → HeardAndTold x y → HasLearned x y × (y.made ≡ x.made)
-learned_of note x y heard log = (
-  record {
-    pass = heard.pass;
-    known_log = heard.known_log;
-    is = heard.is ∙ (λ j. record x {
-      view = record x.view { pass = y.view.pass; noted_pass = sym (ap (λ (z : OnCpu). z.view.noted_pass) heard.is) j };
-      made = sym (ap (λ (z : OnCpu). z.made) heard.is) j;
-      known_log = y.known_log;
-      log = y.log;
-    });
-    log = by_passing x y log;
-  },
-  ap (λ (z : OnCpu). z.made) heard.is,
-)
+learned_of note x y heard log = (learned note x y heard (by_passing x y log), ap (λ (z : OnCpu). z.made) heard.is)
 
 past_set : (xs : List OnCpu) (n c : ℕ) (y : OnCpu) → (c ≡ n → ⊥) → get_elem? (set xs n y) c ≡ get_elem? xs c
 past_set [] n c y off = refl
@@ -110,8 +97,7 @@ gathered_alike z a k xs ys n log note all done is back own =
       keeper = (own.counts.0, subst (λ (v : KeeperView). IsShownAfter k.log (Keeper (keeper_with_note v own.counts.0))) (ap (λ (x : OnKeeper). x.view) is) own.counts.1);
       cpus = λ c x at.
           let p = all.shown c x (omega (arith, at_within xs c x at, all.size, done)) at in
-          let same : p.0 ≡ k.log = prefix_both p.0 k.log (prefix_on _ _ _ p.2 back) p.1 in
-          subst (λ (d : List LogItem). IsShownOn d x) same p.3;
+          subst (λ (d : List LogItem). IsShownOn d x) (prefix_both p.0 k.log (prefix_on _ _ _ p.2 back) p.1) p.3;
     }
 
 -- What they have seen, and the note tells: the history, and no more
@@ -170,8 +156,7 @@ pub learned_none : (xs : List OnCpu) → HaveLearned xs xs
 learned_none xs = record {
   size = refl;
   each = λ c x y was now.
-      let same : x ≡ y = some-injective x y (sym was ∙ now) in
-      subst (λ (z : OnCpu). HasLearned x z × (z.made ≡ x.made)) same
+      subst (λ (z : OnCpu). HasLearned x z × (z.made ≡ x.made)) (some-injective x y (sym was ∙ now))
       (record { pass = ([], append-nil x.view.pass); known_log = ([], append-nil x.known_log); is = refl; log = no_more (IsNote x.view.id) x.log x.log refl }, refl);
 }
 

@@ -54,8 +54,7 @@ module _ (a : Settings) (k : OnKeeper) (xs : List OnCpu) (g : State) (t : ℕ) (
   counting : (c : ℕ) (x : OnCpu) → get_elem? xs c ≡ some x → x.view.id ≡ c → IsIn e (slot_at g.slots t) → IsCounting g.slots g.marks c t → is_collected k t x.view.id ≡ false
       → Says k t e.number (count_at g.counts c t) x
   counting c x at id here counts kept =
-      let cpus : c < g.settings.cpus = omega (arith, (shown.cpus c x at).seated, shown.good.holds.seats.within, id) in
-      let word = rest.counted c t cpus counts in
+      let word = rest.counted c t (omega (arith, (shown.cpus c x at).seated, shown.good.holds.seats.within, id)) counts in
       let net = (shown.cpus c x at).nets t e here in
       says_net k t e.number (count_at g.counts c t) x kept word.1 (subst (λ m. m + released_of e.number x ≡ bias + acquired_of e.number x) (ap (λ i. count_at g.nets i t) id ∙ sym word.0) net)
 

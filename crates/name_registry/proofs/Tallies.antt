@@ -14,7 +14,7 @@ use Rattle.name_registry.specs.Types.{Balance, Entry, Settings, Rest, Mark, Slot
 use Rattle.registry_values.specs.Common.{Tally, tally_shown, bias, is_retired, slot_at, no_mark, less_bias}
 use Rattle.protocol.specs.Common.{IsIn, addition_due_at, is_adding_at, subtraction_due_at, State, mark_at, count_at, total_at, at_rest, opening, after, held_of, held_at, itself, one_if_used}
 use Rattle.protocol.proofs.Occupied.{in_within}
-use Rattle.cpu_words.specs.Common.{IsPlaceCount, number_at, collected_net, collected_one, CpuShown, KeeperShown, Good, with_note, keeper_with_note, AreCountsOf, is_drawn, occupant_of, word_if, word_in, given_up, sum_collected, words_collected, occupant, RunsLawfully}
+use Rattle.cpu_words.specs.Common.{IsPlaceCount, number_at, collected_net, collected_one, CpuShown, KeeperShown, Good, with_note, keeper_with_note, AreCountsOf, is_drawn, occupant_of, word_if, given_up, sum_collected, words_collected, occupant, RunsLawfully}
 use Rattle.cpu_words.proofs.by_cpu.Locals.{place_is}
 use Rattle.cpu_words.proofs.by_keeper.KeeperSteps.{seen_by_keeper, SeenByKeeper}
 use Rattle.cpu_words.proofs.logs.Totalled.{given_by_log}
@@ -78,11 +78,7 @@ sums k t n (p ∷ row) (x ∷ xs) a each past =
 
 pub known_keeper : {table : TableId} {log : List LogItem} (a : Settings) (k : KeeperView) (rows : List KeptSlot) (n : ℕ) (x : OnPlainKeeper) → IsOurKeeper a k rows n → on_keeper table a k rows log ≡ x
     → IsKeeperOf x.words.settings x.keeper
-known_keeper a k rows n x our is = subst (λ (y : OnPlainKeeper). IsKeeperOf y.words.settings y.keeper) is record {
-  view = our.view;
-  is_shown = our.is_shown;
-  slots = λ t. slots_agree a k rows t our.view our.rows;
-}
+known_keeper a k rows n x our is = subst (λ (y : OnPlainKeeper). IsKeeperOf y.words.settings y.keeper) is (assumption (λ (t : ℕ). slots_agree a k rows t our.view our.rows))
 
 -- an entry that it has in a slot is there in its view
 there_too : (a : Settings) (k : OnKeeper) (t : ℕ) (e : Entry) → IsKeeperOf a k → IsIn e (slot_at k.slots t) → IsIn e (slot_at k.view.slots t)
@@ -137,10 +133,9 @@ held_retired a k xs g h t e known all shown nets gone there =
     let sum = sums k t e.number (zip ms ns) xs (pos 0) each (λ c le. ap (λ (p : Mark × ℕ). p.0.collected) (at c) ∙ shown.keeper.beyond c t (omega (arith, le, all.count, cpus))) in
     let due : g.due ≡ Rest = sym seen.due ∙ known.view.rest in
     let adding : addition_due_at t g.due ≡ 0 = ap (addition_due_at t) due in
-    let is_adding : is_adding_at t g.due ≡ 0 = ap (is_adding_at t) due in
     let subtracting : subtraction_due_at t g.due ≡ 0 = ap (subtraction_due_at t) due in
     let total = shown.keeper.gives_up t e here in
-    omega (arith, ints, sum, total, ap (λ (y : List ℕ). total_at y t) seen.totals, adding, is_adding, subtracting)
+    omega (arith, ints, sum, total, ap (λ (y : List ℕ). total_at y t) seen.totals, adding, ap (is_adding_at t) due, subtracting)
 
 held_by : (a : Settings) (k : OnKeeper) (xs : List OnCpu) (g : State) (h : List Change) (t : ℕ) (e : Entry) → IsKeeperOf a k → AreAllCpus a.cpus xs → IsOfKeeper g k h → AreNets g xs t e.number
     → IsIn e (slot_at k.slots t) → (tally_of k xs e.number t).held ≡ tally k xs e.number
@@ -191,8 +186,7 @@ word_some false w v is = absurd (none-some v is)
 -- a net count that was collected is the same in both
 drawn_too : (log : List LogItem) (g f : State) (t c : ℕ) → AreCountsOf log g → AreCountsOf log f → is_drawn g t c ≡ true → count_at f.nets c t ≡ count_at g.nets c t
 drawn_too log g f t c own other on =
-    let mine : word_in g t c ≡ Some (count_at g.nets c t) = ap (λ (b : Bool). word_if b (count_at g.nets c t)) on in
-    (word_some (is_drawn f t c) (count_at f.nets c t) (count_at g.nets c t) (sym (other.words t c) ∙ (own.words t c ∙ mine))).1
+    (word_some (is_drawn f t c) (count_at f.nets c t) (count_at g.nets c t) (sym (other.words t c) ∙ (own.words t c ∙ ap (λ (b : Bool). word_if b (count_at g.nets c t)) on))).1
 
 module _ (a : Settings) (k : OnKeeper) (xs ys : List OnCpu) (known : IsKeeperOf a k) (all : AreAllCpus a.cpus xs) (alike : AreAlike k xs ys) (t : ℕ) (e : Entry) (is : IsIn e (slot_at k.slots t)) where
   here : IsIn e (slot_at alike.keeper.1.g.slots t)
@@ -205,9 +199,8 @@ module _ (a : Settings) (k : OnKeeper) (xs ys : List OnCpu) (known : IsKeeperOf 
       let own = alike.cpus c x at in
       let f = own.1.g in
       let there = occupied_too alike.log g f t e alike.keeper.1.counts own.1.counts here in
-      let net : count_at f.nets x.view.id t + released_of there.0.number x ≡ bias + acquired_of there.0.number x = own.1.shown.nets t there.0 there.1 in
       let same : count_at f.nets x.view.id t ≡ count_at g.nets c t = ap (λ i. count_at f.nets i t) (all.each c x at) ∙ drawn_too alike.log g f t c alike.keeper.1.counts own.1.counts on in
-      (λ j. sym same j + released_of (sym there.2 j) x) ∙ (net ∙ ap (λ n. bias + acquired_of n x) there.2)
+      (λ j. sym same j + released_of (sym there.2 j) x) ∙ (own.1.shown.nets t there.0 there.1 ∙ ap (λ n. bias + acquired_of n x) there.2)
 
   alike_net : (c : ℕ) (x : OnCpu) → get_elem? xs c ≡ some x → net_met t e.number x ≡ net_of e.number x
   alike_net c x at =
@@ -276,11 +269,9 @@ module _ (a : Settings) (k : OnKeeper) (xs ys : List OnCpu) (known : IsKeeperOf 
   total t n is =
       let due : g.due ≡ Rest = sym seen.due ∙ known.view.rest in
       let adding : addition_due_at t g.due ≡ 0 = ap (addition_due_at t) due in
-      let is_adding : is_adding_at t g.due ≡ 0 = ap (is_adding_at t) due in
       let subtracting : subtraction_due_at t g.due ≡ 0 = ap (subtraction_due_at t) due in
-      let same : total_at k.view.totals t ≡ total_at g.totals t = ap (λ (l : List ℕ). total_at l t) seen.totals in
       total_sum (total_at g.totals t) (addition_due_at t g.due) (given_up n log) (words_collected t log) (is_adding_at t g.due) (sum_collected t log) (subtraction_due_at t g.due)
-      (total_at k.view.totals t) (alike.keeper.1.totals.total t n is) same adding is_adding subtracting
+      (total_at k.view.totals t) (alike.keeper.1.totals.total t n is) (ap (λ (l : List ℕ). total_at l t) seen.totals) adding (ap (is_adding_at t) due) subtracting
 
   -- what is said of one entry
   pub audited_is : (t : ℕ) (e : Entry) → IsIn e (slot_at k.slots t) → audited log xs e.number t ≡ tally_of k xs e.number t

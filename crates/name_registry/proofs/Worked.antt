@@ -43,8 +43,7 @@ pairs [] [] le each = refl
 pairs [] (x ∷ keeps) le each = absurd (omega (arith, le))
 pairs (r ∷ rows) [] le each = refl
 pairs (r ∷ rows) (x ∷ keeps) le each =
-    let first : r.keeps ≡ x = each 0 (omega arith) in
-    rw (pairs rows keeps (omega (arith, le)) (λ t lt. each (suc t) (omega (arith, lt))), first) refl
+    rw (pairs rows keeps (omega (arith, le)) (λ t lt. each (suc t) (omega (arith, lt))), each 0 (omega arith)) refl
 
 pub first_fit_in_rows : {log : List LogItem} (a : Settings) (k : KeeperView) (rows : List KeptSlot) (n : ℕ) (x : OnKeeper) → IsOurKeeper a k rows n
     → record { view = k; slots = states_of rows; log = log } ≡ x → position is_available_row (take a.slots rows) ≡ first_fit x
@@ -92,15 +91,9 @@ may_work a k rows n x t e our is retired =
 
 -- there still is after some
 pub still_works : (z : Settings) (a b : OnKeeper) (t : ℕ) → MayWork z a t → HasWorkedFor a t b → MayWork z b t
-still_works z a b t may worked = record {
-  settings = ap (λ (k : KeeperView). k.settings) worked.only ∙ may.settings;
-  rest = ap (λ (k : KeeperView). k.due) worked.only ∙ may.rest;
-  slot = may.slot;
-  e = may.e;
-  retired = ap (λ (xs : List Slot). slot_at xs t) worked.slots ∙ may.retired;
-  known = ap (λ (k : KeeperView). slot_at k.slots t) worked.only ∙ may.known;
-  keeps = λ d kept. may.keeps d (sym (ap (λ (k : KeeperView). kept_at k.keeps t) worked.only) ∙ kept);
-}
+still_works z a b t may worked =
+    subst (λ (p : KeeperView × List Slot). MayWork z (record b { view = p.0; slots = p.1 }) t) (λ i. (sym worked.only i, sym worked.slots i))
+    (search (may.settings, may.rest, may.slot, may.retired, may.known, may.keeps))
 
 -- One turn after the other
 
@@ -269,9 +262,8 @@ snapshot_at : (z : Settings) (a : OnKeeper) (l : KeeperView) (t c w : ℕ) → M
     → (x : ℕ) × ((mark_at a.view.marks t c).snapshot ≡ Some x)
 snapshot_at z a l t c w may cpu made =
     let seen = seen_by_keeper made.g a.view made.good made.before in
-    let rest : at_rest made.g.due ≡ true = ap at_rest (sym seen.due ∙ may.rest) in
     let gone : is_retired (slot_at made.g.slots t) ≡ true = ap is_retired (ap (λ (xs : List Slot). slot_at xs t) (sym seen.slots) ∙ may.known) in
-    let x = snapshot_stands made.g t c made.good.holds rest gone (subst (λ (s : Settings). c < s.cpus) (sym may.settings ∙ seen.settings) cpu) in
+    let x = snapshot_stands made.g t c made.good.holds (ap at_rest (sym seen.due ∙ may.rest)) gone (subst (λ (s : Settings). c < s.cpus) (sym may.settings ∙ seen.settings) cpu) in
     (x.0, ap (λ (ms : List (List Mark)). (mark_at ms t c).snapshot) seen.marks ∙ x.1)
 
 pub sees_section : (z : Settings) (a b : OnKeeper) (t c w : ℕ) → MayWork z a t → c < z.cpus → HasLooked a.view (Look (Some t) c) (Word w) t c w b.view
@@ -316,33 +308,18 @@ ends_since old log new d on ends = (
 )
 
 section_since : (a b d : OnKeeper) (t c : ℕ) → HasWorkedFor a t b → SeesSection b t c d → SeesSection a t c d
-section_since a b d t c worked sees = record {
-  word = sees.word;
-  look = looked_since a b d t sees.word _ worked sees.look;
-  log = ends_since a.log b.log d.log (has_looked t c sees.word) worked.log sees.log;
-  odd = sees.odd;
-  snapshot = sees.snapshot;
-  unpassed = sees.unpassed;
-}
+section_since a b d t c worked sees =
+    search (looked_since a b d t sees.word _ worked sees.look, ends_since a.log b.log d.log (has_looked t c sees.word) worked.log sees.log, sees.odd, sees.snapshot, sees.unpassed)
 
 passive_since : (a b d : OnKeeper) (t c : ℕ) → HasWorkedFor a t b → SeesPassive b t c d → SeesPassive a t c d
-passive_since a b d t c worked sees = record {
-  word = sees.word;
-  look = looked_since a b d t sees.word _ worked sees.look;
-  log = ends_since a.log b.log d.log (has_looked_passive t c sees.word) worked.log sees.log;
-  some = sees.some;
-  unclear = sees.unclear;
-}
+passive_since a b d t c worked sees =
+    search (looked_since a b d t sees.word _ worked sees.look, ends_since a.log b.log d.log (has_looked_passive t c sees.word) worked.log sees.log, sees.some, sees.unclear)
 
 -- The first CPU of all that a look stops at
 
 pub grace_met : (z : Settings) (a b d : OnKeeper) (t c : ℕ) → MayWork z a t → c < z.cpus → HasLookedFor a t b → PassedBelow b.view t c → HasLookedFor b t d → SeesSection b t c d → MeetsGrace a t c d
-grace_met z a b d t c may cpu before passed looked_ sees = record {
-  cpu = subst (λ (s : Settings). c < s.cpus) (sym may.settings) cpu;
-  sees = section_since a b d t c before.worked sees;
-  lesser = still_passed b d t c looked_.worked passed;
-  leaves = looked_more a b d t before looked_;
-}
+grace_met z a b d t c may cpu before passed looked_ sees =
+    assumption (subst (λ (s : Settings). c < s.cpus) (sym may.settings) cpu, section_since a b d t c before.worked sees, still_passed b d t c looked_.worked passed, looked_more a b d t before looked_)
 
 pub passive_met : (z : Settings) (a b d : OnKeeper) (t c : ℕ) → MayWork z a t → c < z.cpus → PassedBelow a.view t z.cpus → HasLookedFor a t b → ClearBelow b.view t c → HasLookedFor b t d
     → SeesPassive b t c d → MeetsPassive a t c d
