@@ -32,7 +32,7 @@ use denote.Triple.Walked.{Stays, stay_dropped, walk_of, Goes-dropped}
 use Rattle.core.proofs.alloc.Calls.{Goes-blank}
 use Rattle.std.proofs.raw_atomic.Walks.{proved_at, leaves}
 use Rattle.std_alloc.proofs.ResultValues.{and_tt}
-use Rattle.c_handles.proofs.Turned.{Said, Word, fits_in, said, word, word_of}
+use Rattle.c_handles.proofs.Turned.{Said, Word, fits_in, routine, said, word, word_of}
 
 -- a struct whose one field is a number of so many bits
 abbrev pub counted : Width → (O : Owning) → (O.D → ℕ) → Owning
@@ -65,15 +65,9 @@ counts_in u n ν low = (and_tt (has_ty (ty_int u) (vint u n)) (fits_width u n), 
 
 -- the number is put into the new struct
 abbrev pub answers : Width → Sym → Sym → Fn
-answers u from into = record {
-  lifetimes = 0;
-  outlives = [];
-  ty_params = [];
-  givens = 0;
-  params = 2;
-  locals = local (ty_struct into (tcons (ty_int u) tnil)) value_local ∷ local (ty_struct from (tcons ty_ptr tnil)) value_local ∷ local (ty_int u) value_local ∷ [];
-  body = seq (assign (place 0 []) (aggregate (copy (place 2 []) ∷ []))) return;
-}
+answers u from into = routine 0 2
+    (local (ty_struct into (tcons (ty_int u) tnil)) value_local ∷ local (ty_struct from (tcons ty_ptr tnil)) value_local ∷ local (ty_int u) value_local ∷ [])
+    (seq (assign (place 0 []) (aggregate (copy (place 2 []) ∷ []))) return)
 
 module _ (u : Width) (P Q : Owning) (at : Word P.D) (num : Q.D → ℕ) where
   abbrev A : RattleType
@@ -120,16 +114,10 @@ module _ (u : Width) (P Q : Owning) (at : Word P.D) (num : Q.D → ℕ) where
 
 -- the number goes on, and what another struct of one pointer owned goes along too
 abbrev pub joins : Sym → Sym → Sym → Fn
-joins from other into = record {
-  lifetimes = 0;
-  outlives = [];
-  ty_params = [];
-  givens = 0;
-  params = 2;
-  locals = local (ty_struct into (tcons (ty_int w32) tnil)) value_local ∷ local (ty_struct from (tcons (ty_int w32) tnil)) value_local ∷ local (ty_struct other (tcons ty_ptr tnil)) value_local
-      ∷ local (ty_int w32) value_local ∷ [];
-  body = seq (assign (place 3 []) (rv_opd (copy (place 1 (field 0 ∷ []))))) (seq (assign (place 0 []) (aggregate (copy (place 3 []) ∷ []))) return);
-}
+joins from other into = routine 0 2
+    (local (ty_struct into (tcons (ty_int w32) tnil)) value_local ∷ local (ty_struct from (tcons (ty_int w32) tnil)) value_local ∷ local (ty_struct other (tcons ty_ptr tnil)) value_local
+    ∷ local (ty_int w32) value_local ∷ [])
+    (seq (assign (place 3 []) (rv_opd (copy (place 1 (field 0 ∷ []))))) (seq (assign (place 0 []) (aggregate (copy (place 3 []) ∷ []))) return))
 
 module _ (P N Q : Owning) (number : P.D → ℕ) (at : Word N.D) (num : Q.D → ℕ) where
   abbrev F₁ : RattleType

@@ -39,7 +39,7 @@ use Rattle.std.proofs.raw_atomic.Walks.{proved, leaves}
 use Rattle.std_alloc.proofs.ResultValues.{and_tt}
 use Rattle.c_handles.specs.Heap.{may_lie_at, is_null, is_testable}
 use Rattle.c_handles.proofs.Lent.{lent_tests, either, by_name}
-use Rattle.c_handles.proofs.Turned.{Said, Word, fits, pointing, said, word, word_of}
+use Rattle.c_handles.proofs.Turned.{Said, Word, fits, pointing, routine, said, word, word_of}
 
 module _ (P : Owning) (at : Word P.D) (R : RattleType) where
   abbrev A : RattleType
@@ -53,20 +53,14 @@ module _ (P : Owning) (at : Word P.D) (R : RattleType) where
 
   -- the pointer is read and compared with null; where it isn't null, what lies there is copied
   abbrev pub copies : Fn
-  copies = record {
-    lifetimes = 1;
-    outlives = [];
-    ty_params = [];
-    givens = 0;
-    params = 1;
-    locals = local (ty_enum (OP.the_type RawPtr).name (ttcons tnil (ttcons (tcons τ tnil) ttnil))) value_local ∷ local (ty_ref (named 0) mut (by_name (layout A))) value_local
-        ∷ local ty_ptr value_local ∷ local τ value_local
-        ∷ local ty_bool value_local ∷ local τ value_local ∷ local ty_ptr value_local ∷ [];
-    body = seq (assign (place 2 []) (rv_opd (copy (place 1 (deref (layout A) ∷ field 0 ∷ []))))) (seq (assign (place 4 []) (op2 ptr_eq (copy (place 2 [])) (int w64 0)))
-        (seq (cond (copy (place 4 [])) (seq (assign (place 0 []) (aggregate (int w8 0 ∷ []))) return) skip)
-        (seq (block (seq (assign (place 6 []) (rv_opd (copy (place 2 [])))) (assign (place 5 []) (rv_opd (copy (place 6 (deref τ ∷ [])))))))
-        (seq (assign (place 3 []) (rv_opd (copy (place 5 [])))) (seq (assign (place 0 []) (aggregate (int w8 1 ∷ copy (place 3 []) ∷ []))) return)))));
-  }
+  copies = routine 1 1
+      (local (ty_enum (OP.the_type RawPtr).name (ttcons tnil (ttcons (tcons τ tnil) ttnil))) value_local ∷ local (ty_ref (named 0) mut (by_name (layout A))) value_local
+      ∷ local ty_ptr value_local ∷ local τ value_local
+      ∷ local ty_bool value_local ∷ local τ value_local ∷ local ty_ptr value_local ∷ [])
+      (seq (assign (place 2 []) (rv_opd (copy (place 1 (deref (layout A) ∷ field 0 ∷ []))))) (seq (assign (place 4 []) (op2 ptr_eq (copy (place 2 [])) (int w64 0)))
+      (seq (cond (copy (place 4 [])) (seq (assign (place 0 []) (aggregate (int w8 0 ∷ []))) return) skip)
+      (seq (block (seq (assign (place 6 []) (rv_opd (copy (place 2 [])))) (assign (place 5 []) (rv_opd (copy (place 6 (deref τ ∷ [])))))))
+      (seq (assign (place 3 []) (rv_opd (copy (place 5 [])))) (seq (assign (place 0 []) (aggregate (int w8 1 ∷ copy (place 3 []) ∷ []))) return))))))
 
   abbrev pub En : Ended
   En = record { signature = record { lifetimes = 1; outlives = []; params = RefMutOf (0 ∷ []) tt (plain (λ _. A)) (λ _. tt) ∷ []; result = plain (λ κs. Out) }; kept = (yes, tt) }

@@ -38,7 +38,7 @@ use Rattle.core.specs.Option.{ghost_name_of}
 use Rattle.core.proofs.alloc.Shapes.{after}
 use Rattle.core.proofs.option.Made.{Some-of, none_of}
 use Rattle.c_handles.specs.Heap.{may_lie_at, token, is_testable, is_null, IsLent}
-use Rattle.c_handles.proofs.Turned.{Word, fits, pointing, word, word_of}
+use Rattle.c_handles.proofs.Turned.{Word, fits, pointing, routine, word, word_of}
 
 -- What may lie behind a pointer, taken apart: nothing, at null, or a value, whose pointer may be compared with null.
 
@@ -92,20 +92,14 @@ module _ (more : Ptr → Fml) (tests : Tests more) (P : Owning) (at : Word P.D) 
 
   -- the pointer is read and compared with null; where it isn't null, it is turned into a `&mut`
   abbrev pub lends : Fn
-  lends = record {
-    lifetimes = 1;
-    outlives = [];
-    ty_params = [];
-    givens = 0;
-    params = 1;
-    locals = local (loan (named 0) τ) value_local ∷ local (ty_ref (named 0) mut σ) value_local ∷ local ty_ptr value_local ∷ local ty_ptr value_local ∷ local ty_bool value_local
-        ∷ local (ty_ref erased mut τ) value_local ∷ local (ty_ref erased mut τ) value_local ∷ local ty_ptr value_local ∷ local ty_ptr value_local ∷ [];
-    body = seq (assign (place 2 []) (rv_opd (copy (place 1 (deref (layout A) ∷ field 0 ∷ [])))))
-        (seq (assign (place 3 []) (rv_opd (copy (place 2 [])))) (seq (assign (place 4 []) (op2 ptr_eq (copy (place 3 [])) (int w64 0)))
-        (seq (cond (copy (place 4 [])) (seq (assign (place 0 []) (aggregate (int w8 0 ∷ []))) return) skip)
-        (seq (block (seq (assign (place 7 []) (rv_opd (copy (place 2 [])))) (seq (assign (place 8 []) (rv_opd (copy (place 7 [])))) (assign (place 6 []) (addr_of (place 8 (deref (layout R) ∷ [])))))))
-        (seq (assign (place 5 []) (rv_opd (copy (place 6 [])))) (seq (assign (place 0 []) (aggregate (int w8 1 ∷ copy (place 5 []) ∷ []))) return))))));
-  }
+  lends = routine 1 1
+      (local (loan (named 0) τ) value_local ∷ local (ty_ref (named 0) mut σ) value_local ∷ local ty_ptr value_local ∷ local ty_ptr value_local ∷ local ty_bool value_local
+      ∷ local (ty_ref erased mut τ) value_local ∷ local (ty_ref erased mut τ) value_local ∷ local ty_ptr value_local ∷ local ty_ptr value_local ∷ [])
+      (seq (assign (place 2 []) (rv_opd (copy (place 1 (deref (layout A) ∷ field 0 ∷ [])))))
+      (seq (assign (place 3 []) (rv_opd (copy (place 2 [])))) (seq (assign (place 4 []) (op2 ptr_eq (copy (place 3 [])) (int w64 0)))
+      (seq (cond (copy (place 4 [])) (seq (assign (place 0 []) (aggregate (int w8 0 ∷ []))) return) skip)
+      (seq (block (seq (assign (place 7 []) (rv_opd (copy (place 2 [])))) (seq (assign (place 8 []) (rv_opd (copy (place 7 [])))) (assign (place 6 []) (addr_of (place 8 (deref (layout R) ∷ [])))))))
+      (seq (assign (place 5 []) (rv_opd (copy (place 6 [])))) (seq (assign (place 0 []) (aggregate (int w8 1 ∷ copy (place 5 []) ∷ []))) return)))))))
 
   abbrev pub En : Ended
   En = record {

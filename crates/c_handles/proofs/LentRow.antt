@@ -40,7 +40,7 @@ use Rattle.core.proofs.alloc.Shapes.{after}
 use Rattle.std.proofs.raw_atomic.Walks.{proved, leaves}
 use Rattle.c_handles.specs.Heap.{is_null, is_testable, IsThere, is_nothing, lends_row, row_lies_at, is_roomy}
 use Rattle.c_handles.proofs.Lent.{by_name}
-use Rattle.c_handles.proofs.Turned.{Said, Word, fits, pointing, said, word, word_of}
+use Rattle.c_handles.proofs.Turned.{Said, Word, fits, pointing, routine, said, word, word_of}
 
 -- What may lie behind the pointer, taken apart: nothing, at null, or a row, whose pointer may be compared with null.
 module _ (R : RattleType) (q : Share) where
@@ -63,15 +63,9 @@ module _ (P : Owning) (at : Word P.D) where
 
   -- the pointer is read and compared with null
   abbrev pub asks : Fn
-  asks = record {
-    lifetimes = 1;
-    outlives = [];
-    ty_params = [];
-    givens = 0;
-    params = 1;
-    locals = local ty_bool value_local ∷ local (ty_ref (named 0) mut (by_name (layout A))) value_local ∷ local ty_ptr value_local ∷ [];
-    body = seq (assign (place 2 []) (rv_opd (copy (place 1 (deref (layout A) ∷ field 0 ∷ []))))) (seq (assign (place 0 []) (op2 ptr_eq (copy (place 2 [])) (int w64 0))) return);
-  }
+  asks = routine 1 1
+      (local ty_bool value_local ∷ local (ty_ref (named 0) mut (by_name (layout A))) value_local ∷ local ty_ptr value_local ∷ [])
+      (seq (assign (place 2 []) (rv_opd (copy (place 1 (deref (layout A) ∷ field 0 ∷ []))))) (seq (assign (place 0 []) (op2 ptr_eq (copy (place 2 [])) (int w64 0))) return))
 
   abbrev pub Asked : Ended
   Asked = record { signature = record { lifetimes = 1; outlives = []; params = RefMutOf (0 ∷ []) tt (plain (λ _. A)) (λ _. tt) ∷ []; result = plain (λ κs. bool) }; kept = (yes, tt) }
@@ -127,18 +121,12 @@ module _ (P : Owning) (at : Word P.D) where
 
     -- the pointer is read, and turned into a `&mut [T]` with the length beside it
     abbrev pub lends : Fn
-    lends = record {
-      lifetimes = 1;
-      outlives = [];
-      ty_params = [];
-      givens = 0;
-      params = 2;
-      locals = local (slice_ty (ty_ref (named 0) mut τ)) value_local ∷ local (ty_ref (named 0) mut (by_name (layout A))) value_local ∷ local (ty_int w64) value_local ∷ local ty_ptr value_local
-          ∷ local (slice_ty (ty_ref erased mut τ)) value_local ∷ local ty_ptr value_local ∷ [];
-      body = seq (assign (place 3 []) (rv_opd (copy (place 1 (deref (layout A) ∷ field 0 ∷ [])))))
-          (seq (block (seq (assign (place 5 []) (rv_opd (copy (place 3 [])))) (assign (place 4 []) (aggregate (copy (place 5 []) ∷ copy (place 2 []) ∷ [])))))
-          (seq (assign (place 0 []) (rv_opd (copy (place 4 [])))) return));
-    }
+    lends = routine 1 2
+        (local (slice_ty (ty_ref (named 0) mut τ)) value_local ∷ local (ty_ref (named 0) mut (by_name (layout A))) value_local ∷ local (ty_int w64) value_local ∷ local ty_ptr value_local
+        ∷ local (slice_ty (ty_ref erased mut τ)) value_local ∷ local ty_ptr value_local ∷ [])
+        (seq (assign (place 3 []) (rv_opd (copy (place 1 (deref (layout A) ∷ field 0 ∷ [])))))
+        (seq (block (seq (assign (place 5 []) (rv_opd (copy (place 3 [])))) (assign (place 4 []) (aggregate (copy (place 5 []) ∷ copy (place 2 []) ∷ [])))))
+        (seq (assign (place 0 []) (rv_opd (copy (place 4 [])))) return)))
 
     abbrev pub En : Ended
     En = record {

@@ -37,7 +37,7 @@ use Rattle.std.proofs.raw_atomic.Walks.{proved, leaves}
 use Rattle.c_handles.specs.Heap.{IsWithin, number_at, lends_row}
 use Rattle.c_handles.proofs.Lent.{by_name}
 use Rattle.c_handles.proofs.LentRow.{either}
-use Rattle.c_handles.proofs.Turned.{Said, Word, pointing, said, word, word_of}
+use Rattle.c_handles.proofs.Turned.{Said, Word, pointing, routine, said, word, word_of}
 
 -- a struct of one pointer, by reference
 module _ (P : Owning) (at : Word P.D) where
@@ -46,18 +46,12 @@ module _ (P : Owning) (at : Word P.D) where
 
   -- the pointer is read and moved up, and what lies there is copied
   abbrev pub reads : Fn
-  reads = record {
-    lifetimes = 1;
-    outlives = [];
-    ty_params = [];
-    givens = 0;
-    params = 2;
-    locals = local (ty_int w8) value_local ∷ local (ty_ref (named 0) mut (by_name (layout A))) value_local ∷ local (ty_int w64) value_local ∷ local ty_ptr value_local ∷ local (ty_int w8) value_local
-        ∷ local ty_ptr value_local ∷ [];
-    body = seq (assign (place 3 []) (rv_opd (copy (place 1 (deref (layout A) ∷ field 0 ∷ [])))))
-        (seq (block (seq (assign (place 5 []) (op2 offset (copy (place 3 [])) (copy (place 2 [])))) (assign (place 4 []) (rv_opd (copy (place 5 (deref (ty_int w8) ∷ [])))))))
-        (seq (assign (place 0 []) (rv_opd (copy (place 4 [])))) return));
-  }
+  reads = routine 1 2
+      (local (ty_int w8) value_local ∷ local (ty_ref (named 0) mut (by_name (layout A))) value_local ∷ local (ty_int w64) value_local ∷ local ty_ptr value_local ∷ local (ty_int w8) value_local
+      ∷ local ty_ptr value_local ∷ [])
+      (seq (assign (place 3 []) (rv_opd (copy (place 1 (deref (layout A) ∷ field 0 ∷ [])))))
+      (seq (block (seq (assign (place 5 []) (op2 offset (copy (place 3 [])) (copy (place 2 [])))) (assign (place 4 []) (rv_opd (copy (place 5 (deref (ty_int w8) ∷ [])))))))
+      (seq (assign (place 0 []) (rv_opd (copy (place 4 [])))) return)))
 
   abbrev pub Read : Ended
   Read = record {

@@ -1,8 +1,8 @@
 -- A struct of one pointer is turned into another one, and what it owns goes along.
-use Rattle.std.proofs.Common.{◌≡◌, List, [], ◌∷◌, ◌++◌, refl, sym, ap, subst, lit<}
+use Rattle.std.proofs.Common.{◌≡◌, ℕ, List, [], ◌∷◌, ◌++◌, refl, sym, ap, subst, lit<}
 use lib.Dec.{T}
 use seplogic.Ra.Ura.{Ura}
-use mir.Syntax.{Sym, Fn, Callee, local, value_local, ty_struct, ty_ptr, tcons, tnil, place, field, assign, rv_opd, copy, aggregate, seq, return}
+use mir.Syntax.{Sym, Fn, Local, Body, Callee, local, value_local, ty_struct, ty_ptr, tcons, tnil, place, field, assign, rv_opd, copy, aggregate, seq, return}
 use mir.Val.{Val, vstruct, vcons, vnil, of_list, has_ty, WT}
 use base.Logic.{SProp, ent, emp, id⊢}
 use base.Fml.{Fml, ftrue, fsep}
@@ -31,18 +31,16 @@ use denote.Triple.Walked.{Stays, stay_dropped, walk_of}
 use Rattle.core.proofs.alloc.Calls.{Goes-blank}
 use Rattle.std.proofs.raw_atomic.Walks.{proved_at, leaves}
 
+-- a routine with so many lifetimes and parameters
+abbrev pub routine : ℕ → ℕ → List Local → Body → Fn
+routine lifetimes params locals body = record { lifetimes = lifetimes; outlives = []; ty_params = []; givens = 0; params = params; locals = locals; body = body }
+
 -- the pointer is read, cast and put into the new struct
 abbrev pub turns : Sym → Sym → Fn
-turns from into = record {
-  lifetimes = 0;
-  outlives = [];
-  ty_params = [];
-  givens = 0;
-  params = 1;
-  locals = local (ty_struct into (tcons ty_ptr tnil)) value_local ∷ local (ty_struct from (tcons ty_ptr tnil)) value_local ∷ local ty_ptr value_local ∷ local ty_ptr value_local ∷ [];
-  body = seq (assign (place 2 []) (rv_opd (copy (place 1 (field 0 ∷ [])))))
-      (seq (assign (place 3 []) (rv_opd (copy (place 2 [])))) (seq (assign (place 0 []) (aggregate (copy (place 3 []) ∷ []))) return));
-}
+turns from into = routine 0 1
+    (local (ty_struct into (tcons ty_ptr tnil)) value_local ∷ local (ty_struct from (tcons ty_ptr tnil)) value_local ∷ local ty_ptr value_local ∷ local ty_ptr value_local ∷ [])
+    (seq (assign (place 2 []) (rv_opd (copy (place 1 (field 0 ∷ [])))))
+    (seq (assign (place 3 []) (rv_opd (copy (place 2 [])))) (seq (assign (place 0 []) (aggregate (copy (place 3 []) ∷ []))) return)))
 
 -- a struct whose one field is a pointer
 abbrev pub Word : Type 0 → Type 0
