@@ -44,26 +44,13 @@ ends_in begin old new d from ends = (old ++ ends.0, prefix_on _ _ _ from (ends.0
 
 met_section : (z : Settings) (a b : OnKeeper) (t c : ℕ) (begin : List LogItem) → HasOwnLog z b → IsPrefix begin a.log → MeetsGrace a t c b → MetSection t c begin b.log
 met_section z a b t c begin own from meets =
-    let last = ends_in begin a.log b.log (has_looked t c meets.sees.word) from meets.sees.log in record {
-      word = meets.sees.word;
-      before = last.0;
-      since = last.1;
-      are = last.2;
-      odd = meets.sees.odd;
-      snapped = own.marks.snapped t c meets.sees.word meets.sees.snapshot;
-      lesser = λ d lt. own.marks.passed t d (meets.lesser d lt);
-    }
+    let last = ends_in begin a.log b.log (has_looked t c meets.sees.word) from meets.sees.log in
+    search (last.1, last.2, meets.sees.odd, own.marks.snapped t c meets.sees.word meets.sees.snapshot, λ (d : ℕ) (lt : d < c). own.marks.passed t d (meets.lesser d lt))
 
 met_reference : (z : Settings) (a b : OnKeeper) (t c : ℕ) (begin : List LogItem) → HasOwnLog z b → IsPrefix begin a.log → MeetsPassive a t c b → MetReference z.cpus t c begin b.log
 met_reference z a b t c begin own from meets =
-    let last = ends_in begin a.log b.log (has_looked_passive t c meets.sees.word) from meets.sees.log in record {
-      word = meets.sees.word;
-      before = last.0;
-      since = last.1;
-      are = last.2;
-      some = meets.sees.some;
-      passed = λ d lt. own.marks.passed t d (meets.passed d (subst (λ (s : Settings). d < s.cpus) (sym own.settings) lt));
-    }
+    let last = ends_in begin a.log b.log (has_looked_passive t c meets.sees.word) from meets.sees.log in
+    search (last.1, last.2, meets.sees.some, λ (d : ℕ) (lt : d < z.cpus). own.marks.passed t d (meets.passed d (subst (λ (s : Settings). d < s.cpus) (sym own.settings) lt)))
 
 met_locals : (z : Settings) (a b : OnKeeper) (t n k : ℕ) (e : Entry) → HasOwnLog z b → slot_at a.slots t ≡ Retired e → e.number ≡ n → MeetsLocal a t k b → MetLocals z.cpus t n k b.log
 met_locals z a b t n k e own at same meets =
@@ -222,14 +209,8 @@ destroys_inside z number turns inside x in_ = subst (λ (b : Bool). DestroysOuts
 -- What the CPU knows then: the entry is gone from its slot
 
 pub freed_more : (t n : ℕ) (log later : List LogItem) → IsPrefix log later → IsFreedFrom t n log → IsFreedFrom t n later
-freed_more t n log later pre is = record {
-  before = is.before;
-  item = is.item;
-  after = is.after ++ pre.0;
-  are = sym pre.1 ∙ (ap (λ (l : List LogItem). l ++ pre.0) is.are ∙ append_assoc is.before (is.item ∷ is.after) pre.0);
-  detached = is.detached;
-  freed = is.freed;
-}
+freed_more t n log later pre is =
+    search (sym pre.1 ∙ (ap (λ (l : List LogItem). l ++ pre.0) is.are ∙ append_assoc is.before (is.item ∷ is.after) pre.0), is.detached, is.freed)
 
 pub advanced_freed : (a : OnKeeper) (n t : ℕ) (b : OnKeeper) → HasAdvanced a n (Ok (Freed t)) b → IsFreedFrom t n b.log
 advanced_freed a n t b has =

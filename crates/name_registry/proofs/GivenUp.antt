@@ -63,19 +63,7 @@ pub let_go_heard : (x m y : OnCpu) (v w : ReferenceView) → HasComeBack x v m w
     → IsLetGoAndHeard x v y
 let_go_heard x m y v w back learns made log knows =
     let known : m.known_log ≡ x.known_log = ap (λ (o : OnCpu). o.known_log) back.cpu in
-    let gone : KnowsGivenUp w.entry x y = record {
-      before = knows.before;
-      after = knows.after;
-      known = subst (λ (l : List LogItem). IsPrefix l knows.before) known knows.known;
-      are = knows.are;
-      more = subst (λ (l : List LogItem). given_up w.entry.number l < given_up w.entry.number y.known_log) known knows.more;
-    } in
-    inr (record {
-      between = m;
-      back = w;
-      came_back = back;
-      learned = learns;
-      log = log;
-      made = made;
-      gone = subst (λ (e : Entry). KnowsGivenUp e x y) (ap (λ (u : ReferenceView). u.entry) back.is) gone;
-    })
+    let before = subst (λ (l : List LogItem). IsPrefix l knows.before) known knows.known in
+    let gone : KnowsGivenUp w.entry x y =
+    search (before, knows.are, subst (λ (l : List LogItem). given_up w.entry.number l < given_up w.entry.number y.known_log) known knows.more) in
+    inr (search (back, learns, log, made, subst (λ (e : Entry). KnowsGivenUp e x y) (ap (λ (u : ReferenceView). u.entry) back.is) gone))

@@ -92,12 +92,8 @@ learned note x y has log =
     let note_is = ap (λ (o : OnCpu). o.view.noted_pass) has.is in
     let made_is = ap (λ (o : OnCpu). o.made) has.is in
     let heard : y ≡ record x { view = record x.view { pass = y.view.pass; noted_pass = y.view.noted_pass }; known_log = y.known_log; log = y.log } =
-    subst (λ (l : List Change). y ≡ record x { view = record x.view { pass = y.view.pass; noted_pass = l }; known_log = y.known_log; log = y.log }) (sym note_is) has.is in record {
-      pass = has.pass;
-      known_log = has.known_log;
-      is = subst (λ n. y ≡ record x { view = record x.view { pass = y.view.pass; noted_pass = y.view.noted_pass }; made = n; known_log = y.known_log; log = y.log }) (sym made_is) heard;
-      log = log;
-    }
+    subst (λ (l : List Change). y ≡ record x { view = record x.view { pass = y.view.pass; noted_pass = l }; known_log = y.known_log; log = y.log }) (sym note_is) has.is in
+    assumption (log, subst (λ (n : ℕ). y ≡ record x { view = record x.view { pass = y.view.pass; noted_pass = y.view.noted_pass }; made = n; known_log = y.known_log; log = y.log }) (sym made_is) heard)
 
 -- Attaching
 

@@ -31,16 +31,10 @@ found_past : (c old : ℕ) (first log : List LogItem) → IsFound c old log → 
 found_past c old first log is = (is.0, stands_past (has_found c is.0) first log is.1, is.2)
 
 seen_more : (c : ℕ) (log more : List LogItem) → IsSeenOut c log → IsSeenOut c (log ++ more)
-seen_more c log more is = record {
-  old = is.old;
-  new = is.new;
-  before = is.before;
-  between = is.between;
-  after = is.after ++ more;
-  are = ap (λ (l : List LogItem). l ++ more) is.are ∙ (append_assoc is.before (has_taken c is.old ∷ (is.between ++ has_found c is.new ∷ is.after)) more
-      ∙ ap (λ (l : List LogItem). is.before ++ has_taken c is.old ∷ l) (append_assoc is.between (has_found c is.new ∷ is.after) more));
-  moved = is.moved;
-}
+seen_more c log more is =
+    let are = ap (λ (l : List LogItem). l ++ more) is.are ∙ (append_assoc is.before (has_taken c is.old ∷ (is.between ++ has_found c is.new ∷ is.after)) more
+    ∙ ap (λ (l : List LogItem). is.before ++ has_taken c is.old ∷ l) (append_assoc is.between (has_found c is.new ∷ is.after) more)) in
+    search (are, is.moved)
 
 -- what the code compares says that the word moved
 moved : (old new : ℕ) → is_out old new ≡ true → HasMoved old new

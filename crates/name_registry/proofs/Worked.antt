@@ -79,15 +79,8 @@ pub may_work : {table : TableId} {log : List LogItem} (a : Settings) (k : Keeper
 may_work a k rows n x t e our is retired =
     let there : slot_at (states_of rows) t ≡ Retired e = ap (λ (y : OnPlainKeeper). slot_at y.keeper.slots t) is ∙ retired in
     let known = retired_in a k rows t e our.rows there in
-    subst (λ (y : OnPlainKeeper). MayWork y.words.settings y.keeper t) is record {
-      settings = our.view.settings;
-      rest = our.view.rest;
-      slot = known.0;
-      e = e;
-      retired = there;
-      known = known.1;
-      keeps = λ d kept. keeps_iface k t d e our.is_shown known.1 kept;
-    }
+    subst (λ (y : OnPlainKeeper). MayWork y.words.settings y.keeper t) is
+    (search (our.view.settings, our.view.rest, known.0, there, known.1, λ (d : ℕ). keeps_iface k t d e our.is_shown known.1))
 
 -- there still is after some
 pub still_works : (z : Settings) (a b : OnKeeper) (t : ℕ) → MayWork z a t → HasWorkedFor a t b → MayWork z b t
