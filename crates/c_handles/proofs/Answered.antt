@@ -36,18 +36,8 @@ use Rattle.c_handles.proofs.Turned.{Said, Word, fits_in, routine, said, word, wo
 
 -- a struct whose one field is a number of so many bits
 abbrev pub counted : Width → (O : Owning) → (O.D → ℕ) → Owning
-counted u O num = record {
-  name = O.name;
-  args = [];
-  types = O.types;
-  parts = uint_field u ∷ [];
-  D = O.D;
-  as_values = λ d. (num d, tt);
-  coded = O.coded;
-  heap = O.heap;
-  exit = λ k. hidden (under (λ d. intos (uint_field u ∷ []) (num d, tt)) (exits_of k (UInt u ∷ [])));
-  shr_at = O.shr_at;
-}
+counted u O num =
+    record O { args = []; parts = uint_field u ∷ []; as_values = λ d. (num d, tt); exit = λ k. hidden (under (λ d. intos (uint_field u ∷ []) (num d, tt)) (exits_of k (UInt u ∷ []))) }
 
 abbrev pub count_val : Width → ℕ → Val
 count_val u n = vstruct (vcons (vint u n) vnil)

@@ -47,18 +47,7 @@ abbrev pub Word : Type 0 → Type 0
 Word D = D → Values (RawPtr-field ∷ [])
 
 abbrev pub word : (O : Owning) → Word O.D → Owning
-word O at = record {
-  name = O.name;
-  args = [];
-  types = O.types;
-  parts = RawPtr-field ∷ [];
-  D = O.D;
-  as_values = at;
-  coded = O.coded;
-  heap = O.heap;
-  exit = λ k. hidden (under (λ d. intos (RawPtr-field ∷ []) (at d)) (exits_of k (RawPtr ∷ [])));
-  shr_at = O.shr_at;
-}
+word O at = record O { args = []; parts = RawPtr-field ∷ []; as_values = at; exit = λ k. hidden (under (λ d. intos (RawPtr-field ∷ []) (at d)) (exits_of k (RawPtr ∷ []))) }
 
 pub fits : (p : Ptr) → T (has_ty ty_ptr (ptr_val p)) × WT (ptr_val p)
 fits (block_ptr b o) = (tt, tt)
