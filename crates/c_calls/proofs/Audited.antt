@@ -1,11 +1,12 @@
 -- The audit: how it lets all know the same, one CPU and one slot more, the whole, and its result.
 use Rattle.std.proofs.Common.{◌≡◌, ◌≢◌, ℕ, ◌+◌, ◌<◌, ◌≤◌, List, length, Option, Some, None, sym, ap, ◌∙◌, subst, arith, ⊎_elim, true, [], ◌∷◌, refl, zero, suc, get_or, set, inl, inr, ◌^◌, ℤ, ◌+ℤ◌, pos, neg_ℤ, ◌≤ℤ◌, ◌++◌, map, replicate, take, drop, add-one, length-append, length-set}
 use Rattle.std.proofs.lemmas.Bool.{cases_lt, false≢true, cases_eq}
-use Rattle.std.proofs.lemmas.List.{length-map, drop-drop, drop-set-lt, get_or-set_other, get_or-set_same, map-append, map_more, take_more_set}
+use Rattle.std.proofs.lemmas.List.{map-set, length-map, drop-drop, drop-set-lt, get_or-set_other, get_or-set_same, map-append, map_more, take_more_set}
 use Rattle.std.proofs.lemmas.Option.{none-some}
 use Rattle.std.specs.List.{All}
 use Rattle.std.proofs.lemmas.Int.{ints}
 use Rattle.std.proofs.lemmas.List.Elements.{All-cons, All-head, All-nil, All-push, All-same, All-tail}
+use Rattle.std.proofs.Math.ListN.{get_or-map}
 use mathlib.Core.Logic.{dite}
 use native.Mathlib.Decide.{ℕ_discrete}
 use mathlib.Core.Option.{some}
@@ -14,6 +15,7 @@ use Rattle.atomic_table.specs.Seated.{TableId}
 use Rattle.c_calls.specs.Types.{MissingCpu, Settings, Change, LogItem, Entry, Slot, Vacant, Live, Retired, MOST_CPUS}
 use Rattle.registry_values.specs.Common.{number_of_refusal, Tally, less_bias, sum_of, slot_at}
 use Rattle.protocol.specs.Common.{IsIn, total_at}
+use Rattle.protocol.proofs.Cells.{get_or_all}
 use Rattle.cpu_words.specs.Common.{Named}
 use Rattle.passive_list.specs.Common.{OnPlainCpu, OnKeeper, OnPlainKeeper, OnCpu}
 use Rattle.name_registry.specs.Common.{AreAllCpus, AreAlike, HasListened, IsKeeperOf, IsTallied, each_at, listed_at, local_met, locals_met, places_below, tallies_met, tally_met, tally_of}
@@ -27,7 +29,7 @@ use Rattle.c_handles.specs.values.Places.{put}
 use Rattle.c_handles.specs.declared.handle.CpuHandle.{CpuHandle}
 use Rattle.c_calls.specs.Opening.{body_at, bodies_of}
 use Rattle.c_calls.specs.Audits.{AreAllHere, AuditWrites, Audits, AuditsBodies, AuditsList, occupied, HaveHeard, PassesOn, cpu_in, cpus_in, AreTold, IsCut, WritesNext, entries_in, tally_in}
-use Rattle.c_calls.proofs.Handles.{none_past, body_is, count_bodies, others_stay}
+use Rattle.c_calls.proofs.Handles.{body_is, body_set, count_bodies, none_past, others_stay, set_body}
 
 -- The CPUs of an audit, one at a time.
 
@@ -35,18 +37,7 @@ use Rattle.c_calls.proofs.Handles.{none_past, body_is, count_bodies, others_stay
 abbrev pub IsHere : List (Option OnPlainCpu) → ℕ → Type 0
 IsHere cs c = (b : OnPlainCpu) × (body_at cs c ≡ Some b) × (b.cpu.view.id ≡ c)
 
-pub here_more : (cs : List (Option OnPlainCpu)) (c : ℕ) → ((k : ℕ) → k < c → IsHere cs k) → IsHere cs c → (k : ℕ) → k < c + 1 → IsHere cs k
-here_more cs c before here k lt = dite (ℕ_discrete k c)
-    (λ (same : k ≡ c). subst (IsHere cs) (sym same) here)
-    (λ (off : k ≢ c). before k (omega (arith, lt, off)))
-
--- one more is empty
-pub none_more : (cs : List (Option OnPlainCpu)) (c : ℕ) → ((k : ℕ) → k < c → body_at cs k ≡ None) → body_at cs c ≡ None → (k : ℕ) → k < c + 1 → body_at cs k ≡ None
-none_more cs c before here k lt = dite (ℕ_discrete k c)
-    (λ (same : k ≡ c). ap (body_at cs) same ∙ here)
-    (λ (off : k ≢ c). before k (omega (arith, lt, off)))
-
--- all are, those past the last too
+-- all are empty, those past the last too
 pub all_none : (cs : List (Option OnPlainCpu)) (n : ℕ) → length cs ≤ n → ((k : ℕ) → k < n → body_at cs k ≡ None) → (k : ℕ) → body_at cs k ≡ None
 all_none cs n past each k = ⊎_elim (λ (lt : k < n). each k lt) (λ (ge : n ≤ k). none_past cs k (omega (arith, past, ge))) (cases_lt k n)
 
@@ -94,14 +85,7 @@ at_behind (o ∷ cs) zero b at = ap (λ (x : Option OnPlainCpu). some (cpu_in x)
 at_behind (o ∷ cs) (suc c) b at = at_behind cs c b at
 
 cpus_set : (hs : List CpuHandle) (c : ℕ) (h : CpuHandle) (b : OnPlainCpu) → h.body ≡ Some b → cpus_in (bodies_of (set hs c h)) ≡ set (cpus_in (bodies_of hs)) c b.cpu
-cpus_set [] c h b is = refl
-cpus_set (g ∷ hs) zero h b is = λ i. cpu_in (is i) ∷ cpus_in (bodies_of hs)
-cpus_set (g ∷ hs) (suc c) h b is = let rest = cpus_set hs c h b is in λ i. cpu_in g.body ∷ rest i
-
-body_set : (hs : List CpuHandle) (c : ℕ) (h : CpuHandle) → c < length hs → body_at (bodies_of (set hs c h)) c ≡ h.body
-body_set [] c h lt = absurd (omega (arith, lt))
-body_set (g ∷ hs) zero h lt = refl
-body_set (g ∷ hs) (suc c) h lt = body_set hs c h (omega (arith, lt))
+cpus_set hs c h b is = ap cpus_in (set_body hs c h) ∙ (map-set cpu_in (bodies_of hs) c h.body ∙ ap (λ (o : Option OnPlainCpu). set (cpus_in (bodies_of hs)) c (cpu_in o)) is)
 
 -- what passes it on, for any body of the handle
 abbrev pub PassesAt : CpuHandle → CpuHandle → List Change → List LogItem → TableId → List LogItem → Type 0
@@ -115,9 +99,7 @@ behind_more cs hs n d h note known_log table told lt passes same c b at = ⊎_el
     let was = same n b (ap (body_at cs) (sym here) ∙ at) in
     let p = passes was.0 (sym (body_is hs n d lt) ∙ was.1) in
     (p.body, ap (body_at (bodies_of (set hs n h))) here ∙ (body_set hs n h lt ∙ p.is), p.words ∙ was.2))
-    (λ (off : c ≡ n → ⊥).
-    let was = same c b at in
-    (was.0, others_stay hs n c h off ∙ was.1, was.2))
+    (λ (off : c ≡ n → ⊥). let was = same c b at in (was.0, others_stay hs n c h off ∙ was.1, was.2))
     (cases_eq c n)
 
 pub gathered_next : (cs : List (Option OnPlainCpu)) (hs : List CpuHandle) (n : ℕ) (log : List LogItem) (d h : CpuHandle) (b : OnPlainCpu) (note : List Change) (known_log : List LogItem)
@@ -145,8 +127,7 @@ pub passed_table : (cpus : ℕ) (w : Named) (cs : List (Option OnPlainCpu)) (hs 
 passed_table cpus w cs hs n d h note known_log table told all named low lt passes same =
     let has = all.each n low in
     let was = same n has.0 has.1 in
-    let p = passes was.0 (sym (body_is hs n d lt) ∙ was.1) in
-    p.table ∙ ap (λ (x : Named). x.table) (was.2 ∙ named n has.0 has.1)
+    (passes was.0 (sym (body_is hs n d lt) ∙ was.1)).table ∙ ap (λ (x : Named). x.table) (was.2 ∙ named n has.0 has.1)
 
 same_size : (cs : List (Option OnPlainCpu)) (hs : List CpuHandle) → length (cpus_in (bodies_of hs)) ≡ length (cpus_in cs) → length (bodies_of hs) ≡ length cs
 same_size cs hs size = sym (length-map (bodies_of hs) cpu_in) ∙ (size ∙ length-map cs cpu_in)
@@ -191,10 +172,8 @@ here_still n cs ds heard all = record {
 
 -- The CPUs behind the handles
 
-pub cpu_behind : (cs : List (Option OnPlainCpu)) (c : ℕ) → get_or (cpus_in cs) c (cpu_in None) ≡ cpu_in (body_at cs c)
-cpu_behind [] c = refl
-cpu_behind (o ∷ cs) zero = refl
-cpu_behind (o ∷ cs) (suc c) = cpu_behind cs c
+cpu_behind : (cs : List (Option OnPlainCpu)) (c : ℕ) → get_or (cpus_in cs) c (cpu_in None) ≡ cpu_in (body_at cs c)
+cpu_behind cs c = get_or-map cpu_in cs c None
 
 pub all_cpus : (n : ℕ) (cs : List (Option OnPlainCpu)) → AreAllHere n cs → AreAllCpus n (cpus_in cs)
 all_cpus n cs all = record {
@@ -214,18 +193,13 @@ pub record AreLocals (k : OnKeeper) (t n : ℕ) (cs : List (Option OnPlainCpu)) 
   pub cut : (i : ℕ) → c ≤ i → get_or locals i (pos 0) ≡ pos 0
   pub range : (i : ℕ) → (neg_ℤ (pos (2 ^ 50)) ≤ℤ get_or locals i (pos 0)) × (get_or locals i (pos 0) ≤ℤ pos (2 ^ 50))
 
-same_all : {X : Type 0} (n i : ℕ) (x : X) → get_or (replicate n x) i x ≡ x
-same_all zero i x = refl
-same_all (suc n) zero x = refl
-same_all (suc n) (suc i) x = same_all n i x
-
 -- of no CPU yet
 pub none_local : (k : OnKeeper) (t n : ℕ) (cs : List (Option OnPlainCpu)) → AreLocals k t n cs 0 (replicate MOST_CPUS (pos 0))
 none_local k t n cs = record {
   size = refl;
   value = refl;
-  cut = λ i past. same_all MOST_CPUS i (pos 0);
-  range = λ i. subst (λ (y : ℤ). (neg_ℤ (pos (2 ^ 50)) ≤ℤ y) × (y ≤ℤ pos (2 ^ 50))) (sym (same_all MOST_CPUS i (pos 0))) (omega (arith, ints), omega (arith, ints));
+  cut = λ i past. get_or_all MOST_CPUS (pos 0) i;
+  range = λ i. subst (λ (y : ℤ). (neg_ℤ (pos (2 ^ 50)) ≤ℤ y) × (y ≤ℤ pos (2 ^ 50))) (sym (get_or_all MOST_CPUS (pos 0) i)) (omega (arith, ints), omega (arith, ints));
 }
 
 pub locals_more : (k : OnKeeper) (t n : ℕ) (cs : List (Option OnPlainCpu)) (c : ℕ) (locals : List ℤ) (b : OnPlainCpu) (z : ℤ) → c < MOST_CPUS → c < length cs → body_at cs c ≡ Some b
@@ -264,9 +238,7 @@ occupied_next k t = ap (occupied k) (add-one t) ∙ (length-append (places_below
     here (Retired e) = refl
 
 pub one_at_most : (x : Slot) → entries_in x ≤ 1
-one_at_most Vacant = omega arith
-one_at_most (Live e) = omega arith
-one_at_most (Retired e) = omega arith
+one_at_most x = grind arith
 
 pub occupied_few : (k : OnKeeper) (t : ℕ) → occupied k t ≤ t
 occupied_few k zero = omega arith

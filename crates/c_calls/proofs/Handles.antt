@@ -1,6 +1,7 @@
 -- Handles by their bodies: each has one or none; and lists of them.
 use Rattle.std.proofs.Common.{◌≡◌, Option, Some, None, sym, ◌∙◌, ◌≢◌, ℕ, zero, suc, ◌+◌, ◌-◌, ◌<◌, ◌≤◌, List, [], ◌∷◌, ◌++◌, length, get_or, set, take, drop, refl, ap, arith, length-append}
-use Rattle.std.proofs.lemmas.List.{get_or-set_other, get_or-set_same, get_or_past, length-map, length-take-le, map-append, take-append-drop, take_at, take-take}
+use Rattle.std.proofs.lemmas.List.{get_or-map, map-set, get_or-set_other, get_or-set_same, get_or_past, length-map, length-take-le, map-append, take-append-drop, take_at, take-take}
+use Rattle.std.proofs.Math.Seq.{map-set_same}
 use mathlib.Core.Logic.{dite}
 use mathlib.Core.Option.{some}
 use native.Mathlib.Decide.{ℕ_discrete}
@@ -29,28 +30,21 @@ no_body o x is none = not_none x (sym is ∙ none)
 
 -- A name that two words have is the only one.
 
-same_name : (m n : Name) → ◌≡◌ {A = Option Name} (Some m) (Some n) → m ≡ n
-same_name m n q = cc
-
 pub one_name : (o : Option Name) (m n : Name) → o ≡ Some m → o ≡ Some n → m ≡ n
-one_name o m n is too = same_name m n (sym is ∙ too)
+one_name o m n is too = one_body o m n is too
 
 pub no_name : (o : Option Name) (m : Name) → o ≡ Some m → o ≡ None → ⊥
-no_name o m is none = let clash : ◌≡◌ {A = Option Name} (Some m) None = sym is ∙ none in cc
+no_name o m is none = no_body o m is none
 
 -- Lists of handles, by their bodies.
 
 -- a handle was written whose body is as before
 pub same_bodies : (hs : List CpuHandle) (c : ℕ) (h d : CpuHandle) → c < length hs → h.body ≡ (get_or hs c d).body → bodies_of (set hs c h) ≡ bodies_of hs
-same_bodies [] c h d lt same = absurd (omega (arith, lt))
-same_bodies (g ∷ hs) zero h d lt same = λ i. same i ∷ bodies_of hs
-same_bodies (g ∷ hs) (suc c) h d lt same = let rest = same_bodies hs c h d (omega (arith, lt)) same in λ i. g.body ∷ rest i
+same_bodies hs c h d lt same = map-set_same (λ (x : CpuHandle). x.body) hs c h d same
 
 -- what is behind the handle c
 pub body_is : (hs : List CpuHandle) (c : ℕ) (d : CpuHandle) → c < length hs → body_at (bodies_of hs) c ≡ (get_or hs c d).body
-body_is [] c d lt = absurd (omega (arith, lt))
-body_is (g ∷ hs) zero d lt = refl
-body_is (g ∷ hs) (suc c) d lt = body_is hs c d (omega (arith, lt))
+body_is hs c d lt = get_or-map (λ (h : CpuHandle). h.body) hs c d None lt
 
 pub count_bodies : (hs : List CpuHandle) → length (bodies_of hs) ≡ length hs
 count_bodies hs = length-map hs (λ (h : CpuHandle). h.body)
@@ -58,10 +52,11 @@ count_bodies hs = length-map hs (λ (h : CpuHandle). h.body)
 pub none_past : (cs : List (Option OnPlainCpu)) (c : ℕ) → length cs ≤ c → body_at cs c ≡ None
 none_past cs c past = get_or_past cs c None past
 
-set_body : (hs : List CpuHandle) (c : ℕ) (h : CpuHandle) → bodies_of (set hs c h) ≡ set (bodies_of hs) c h.body
-set_body [] c h = refl
-set_body (g ∷ hs) zero h = refl
-set_body (g ∷ hs) (suc c) h = let rest = set_body hs c h in λ i. g.body ∷ rest i
+pub set_body : (hs : List CpuHandle) (c : ℕ) (h : CpuHandle) → bodies_of (set hs c h) ≡ set (bodies_of hs) c h.body
+set_body hs c h = map-set (λ (x : CpuHandle). x.body) hs c h
+
+pub body_set : (hs : List CpuHandle) (c : ℕ) (h : CpuHandle) → c < length hs → body_at (bodies_of (set hs c h)) c ≡ h.body
+body_set hs c h lt = ap (λ (l : List (Option OnPlainCpu)). body_at l c) (set_body hs c h) ∙ get_or-set_same (bodies_of hs) c h.body None (omega (arith, lt, count_bodies hs))
 
 -- a handle was written, and what is behind another is as before
 pub others_stay : (hs : List CpuHandle) (c k : ℕ) (h : CpuHandle) → k ≢ c → body_at (bodies_of (set hs c h)) k ≡ body_at (bodies_of hs) k
@@ -69,7 +64,7 @@ others_stay hs c k h off = ap (λ (l : List (Option OnPlainCpu)). body_at l k) (
 
 -- Boxes, taken from the last
 
-at_front : {A : Type 0} (xs ys : List A) (i : ℕ) → i < length xs → get_elem? (xs ++ ys) i ≡ get_elem? xs i
+pub at_front : {A : Type 0} (xs ys : List A) (i : ℕ) → i < length xs → get_elem? (xs ++ ys) i ≡ get_elem? xs i
 at_front [] ys i lt = absurd (omega (arith, lt))
 at_front (x ∷ xs) ys zero lt = refl
 at_front (x ∷ xs) ys (suc i) lt = at_front xs ys i (omega (arith, lt))
@@ -101,9 +96,5 @@ pub given_more : (all : List OnPlainCpu) (n c : ℕ) (hs : List CpuHandle) (h : 
     → AreGiven all n (bodies_of hs) c → AreGiven all n (bodies_of (set hs c h)) (c + 1)
 given_more all n c hs h b lt is at given = λ k less. dite (ℕ_discrete k c)
     (λ (same : k ≡ c).
-    let here : body_at (bodies_of (set hs c h)) k ≡ Some b = ap (λ (l : List (Option OnPlainCpu)). body_at l k) (set_body hs c h)
-    ∙ (ap (body_at (set (bodies_of hs) c h.body)) same ∙ (get_or-set_same (bodies_of hs) c h.body None (omega (arith, lt, count_bodies hs)) ∙ is)) in
-    (b, here, ap (λ j. get_elem? all (n - suc j)) same ∙ at))
-    (λ (off : k ≢ c).
-    let before = given k (omega (arith, less, off)) in
-    (before.0, others_stay hs c k h off ∙ before.1, before.2))
+    (b, ap (body_at (bodies_of (set hs c h))) same ∙ (body_set hs c h lt ∙ is), ap (λ j. get_elem? all (n - suc j)) same ∙ at))
+    (λ (off : k ≢ c). let before = given k (omega (arith, less, off)) in (before.0, others_stay hs c k h off ∙ before.1, before.2))

@@ -14,7 +14,7 @@ use Rattle.c_handles.specs.declared.values.plain.TheConstants.{FULL_HANDLE}
 use Rattle.c_handles.specs.declared.values.plain.CSettings.{CSettings}
 use Rattle.c_handles.specs.values.Texts.{settings_in}
 use Rattle.c_calls.specs.Opening.{AreGiven, body_at, opened_cpu, opened_down, AreEmpty, HasOpened, IsFull, IsSomeFull, Opens, StaysClosed}
-use Rattle.c_calls.proofs.Handles.{no_body}
+use Rattle.c_calls.proofs.Handles.{at_front, no_body}
 
 -- The seats of new CPUs, taken from the last.
 
@@ -27,11 +27,6 @@ pub record AreLeft (table : TableId) (z : Settings) (seats : List (Seated CpuVie
 pub at_none : {X A : Type 0} (B : X → Type 0) (o : Option X) → MatchOption o A B → ((x : X) → o ≡ Some x → ⊥) → A
 at_none B None told off = told
 at_none B (Some x) told off = absurd (off x refl)
-
-at_front : {A : Type 0} (xs ys : List A) (i : ℕ) → i < length xs → get_elem? (xs ++ ys) i ≡ get_elem? xs i
-at_front [] ys i lt = absurd (omega (arith, lt))
-at_front (x ∷ xs) ys zero lt = refl
-at_front (x ∷ xs) ys (suc i) lt = at_front xs ys i (omega (arith, lt))
 
 pub all_left : (table : TableId) (z : Settings) (seats : List (Seated CpuView)) → AreSeats table z z.cpus seats → AreLeft table z seats
 all_left table z seats are = record { few = omega (arith, are.count); are = subst (λ n. AreSeats table z n seats) (sym are.count) are }

@@ -1,8 +1,9 @@
 -- What the keeper's calls through the bodies answer, that an entry freed is gone, and that no retired one has the number 0.
 use Rattle.std.proofs.Common.{◌≡◌, ne_eqb, Bool, if◌then◌else◌, ℕ, ◌<◌, List, [], ◌∷◌, get_or, map, Option, Some, None, refl, sym, ap, ◌∙◌, subst, arith, zero, suc, false, Ok, Err, Result, IfOk, ⊎_elim, ◌-◌, ◌≤◌, true, ◌++◌, length, replicate, is_some}
-use Rattle.std.proofs.lemmas.Option.{same_Some}
+use Rattle.std.proofs.lemmas.Option.{none-some, same_Some}
 use Rattle.std.proofs.lemmas.Bool.{false≢true, cases_lt}
 use Rattle.std.proofs.lemmas.List.{get_or_past, length-append, length-map, length-replicate}
+use Rattle.std.proofs.Math.ListN.{get_or-map}
 use Rattle.c_calls.specs.Types.{Attach, Entry, Settings, Slot, Vacant, Live, Retired, LogItem, KeeperView, KeptSlot, Refusal, Stage, Grace, Passive, Local, Freed, NoMemory, BadSettings, NameTaken, NoSlot, HistoryFull, NotFound, Inside, SectionsSpent, NothingFound, PassiveFull, WrongCpu, NotHeld, LocalFull, NotRetired, MissingCpu, StillHeld, Waiting, TooDeep, NeedsDriver, MOST_CPUS, MOST_SLOTS}
 use Rattle.registry_values.specs.Common.{retired_number, slot_at, number_of_refusal}
 use Rattle.protocol.proofs.History.{at_within}
@@ -12,7 +13,7 @@ use Rattle.cpu_words.proofs.by_keeper.KeeperSteps.{seen_by_keeper}
 use Rattle.passive_list.specs.Common.{OnKeeper, states_of, IsOurKeeper, OnCpu, OnPlainCpu, OnPlainKeeper, HasOwnLog}
 use Rattle.passive_list.proofs.Rows.{retired_in, few_slots}
 use Rattle.name_registry.specs.Common.{HasAdvancedFor, IsStageOf, IsTurn, HasAdvanced, KeepsWords, Finishes, HasBegun, HasGlanced, HasPassedAll, Hold, SnapshotsBelow}
-use Rattle.name_registry.proofs.Destroyed.{advanced_freed, met_gone}
+use Rattle.name_registry.proofs.Destroyed.{advanced_gone, met_gone}
 use Rattle.c_handles.specs.values.Texts.{none_or_number, number_or_none, stage_out, flag_of, is_set}
 use Rattle.c_handles.specs.declared.values.plain.TheConstants.{DONE}
 use Rattle.c_handles.specs.declared.values.plain.CStage.{CStage}
@@ -32,8 +33,7 @@ retired_some (Retired e) n is = (e, refl, same_Some e.number n is)
 -- it was attached, so its number is that of a change
 some_number : (k : KeeperView) (t : ℕ) (e : Entry) → IsShown k → slot_at k.slots t ≡ Retired e → 0 < e.number
 some_number k t e is_shown at =
-    let seen = seen_by_keeper is_shown.g k is_shown.good is_shown.shown in
-    let there : slot_at is_shown.g.slots t ≡ Retired e = ap (λ (x : List Slot). slot_at x t) (sym seen.slots) ∙ at in
+    let there : slot_at is_shown.g.slots t ≡ Retired e = ap (λ (x : List Slot). slot_at x t) (sym (seen_by_keeper is_shown.g k is_shown.good is_shown.shown).slots) ∙ at in
     (at_within is_shown.g.history e.number (Attach e) (is_shown.good.holds.slots.retired t e there).0).0
 
 pub numbered : {log : List LogItem} (a : Settings) (k : KeeperView) (rows : List KeptSlot) (n : ℕ) (x : OnKeeper) (t m : ℕ) → IsOurKeeper a k rows n
@@ -41,35 +41,20 @@ pub numbered : {log : List LogItem} (a : Settings) (k : KeeperView) (rows : List
     → retired_number (slot_at x.slots t) ≡ Some m → 0 < m
 numbered a k rows n x t m our is retired =
     let there = retired_some (slot_at (states_of rows) t) m (ap (λ (y : OnKeeper). retired_number (slot_at y.slots t)) is ∙ retired) in
-    let known = retired_in a k rows t there.0 our.rows there.1 in
-    subst (λ (j : ℕ). 0 < j) there.2 (some_number k t there.0 our.is_shown known.1)
+    subst (λ (j : ℕ). 0 < j) there.2 (some_number k t there.0 our.is_shown (retired_in a k rows t there.0 our.rows there.1).1)
 
 -- From C and back
-
-none_is_none : (n : ℕ) → ◌≡◌ {A = Option ℕ} None (Some n) → ⊥
-none_is_none n q = cc
 
 back : (n : ℕ) → 0 < n → none_or_number n ≡ Some n
 back n some = ap (λ (b : Bool). if b then None else Some n) (ne_eqb n 0 (λ is. omega (arith, some, is)))
 
 -- a number goes through
 pub goes_through : (numbers : List (Option ℕ)) (t n : ℕ) → get_or numbers t None ≡ Some n → 0 < n → get_or (map none_or_number (map number_or_none numbers)) t None ≡ Some n
-goes_through [] t n at some = absurd (none_is_none n at)
+goes_through [] t n at some = absurd (none-some n at)
 goes_through (x ∷ xs) zero n at some = ap (λ (o : Option ℕ). none_or_number (number_or_none o)) at ∙ back n some
 goes_through (x ∷ xs) (suc t) n at some = goes_through xs t n at some
 
 -- Where a turn freed the slot of an entry, the entry is gone from there, by what the keeper did and what the CPU has heard of it.
-
-pub advanced_gone : (a : OnKeeper) (n : ℕ) (r : Result Stage Refusal) (b : OnKeeper) → HasAdvanced a n r b → IsGoneIfFreed n r b.log
-advanced_gone a n (Ok (Grace c)) b is = tt
-advanced_gone a n (Ok (Passive c)) b is = tt
-advanced_gone a n (Ok (Local k)) b is = tt
-advanced_gone a n (Ok (Freed t)) b is = advanced_freed a n t b is
-advanced_gone a n (Err refusal) b is = tt
-
-pub advanced_for_gone : (z : Settings) (a : OnKeeper) (x : OnCpu) (n : ℕ) (r : Result Stage Refusal) (b : OnKeeper) (y : OnCpu) → HasAdvancedFor z a x n r b y → IfOk r (λ stage. IsStageOf z stage)
-    → IsTurn z n x r y → IsGoneIfFreed n r y.known_log
-advanced_for_gone z a x n r b y is stage turn = met_gone z n x y r ((a, b, is), stage, turn)
 
 -- A destroy
 
@@ -126,7 +111,7 @@ pub advances_for_by : (number : ℕ) (k l : OnPlainKeeper) (c d : OnPlainCpu) (r
 advances_for_by number k l c d r same made stage turn = record {
   answer = made;
   stage = stage;
-  gone = advanced_for_gone k.words.settings k.keeper c.cpu number r l.keeper d.cpu made stage turn;
+  gone = met_gone k.words.settings number c.cpu d.cpu r ((k.keeper, l.keeper, made), stage, turn);
   turn = turn;
   words = same;
 }
@@ -142,9 +127,7 @@ named_by a k rows n s m b x y snapshots numbers size our is begun t j at = ⊎_e
 
 -- the numbers of the retired entries, slot by slot
 numbers_at : (slots : List Slot) (t : ℕ) → get_or (map retired_number slots) t None ≡ retired_number (slot_at slots t)
-numbers_at [] t = refl
-numbers_at (s ∷ slots) zero = refl
-numbers_at (s ∷ slots) (suc t) = numbers_at slots t
+numbers_at slots t = get_or-map retired_number slots t Vacant
 
 -- the slots, and vacant ones up to the places of a wait
 abbrev padded : List Slot → List Slot
@@ -158,9 +141,7 @@ pad_at (s ∷ slots) n (suc t) = pad_at slots n t
 padded_size : (slots : List Slot) → length slots ≤ MOST_SLOTS → length (padded slots) ≡ MOST_SLOTS
 padded_size slots few =
     let n = MOST_SLOTS - length slots in
-    let whole = length-append slots (replicate n Vacant) in
-    let rest = length-replicate n Vacant in
-    omega (arith, whole, rest, few)
+    omega (arith, length-append slots (replicate n Vacant), length-replicate n Vacant, few)
 
 -- what a row has for each slot is what they are to C
 written_by : (slots : List Slot) (retired : List ℕ) → length slots ≡ MOST_SLOTS → length retired ≡ MOST_SLOTS
@@ -180,14 +161,13 @@ begins_by a view rows n k l c d snapshots retired long our at same own hold writ
     let numbers = map retired_number slots in
     let at_slot = pad_at k.keeper.slots (MOST_SLOTS - length k.keeper.slots) in
     let whole = padded_size k.keeper.slots (few_slots k.words.settings k.keeper own) in
-    let size : length numbers ≡ MOST_SLOTS = length-map slots retired_number ∙ whole in
     let begun : HasBegun k.words.settings k.keeper c.cpu snapshots numbers l.keeper d.cpu =
     record { own = own; hold = hold; numbers = λ t lt. numbers_at slots t ∙ ap retired_number (at_slot t) } in
     record {
       numbers = numbers;
       begun = begun;
       retired = written_by slots retired whole long (λ t lt. written t lt ∙ ap (λ (s : Slot). number_or_none (retired_number s)) (sym (at_slot t)));
-      named = named_by a view rows n k.words.settings k.keeper l.keeper c.cpu d.cpu snapshots numbers size our at begun;
+      named = named_by a view rows n k.words.settings k.keeper l.keeper c.cpu d.cpu snapshots numbers (length-map slots retired_number ∙ whole) our at begun;
       seen = refl;
       marked = refl;
       words = same;

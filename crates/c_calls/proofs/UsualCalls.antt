@@ -19,21 +19,19 @@ use Rattle.c_handles.specs.declared.values.answer.EntryAnswer.{EntryAnswer}
 use Rattle.c_handles.specs.declared.values.answer.NamedAnswer.{NamedAnswer}
 use Rattle.c_handles.specs.declared.values.given.GivenName.{GivenName}
 use Rattle.c_handles.specs.declared.values.place.EntryPlace.{EntryPlace}
-use Rattle.c_calls.specs.Calls.{Acquires, Enters, Exits, Finds, FindsNamed, Releases, TellsFound, WritesFound, own, Between, EntersAndFinds, FindsAndAcquires, Gets, GetsByMemory, GetsInSection, LooksUp, LooksUpAnew, LooksUpByMemory, LooksUpInSection, RecallsByMemory, Seeks, TriedSo, Tries, TriesOnce, key_in}
+use Rattle.c_calls.specs.Calls.{MayRecall, Acquires, Enters, Exits, Finds, FindsNamed, Releases, TellsFound, WritesFound, own, Between, EntersAndFinds, FindsAndAcquires, Gets, GetsByMemory, GetsInSection, LooksUp, LooksUpAnew, LooksUpByMemory, LooksUpInSection, RecallsByMemory, Seeks, TriedSo, Tries, TriesOnce, key_in}
 use Rattle.c_handles.specs.values.Places.{put}
 use Rattle.c_handles.specs.values.Texts.{entry_out, kind_in, name_in, number_of}
+use Rattle.c_calls.proofs.Handles.{no_body, one_body}
 use Rattle.c_calls.proofs.Turned.{refused_not}
 
 -- the end of the history as the open section began
 abbrev pub begin_of : OnPlainCpu → Option ℕ
 begin_of a = a.cpu.view.begin
 
-some_not : (x : ℕ) (o : Option ℕ) → o ≡ Some x → o ≡ None → ⊥
-some_not x o is none = let clash : ◌≡◌ {A = Option ℕ} (Some x) None = sym is ∙ none in cc
-
 entered_by : (a b : OnPlainCpu) (r : Result (Unit {0}) Refusal) → (begin_of a ≡ None) ↔ (a.cpu.depth ≡ 0) → DONE ≡ number_of r → AnswersEnter a.cpu b.cpu r → begin_of b ≢ None
 entered_by a b (Ok tt) kept is entered = dite (ℕ_discrete a.cpu.depth 0)
-    (λ (outermost : a.cpu.depth ≡ 0). some_not _ (begin_of b) (ap (λ (x : CpuView). x.begin) (entered.answer.1.begun outermost).1))
+    (λ (outermost : a.cpu.depth ≡ 0). no_body (begin_of b) _ (ap (λ (x : CpuView). x.begin) (entered.answer.1.begun outermost).1))
     (λ (nested : a.cpu.depth ≢ 0) none. nested (kept.0 (sym (ap (λ (x : CpuView). x.begin) (entered.answer.1.inner nested)) ∙ none)))
 entered_by a b (Err f) kept is entered = absurd (refused_not f is)
 
@@ -53,7 +51,7 @@ found_by : (kind : ℕ) (m : CName) (a b : OnPlainCpu) (n : ℕ) (old new : Opti
     → begin_of b ≡ begin_of a
 found_by kind m a b n old new None o is at finds = ap begin_of (finds.bad is).1
 found_by kind m a b n old new (Some k) None is at finds = ap begin_of (finds.outside k is at).1
-found_by kind m a b n old new (Some k) (Some x) is at finds = let had = (finds.inside k is (some_not x (begin_of a) at)).1 in inside_begin had.2.0 _ had.0 a.cpu b.cpu had.2.2
+found_by kind m a b n old new (Some k) (Some x) is at finds = let had = (finds.inside k is (no_body (begin_of a) x at)).1 in inside_begin had.2.0 _ had.0 a.cpu b.cpu had.2.2
 
 -- a find
 pub found_same : (kind : ℕ) (name : Option CName) (a b : OnPlainCpu) (n : ℕ) (old new : Option CEntry) → FindsNamed kind name a b n old new → begin_of b ≡ begin_of a
@@ -96,16 +94,15 @@ between a first last b entered n left Same P enters is inside does same exits = 
 
 -- A call that may go by memory
 
-one_kind : (kind : ℕ) (k l : Kind) → kind_in kind ≡ Some k → kind_in kind ≡ Some l → k ≡ l
-one_kind kind k l is also = same_Some k l (sym is ∙ also)
+-- what is so of the kind and name that are sought is so of those by which the call may go by memory
+by_sought : (P : Kind → CName → Type 0) (kind : ℕ) (k : Kind) (m : CName) (name : Option CName) (a : OnPlainCpu) → Seeks kind name a (Some (k, m)) → P k m → (may : MayRecall kind name a) → P may.k may.m
+by_sought P kind k m name a seeks had may =
+    subst (λ (p : Kind × CName). P p.0 p.1) (λ i. (one_body (kind_in kind) k may.k seeks.0 may.is_kind i, one_body name m may.m seeks.1 may.named i)) had
 
 pub recalled : (kind : ℕ) (k : Kind) (m : CName) (name : Option CName) (a b : OnPlainCpu) (n : ℕ) (old new : Option CEntry) → Seeks kind name a (Some (k, m)) → LooksUpByMemory k m a b n old new
     → LooksUp kind name a b n old new
 recalled kind k m name a b n old new seeks had = record {
-  by_memory = λ may.
-      let kinds : k ≡ may.k = one_kind kind k may.k seeks.0 may.is_kind in
-      let names : m ≡ may.m = same_Some m may.m (sym seeks.1 ∙ may.named) in
-      subst (λ (i : CName). LooksUpByMemory may.k i a b n old new) names (subst (λ (j : Kind). LooksUpByMemory j m a b n old new) kinds had);
+  by_memory = by_sought (λ i j. LooksUpByMemory i j a b n old new) kind k m name a seeks had;
   by_calls = λ not. absurd (not (record { m = m; named = seeks.1; k = k; is_kind = seeks.0; outside = seeks.2; room = seeks.3 }));
 }
 
@@ -115,10 +112,7 @@ looked_up kind name a b n old new not had = record { by_memory = λ may. absurd 
 pub got : (kind : ℕ) (k : Kind) (m : CName) (name : Option CName) (a b : OnPlainCpu) (n : ℕ) (old new : Option CEntry) → Seeks kind name a (Some (k, m)) → GetsByMemory kind k m a b n old new
     → Gets kind name a b n old new
 got kind k m name a b n old new seeks had = record {
-  by_memory = λ may.
-      let kinds : k ≡ may.k = one_kind kind k may.k seeks.0 may.is_kind in
-      let names : m ≡ may.m = same_Some m may.m (sym seeks.1 ∙ may.named) in
-      subst (λ (i : CName). GetsByMemory kind may.k i a b n old new) names (subst (λ (j : Kind). GetsByMemory kind j m a b n old new) kinds had);
+  by_memory = by_sought (λ i j. GetsByMemory kind i j a b n old new) kind k m name a seeks had;
   by_calls = λ not. absurd (not (record { m = m; named = seeks.1; k = k; is_kind = seeks.0; outside = seeks.2; room = seeks.3 }));
 }
 
@@ -236,8 +230,7 @@ entered_and_found kind name a first last b entered n old new enters is finds sta
 pub exited : (kind : ℕ) (name : Option CName) (first last b : OnPlainCpu) (n left : ℕ) (old new : Option CEntry) → begin_of first ≢ None → FindsNamed kind name first last n old new → Exits last b left
     → Exits last b DONE
 exited kind name first last b n left old new inside finds exits =
-    let same = found_same kind name first last n old new finds in
-    subst (λ (k : ℕ). Exits last b k) (exits.inside (λ none. inside (sym same ∙ none))).0 exits
+    subst (λ (k : ℕ). Exits last b k) (exits.inside (λ none. inside (sym (found_same kind name first last n old new finds) ∙ none))).0 exits
 
 -- A release of a reference that the CPU has
 

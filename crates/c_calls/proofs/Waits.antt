@@ -30,8 +30,7 @@ begun k x l y wait is =
     let first = so_far_begun z x.cpu wait.snapshots is.numbers y.cpu (k.keeper, l.keeper, is.begun) in
     let through =
     so_far_by z.cpus x.cpu wait.snapshots is.numbers (map none_or_number (map number_or_none is.numbers)) none_seen y.cpu (λ t n at. goes_through is.numbers t n at (is.named t n at)) first in
-    let seen : none_seen ≡ map is_set wait.seen = sym (ap (map is_set) is.seen) in
-    subst (λ (p : List ℕ × List Bool). SoFar z.cpus x.cpu wait.snapshots (map none_or_number p.0) p.1 y.cpu) (λ i. (sym is.retired i, seen i)) through
+    subst (λ (p : List ℕ × List Bool). SoFar z.cpus x.cpu wait.snapshots (map none_or_number p.0) p.1 y.cpu) (λ i. (sym is.retired i, (sym (ap (map is_set) is.seen)) i)) through
 
 -- in a turn
 
@@ -123,8 +122,7 @@ turn_on : (words : Named) (x m : OnPlainCpu) (old : CWait) (answer : ℕ) (y : O
     → Goes words.settings x new y.cpu
 turn_on words x m old answer y new had is =
     let call = is.call.full is.keeper is.cpu refl refl in
-    let same : call.1 ≡ y = sym (same_Some _ _ call.3) in
-    subst (λ (o : OnPlainCpu). Goes words.settings x new o.cpu) same
+    subst (λ (o : OnPlainCpu). Goes words.settings x new o.cpu) (sym (same_Some _ _ call.3))
     (went_by words.settings x m.cpu is.keeper is.cpu call.0 call.1 answer old new is.before is.after (is_begun old) (is_inside is.cpu.cpu) refl refl (of_words words is.keeper is.ours) had is.knows
     (turned _ _ _ _ _ _ _ _ _ call.4))
 
@@ -140,12 +138,10 @@ waits_end words x y is =
     let first : Goes is.keeper.words.settings x is.begun call.1.cpu = begun_by is.keeper x call.0 call.1 is.first is.begun (is_inside x.cpu) refl (performed _ _ _ _ _ _ _ call.4) in
     let same : call.1 ≡ is.cpu = sym (same_Some _ _ call.3) in
     let start : Goes z x is.begun is.cpu.cpu = subst (λ (p : Settings × OnPlainCpu). Goes p.0 x is.begun p.1.cpu) (λ i. (of_words words is.keeper is.ours i, same i)) first in
-    let near = turns_on words x is.turns is.cpu is.begun is.near is.left start is.between in
     let last = is.last.call.full is.last.keeper is.last.cpu refl refl in
-    let end : last.1 ≡ y = sym (same_Some _ _ last.3) in
-    subst (λ (o : OnPlainCpu). HasSeenAllOut z.cpus x.cpu o.cpu) end
+    subst (λ (o : OnPlainCpu). HasSeenAllOut z.cpus x.cpu o.cpu) (sym (same_Some _ _ last.3))
     (ended_by z x is.near.cpu is.last.keeper is.last.cpu last.0 last.1 is.left is.end is.last.before is.last.after (is_begun is.left) (is_inside is.last.cpu.cpu) refl refl
-    (of_words words is.last.keeper is.last.ours) near is.last.knows (turned _ _ _ _ _ _ _ _ _ last.4))
+    (of_words words is.last.keeper is.last.ours) (turns_on words x is.turns is.cpu is.begun is.near is.left start is.between) is.last.knows (turned _ _ _ _ _ _ _ _ _ last.4))
 
 -- It stays begun
 

@@ -3,15 +3,15 @@ use Rattle.std.proofs.Common.{◌≡◌, List, [], ◌∷◌, ◌++◌, refl, sy
 use lib.Dec.{T}
 use seplogic.Ra.Ura.{Ura}
 use mir.Syntax.{Fn, Callee, Ty, named, mut, local, value_local, ty_ptr, ty_ref, ty_bool, ty_enum, tcons, tnil, ttcons, ttnil, place, deref, field, assign, rv_opd, op2, ptr_eq, copy, int, w8, w64, aggregate, cond, skip, block, seq, return}
-use mir.Val.{Val, vptr, vstruct, vcons, vnil, of_list, has_ty, WT}
+use mir.Val.{Val, vptr, vstruct, of_list, has_ty, WT}
 use base.Fraction.{full_share}
-use base.Logic.{SProp, ent, sep, emp}
+use base.Logic.{SProp, ent, sep}
 use base.Fml.{Share, Fml, ftrue, fat, flft, fobs, fbor}
 use prog.Model.{Model}
 use prog.Wp.{Closed}
 use types.Logic.{Logic, sem}
 use types.SemTy.{Body}
-use types.Kit.{Step, step, Item, Goal, ‵, raw, ◌⊛◌, some, at_ret, ◌$◌, ◌∵◌, !, qed, by, move, keep, drop, use0, use1, use2, split, join, pick, rewrite, fsplit, fsplit3, fjoin, fjoin3, fpick, fpack, feq_i, feq_l}
+use types.Kit.{‵, raw, ◌⊛◌, some, at_ret, ◌$◌, ◌∵◌, !, qed, by, move, keep, drop, use0, use1, use2, split, join, pick, rewrite, fsplit, fsplit3, fjoin, fjoin3, fpick, fpack, feq_i, feq_l}
 use types.Run.{stop, fld, load, look, lit, of_opd, bin, no_more, and_then, first, branches, skips, blocks, exec, returns, returns_within, enter}
 use types.ByLocal.{alloc_all, pass_all, free_all, look_at, get, through, sets, sets_last, env}
 use types.Part.{agg, sub, whole, look_in}
@@ -22,15 +22,12 @@ use denote.Exit.{yes}
 use denote.Laws.{Is, Typed, Copy, Lawful, shows}
 use denote.Memory.{mem, cell_at, part_at, lone}
 use denote.Param.{layout}
-use denote.RattleType.{RattleType, Valss}
+use denote.RattleType.{RattleType}
 use denote.RawPtr.{Ptr, block_ptr, null_ptr, ptr_val, tests_null}
 use denote.Ref.{MutRef, mut_vals, mut_Tells}
 use denote.Signature.{plain}
 use denote.Steps.{nothing, opens, closes, peeks}
-use denote.Struct.Field.{RawPtr-field}
-use denote.Struct.Struct.{Struct, within}
-use denote.Struct.Values.{intos}
-use denote.Struct.Owning.{Owning, row, shape}
+use denote.Struct.Owning.{Owning, row}
 use denote.Triple.Clauses.{Ended, Clauses, closing, at_exit}
 use denote.Triple.Spec.{Meets}
 use denote.Triple.Walked.{Stays, stay_ref, walk_of, Goes-ref}
@@ -42,7 +39,7 @@ use Rattle.std.proofs.raw_atomic.Walks.{proved, leaves}
 use Rattle.std_alloc.proofs.ResultValues.{and_tt}
 use Rattle.c_handles.specs.Heap.{may_lie_at, is_null, is_testable}
 use Rattle.c_handles.proofs.Lent.{lent_tests, either, by_name}
-use Rattle.c_handles.proofs.Turned.{Word, word, fits}
+use Rattle.c_handles.proofs.Turned.{Said, Word, fits, pointing, routine, said, word, word_of}
 
 module _ (P : Owning) (at : Word P.D) (R : RattleType) where
   abbrev A : RattleType
@@ -56,20 +53,14 @@ module _ (P : Owning) (at : Word P.D) (R : RattleType) where
 
   -- the pointer is read and compared with null; where it isn't null, what lies there is copied
   abbrev pub copies : Fn
-  copies = record {
-    lifetimes = 1;
-    outlives = [];
-    ty_params = [];
-    givens = 0;
-    params = 1;
-    locals = local (ty_enum (OP.the_type RawPtr).name (ttcons tnil (ttcons (tcons τ tnil) ttnil))) value_local ∷ local (ty_ref (named 0) mut (by_name (layout A))) value_local
-        ∷ local ty_ptr value_local ∷ local τ value_local
-        ∷ local ty_bool value_local ∷ local τ value_local ∷ local ty_ptr value_local ∷ [];
-    body = seq (assign (place 2 []) (rv_opd (copy (place 1 (deref (layout A) ∷ field 0 ∷ []))))) (seq (assign (place 4 []) (op2 ptr_eq (copy (place 2 [])) (int w64 0)))
-        (seq (cond (copy (place 4 [])) (seq (assign (place 0 []) (aggregate (int w8 0 ∷ []))) return) skip)
-        (seq (block (seq (assign (place 6 []) (rv_opd (copy (place 2 [])))) (assign (place 5 []) (rv_opd (copy (place 6 (deref τ ∷ [])))))))
-        (seq (assign (place 3 []) (rv_opd (copy (place 5 [])))) (seq (assign (place 0 []) (aggregate (int w8 1 ∷ copy (place 3 []) ∷ []))) return)))));
-  }
+  copies = routine 1 1
+      (local (ty_enum (OP.the_type RawPtr).name (ttcons tnil (ttcons (tcons τ tnil) ttnil))) value_local ∷ local (ty_ref (named 0) mut (by_name (layout A))) value_local
+      ∷ local ty_ptr value_local ∷ local τ value_local
+      ∷ local ty_bool value_local ∷ local τ value_local ∷ local ty_ptr value_local ∷ [])
+      (seq (assign (place 2 []) (rv_opd (copy (place 1 (deref (layout A) ∷ field 0 ∷ []))))) (seq (assign (place 4 []) (op2 ptr_eq (copy (place 2 [])) (int w64 0)))
+      (seq (cond (copy (place 4 [])) (seq (assign (place 0 []) (aggregate (int w8 0 ∷ []))) return) skip)
+      (seq (block (seq (assign (place 6 []) (rv_opd (copy (place 2 [])))) (assign (place 5 []) (rv_opd (copy (place 6 (deref τ ∷ [])))))))
+      (seq (assign (place 3 []) (rv_opd (copy (place 5 [])))) (seq (assign (place 0 []) (aggregate (int w8 1 ∷ copy (place 3 []) ∷ []))) return))))))
 
   abbrev pub En : Ended
   En = record { signature = record { lifetimes = 1; outlives = []; params = RefMutOf (0 ∷ []) tt (plain (λ _. A)) (λ _. tt) ∷ []; result = plain (λ κs. Out) }; kept = (yes, tt) }
@@ -77,18 +68,9 @@ module _ (P : Owning) (at : Word P.D) (R : RattleType) where
   abbrev hs : Stays En.signature.params En.kept
   hs = (stay_ref (0 ∷ []) tt (plain (λ _. A)), tt)
 
-  abbrev word_of : Ptr → Val
-  word_of p = vstruct (vcons (ptr_val p) vnil)
-
-  -- what the struct's own field owns, at the machine's word for it: nothing
-  pointing : {M : Type 1} {𝓤 : Ura M} {𝓛 : Logic 𝓤} {K : Type 0} {Γ : List (Item 𝓤)} {G : Goal 𝓤 𝓛.H} → K → (d : P.D) (p : Ptr) → (at d).0 ≡ p
-      → Step K 𝓛 (‵ ((Struct (shape (word P at))).own_val (intos (RawPtr-field ∷ []) (at d)) (word_of p ∷ [])) ∷ Γ) G Γ G
-  pointing t d p e = step (λ s. nothing t $ feq_i t (List Val) (ptr_val p ∷ []) (ptr_val (at d).0 ∷ []) (ap (λ (x : Ptr). ptr_val x ∷ []) (sym e)) $ fjoin t $
-      feq_i t (List Val) (word_of p ∷ []) (word_of p ∷ []) refl $ fjoin t $ fpack t (Valss (RawPtr ∷ [])) (within (shape (word P at)) ((at d).0, tt) (word_of p ∷ [])) (ptr_val p ∷ [], tt) $ s)
-
   module _ (share : P.D → Share) (body : P.D → Option R.Denot) (owns : (d : P.D) → P.heap d ≡ may_lie_at is_testable R (share d) (at d).0 (body d)) (one : R.mir ≡ lone R.mir ∷ [])
       {M : Type 1} {𝓤 : Ura M} (𝓛 : Logic 𝓤) (twin : Copy 𝓛 R) (lawful : Lawful 𝓛 R) (c : Clauses 𝓤 En)
-      (says : (y : (walk_of 𝓛 En hs c).Ghost) → ent 𝓤 (emp 𝓤) ((c y.0.0 y.0.3).ensures y.1 (body y.0.3.0.now) (at_exit En y.0.0 y.0.3 (y.0.3.0.now, tt)))) where
+      (says : (y : (walk_of 𝓛 En hs c).Ghost) → Said 𝓤 ((c y.0.0 y.0.3).ensures y.1 (body y.0.3.0.now) (at_exit En y.0.0 y.0.3 (y.0.3.0.now, tt)))) where
     module _ (𝓜 : Model 𝓤 𝓛.H) (𝓡 : Running 𝓤 𝓛.H 𝓜) where
       abbrev 𝓣 : MachineTables 𝓤 𝓛.H 𝓜
       𝓣 = tables 𝓤 𝓛.H 𝓜 𝓡 𝓡.env
@@ -102,7 +84,7 @@ module _ (P : Owning) (at : Word P.D) (R : RattleType) where
           (Q v) = λ v.
           qed 𝓛 (‵ (fobs γ (A.coded.code d)) ∷ ‵ (fbor κ (Body (mem A) rb ro γ)) ∷ ‵ (flft κ q) ∷ ‵ (Out.own_val (body d) (v ∷ [])) ∷ []) ∵
           feq_i ! (List Val) (vptr rb ro ∷ []) (vptr rb ro ∷ []) refl $ fjoin3 ! $ nothing ! $ move ! (1 ∷ 0 ∷ []) $ fjoin ! $ nothing ! $ move ! (2 ∷ 0 ∷ []) $ join ! $
-          use0 𝓛 (raw ((c κs a).ensures g (body d) (at_exit En κs a (d, tt)))) (says y) $ move ! (1 ∷ 2 ∷ 3 ∷ 0 ∷ []) $ by ! (leaves 𝓛 En hs c y v (body d) (d, tt) (tt, tt)) in
+          use0 𝓛 (raw ((c κs a).ensures g (body d) (at_exit En κs a (d, tt)))) (said 𝓤 (says y)) $ move ! (1 ∷ 2 ∷ 3 ∷ 0 ∷ []) $ by ! (leaves 𝓛 En hs c y v (body d) (d, tt) (tt, tt)) in
           qed 𝓛 (((‵ (flft κ q) ⊛ ‵ ftrue) ⊛ ‵ ((MutRef (named 0) κ A).own_val r vs) ⊛ ‵ ftrue) ∷ raw ((c κs a).requires g) ∷ []) ∵
           split ! $ split ! $ move ! (2 ∷ []) $ split ! $ keep ! (0 ∷ 2 ∷ []) $
           enter ! 𝓣.C 𝓣.Λ copies vs Q $ alloc_all ! (λ l. pass_all ! refl ((tt, tt), tt) $ let Ev = env copies.locals l in
@@ -114,7 +96,7 @@ module _ (P : Owning) (at : Word P.D) (R : RattleType) where
           rewrite ! 0 (λ (xs : List Val). ‵ (Cell xs)) ws refl $ sets ! (of_opd ! (load ! (through ! refl (fld ! refl (stop !))) (look_in ! 0 (sub ! 0 refl (whole !))))) refl (fits null_ptr) $
           sets ! (bin ! (get ! refl) (lit ! tt) tt) refl (tt, tt) $ first ! $ branches ! (get ! refl) (λ _.
           sets ! (agg ! (and_then ! (lit ! tt) (no_more !))) refl (tt, (record { fits = lit< tt }, tt)) $
-          nothing ! $ fpack ! ((at d).0 ≡ null_ptr) (λ _. ftrue) is $ rewrite ! 0 (λ (F : Fml). ‵ F) heap refl $ pointing ! d null_ptr is $ fjoin ! $ move ! (1 ∷ []) $ closes ! tt A d (w ∷ []) rb ro $
+          nothing ! $ fpack ! ((at d).0 ≡ null_ptr) (λ _. ftrue) is $ rewrite ! 0 (λ (F : Fml). ‵ F) heap refl $ pointing P at ! d null_ptr is $ fjoin ! $ move ! (1 ∷ []) $ closes ! tt A d (w ∷ []) rb ro $
           returns_within ! Q refl (look_at ! 0 refl) $ free_all ! refl $ keep ! (0 ∷ 1 ∷ 2 ∷ []) $ use0 𝓛 (‵ (Out.own_val None (live 0 (of_list []) ∷ []))) (none_of 𝓛 R) $
           rewrite ! 0 (λ (o : Option R.Denot). ‵ (Out.own_val o (live 0 (of_list []) ∷ []))) (sym is_none) refl $ move ! (1 ∷ 2 ∷ 3 ∷ 0 ∷ []) $ by ! (ends (live 0 (of_list []))))
           (λ wrong. absurd wrong))
@@ -133,6 +115,6 @@ module _ (P : Owning) (at : Word P.D) (R : RattleType) where
           exec ! 𝓣.C 𝓣.Λ Ev (after 4 copies.body) (at_ret Ev Q) $ sets ! (of_opd ! (get ! refl)) refl good $
           sets ! (agg ! (and_then ! (lit ! tt) (and_then ! (get ! refl) (no_more !)))) refl (and_tt _ good.0, (record { fits = lit< tt }, (good.1, tt))) $
           use1 𝓛 (‵ (Out.own_val (Some x) (live 1 (of_list (v ∷ [])) ∷ []))) (Some-of 𝓛 R x v) $ move ! (2 ∷ 1 ∷ []) $ use2 𝓛 (‵ (part_at R (share d) x b o)) (part_in 𝓛 R one (share d) x b o v) $
-          move ! (0 ∷ 2 ∷ []) $ fjoin ! $ rewrite ! 0 (λ (F : Fml). ‵ F) heap refl $ pointing ! d (block_ptr b o) e $ fjoin ! $ move ! (2 ∷ 0 ∷ 3 ∷ 4 ∷ 5 ∷ []) $ closes ! tt A d (w ∷ []) rb ro $
+          move ! (0 ∷ 2 ∷ []) $ fjoin ! $ rewrite ! 0 (λ (F : Fml). ‵ F) heap refl $ pointing P at ! d (block_ptr b o) e $ fjoin ! $ move ! (2 ∷ 0 ∷ 3 ∷ 4 ∷ 5 ∷ []) $ closes ! tt A d (w ∷ []) rb ro $
           rewrite ! 3 (λ (o' : Option R.Denot). ‵ (Out.own_val o' (live 1 (of_list (v ∷ [])) ∷ []))) (sym is_some) refl $
           returns ! (look_at ! 0 refl) $ free_all ! refl $ keep ! (0 ∷ 1 ∷ 2 ∷ 3 ∷ []) $ by ! (ends (live 1 (of_list (v ∷ []))))))))))))))

@@ -6,14 +6,14 @@ use mir.Raw.{raw as bare}
 use base.Logic.{ent, guard, via, never, fst∗, snd∗, guard_i, ex_e, SProp, sep, emp}
 use base.Fml.{Share, Fml, ftrue, fsep, Lft, GName, flft, fobs, fres}
 use types.Logic.{Logic, sem}
-use types.Kit.{Item, Goal, Seq, ‵, given, ◌$◌, drop, fpick, learn, use1, Step, step, raw, ◌⊛◌, some, later, at_ret, ◌∵◌, !, qed, by, move, keep, use0, split, join, pick, await, group, rewrite, fsplit, fsplit3, fjoin, fpack, feq_i, feq_l, suffices, frame, done}
+use types.Kit.{Item, Goal, Seq, ‵, given, ◌$◌, drop, fpick, learn, use1, raw, ◌⊛◌, some, later, at_ret, ◌∵◌, !, qed, by, move, keep, use0, split, join, pick, await, group, rewrite, fsplit, fsplit3, fjoin, fpack, feq_l, suffices, frame, done}
 use contract.Monad.{fact, fact_i, fact_use}
-use denote.RattleType.{RattleType, Valss}
+use denote.RattleType.{RattleType}
 use denote.Memory.{lone, mem, cell_at, part_at, part_of}
 use denote.RawPtr.{Ptr, block_ptr, null_ptr, lies_at, Testable, in_a_block, ptr_val, tests_null}
 use Rattle.std_heap.proofs.GlobalToken.{dealloc_token-Testable}
 use mir.Syntax.{Fn, Callee, Lifetime, Ty, named, erased, mut, local, value_local, ty_ptr, ty_ref, ty_bool, ty_enum, ty_named, ty_struct, tcons, tnil, ttcons, ttnil, place, deref, field, assign, rv_opd, op2, ptr_eq, copy, int, w8, w64, aggregate, addr_of, cond, skip, block, seq, return}
-use mir.Val.{Val, vptr, vstruct, vcons, vnil, of_list}
+use mir.Val.{Val, vptr, vstruct, of_list}
 use base.Fraction.{full_share}
 use prog.Model.{Model}
 use prog.Wp.{Closed}
@@ -29,10 +29,7 @@ use denote.Param.{layout}
 use denote.Ref.{MutRef, mut_vals, mut_Tells}
 use denote.Signature.{plain, mut_ref_to}
 use denote.Steps.{nothing, opens, closes}
-use denote.Struct.Field.{RawPtr-field}
-use denote.Struct.Struct.{Struct, within}
-use denote.Struct.Values.{intos}
-use denote.Struct.Owning.{Owning, row, shape}
+use denote.Struct.Owning.{Owning, row}
 use denote.Triple.Clauses.{Ended, Clauses, closing}
 use denote.Triple.Spec.{Meets}
 use denote.Triple.Walked.{says, Stays, stay_dropped, walk_of, ends_at, Goes-spent_ref}
@@ -41,7 +38,7 @@ use Rattle.core.specs.Option.{ghost_name_of}
 use Rattle.core.proofs.alloc.Shapes.{after}
 use Rattle.core.proofs.option.Made.{Some-of, none_of}
 use Rattle.c_handles.specs.Heap.{may_lie_at, token, is_testable, is_null, IsLent}
-use Rattle.c_handles.proofs.Turned.{Word, word, fits}
+use Rattle.c_handles.proofs.Turned.{Word, fits, pointing, routine, word, word_of}
 
 -- What may lie behind a pointer, taken apart: nothing, at null, or a value, whose pointer may be compared with null.
 
@@ -95,20 +92,14 @@ module _ (more : Ptr → Fml) (tests : Tests more) (P : Owning) (at : Word P.D) 
 
   -- the pointer is read and compared with null; where it isn't null, it is turned into a `&mut`
   abbrev pub lends : Fn
-  lends = record {
-    lifetimes = 1;
-    outlives = [];
-    ty_params = [];
-    givens = 0;
-    params = 1;
-    locals = local (loan (named 0) τ) value_local ∷ local (ty_ref (named 0) mut σ) value_local ∷ local ty_ptr value_local ∷ local ty_ptr value_local ∷ local ty_bool value_local
-        ∷ local (ty_ref erased mut τ) value_local ∷ local (ty_ref erased mut τ) value_local ∷ local ty_ptr value_local ∷ local ty_ptr value_local ∷ [];
-    body = seq (assign (place 2 []) (rv_opd (copy (place 1 (deref (layout A) ∷ field 0 ∷ [])))))
-        (seq (assign (place 3 []) (rv_opd (copy (place 2 [])))) (seq (assign (place 4 []) (op2 ptr_eq (copy (place 3 [])) (int w64 0)))
-        (seq (cond (copy (place 4 [])) (seq (assign (place 0 []) (aggregate (int w8 0 ∷ []))) return) skip)
-        (seq (block (seq (assign (place 7 []) (rv_opd (copy (place 2 [])))) (seq (assign (place 8 []) (rv_opd (copy (place 7 [])))) (assign (place 6 []) (addr_of (place 8 (deref (layout R) ∷ [])))))))
-        (seq (assign (place 5 []) (rv_opd (copy (place 6 [])))) (seq (assign (place 0 []) (aggregate (int w8 1 ∷ copy (place 5 []) ∷ []))) return))))));
-  }
+  lends = routine 1 1
+      (local (loan (named 0) τ) value_local ∷ local (ty_ref (named 0) mut σ) value_local ∷ local ty_ptr value_local ∷ local ty_ptr value_local ∷ local ty_bool value_local
+      ∷ local (ty_ref erased mut τ) value_local ∷ local (ty_ref erased mut τ) value_local ∷ local ty_ptr value_local ∷ local ty_ptr value_local ∷ [])
+      (seq (assign (place 2 []) (rv_opd (copy (place 1 (deref (layout A) ∷ field 0 ∷ [])))))
+      (seq (assign (place 3 []) (rv_opd (copy (place 2 [])))) (seq (assign (place 4 []) (op2 ptr_eq (copy (place 3 [])) (int w64 0)))
+      (seq (cond (copy (place 4 [])) (seq (assign (place 0 []) (aggregate (int w8 0 ∷ []))) return) skip)
+      (seq (block (seq (assign (place 7 []) (rv_opd (copy (place 2 [])))) (seq (assign (place 8 []) (rv_opd (copy (place 7 [])))) (assign (place 6 []) (addr_of (place 8 (deref (layout R) ∷ [])))))))
+      (seq (assign (place 5 []) (rv_opd (copy (place 6 [])))) (seq (assign (place 0 []) (aggregate (int w8 1 ∷ copy (place 5 []) ∷ []))) return)))))))
 
   abbrev pub En : Ended
   En = record {
@@ -118,15 +109,6 @@ module _ (more : Ptr → Fml) (tests : Tests more) (P : Owning) (at : Word P.D) 
 
   abbrev hs : Stays En.signature.params En.kept
   hs = (stay_dropped (mut_ref_to (0 ∷ []) tt (plain (λ _. A))) no, tt)
-
-  abbrev word_of : Ptr → Val
-  word_of p = vstruct (vcons (ptr_val p) vnil)
-
-  -- what the handle's own field owns, at the machine's word for it: nothing
-  pointing : {M : Type 1} {𝓤 : Ura M} {𝓛 : Logic 𝓤} {K : Type 0} {Γ : List (Item 𝓤)} {G : Goal 𝓤 𝓛.H} → K → (d : P.D) (p : Ptr) → (at d).0 ≡ p
-      → Step K 𝓛 (‵ ((Struct (shape (word P at))).own_val (intos (RawPtr-field ∷ []) (at d)) (word_of p ∷ [])) ∷ Γ) G Γ G
-  pointing t d p e = step (λ s. nothing t $ feq_i t (List Val) (ptr_val p ∷ []) (ptr_val (at d).0 ∷ []) (ap (λ (x : Ptr). ptr_val x ∷ []) (sym e)) $ fjoin t $
-      feq_i t (List Val) (word_of p ∷ []) (word_of p ∷ []) refl $ fjoin t $ fpack t (Valss (RawPtr ∷ [])) (within (shape (word P at)) ((at d).0, tt) (word_of p ∷ [])) (ptr_val p ∷ [], tt) $ s)
 
   module _ (body : P.D → Option R.Denot) (filled : P.D → R.Denot → P.D) where
     abbrev pub spec : {M : Type 1} {𝓤 : Ura M} (𝓛 : Logic 𝓤) → Clauses 𝓤 En
@@ -161,7 +143,7 @@ module _ (more : Ptr → Fml) (tests : Tests more) (P : Owning) (at : Word P.D) 
               let w : Val = word_of (block_ptr b o) in
               let heap : may_lie_at more R full_share (block_ptr b o) (Some x) ≡ P.heap (filled d x) = ap (λ (p : Ptr). may_lie_at more R full_share p (Some x)) (sym e) ∙ sym (fills d x) in
               qed 𝓛 (‵ (part_at R full_share x b o) ∷ ‵ Rest ∷ []) ∵ move ! (1 ∷ []) $ fsplit ! $ move ! (2 ∷ 0 ∷ []) $ fjoin ! $
-              rewrite ! 0 (λ (F : Fml). ‵ F) heap refl $ pointing ! (filled d x) (block_ptr b o) ((λ i. (keeps d x i).0) ∙ e) $ fjoin ! $ move ! (1 ∷ 0 ∷ []) $ fjoin ! $
+              rewrite ! 0 (λ (F : Fml). ‵ F) heap refl $ pointing P at ! (filled d x) (block_ptr b o) ((λ i. (keeps d x i).0) ∙ e) $ fjoin ! $ move ! (1 ∷ 0 ∷ []) $ fjoin ! $
               fpack ! (List Val) (λ us. fsep (cell_at full_share A.mir us rb ro) (A.own_val (filled d x) us)) (w ∷ []) $ done !
 
           exits : (x : R.Denot) → body d ≡ Some x → (δ : GName)
@@ -204,7 +186,7 @@ module _ (more : Ptr → Fml) (tests : Tests more) (P : Owning) (at : Word P.D) 
             rewrite ! 0 (λ (xs : List Val). ‵ (Cell xs)) ws refl $ sets ! (of_opd ! (load ! (through ! refl (fld ! refl (stop !))) (look_in ! 0 (sub ! 0 refl (whole !))))) refl (fits null_ptr) $
             sets ! (of_opd ! (get ! refl)) refl (fits null_ptr) $ sets ! (bin ! (get ! refl) (lit ! tt) tt) refl (tt, tt) $ first ! $ branches ! (get ! refl) (λ _.
             sets ! (agg ! (and_then ! (lit ! tt) (no_more !))) refl (tt, (record { fits = lit< tt }, tt)) $
-            nothing ! $ fpack ! ((at d).0 ≡ null_ptr) (λ _. ftrue) is $ rewrite ! 0 (λ (F : Fml). ‵ F) heap refl $ pointing ! d null_ptr is $ fjoin ! $ move ! (1 ∷ []) $ closes ! tt A d
+            nothing ! $ fpack ! ((at d).0 ≡ null_ptr) (λ _. ftrue) is $ rewrite ! 0 (λ (F : Fml). ‵ F) heap refl $ pointing P at ! d null_ptr is $ fjoin ! $ move ! (1 ∷ []) $ closes ! tt A d
             (w ∷ []) rb ro $
             returns_within ! Q refl (look_at ! 0 refl) $ free_all ! refl $ keep ! (0 ∷ 2 ∷ []) $ by ! (leaves κ q rb ro γ d is_none)) (λ wrong. absurd wrong))
             (λ b o x is_some e test.

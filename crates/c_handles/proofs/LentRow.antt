@@ -3,14 +3,14 @@
 use Rattle.std.proofs.Common.{◌≡◌, ℕ, ◌<◌, ◌^◌, List, [], ◌∷◌, ◌++◌, length, refl, sym, ap, ◌∙◌, subst, Bool, Option, Some, None, MutBor}
 use seplogic.Ra.Ura.{Ura}
 use mir.Syntax.{Fn, Callee, Ty, named, erased, mut, local, value_local, ty_ptr, ty_ref, ty_bool, ty_int, place, deref, field, assign, rv_opd, op2, ptr_eq, copy, int, w64, aggregate, block, seq, return}
-use mir.Val.{Val, vptr, vint, vbool, vstruct, vcons, vnil, of_list}
+use mir.Val.{Val, vptr, vint, vbool, vstruct, of_list}
 use base.Fraction.{full_share}
-use base.Logic.{SProp, ent, sep, emp, never, fst∗}
+use base.Logic.{SProp, ent, sep, never, fst∗}
 use base.Fml.{Lft, GName, Share, Fml, ftrue, fsep, flft, fobs, fbor}
 use prog.Model.{Model}
 use prog.Wp.{Closed, WpFn}
 use types.Logic.{Logic, sem}
-use types.Kit.{Step, step, Item, Goal, Seq, ‵, raw, given, ◌⊛◌, some, later, at_ret, ◌$◌, ◌∵◌, !, qed, by, move, keep, drop, learn, use0, use1, split, join, pick, await, group, rewrite, fsplit, fsplit3, fjoin, fjoin3, fpick, fpack, feq_i, feq_l, suffices, frame, done}
+use types.Kit.{Item, Goal, Seq, ‵, raw, given, ◌⊛◌, some, later, at_ret, ◌$◌, ◌∵◌, !, qed, by, move, keep, drop, learn, use0, use1, split, join, pick, await, group, rewrite, fsplit, fsplit3, fjoin, fjoin3, fpick, fpack, feq_i, feq_l, suffices, frame, done}
 use types.Run.{stop, fld, load, lit, of_opd, bin, no_more, and_then, first, blocks, exec, returns, enter}
 use types.ByLocal.{alloc_all, pass_all, free_all, look_at, get, through, sets, sets_last, env}
 use types.Part.{agg, sub, whole, look_in}
@@ -19,23 +19,20 @@ use contract.Monad.{fact}
 use contract.Running.{Running, MachineTables, tables}
 use denote.Array.{Array}
 use denote.Exit.{yes, no}
-use denote.Builtin.{One, RawPtr, RefMutOf, SliceRefMutOf, bool, usize}
+use denote.Builtin.{One, RefMutOf, SliceRefMutOf, bool, usize}
 use denote.Follow.{follows}
 use denote.FollowSlice.{Elements, lends_Elements}
 use denote.Index.{row as row_of, whole_in, whole_out}
 use denote.Memory.{mem, cell_at, part_of}
 use denote.Param.{layout}
 use denote.Plain.{uint_vals, uint_Tells}
-use denote.RattleType.{RattleType, Valss, owns}
+use denote.RattleType.{RattleType, owns}
 use denote.RawPtr.{Ptr, block_ptr, null_ptr, ptr_val, tests_null, Testable, in_a_block}
 use denote.Ref.{MutRef, mut_vals, mut_Tells}
 use denote.Signature.{plain, mut_ref_to}
 use denote.Slice.{MutSlice, Room, slice_ty, slice_val}
 use denote.Steps.{nothing, opens, closes}
-use denote.Struct.Field.{RawPtr-field}
-use denote.Struct.Struct.{Struct, within}
-use denote.Struct.Values.{intos}
-use denote.Struct.Owning.{Owning, row, shape}
+use denote.Struct.Owning.{Owning, row}
 use denote.Triple.Clauses.{Ended, Clauses, closing, at_exit}
 use denote.Triple.Spec.{Meets}
 use denote.Triple.Walked.{says, Stays, stay_dropped, stay_ref, walk_of, ends_at, Goes-dropped, Goes-ref, Goes-spent_ref}
@@ -43,7 +40,7 @@ use Rattle.core.proofs.alloc.Shapes.{after}
 use Rattle.std.proofs.raw_atomic.Walks.{proved, leaves}
 use Rattle.c_handles.specs.Heap.{is_null, is_testable, IsThere, is_nothing, lends_row, row_lies_at, is_roomy}
 use Rattle.c_handles.proofs.Lent.{by_name}
-use Rattle.c_handles.proofs.Turned.{Word, word, fits}
+use Rattle.c_handles.proofs.Turned.{Said, Word, fits, pointing, routine, said, word, word_of}
 
 -- What may lie behind the pointer, taken apart: nothing, at null, or a row, whose pointer may be compared with null.
 module _ (R : RattleType) (q : Share) where
@@ -64,26 +61,11 @@ module _ (P : Owning) (at : Word P.D) where
   abbrev A : RattleType
   A = row (word P at)
 
-  abbrev word_of : Ptr → Val
-  word_of p = vstruct (vcons (ptr_val p) vnil)
-
-  -- what the struct's own field owns, at the machine's word for it: nothing
-  pub pointing : {M : Type 1} {𝓤 : Ura M} {𝓛 : Logic 𝓤} {K : Type 0} {Γ : List (Item 𝓤)} {G : Goal 𝓤 𝓛.H} → K → (d : P.D) (p : Ptr) → (at d).0 ≡ p
-      → Step K 𝓛 (‵ ((Struct (shape (word P at))).own_val (intos (RawPtr-field ∷ []) (at d)) (word_of p ∷ [])) ∷ Γ) G Γ G
-  pointing t d p e = step (λ s. nothing t $ feq_i t (List Val) (ptr_val p ∷ []) (ptr_val (at d).0 ∷ []) (ap (λ (x : Ptr). ptr_val x ∷ []) (sym e)) $ fjoin t $
-      feq_i t (List Val) (word_of p ∷ []) (word_of p ∷ []) refl $ fjoin t $ fpack t (Valss (RawPtr ∷ [])) (within (shape (word P at)) ((at d).0, tt) (word_of p ∷ [])) (ptr_val p ∷ [], tt) $ s)
-
   -- the pointer is read and compared with null
   abbrev pub asks : Fn
-  asks = record {
-    lifetimes = 1;
-    outlives = [];
-    ty_params = [];
-    givens = 0;
-    params = 1;
-    locals = local ty_bool value_local ∷ local (ty_ref (named 0) mut (by_name (layout A))) value_local ∷ local ty_ptr value_local ∷ [];
-    body = seq (assign (place 2 []) (rv_opd (copy (place 1 (deref (layout A) ∷ field 0 ∷ []))))) (seq (assign (place 0 []) (op2 ptr_eq (copy (place 2 [])) (int w64 0))) return);
-  }
+  asks = routine 1 1
+      (local ty_bool value_local ∷ local (ty_ref (named 0) mut (by_name (layout A))) value_local ∷ local ty_ptr value_local ∷ [])
+      (seq (assign (place 2 []) (rv_opd (copy (place 1 (deref (layout A) ∷ field 0 ∷ []))))) (seq (assign (place 0 []) (op2 ptr_eq (copy (place 2 [])) (int w64 0))) return))
 
   abbrev pub Asked : Ended
   Asked = record { signature = record { lifetimes = 1; outlives = []; params = RefMutOf (0 ∷ []) tt (plain (λ _. A)) (λ _. tt) ∷ []; result = plain (λ κs. bool) }; kept = (yes, tt) }
@@ -93,7 +75,7 @@ module _ (P : Owning) (at : Word P.D) where
 
   module _ (R : RattleType) (share : P.D → Share) (body : P.D → Option (List R.Denot)) (owned : (d : P.D) → P.heap d ≡ lends_row R (share d) (at d).0 (body d))
       {M : Type 1} {𝓤 : Ura M} (𝓛 : Logic 𝓤) (c : Clauses 𝓤 Asked)
-      (tells : (y : (walk_of 𝓛 Asked stays c).Ghost) → ent 𝓤 (emp 𝓤) ((c y.0.0 y.0.3).ensures y.1 (is_nothing (body y.0.3.0.now)) (at_exit Asked y.0.0 y.0.3 (y.0.3.0.now, tt)))) where
+      (tells : (y : (walk_of 𝓛 Asked stays c).Ghost) → Said 𝓤 ((c y.0.0 y.0.3).ensures y.1 (is_nothing (body y.0.3.0.now)) (at_exit Asked y.0.0 y.0.3 (y.0.3.0.now, tt)))) where
     module _ (𝓜 : Model 𝓤 𝓛.H) (𝓡 : Running 𝓤 𝓛.H 𝓜) where
       abbrev 𝓠 : MachineTables 𝓤 𝓛.H 𝓜
       𝓠 = tables 𝓤 𝓛.H 𝓜 𝓡 𝓡.env
@@ -108,7 +90,7 @@ module _ (P : Owning) (at : Word P.D) where
           qed 𝓛 (‵ (fobs γ (A.coded.code d)) ∷ ‵ (fbor κ (Body (mem A) rb ro γ)) ∷ ‵ (flft κ q) ∷ []) ∵
           feq_i ! (List Val) (vbool (is_nothing (body d)) ∷ []) (vbool (is_nothing (body d)) ∷ []) refl $ move ! (1 ∷ 2 ∷ 3 ∷ 0 ∷ []) $
           feq_i ! (List Val) (vptr rb ro ∷ []) (vptr rb ro ∷ []) refl $ fjoin3 ! $ nothing ! $ move ! (1 ∷ 0 ∷ []) $ fjoin ! $ nothing ! $ move ! (2 ∷ 0 ∷ []) $ join ! $
-          use0 𝓛 (raw ((c κs a).ensures g (is_nothing (body d)) (at_exit Asked κs a (d, tt)))) (tells y) $ move ! (1 ∷ 2 ∷ 3 ∷ 0 ∷ []) $ by !
+          use0 𝓛 (raw ((c κs a).ensures g (is_nothing (body d)) (at_exit Asked κs a (d, tt)))) (said 𝓤 (tells y)) $ move ! (1 ∷ 2 ∷ 3 ∷ 0 ∷ []) $ by !
           (leaves 𝓛 Asked stays c y (vbool (is_nothing (body d))) (is_nothing (body d)) (d, tt) (tt, tt)) in
           qed 𝓛 (((‵ (flft κ q) ⊛ ‵ ftrue) ⊛ ‵ ((MutRef (named 0) κ A).own_val r vs) ⊛ ‵ ftrue) ∷ raw ((c κs a).requires g) ∷ []) ∵
           split ! $ split ! $ move ! (2 ∷ []) $ split ! $ keep ! (0 ∷ 2 ∷ []) $
@@ -120,7 +102,7 @@ module _ (P : Owning) (at : Word P.D) where
           let heap : is_null (at d).0 ≡ P.heap d = ap (λ (held : Option (List R.Denot)). lends_row R (share d) (at d).0 held) (sym is_none) ∙ sym (owned d) in
           rewrite ! 0 (λ (xs : List Val). ‵ (Cell xs)) ws refl $ sets ! (of_opd ! (load ! (through ! refl (fld ! refl (stop !))) (look_in ! 0 (sub ! 0 refl (whole !))))) refl (fits null_ptr) $
           sets ! (bin ! (get ! refl) (lit ! tt) tt) refl (tt, tt) $
-          nothing ! $ fpack ! ((at d).0 ≡ null_ptr) (λ _. ftrue) is $ rewrite ! 0 (λ (F : Fml). ‵ F) heap refl $ pointing ! d null_ptr is $ fjoin ! $ move ! (1 ∷ []) $ closes ! tt A d (w ∷ []) rb ro $
+          nothing ! $ fpack ! ((at d).0 ≡ null_ptr) (λ _. ftrue) is $ rewrite ! 0 (λ (F : Fml). ‵ F) heap refl $ pointing P at ! d null_ptr is $ fjoin ! $ move ! (1 ∷ []) $ closes ! tt A d (w ∷ []) rb ro $
           returns ! (look_at ! 0 refl) $ free_all ! refl $ keep ! (0 ∷ 1 ∷ 2 ∷ []) $ by ! (subst (λ (t : Bool). ent 𝓤 Had (Q (vbool t))) (ap is_nothing is_none) ends))
           (λ b o xs is_some e room test.
           let w : Val = word_of (block_ptr b o) in let ws : us ≡ w ∷ [] = subst (λ (ps : List Val). us ≡ vstruct (of_list (ps ++ [])) ∷ []) (ep ∙ ap (λ (p : Ptr). ptr_val p ∷ []) e) ev in
@@ -130,7 +112,7 @@ module _ (P : Owning) (at : Word P.D) where
           rewrite ! 1 (λ (xs : List Val). ‵ (Cell xs)) ws refl $ sets ! (of_opd ! (load ! (through ! refl (fld ! refl (stop !))) (look_in ! 1 (sub ! 0 refl (whole !))))) refl (tt, tt) $
           sets ! (bin ! (get ! refl) (lit ! tt) (tests_null (block_ptr b o) test)) refl (tt, tt) $
           nothing ! $ fpack ! (Testable (block_ptr b o)) (λ _. ftrue) test $ nothing ! $ fpack ! (Room R (length xs)) (λ _. ftrue) room $ fjoin ! $ move ! (1 ∷ 0 ∷ []) $ fjoin ! $
-          rewrite ! 0 (λ (F : Fml). ‵ F) heap refl $ pointing ! d (block_ptr b o) e $ fjoin ! $ move ! (1 ∷ []) $ closes ! tt A d (w ∷ []) rb ro $
+          rewrite ! 0 (λ (F : Fml). ‵ F) heap refl $ pointing P at ! d (block_ptr b o) e $ fjoin ! $ move ! (1 ∷ []) $ closes ! tt A d (w ∷ []) rb ro $
           returns ! (look_at ! 0 refl) $ free_all ! refl $ keep ! (0 ∷ 1 ∷ 2 ∷ []) $ by ! (subst (λ (t : Bool). ent 𝓤 Had (Q (vbool t))) (ap is_nothing is_some) ends))))))))
 
   module _ (R : RattleType) (one : One R.mir) where
@@ -139,18 +121,12 @@ module _ (P : Owning) (at : Word P.D) where
 
     -- the pointer is read, and turned into a `&mut [T]` with the length beside it
     abbrev pub lends : Fn
-    lends = record {
-      lifetimes = 1;
-      outlives = [];
-      ty_params = [];
-      givens = 0;
-      params = 2;
-      locals = local (slice_ty (ty_ref (named 0) mut τ)) value_local ∷ local (ty_ref (named 0) mut (by_name (layout A))) value_local ∷ local (ty_int w64) value_local ∷ local ty_ptr value_local
-          ∷ local (slice_ty (ty_ref erased mut τ)) value_local ∷ local ty_ptr value_local ∷ [];
-      body = seq (assign (place 3 []) (rv_opd (copy (place 1 (deref (layout A) ∷ field 0 ∷ [])))))
-          (seq (block (seq (assign (place 5 []) (rv_opd (copy (place 3 [])))) (assign (place 4 []) (aggregate (copy (place 5 []) ∷ copy (place 2 []) ∷ [])))))
-          (seq (assign (place 0 []) (rv_opd (copy (place 4 [])))) return));
-    }
+    lends = routine 1 2
+        (local (slice_ty (ty_ref (named 0) mut τ)) value_local ∷ local (ty_ref (named 0) mut (by_name (layout A))) value_local ∷ local (ty_int w64) value_local ∷ local ty_ptr value_local
+        ∷ local (slice_ty (ty_ref erased mut τ)) value_local ∷ local ty_ptr value_local ∷ [])
+        (seq (assign (place 3 []) (rv_opd (copy (place 1 (deref (layout A) ∷ field 0 ∷ [])))))
+        (seq (block (seq (assign (place 5 []) (rv_opd (copy (place 3 [])))) (assign (place 4 []) (aggregate (copy (place 5 []) ∷ copy (place 2 []) ∷ [])))))
+        (seq (assign (place 0 []) (rv_opd (copy (place 4 [])))) return)))
 
     abbrev pub En : Ended
     En = record {
@@ -200,7 +176,7 @@ module _ (P : Owning) (at : Word P.D) where
               qed 𝓛 (‵ (cells (mem R) ws b o) ∷ ‵ (Cell (w ∷ [])) ∷ []) ∵ use1 𝓛 (‵ (row_of R full_share ws b o)) (whole_out 𝓛 R ws b o) $
               nothing ! $ fpack ! (Testable (block_ptr b o)) (λ _. ftrue) test $ nothing ! $ fpack ! (Room R (length ws)) (λ _. ftrue) (subst (Room R) (sym same) room) $ fjoin ! $ move !
               (1 ∷ 0 ∷ []) $ fjoin ! $
-              rewrite ! 0 (λ (F : Fml). ‵ F) heap refl $ pointing ! (filled d ws) (block_ptr b o) ((λ i. (keeps d ws i).0) ∙ e) $ fjoin ! $ move ! (1 ∷ 0 ∷ []) $ fjoin ! $
+              rewrite ! 0 (λ (F : Fml). ‵ F) heap refl $ pointing P at ! (filled d ws) (block_ptr b o) ((λ i. (keeps d ws i).0) ∙ e) $ fjoin ! $ move ! (1 ∷ 0 ∷ []) $ fjoin ! $
               fpack ! (List Val) (λ us. fsep (Cell us) (A.own_val (filled d ws) us)) (w ∷ []) $ done !
 
           exits : (b o : ℕ) (xs : List R.Denot) → body d ≡ Some xs → (v : Val) (δ : GName)

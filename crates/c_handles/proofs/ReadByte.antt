@@ -2,7 +2,7 @@
 use Rattle.std.proofs.Common.{◌≡◌, ℕ, ◌<◌, ◌^◌, List, [], ◌∷◌, ◌++◌, length, get_or, refl, sym, ap, ◌∙◌, subst, Option, Some}
 use seplogic.Ra.Ura.{Ura}
 use mir.Syntax.{Fn, Callee, named, mut, local, value_local, ty_ptr, ty_ref, ty_int, place, deref, field, assign, rv_opd, op2, offset, copy, w8, w64, block, seq, return}
-use mir.Val.{Val, vptr, vint, vstruct, vcons, vnil, of_list}
+use mir.Val.{Val, vptr, vint, vstruct, of_list}
 use base.Fraction.{full_share}
 use base.Logic.{SProp, ent, sep, emp, guard}
 use base.Fml.{Share, Fml, ftrue, flft, fobs, fbor}
@@ -36,31 +36,22 @@ use Rattle.core.proofs.alloc.Shapes.{after}
 use Rattle.std.proofs.raw_atomic.Walks.{proved, leaves}
 use Rattle.c_handles.specs.Heap.{IsWithin, number_at, lends_row}
 use Rattle.c_handles.proofs.Lent.{by_name}
-use Rattle.c_handles.proofs.LentRow.{either, pointing}
-use Rattle.c_handles.proofs.Turned.{Word, word}
+use Rattle.c_handles.proofs.LentRow.{either}
+use Rattle.c_handles.proofs.Turned.{Said, Word, pointing, routine, said, word, word_of}
 
 -- a struct of one pointer, by reference
 module _ (P : Owning) (at : Word P.D) where
   abbrev A : RattleType
   A = row (word P at)
 
-  abbrev word_of : Ptr → Val
-  word_of p = vstruct (vcons (ptr_val p) vnil)
-
   -- the pointer is read and moved up, and what lies there is copied
   abbrev pub reads : Fn
-  reads = record {
-    lifetimes = 1;
-    outlives = [];
-    ty_params = [];
-    givens = 0;
-    params = 2;
-    locals = local (ty_int w8) value_local ∷ local (ty_ref (named 0) mut (by_name (layout A))) value_local ∷ local (ty_int w64) value_local ∷ local ty_ptr value_local ∷ local (ty_int w8) value_local
-        ∷ local ty_ptr value_local ∷ [];
-    body = seq (assign (place 3 []) (rv_opd (copy (place 1 (deref (layout A) ∷ field 0 ∷ [])))))
-        (seq (block (seq (assign (place 5 []) (op2 offset (copy (place 3 [])) (copy (place 2 [])))) (assign (place 4 []) (rv_opd (copy (place 5 (deref (ty_int w8) ∷ [])))))))
-        (seq (assign (place 0 []) (rv_opd (copy (place 4 [])))) return));
-  }
+  reads = routine 1 2
+      (local (ty_int w8) value_local ∷ local (ty_ref (named 0) mut (by_name (layout A))) value_local ∷ local (ty_int w64) value_local ∷ local ty_ptr value_local ∷ local (ty_int w8) value_local
+      ∷ local ty_ptr value_local ∷ [])
+      (seq (assign (place 3 []) (rv_opd (copy (place 1 (deref (layout A) ∷ field 0 ∷ [])))))
+      (seq (block (seq (assign (place 5 []) (op2 offset (copy (place 3 [])) (copy (place 2 [])))) (assign (place 4 []) (rv_opd (copy (place 5 (deref (ty_int w8) ∷ [])))))))
+      (seq (assign (place 0 []) (rv_opd (copy (place 4 [])))) return)))
 
   abbrev pub Read : Ended
   Read = record {
@@ -74,7 +65,7 @@ module _ (P : Owning) (at : Word P.D) where
   module _ (share : P.D → Share) (bytes : P.D → Option (List ℕ)) (owned : (d : P.D) → P.heap d ≡ lends_row u8 (share d) (at d).0 (bytes d))
       {M : Type 1} {𝓤 : Ura M} (𝓛 : Logic 𝓤) (c : Clauses 𝓤 Read)
       (needs : (y : (walk_of 𝓛 Read stays c).Ghost) → ent 𝓤 ((c y.0.0 y.0.3).requires y.1) (guard 𝓤 (IsWithin (bytes y.0.3.0.now) y.0.3.1.0) (emp 𝓤)))
-      (tells : (y : (walk_of 𝓛 Read stays c).Ghost) → ent 𝓤 (emp 𝓤) ((c y.0.0 y.0.3).ensures y.1 (number_at (bytes y.0.3.0.now) y.0.3.1.0) (at_exit Read y.0.0 y.0.3 (y.0.3.0.now, (tt, tt))))) where
+      (tells : (y : (walk_of 𝓛 Read stays c).Ghost) → Said 𝓤 ((c y.0.0 y.0.3).ensures y.1 (number_at (bytes y.0.3.0.now) y.0.3.1.0) (at_exit Read y.0.0 y.0.3 (y.0.3.0.now, (tt, tt))))) where
     module _ (𝓜 : Model 𝓤 𝓛.H) (𝓡 : Running 𝓤 𝓛.H 𝓜) where
       abbrev 𝓣 : MachineTables 𝓤 𝓛.H 𝓜
       𝓣 = tables 𝓤 𝓛.H 𝓜 𝓡 𝓡.env
@@ -91,7 +82,7 @@ module _ (P : Owning) (at : Word P.D) where
           qed 𝓛 (‵ (fobs γ (A.coded.code d)) ∷ ‵ (fbor κ (Body (mem A) rb ro γ)) ∷ ‵ (flft κ q) ∷ []) ∵
           flt_i ! n (2 ^ 8) few $ feq_i ! (List Val) (vint w8 n ∷ []) (vint w8 n ∷ []) refl $ fjoin ! $ move ! (1 ∷ 2 ∷ 3 ∷ 0 ∷ []) $
           feq_i ! (List Val) (vptr rb ro ∷ []) (vptr rb ro ∷ []) refl $ fjoin3 ! $ nothing ! $ nothing ! $ fjoin ! $ move ! (1 ∷ 0 ∷ []) $ fjoin ! $ nothing ! $ move ! (2 ∷ 0 ∷ []) $ join ! $
-          use0 𝓛 (raw ((c κs a).ensures g n (at_exit Read κs a (d, (tt, tt))))) (tells y) $ move ! (1 ∷ 2 ∷ 3 ∷ 0 ∷ []) $ by ! (leaves 𝓛 Read stays c y (vint w8 n) n (d, (tt, tt)) (tt, (tt, tt))) in
+          use0 𝓛 (raw ((c κs a).ensures g n (at_exit Read κs a (d, (tt, tt))))) (said 𝓤 (tells y)) $ move ! (1 ∷ 2 ∷ 3 ∷ 0 ∷ []) $ by ! (leaves 𝓛 Read stays c y (vint w8 n) n (d, (tt, tt)) (tt, (tt, tt))) in
           qed 𝓛 (((‵ (flft κ q) ⊛ ‵ ftrue) ⊛ ‵ (owns (MutRef (named 0) κ A ∷ usize ∷ []) a (vs, (vint w64 i ∷ [], tt)))) ∷ raw ((c κs a).requires g) ∷ []) ∵
           move ! (1 ∷ []) $ use1 𝓛 (given (IsWithin (bytes d) i) (raw (emp 𝓤))) (needs y) $ learn ! (λ within. drop ! $ split ! $ split ! $ move ! (2 ∷ []) $ fsplit ! $ keep ! (0 ∷ 2 ∷ []) $
           enter ! 𝓣.C 𝓣.Λ reads (vptr rb ro ∷ vint w64 i ∷ []) Q $ alloc_all ! (λ l. pass_all ! refl ((tt, tt), ((tt, record { fits = low }), tt)) $ let Ev = env reads.locals l in

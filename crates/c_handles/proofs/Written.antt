@@ -1,7 +1,7 @@
 -- A text is written byte by byte, and a zero after it; lists by their places.
-use Rattle.std.proofs.Common.{◌≡◌, ℕ, suc, ◌<◌, List, [], ◌∷◌, length, get_or, map, refl, arith, ◌≢◌, ⊎_elim, zero, ◌+◌, ◌-◌, ◌≤◌, set, take, Option, Some, None, sym, ap, ◌∙◌, length-set}
+use Rattle.std.proofs.Common.{◌≡◌, ℕ, suc, ◌<◌, List, length, get_or, map, refl, arith, ◌≢◌, ⊎_elim, ◌+◌, ◌-◌, ◌≤◌, set, take, Option, Some, None, sym, ap, ◌∙◌, length-set}
 use Rattle.std.proofs.lemmas.Bool.{cases_lt}
-use Rattle.std.proofs.lemmas.List.{get_or-set_other, get_or-set_same}
+use Rattle.std.proofs.lemmas.List.{ext_get_or, get_or-map, get_or-set_other, get_or-set_same, get_or-take, length-map, length-take-le}
 use mathlib.Core.Logic.{dite}
 use native.Mathlib.Decide.{ℕ_discrete}
 use Rattle.c_handles.specs.Heap.{IsThere, number_at}
@@ -11,13 +11,8 @@ use Rattle.c_handles.specs.values.Texts.{IsWritten}
 
 -- what has at each place what f makes of another's is what map makes of it
 pub map_by_place : {X Y : Type 0} (f : X → Y) (xs : List X) (ys : List Y) (e : X) (d : Y) → length ys ≡ length xs → ((k : ℕ) → k < length xs → get_or ys k d ≡ f (get_or xs k e)) → ys ≡ map f xs
-map_by_place f [] [] e d same each = refl
-map_by_place f [] (y ∷ ys) e d same each = absurd (omega (arith, same))
-map_by_place f (x ∷ xs) [] e d same each = absurd (omega (arith, same))
-map_by_place f (x ∷ xs) (y ∷ ys) e d same each =
-    let rest = map_by_place f xs ys e d (omega (arith, same)) (λ k lt. each (suc k) (omega (arith, lt))) in
-    let first = each 0 (omega arith) in
-    λ i. first i ∷ rest i
+map_by_place f xs ys e d same each =
+    ext_get_or d ys (map f xs) (same ∙ sym (length-map xs f)) (λ i lt. each i (omega (arith, lt, same)) ∙ sym (get_or-map f xs i e d (omega (arith, lt, same))))
 
 -- A text is written byte by byte, and a zero after it.
 
@@ -75,13 +70,9 @@ pub record AreRead (bytes : Option (List ℕ)) (row : List ℕ) (k : ℕ) : Type
   pub done : (j : ℕ) → j < k → get_or row j 0 ≡ number_at bytes j
 
 same_first : (n : ℕ) (row xs : List ℕ) → length xs ≡ n → n ≤ length row → ((j : ℕ) → j < n → get_or row j 0 ≡ get_or xs j 0) → take n row ≡ xs
-same_first zero row [] count room same = refl
-same_first zero row (x ∷ xs) count room same = absurd (omega (arith, count))
-same_first (suc n) row [] count room same = absurd (omega (arith, count))
-same_first (suc n) [] (x ∷ xs) count room same = absurd (omega (arith, room))
-same_first (suc n) (r ∷ row) (x ∷ xs) count room same =
-    let rest = same_first n row xs (omega (arith, count)) (omega (arith, room)) (λ j lt. same (suc j) (omega (arith, lt))) in
-    λ i. same 0 (omega arith) i ∷ rest i
+same_first n row xs count room same =
+    let long : length (take n row) ≡ n = length-take-le n row room in
+    ext_get_or 0 (take n row) xs (long ∙ sym count) (λ i lt. get_or-take n row i 0 (omega (arith, lt, long)) ∙ same i (omega (arith, lt, long)))
 
 -- all of them are
 pub all_read : (bytes : Option (List ℕ)) (row : List ℕ) (n : ℕ) → IsThere bytes n → n ≤ 15 → AreRead bytes row n → bytes ≡ Some (take n row)

@@ -45,19 +45,12 @@ given_takes a k rec e is =
     let lt = at.0 in
     let pair = get_or-zip k.slots keeps e.slot (Vacant, None) (omega (arith, lt, size)) (omega (arith, lt, size)) in
     let parts = available_parts (slot_at k.slots e.slot) (kept_at keeps e.slot) (ap is_available (sym pair) ∙ at.1) in
-    record {
-      vacant = parts.0;
-      nothing = parts.1;
-      free = told.free;
-      room = leb-true (length k.view.history + live_count k.slots + 2) a.change_limit told.fits;
-      entry = ap (λ (n : ℕ). record { number = n; slot = e.slot; rec = rec }) (sym (add-one (length k.view.history))) ∙ sym told.entry;
-    }
+    assumption (parts, told.free, leb-true _ _ told.fits, ap (λ (n : ℕ). record { number = n; slot = e.slot; rec = rec }) (sym (add-one (length k.view.history))) ∙ sym told.entry)
 
 -- it was given before the keeper heard the CPU x
 pub taken_tells : (a : Settings) (k : OnKeeper) (x : OnCpu) (m : OnKeeper) (rec : Record) (e : Entry) → m ≡ keeper_after_hear k x → given_entry a k rec ≡ Ok e → MayTake a m rec e
 taken_tells a k x m rec e heard is =
-    let takes = given_takes a k rec e is in
-    subst (λ (l : OnKeeper). MayTake a l rec e) (sym heard) (record { vacant = takes.vacant; nothing = takes.nothing; free = takes.free; room = takes.room; entry = takes.entry })
+    subst (λ (l : OnKeeper). MayTake a l rec e) (sym heard) (assumption (given_takes a k rec e is))
 
 -- a driver's slot keeps nothing
 pub driver_keeps : (kept : Option ℕ) (kind : Kind) → kept ≡ None → is_iface kind ≡ false → IsTrue (keeps_rightly kept kind)
@@ -141,8 +134,7 @@ keeper_shows a k rows n x our is =
 -- the first place with a live entry of the key
 pub place_tells : (x : OnKeeper) (key : Key) (t : ℕ) → ShowsLive x → position (is_live_as key) x.slots ≡ Some t → IsLivePlace x key (Some t)
 place_tells x key t shows at =
-    let found = position-Some (is_live_as key) x.slots t Slot.Vacant at in
-    let live = live_tells key (slot_at x.slots t) found.1 in
+    let live = live_tells key (slot_at x.slots t) (position-Some (is_live_as key) x.slots t Slot.Vacant at).1 in
     let shown = shows.live t live.0 live.1 in
     (live.0, live.1, shown.1, (shown.0, live.2))
 
@@ -165,18 +157,7 @@ place_is a x m key t e heard found is =
 
 -- telling the history changes nothing of it
 detached_told : (a : OnKeeper) (t : ℕ) (e : Entry) (b : OnKeeper) → HasDetached a t e b → HasDetached a t e (keeper_after_tell b)
-detached_told a t e b has = record {
-  before = has.before;
-  is_before = has.is_before;
-  link = has.link;
-  leads = has.leads;
-  hidden = has.hidden;
-  made = has.made;
-  marks = has.marks;
-  snapshots = has.snapshots;
-  view = has.view;
-  slots = has.slots;
-}
+detached_told a t e b has = search (has.is_before, has.leads, has.hidden, has.made, has.snapshots, has.view, has.slots)
 
 -- The keeper m heard the CPU x, the entry e in the slot t was retired, and the CPU heard the history that the keeper b has then.
 pub detached_for : (a : OnKeeper) (x : OnCpu) (m : OnKeeper) (n : OnCpu) (t : ℕ) (e : Entry) (b : OnKeeper) (y : OnCpu) → m ≡ keeper_after_hear a x → n ≡ cpu_after_tell x

@@ -62,8 +62,7 @@ has a k rows n x t m our is there =
     let here = in_view a k rows n t e our (subst (λ (y : OnKeeper). IsIn e (slot_at y.slots t)) (sym is) there.1) in
     let g = our.is_shown.g in
     let good = our.is_shown.good in
-    let seen = seen_by_keeper g k good our.is_shown.shown in
-    let attached = attached_in g.history g.slots t e good.holds.slots (subst (λ (y : List Slot). IsIn e (slot_at y t)) seen.slots here.1) in
+    let attached = attached_in g.history g.slots t e good.holds.slots (subst (λ (y : List Slot). IsIn e (slot_at y t)) (seen_by_keeper g k good our.is_shown.shown).slots here.1) in
     let one = (at_within g.history e.number (Attach e) attached.0).0 in
     let most = (ranges a our.view.fit).slots in
     let near = total_near g k t e good our.is_shown.shown (none_at_rest k.due t our.view.rest) here.1 in
@@ -83,8 +82,7 @@ has a k rows n x t m our is there =
 pub none_past : {table : TableId} {log : List LogItem} (a : Settings) (k : KeeperView) (rows : List KeptSlot) (n t c : ℕ) (x : OnPlainKeeper) → IsOurKeeper a k rows n → on_keeper table a k rows log ≡ x
     → x.words.settings.cpus ≤ c → is_collected x.keeper t c ≡ false
 none_past {table} {log} a k rows n t c x our is past =
-    let g = our.is_shown.g in
-    let seen = seen_by_keeper g k our.is_shown.good our.is_shown.shown in
+    let seen = seen_by_keeper our.is_shown.g k our.is_shown.good our.is_shown.shown in
     let same = ap (λ (z : Settings). z.cpus) (sym our.view.settings ∙ seen.settings) in
     let ours : a.cpus ≤ c = subst (λ (y : OnPlainKeeper). y.words.settings.cpus ≤ c) (sym is) past in
     let none : (mark_at k.marks t c).collected ≡ false =

@@ -34,11 +34,7 @@ one_alone : (h : List Change) (c : Change) → number_of c ≤ MOST_CHANGES → 
 one_alone [] c le same = let some = weighs c in absurd (omega (arith, same, some))
 one_alone (d ∷ []) c le same = (d, refl, alike d c (let only = sum_by-cons weight d [] in omega (arith, same, only)))
 one_alone (d ∷ (f ∷ h)) c le same =
-    let all = sum_by-cons weight d (f ∷ h) in
-    let rest = sum_by-cons weight f h in
-    let first = weighs d in
-    let second = weighs f in
-    let most = light c le in absurd (omega (arith, same, all, rest, first, second, most))
+    let most = light c le in absurd (omega (arith, same, sum_by-cons weight d (f ∷ h), sum_by-cons weight f h, weighs d, weighs f, most))
 
 none : (h : List Change) → weigh h ≡ 0 → h ≡ []
 none [] same = refl
@@ -54,16 +50,11 @@ weights_tell = record {
 
 -- The share
 
--- a CPU that has learned, and whose calls are counted
-counted : (n : ℕ) (x y : OnCpu) → HasLearned x y → HasLearned x (record y { made = n })
-counted n x y has = record { pass = has.pass; known_log = has.known_log; is = ap (λ (o : OnCpu). record o { made = n }) has.is; log = has.log }
-
 pub attach_counted : (x y z : OnCpu) (e : Entry) (n : ℕ) → z ≡ record y { made = n } → HasLearned x y × HasSeenAttach x y e → HasLearned x z × HasSeenAttach x z e
-attach_counted x y z e n is has = subst (λ (o : OnCpu). HasLearned x o × HasSeenAttach x o e) (sym is) (counted n x y has.0, record { later = has.1.later; attached = has.1.attached; log = has.1.log })
+attach_counted x y z e n is has = subst (λ (o : OnCpu). HasLearned x o × HasSeenAttach x o e) (sym is) (assumption (ap (λ (o : OnCpu). record o { made = n }) has.0.is))
 
 pub detach_counted : (x y z : OnCpu) (e : Entry) (n : ℕ) → z ≡ record y { made = n } → HasLearned x y × HasSeenDetach x y e → HasLearned x z × HasSeenDetach x z e
-detach_counted x y z e n is has = subst (λ (o : OnCpu). HasLearned x o × HasSeenDetach x o e) (sym is)
-    (counted n x y has.0, record { end = has.1.end; later = has.1.later; ends = has.1.ends; attached = has.1.attached; log = has.1.log })
+detach_counted x y z e n is has = subst (λ (o : OnCpu). HasLearned x o × HasSeenDetach x o e) (sym is) (assumption (ap (λ (o : OnCpu). record o { made = n }) has.0.is), search (has.1.later, has.1.ends, has.1.attached, has.1.log))
 
 -- it made exactly the change that was counted
 pub one_made : (note : List Change) (x y z : OnCpu) (c : Change) → number_of c ≤ MOST_CHANGES → HasHeardOn note x y → z ≡ record y { made = y.made + weight c } → HasMade x c z
@@ -76,8 +67,7 @@ attach_within : (z : Settings) (k : OnKeeper) (rec : Record) (inside unfit : Boo
     → e.number ≤ MOST_CHANGES
 attach_within z k rec inside unfit e most is =
     let takes = given_takes z k rec e (attach_tells inside unfit (given_entry z k rec) e is).2 in
-    let number = ap (λ (x : Entry). x.number) takes.entry in
-    let room = takes.room in omega (arith, number, room, most)
+    let room = takes.room in omega (arith, ap (λ (x : Entry). x.number) takes.entry, room, most)
 
 pub attach_numbered : (z : Settings) (k : OnKeeper) (x : OnCpu) (rec : Record) (e : Entry) → z.change_limit ≤ MOST_CHANGES → Ok e ≡ attach_answer z k x rec → e.number ≤ MOST_CHANGES
 attach_numbered z k x rec e most is = attach_within z k rec (is_inside x) (is_iface rec.kind) e most (sym is)
@@ -154,21 +144,10 @@ passed_same z a x numbers b y has = ap (λ (k : OnKeeper). k.view.history) has.i
 -- A CPU that has a share of a ledger, and the CPU without it: what is told of the one is told of the other.
 
 heard : (m : ℕ) (h : List Change) (x y : OnCpu) → HasHeardOn h x y → HasHeardOn h (sharing m x) (sharing m y)
-heard m h x y had = record { told = had.told; pass = had.pass; known_log = had.known_log; is = ap (sharing m) had.is }
+heard m h x y had = assumption (ap (sharing m) had.is)
 
 hold : (m : ℕ) (looks : Looking → Looking → Type 0) (a : OnKeeper) (x : OnCpu) (b : OnKeeper) (y : OnCpu) → Hold looks a x b y → Hold looks a (sharing m x) b (sharing m y)
-hold m looks a x b y had = record {
-  known = had.known;
-  seen = had.seen;
-  end = had.end;
-  made = had.made;
-  view = had.view;
-  slots = had.slots;
-  log = had.log;
-  hears = heard m _ x y had.hears;
-  told = had.told;
-  cpu_log = had.cpu_log;
-}
+hold m looks a x b y had = search (had.known, had.seen, had.made, had.view, had.slots, had.log, heard m _ x y had.hears, had.told, had.cpu_log)
 
 pub begun : (m : ℕ) (z : Settings) (a : OnKeeper) (x : OnCpu) (snapshots : List ℕ) (retired : List (Option ℕ)) (b : OnKeeper) (y : OnCpu) → HasBegun z a x snapshots retired b y
     → HasBegun z a (sharing m x) snapshots retired b (sharing m y)
@@ -184,36 +163,20 @@ pub passed : (m : ℕ) (z : Settings) (a : OnKeeper) (x : OnCpu) (numbers : List
 passed m z a x numbers b y had = record { known = had.known; end = had.end; passes = had.passes; own = had.own; is = had.is; hears = heard m _ x y had.hears; told = had.told; cpu_log = had.cpu_log }
 
 pub attached : (m : ℕ) (a : OnKeeper) (x : OnCpu) (e : Entry) (b : OnKeeper) (y : OnCpu) → HasAttachedFor a x e b y → HasAttachedFor a (sharing m x) e b (sharing m y)
-attached m a x e b y had = record { seen = had.seen; keeper = had.keeper; log = had.log; cpu = heard m _ x y had.cpu; own = record { later = had.own.later; attached = had.own.attached; log = had.own.log } }
+attached m a x e b y had = assumption (heard m _ x y had.cpu)
 
 pub iface_attached : (m : ℕ) (a : OnKeeper) (x : OnCpu) (v : ReferenceView) (e : Entry) (b : OnKeeper) (y : OnCpu) → HasAttachedIfaceFor a x v e b y
     → HasAttachedIfaceFor a (sharing m x) v e b (sharing m y)
-iface_attached m a x v e b y had =
-    record { seen = had.seen; keeper = had.keeper; log = had.log; keeping = had.keeping; cpu = heard m _ x y had.cpu; own = record { later = had.own.later; attached = had.own.attached; log = had.own.log } }
+iface_attached m a x v e b y had = assumption (heard m _ x y had.cpu)
 
 pub detached : (m : ℕ) (a : OnKeeper) (x : OnCpu) (e : Entry) (b : OnKeeper) (y : OnCpu) → HasDetachedFor a x e b y → HasDetachedFor a (sharing m x) e b (sharing m y)
-detached m a x e b y had = record {
-  seen = had.seen;
-  keeper = had.keeper;
-  log = had.log;
-  cpu = heard m _ x y had.cpu;
-  own = record { end = had.own.end; later = had.own.later; ends = had.own.ends; attached = had.own.attached; log = had.own.log };
-}
+detached m a x e b y had =
+    let own : HasSeenDetach (sharing m x) (sharing m y) e = search (had.own.later, had.own.ends, had.own.attached, had.own.log) in
+    assumption (own, heard m _ x y had.cpu)
 
 pub advanced : (m : ℕ) (z : Settings) (a : OnKeeper) (x : OnCpu) (n : ℕ) (answer : Result Stage Refusal) (b : OnKeeper) (y : OnCpu) → HasAdvancedFor z a x n answer b y
     → HasAdvancedFor z a (sharing m x) n answer b (sharing m y)
-advanced m z a x n answer b y had = record {
-  known = had.known;
-  seen = had.seen;
-  own = had.own;
-  end = had.end;
-  made = had.made;
-  own_end = had.own_end;
-  is = had.is;
-  hears = heard m _ x y had.hears;
-  told = had.told;
-  cpu_log = had.cpu_log;
-}
+advanced m z a x n answer b y had = search (had.known, had.seen, had.own, had.made, had.own_end, had.is, heard m _ x y had.hears, had.told, had.cpu_log)
 
 pub given_up : (m : ℕ) (a : OnKeeper) (x : OnCpu) (v : ReferenceView) (b : OnKeeper) (y : OnCpu) → HasGivenUpFor a x v b y → HasGivenUpFor a (sharing m x) v b (sharing m y)
 given_up m a x v b y had =

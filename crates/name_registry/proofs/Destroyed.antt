@@ -4,7 +4,7 @@ use Rattle.std.proofs.lemmas.List.{length-append}
 use Rattle.std.proofs.lemmas.Option.{none-some, same_Some}
 use mathlib.Core.List.{IsPrefix}
 use Rattle.name_registry.specs.Types.{Change, Entry, Refusal, Settings, Slot, Vacant, Live, Retired, Stage, Grace, Passive, Local, Freed, Mark, Hear, KeptSub, Tell, Vacate, Done, Rest, LogItem, Inside, NotRetired}
-use Rattle.registry_values.specs.Common.{is_retired, is_retired_as, retired_slot, slot_at, IsObstacle, destroy_result, destroy_result_of}
+use Rattle.registry_values.specs.Common.{is_retired, is_retired_as, retired_slot, slot_at, IsObstacle, destroy_result_of}
 use Rattle.registry_values.proofs.Slots.{retired_slot_tells}
 use Rattle.protocol.specs.Common.{addition_due_at, is_adding_at, subtraction_due_at, State, count_at, mark_at, total_at}
 use Rattle.protocol.proofs.keeps.Linking.{within_retired}
@@ -14,7 +14,7 @@ use Rattle.cpu_words.proofs.by_keeper.KeeperSteps.{seen_by_keeper}
 use Rattle.cpu_words.proofs.logs.Slots.{not_attached}
 use Rattle.cpu_words.proofs.laws.Freed.{ended_runs}
 use Rattle.passive_list.specs.Common.{OnCpu, OnKeeper, HasOwnLog, HasHeardOn, as_teller, cpu_after_tell, has_heard, HasFreed}
-use Rattle.name_registry.specs.Common.{EndsIn, HasAdvanced, HasEnded, Meets, MeetsGrace, MeetsLocal, MeetsPassive, HasAdvancedFor, hears_cpu, keeper_after_hear, keeper_after_tell, AnswersBy, HasMet, IsNotRetired, IsRetiredIn, IsTurn, MetLocals, MetReference, MetSection, IsGoneIfFreed, Destroys, DestroysOutside, HasDestroyed, LastMeeting, SomeAdvancedFor, TurnsMeeting, IsDestroyRefusal, IsStageOf, HasLearned, IsDestroyAnswer, ClosesRun}
+use Rattle.name_registry.specs.Common.{EndsIn, HasAdvanced, HasEnded, Meets, MeetsGrace, MeetsLocal, MeetsPassive, HasAdvancedFor, hears_cpu, keeper_after_hear, keeper_after_tell, AnswersBy, HasMet, IsNotRetired, IsRetiredIn, IsTurn, MetLocals, MetReference, MetSection, IsGoneIfFreed, Destroys, DestroysOutside, HasDestroyed, LastMeeting, SomeAdvancedFor, TurnsMeeting, IsDestroyRefusal, HasLearned, IsDestroyAnswer, ClosesRun}
 use Rattle.name_registry.proofs.Noted.{heard_told_again, met_again, prefix_short, learned, by_meeting_again}
 use Rattle.name_registry.proofs.Worked.{prefix_on}
 use Rattle.name_registry.proofs.Waited.{Learns, learns_none, learns_more}
@@ -44,26 +44,13 @@ ends_in begin old new d from ends = (old ++ ends.0, prefix_on _ _ _ from (ends.0
 
 met_section : (z : Settings) (a b : OnKeeper) (t c : ℕ) (begin : List LogItem) → HasOwnLog z b → IsPrefix begin a.log → MeetsGrace a t c b → MetSection t c begin b.log
 met_section z a b t c begin own from meets =
-    let last = ends_in begin a.log b.log (has_looked t c meets.sees.word) from meets.sees.log in record {
-      word = meets.sees.word;
-      before = last.0;
-      since = last.1;
-      are = last.2;
-      odd = meets.sees.odd;
-      snapped = own.marks.snapped t c meets.sees.word meets.sees.snapshot;
-      lesser = λ d lt. own.marks.passed t d (meets.lesser d lt);
-    }
+    let last = ends_in begin a.log b.log (has_looked t c meets.sees.word) from meets.sees.log in
+    search (last.1, last.2, meets.sees.odd, own.marks.snapped t c meets.sees.word meets.sees.snapshot, λ (d : ℕ) (lt : d < c). own.marks.passed t d (meets.lesser d lt))
 
 met_reference : (z : Settings) (a b : OnKeeper) (t c : ℕ) (begin : List LogItem) → HasOwnLog z b → IsPrefix begin a.log → MeetsPassive a t c b → MetReference z.cpus t c begin b.log
 met_reference z a b t c begin own from meets =
-    let last = ends_in begin a.log b.log (has_looked_passive t c meets.sees.word) from meets.sees.log in record {
-      word = meets.sees.word;
-      before = last.0;
-      since = last.1;
-      are = last.2;
-      some = meets.sees.some;
-      passed = λ d lt. own.marks.passed t d (meets.passed d (subst (λ (s : Settings). d < s.cpus) (sym own.settings) lt));
-    }
+    let last = ends_in begin a.log b.log (has_looked_passive t c meets.sees.word) from meets.sees.log in
+    search (last.1, last.2, meets.sees.some, λ (d : ℕ) (lt : d < z.cpus). own.marks.passed t d (meets.passed d (subst (λ (s : Settings). d < s.cpus) (sym own.settings) lt)))
 
 met_locals : (z : Settings) (a b : OnKeeper) (t n k : ℕ) (e : Entry) → HasOwnLog z b → slot_at a.slots t ≡ Retired e → e.number ≡ n → MeetsLocal a t k b → MetLocals z.cpus t n k b.log
 met_locals z a b t n k e own at same meets =
@@ -74,7 +61,6 @@ met_locals z a b t n k e own at same meets =
     let gone : is_retired (slot_at g.slots t) ≡ true = ap is_retired (ap (λ (l : List Slot). slot_at l t) (sym seen.slots) ∙ meets.held.retired) in
     let due : g.due ≡ Rest = sym seen.due ∙ own.rest in
     let adding : addition_due_at t g.due ≡ 0 = ap (addition_due_at t) due in
-    let is_adding : is_adding_at t g.due ≡ 0 = ap (is_adding_at t) due in
     let subtracting : subtraction_due_at t g.due ≡ 0 = ap (subtraction_due_at t) due in
     let totals : total_at b.view.totals t ≡ total_at g.totals t = ap (λ (l : List ℕ). total_at l t) seen.totals in
     let low : (d : ℕ) → d < z.cpus → d < b.view.settings.cpus = λ d lt. subst (λ (y : Settings). d < y.cpus) (sym own.settings) lt in
@@ -83,7 +69,7 @@ met_locals z a b t n k e own at same meets =
       collected = λ d lt.
           let drawn : is_drawn g t d ≡ true = let marked = ap (λ (ms : List (List Mark)). (mark_at ms t d).collected) (sym seen.marks) ∙ meets.collected d (low d lt) in λ i. gone i && marked i in
           (count_at g.nets d t, s.counts.words t d ∙ ap (λ (y : Bool). word_if y (count_at g.nets d t)) drawn);
-      left = let total = s.totals.total t n occupied in let held = meets.total in omega (arith, total, held, totals, adding, is_adding, subtracting);
+      left = let total = s.totals.total t n occupied in let held = meets.total in omega (arith, total, held, totals, adding, ap (is_adding_at t) due, subtracting);
       passed = λ d lt. own.marks.passed t d (meets.passed d (low d lt));
     }
 
@@ -96,8 +82,7 @@ has_met z a b t n e begin (Grace c) own from at same meets = met_section z a b t
 has_met z a b t n e begin (Passive c) own from at same meets = met_reference z a b t c begin own from meets
 has_met z a b t n e begin (Local k) own from at same meets = met_locals z a b t n k e own at same meets
 has_met z a b t n e begin (Freed u) own from at same meets =
-    let m = meets.1.between in
-    (meets.0, subst (λ (j : ℕ). IsFreedFrom t j b.log) same (ended_freed m t b e meets.1.ended (ap (λ (l : List Slot). slot_at l t) meets.1.leaves.slots ∙ at)))
+    (meets.0, subst (λ (j : ℕ). IsFreedFrom t j b.log) same (ended_freed meets.1.between t b e meets.1.ended (ap (λ (l : List Slot). slot_at l t) meets.1.leaves.slots ∙ at)))
 
 -- The log goes on
 
@@ -123,8 +108,7 @@ answers_by : (z : Settings) (a h b : OnKeeper) (n : ℕ) (answer : Result Stage 
     → AnswersBy z.cpus n answer a.log b.log
 answers_by z a h b n (Ok stage) own end slots from has =
     let told = (retired_slot_tells h.slots n has.0 has.1).1 in
-    let at : slot_at a.slots has.0 ≡ Retired told.0 = ap (λ (l : List Slot). slot_at l has.0) (sym slots) ∙ told.1 in
-    (has.0, retired_in_log z a has.0 n told.0 own at told.2, has_met z h b has.0 n told.0 a.log stage end from told.1 told.2 has.2)
+    (has.0, retired_in_log z a has.0 n told.0 own (ap (λ (l : List Slot). slot_at l has.0) (sym slots) ∙ told.1) told.2, has_met z h b has.0 n told.0 a.log stage end from told.1 told.2 has.2)
 answers_by z a h b n (Err refusal) own end slots from has = (has.0, not_retired z a n own (ap (λ (l : List Slot). retired_slot l n) (sym slots) ∙ has.1))
 
 -- what the CPU hears has the keeper's log as the turn ended
@@ -155,8 +139,7 @@ made_turn z a h end k b x same after y n answer known seen own heard first made 
   known = known;
   seen =
       let history : h.view.history ≡ a.view.history = ap (λ (o : OnKeeper). o.view.history) heard in
-      let long = ap (λ (l : List Change). length l) (sym seen.1) ∙ length-append x.view.pass seen.0 in
-      omega (arith, long, ap (λ (l : List Change). length l) history, own.changes);
+      omega (arith, ap (λ (l : List Change). length l) (sym seen.1) ∙ length-append x.view.pass seen.0, ap (λ (l : List Change). length l) history, own.changes);
   own = own;
   end = end;
   made = subst (λ (o : OnKeeper). HasAdvanced o n answer end) heard made;
@@ -190,24 +173,18 @@ ends_unretired turn n turns x z y stage refusal answer few last not made told = 
 
 -- by the last turn's answer
 
-stage_freed : (z : Settings) (stage : Stage) → IsStageOf z stage → IfOk (destroy_result stage) (λ t. t < z.slots)
-stage_freed z (Grace c) is = tt
-stage_freed z (Passive c) is = tt
-stage_freed z (Local n) is = tt
-stage_freed z (Freed t) is = is
-
 met_freed : (z : Settings) (number : ℕ) (x y : OnCpu) (met : Result Stage Refusal) → SomeAdvancedFor z number x met y → IfOk (destroy_result_of met) (λ t. t < z.slots)
-met_freed z number x y (Ok stage) is = stage_freed z stage is.1
+met_freed z number x y (Ok (Grace c)) is = tt
+met_freed z number x y (Ok (Passive c)) is = tt
+met_freed z number x y (Ok (Local n)) is = tt
+met_freed z number x y (Ok (Freed t)) is = is.1
 met_freed z number x y (Err refusal) is = tt
 
-stage_refused : (z : Settings) (stage : Stage) → IsStageOf z stage → IfErr (destroy_result stage) (λ f. IsDestroyRefusal z false f)
-stage_refused z (Grace c) is = (refl, is, tt)
-stage_refused z (Passive c) is = (refl, is, tt)
-stage_refused z (Local n) is = (refl, is, tt)
-stage_refused z (Freed t) is = tt
-
 met_refused : (z : Settings) (number : ℕ) (x y : OnCpu) (met : Result Stage Refusal) → SomeAdvancedFor z number x met y → IfErr (destroy_result_of met) (λ f. IsDestroyRefusal z false f)
-met_refused z number x y (Ok stage) is = stage_refused z stage is.1
+met_refused z number x y (Ok (Grace c)) is = (refl, is.1, tt)
+met_refused z number x y (Ok (Passive c)) is = (refl, is.1, tt)
+met_refused z number x y (Ok (Local n)) is = (refl, is.1, tt)
+met_refused z number x y (Ok (Freed t)) is = tt
 met_refused z number x y (Err refusal) is = subst (λ (f : Refusal). IsDestroyRefusal z false f) (sym is.0.2.made.0) refl
 
 pub destroyed_small : (z : Settings) (number turns : ℕ) (inside : Bool) (x y : OnCpu) (answer : Result ℕ Refusal) → inside ≡ false → HasDestroyed z number turns x answer y
@@ -232,21 +209,14 @@ destroys_inside z number turns inside x in_ = subst (λ (b : Bool). DestroysOuts
 -- What the CPU knows then: the entry is gone from its slot
 
 pub freed_more : (t n : ℕ) (log later : List LogItem) → IsPrefix log later → IsFreedFrom t n log → IsFreedFrom t n later
-freed_more t n log later pre is = record {
-  before = is.before;
-  item = is.item;
-  after = is.after ++ pre.0;
-  are = sym pre.1 ∙ (ap (λ (l : List LogItem). l ++ pre.0) is.are ∙ append_assoc is.before (is.item ∷ is.after) pre.0);
-  detached = is.detached;
-  freed = is.freed;
-}
+freed_more t n log later pre is =
+    search (sym pre.1 ∙ (ap (λ (l : List LogItem). l ++ pre.0) is.are ∙ append_assoc is.before (is.item ∷ is.after) pre.0), is.detached, is.freed)
 
 pub advanced_freed : (a : OnKeeper) (n t : ℕ) (b : OnKeeper) → HasAdvanced a n (Ok (Freed t)) b → IsFreedFrom t n b.log
 advanced_freed a n t b has =
     let meets = has.2.1 in
     let told = (retired_slot_tells a.slots n has.0 has.1).1 in
-    let at : slot_at meets.between.slots has.0 ≡ Retired told.0 = ap (λ (l : List Slot). slot_at l has.0) meets.leaves.slots ∙ told.1 in
-    let freed : IsFreedFrom has.0 told.0.number b.log = ended_freed meets.between has.0 b told.0 meets.ended at in
+    let freed : IsFreedFrom has.0 told.0.number b.log = ended_freed meets.between has.0 b told.0 meets.ended (ap (λ (l : List Slot). slot_at l has.0) meets.leaves.slots ∙ told.1) in
     subst (λ (p : ℕ × ℕ). IsFreedFrom p.0 p.1 b.log) (λ k. (sym has.2.0 k, told.2 k)) freed
 
 pub advanced_gone : (a : OnKeeper) (n : ℕ) (r : Result Stage Refusal) (b : OnKeeper) → HasAdvanced a n r b → IsGoneIfFreed n r b.log
@@ -256,19 +226,13 @@ advanced_gone a n (Ok (Local k)) b is = tt
 advanced_gone a n (Ok (Freed t)) b is = advanced_freed a n t b is
 advanced_gone a n (Err refusal) b is = tt
 
-turn_freed : (z : Settings) (n t : ℕ) (x y : OnCpu) → SomeAdvancedFor z n x (Ok (Freed t)) y → IsFreedFrom t n y.known_log
-turn_freed z n t x y is =
+pub met_gone : (z : Settings) (n : ℕ) (x y : OnCpu) (met : Result Stage Refusal) → SomeAdvancedFor z n x met y → IfOk (destroy_result_of met) (λ t. IsFreedFrom t n y.known_log)
+met_gone z n x y (Ok (Grace c)) is = tt
+met_gone z n x y (Ok (Passive c)) is = tt
+met_gone z n x y (Ok (Local k)) is = tt
+met_gone z n x y (Ok (Freed t)) is =
     let turn = is.2 in
     freed_more t n turn.log y.known_log turn.told (subst (λ (u : ℕ). IsFreedFrom u n turn.log) (sym turn.answers.2.0) turn.answers.2.1)
-
-stage_gone : (z : Settings) (n : ℕ) (x y : OnCpu) (stage : Stage) → SomeAdvancedFor z n x (Ok stage) y → IfOk (destroy_result stage) (λ t. IsFreedFrom t n y.known_log)
-stage_gone z n x y (Grace c) is = tt
-stage_gone z n x y (Passive c) is = tt
-stage_gone z n x y (Local k) is = tt
-stage_gone z n x y (Freed t) is = turn_freed z n t x y is
-
-pub met_gone : (z : Settings) (n : ℕ) (x y : OnCpu) (met : Result Stage Refusal) → SomeAdvancedFor z n x met y → IfOk (destroy_result_of met) (λ t. IsFreedFrom t n y.known_log)
-met_gone z n x y (Ok stage) is = stage_gone z n x y stage is
 met_gone z n x y (Err refusal) is = tt
 
 pub destroyed_gone : (z : Settings) (n turns : ℕ) (x y : OnCpu) (answer : Result ℕ Refusal) → HasDestroyed z n turns x answer y → IfOk answer (λ t. IsFreedFrom t n y.known_log)
@@ -309,14 +273,11 @@ turn_since z n x m answer y learns turn = record {
   answers = turn.answers;
 }
 
-stage_told : (z : Settings) (n : ℕ) (x y : OnCpu) (stage : Stage) → IsTurn z n x (Ok stage) y → IsDestroyAnswer z n x (destroy_result stage) y
-stage_told z n x y (Grace c) turn = turn
-stage_told z n x y (Passive c) turn = turn
-stage_told z n x y (Local k) turn = turn
-stage_told z n x y (Freed t) turn = turn
-
 met_told : (z : Settings) (n : ℕ) (x y : OnCpu) (met : Result Stage Refusal) → IsTurn z n x met y → IsDestroyAnswer z n x (destroy_result_of met) y
-met_told z n x y (Ok stage) turn = stage_told z n x y stage turn
+met_told z n x y (Ok (Grace c)) turn = turn
+met_told z n x y (Ok (Passive c)) turn = turn
+met_told z n x y (Ok (Local k)) turn = turn
+met_told z n x y (Ok (Freed t)) turn = turn
 met_told z n x y (Err refusal) turn =
     let is : refusal ≡ NotRetired = turn.answers.0 in
     subst (λ (f : Refusal). IsDestroyAnswer z n x (Err f) y) (sym is) (subst (λ (f : Refusal). IsTurn z n x (Err f) y) is turn)
@@ -332,7 +293,6 @@ pub closes_run : (z : Settings) (a b : OnKeeper) (x : OnCpu) (last : List ℕ) �
     → HasClosed z b.view b.log last → ClosesRun z x last
 closes_run z a b x last is known seen closed =
     let run = ended_runs z b.view b.log last closed in
-    let rest : List LogItem = known.0 ++ hears_cpu x in
     let grown : IsPrefix x.known_log b.log =
-    (rest, sym (append_assoc x.known_log known.0 (hears_cpu x)) ∙ (ap (λ (l : List LogItem). l ++ hears_cpu x) known.1 ∙ ap (λ (k : OnKeeper). k.log) (sym is))) in
+    (known.0 ++ hears_cpu x, sym (append_assoc x.known_log known.0 (hears_cpu x)) ∙ (ap (λ (l : List LogItem). l ++ hears_cpu x) known.1 ∙ ap (λ (k : OnKeeper). k.log) (sym is))) in
     record { keeper = b; run = run; known = grown; seen = seen; gone = λ t n freed. run.gone t n (freed_more t n x.known_log b.log grown freed) }

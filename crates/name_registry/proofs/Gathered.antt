@@ -3,22 +3,20 @@ use Rattle.std.proofs.Common.{append_assoc, ◌≡◌, ◌≢◌, ⊎_elim, ℕ,
 use Rattle.std.proofs.lemmas.Bool.{cases_eq}
 use Rattle.std.proofs.lemmas.List.{append-nil, length-append}
 use mathlib.Core.List.{IsPrefix}
-use mathlib.Core.Option.{some, some-injective, some-ne-none}
+use mathlib.Core.Option.{some, some-injective}
 use lib.ListN.{get_elem?}
 use Rattle.atomic_table.proofs.Lists.{at_set}
 use Rattle.name_registry.specs.Types.{Balance, Change, Settings, LogItem, Teller, KeeperView, Cpu, Keeper}
 use Rattle.cpu_words.specs.Common.{changes_in, heard_from, IsShownAfter, with_note, keeper_with_note}
 use Rattle.passive_list.specs.Common.{OnCpu, OnKeeper, HasOwnLog, HasHeardOn, WasShown, HeardAndTold}
 use Rattle.name_registry.specs.Common.{HasLearned, IsNote, AreAllCpus, AreAlike, HasListened, HasToldAll, HaveHeardAndTold, HaveLearned, HavePass, IsAuditBy, IsAuditIn, IsShownOn, KnowAll, KnowTheSame, audited_below, keeper_after_tell, local_met, tallies_met, tally_by, tally_met}
-use Rattle.name_registry.proofs.Audits.{each_same}
+use Rattle.name_registry.proofs.Audits.{cpu_at, each_same}
 use Rattle.name_registry.proofs.Worked.{prefix_on}
-use Rattle.name_registry.proofs.Noted.{by_passing}
+use Rattle.name_registry.proofs.Noted.{by_passing, learned}
 use Rattle.passive_list.proofs.Rows.{no_more}
 
 at_within : (l : List OnCpu) (i : ℕ) (a : OnCpu) → get_elem? l i ≡ some a → i < length l
-at_within [] i a e = absurd (some-ne-none a (sym e))
-at_within (x ∷ xs) zero a e = omega arith
-at_within (x ∷ xs) (suc i) a e = let h = at_within xs i a e in omega (arith, h)
+at_within l i a e = (cpu_at l i a a e).0
 
 -- Prefixes
 
@@ -37,27 +35,13 @@ prefix_both {X} a b first second = by first.0 first.1
 pub record Gathered (xs ys : List OnCpu) (n : ℕ) (log note : List LogItem) : Type 0 where
   pub size : length ys ≡ length xs
   pub told : IsPrefix log note
-  pub learned : (c : ℕ) (x y : OnCpu) → c < n → get_elem? xs c ≡ some x → get_elem? ys c ≡ some y → HasLearned x y × (y.made ≡ x.made)
-  pub notes : (c : ℕ) (x y : OnCpu) → c < n → get_elem? xs c ≡ some x → get_elem? ys c ≡ some y → HeardAndTold x y
+  pub learned : (c : ℕ) (x y : OnCpu) → c < n → get_elem? xs c ≡ some x → get_elem? ys c ≡ some y → (HasLearned x y × (y.made ≡ x.made)) × HeardAndTold x y
   pub shown : (c : ℕ) (x : OnCpu) → c < n → get_elem? xs c ≡ some x → (d : List LogItem) × IsPrefix log d × IsPrefix d note × IsShownOn d x
   pub knows : (c : ℕ) (y : OnCpu) → c < n → get_elem? ys c ≡ some y → IsPrefix log y.known_log × IsPrefix y.known_log note
   pub rest : (c : ℕ) → n ≤ c → get_elem? ys c ≡ get_elem? xs c
 
 pub learned_of : (note : List Change) (x y : OnCpu) → HasHeardOn note x y → HeardAndTold x y → HasLearned x y × (y.made ≡ x.made)
-learned_of note x y heard log = (
-  record {
-    pass = heard.pass;
-    known_log = heard.known_log;
-    is = heard.is ∙ (λ j. record x {
-      view = record x.view { pass = y.view.pass; noted_pass = sym (ap (λ (z : OnCpu). z.view.noted_pass) heard.is) j };
-      made = sym (ap (λ (z : OnCpu). z.made) heard.is) j;
-      known_log = y.known_log;
-      log = y.log;
-    });
-    log = by_passing x y log;
-  },
-  ap (λ (z : OnCpu). z.made) heard.is,
-)
+learned_of note x y heard log = (learned note x y heard (by_passing x y log), ap (λ (z : OnCpu). z.made) heard.is)
 
 past_set : (xs : List OnCpu) (n c : ℕ) (y : OnCpu) → (c ≡ n → ⊥) → get_elem? (set xs n y) c ≡ get_elem? xs c
 past_set [] n c y off = refl
@@ -78,14 +62,8 @@ gathered_more xs ys n log note told h x y so_far at heard knows shown is own =
       learned = λ c u v lt was now. ⊎_elim
           (λ (p : (c ≡ n) × (y ≡ v)).
           let same : x ≡ u = some-injective x u (sym mine ∙ (ap (get_elem? xs) (sym p.0) ∙ was)) in
-          subst (λ (z : OnCpu). HasLearned z v × (v.made ≡ z.made)) same (subst (λ (z : OnCpu). HasLearned x z × (z.made ≡ x.made)) p.1 (learned_of h x y heard own)))
+          subst (λ (q : OnCpu × OnCpu). (HasLearned q.0 q.1 × (q.1.made ≡ q.0.made)) × HeardAndTold q.0 q.1) (λ i. (same i, p.1 i)) (learned_of h x y heard own, own))
           (λ (p : (c ≢ n) × (get_elem? ys c ≡ some v)). so_far.learned c u v (let off = p.0 in omega (arith, lt, off)) was p.1)
-          (at_set ys n c y v now);
-      notes = λ c u v lt was now. ⊎_elim
-          (λ (p : (c ≡ n) × (y ≡ v)).
-          let same : x ≡ u = some-injective x u (sym mine ∙ (ap (get_elem? xs) (sym p.0) ∙ was)) in
-          subst (λ (z : OnCpu). HeardAndTold z v) same (subst (HeardAndTold x) p.1 own))
-          (λ (p : (c ≢ n) × (get_elem? ys c ≡ some v)). so_far.notes c u v (let off = p.0 in omega (arith, lt, off)) was p.1)
           (at_set ys n c y v now);
       shown = λ c u lt was. ⊎_elim
           (λ (same : c ≡ n).
@@ -107,8 +85,7 @@ gathered_more xs ys n log note told h x y so_far at heard knows shown is own =
 
 gathered_known : (xs ys : List OnCpu) (n : ℕ) (log note : List LogItem) → Gathered xs ys n log note → length ys ≤ n → IsPrefix note log → KnowAll log ys
 gathered_known xs ys n log note all done back c y at =
-    let low = at_within ys c y at in
-    let p = all.knows c y (omega (arith, low, done)) at in
+    let p = all.knows c y (omega (arith, at_within ys c y at, done)) at in
     prefix_both y.known_log log (prefix_on _ _ _ p.1 back) p.0
 
 pub gathered_alike : (z : Settings) (a k : OnKeeper) (xs ys : List OnCpu) (n : ℕ) (log note : List LogItem) → Gathered xs ys n k.log note → length ys ≤ n → k ≡ record a { log = log }
@@ -119,11 +96,8 @@ gathered_alike z a k xs ys n log note all done is back own =
       known = gathered_known xs ys n k.log note all done back;
       keeper = (own.counts.0, subst (λ (v : KeeperView). IsShownAfter k.log (Keeper (keeper_with_note v own.counts.0))) (ap (λ (x : OnKeeper). x.view) is) own.counts.1);
       cpus = λ c x at.
-          let low = at_within xs c x at in
-          let size = all.size in
-          let p = all.shown c x (omega (arith, low, size, done)) at in
-          let same : p.0 ≡ k.log = prefix_both p.0 k.log (prefix_on _ _ _ p.2 back) p.1 in
-          subst (λ (d : List LogItem). IsShownOn d x) same p.3;
+          let p = all.shown c x (omega (arith, at_within xs c x at, all.size, done)) at in
+          subst (λ (d : List LogItem). IsShownOn d x) (prefix_both p.0 k.log (prefix_on _ _ _ p.2 back) p.1) p.3;
     }
 
 -- What they have seen, and the note tells: the history, and no more
@@ -148,8 +122,7 @@ seen_more ys n h p q x y so_far heard is =
 -- all have, and what the note tells is in the history
 seen_all : (ys : List OnCpu) (n : ℕ) (h p : List Change) → HaveSeen ys n h p → length ys ≤ n → IsPrefix p h → HavePass h ys
 seen_all ys n h p all done back c y at =
-    let low = at_within ys c y at in
-    let had = all.each c y (omega (arith, low, done)) at in
+    let had = all.each c y (omega (arith, at_within ys c y at, done)) at in
     prefix_both y.view.pass h (prefix_on y.view.pass p h had.1 back) had.0
 
 -- the keeper k, which is a as it has told, has heard the last one, and is b
@@ -171,11 +144,11 @@ know_the_same a b ys told = record { history = a.view.history; log = (keeper_aft
 pub gathered_learned : (xs ys : List OnCpu) (n : ℕ) (log note : List LogItem) → Gathered xs ys n log note → length ys ≤ n → HaveLearned xs ys
 gathered_learned xs ys n log note all done = record {
   size = all.size;
-  each = λ c x y was now. let low = at_within xs c x was in let size = all.size in all.learned c x y (omega (arith, low, size, done)) was now;
+  each = λ c x y was now. let low = at_within xs c x was in let size = all.size in (all.learned c x y (omega (arith, low, size, done)) was now).0;
 }
 
 pub gathered_notes : (xs ys : List OnCpu) (n : ℕ) (log note : List LogItem) → Gathered xs ys n log note → length ys ≤ n → HaveHeardAndTold xs ys
-gathered_notes xs ys n log note all done c x y was now = let low = at_within xs c x was in let size = all.size in all.notes c x y (omega (arith, low, size, done)) was now
+gathered_notes xs ys n log note all done c x y was now = let low = at_within xs c x was in let size = all.size in (all.learned c x y (omega (arith, low, size, done)) was now).1
 
 -- nothing was done
 
@@ -183,8 +156,7 @@ pub learned_none : (xs : List OnCpu) → HaveLearned xs xs
 learned_none xs = record {
   size = refl;
   each = λ c x y was now.
-      let same : x ≡ y = some-injective x y (sym was ∙ now) in
-      subst (λ (z : OnCpu). HasLearned x z × (z.made ≡ x.made)) same
+      subst (λ (z : OnCpu). HasLearned x z × (z.made ≡ x.made)) (some-injective x y (sym was ∙ now))
       (record { pass = ([], append-nil x.view.pass); known_log = ([], append-nil x.known_log); is = refl; log = no_more (IsNote x.view.id) x.log x.log refl }, refl);
 }
 
@@ -198,9 +170,7 @@ pub all_learned : (n : ℕ) (xs ys : List OnCpu) → HaveLearned xs ys → AreAl
 all_learned n xs ys learned all = record {
   count = learned.size ∙ all.count;
   each = λ c y at.
-      let lt = at_within ys c y at in
-      let size = learned.size in
-      let was = there xs c (omega (arith, lt, size)) in
+      let was = there xs c (omega (arith, at_within ys c y at, learned.size)) in
       ap (λ (z : OnCpu). z.view.id) (learned.each c was.0 y was.1 at).0.is ∙ all.each c was.0 was.1;
 }
 

@@ -14,9 +14,7 @@ use Rattle.name_registry.proofs.Worked.{prefix_on}
 given_on : (before : List LogItem) (n : ℕ) (a b : List LogItem) → given_after before n (a ++ b) ≡ given_after before n a + given_after (before ++ a) n b
 given_on before n [] b = let same = ap (λ (l : List LogItem). given_after l n b) (append-nil before) in omega (arith, same)
 given_on before n (d ∷ a) b =
-    let rest = given_on (before ++ d ∷ []) n a b in
-    let whole = ap (λ (l : List LogItem). given_after l n b) (append_assoc before (d ∷ []) a) in
-    omega (arith, rest, whole)
+    omega (arith, given_on (before ++ d ∷ []) n a b, ap (λ (l : List LogItem). given_after l n b) (append_assoc before (d ∷ []) a))
 
 given_grows : (n : ℕ) (a b : List LogItem) → IsPrefix a b → given_up n a ≤ given_up n b
 given_grows n a b pre = let both = given_on [] n a pre.0 in let whole = ap (given_up n) pre.1 in omega (arith, both, whole)
@@ -24,25 +22,17 @@ given_grows n a b pre = let both = given_on [] n a pre.0 in let whole = ap (give
 one_more_given : (e : Entry) (before after : List LogItem) → given_up e.number before < given_up e.number (before ++ (gives_up e ++ after))
 one_more_given e before after =
     let n = e.number in
-    let both = given_on [] n before (gives_up e ++ after) in
     let rest : ℕ = given_after (([] ++ before) ++ log_item (JoinKeeper n) Done ∷ []) n (did (TotalSub e.slot) Done ++ after) in
     let last : given_after ([] ++ before) n (gives_up e ++ after) ≡ given_by ([] ++ before) n (JoinKeeper n) + rest = refl in
     let one : given_by ([] ++ before) n (JoinKeeper n) ≡ 1 = ap (λ (b : Bool). cond b 1 0) (eq-eqb n n refl) in
-    omega (arith, both, last, one)
+    omega (arith, given_on [] n before (gives_up e ++ after), last, one)
 
 -- The call
 
 pub given_for : (a h end b : OnKeeper) (x same y : OnCpu) (v : ReferenceView) → IsPrefix x.known_log a.log → h ≡ keeper_after_hear a x → same ≡ cpu_after_tell x → HasGivenUp h v end
     → b ≡ keeper_after_tell end → HasHeardOn end.view.history same y → IsPrefix b.log y.known_log → y.log ≡ same.log ++ has_heard same None → HasGivenUpFor a x v b y
-given_for a h end b x same y v known heard told given is hears all log = record {
-  known = known;
-  end = end;
-  given = subst (λ (k : OnKeeper). HasGivenUp k v end) heard given;
-  is = is;
-  hears = heard_told end.view.history x y (subst (λ (o : OnCpu). HasHeardOn end.view.history o y) told hears);
-  told = all;
-  cpu_log = met x same y told log;
-}
+given_for a h end b x same y v known heard told given is hears all log =
+    search (subst (λ (k : OnKeeper). HasGivenUp k v end) heard given, heard_told _ x y (subst (λ (o : OnCpu). HasHeardOn end.view.history o y) told hears), met x same y told log)
 
 pub knows_given : (a : OnKeeper) (x : OnCpu) (v : ReferenceView) (b : OnKeeper) (y : OnCpu) → HasGivenUpFor a x v b y → KnowsGivenUp v.entry x y
 knows_given a x v b y has =
@@ -62,10 +52,7 @@ knows_given a x v b y has =
       known = known;
       are = are;
       more =
-          let grows = given_grows v.entry.number x.known_log first known in
-          let one = one_more_given v.entry first (tell ++ more) in
-          let whole = ap (given_up v.entry.number) are in
-          omega (arith, grows, one, whole);
+          omega (arith, given_grows v.entry.number x.known_log first known, one_more_given v.entry first (tell ++ more), ap (given_up v.entry.number) are);
     }
 
 pub learns_given : (a : OnKeeper) (x : OnCpu) (v : ReferenceView) (b : OnKeeper) (y : OnCpu) → HasGivenUpFor a x v b y → HasLearned x y
@@ -76,19 +63,7 @@ pub let_go_heard : (x m y : OnCpu) (v w : ReferenceView) → HasComeBack x v m w
     → IsLetGoAndHeard x v y
 let_go_heard x m y v w back learns made log knows =
     let known : m.known_log ≡ x.known_log = ap (λ (o : OnCpu). o.known_log) back.cpu in
-    let gone : KnowsGivenUp w.entry x y = record {
-      before = knows.before;
-      after = knows.after;
-      known = subst (λ (l : List LogItem). IsPrefix l knows.before) known knows.known;
-      are = knows.are;
-      more = subst (λ (l : List LogItem). given_up w.entry.number l < given_up w.entry.number y.known_log) known knows.more;
-    } in
-    inr (record {
-      between = m;
-      back = w;
-      came_back = back;
-      learned = learns;
-      log = log;
-      made = made;
-      gone = subst (λ (e : Entry). KnowsGivenUp e x y) (ap (λ (u : ReferenceView). u.entry) back.is) gone;
-    })
+    let before = subst (λ (l : List LogItem). IsPrefix l knows.before) known knows.known in
+    let gone : KnowsGivenUp w.entry x y =
+    search (before, knows.are, subst (λ (l : List LogItem). given_up w.entry.number l < given_up w.entry.number y.known_log) known knows.more) in
+    inr (search (back, learns, log, made, subst (λ (e : Entry). KnowsGivenUp e x y) (ap (λ (u : ReferenceView). u.entry) back.is) gone))

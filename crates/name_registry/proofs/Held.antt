@@ -54,8 +54,7 @@ module _ (a : Settings) (k : OnKeeper) (xs : List OnCpu) (g : State) (t : ℕ) (
   counting : (c : ℕ) (x : OnCpu) → get_elem? xs c ≡ some x → x.view.id ≡ c → IsIn e (slot_at g.slots t) → IsCounting g.slots g.marks c t → is_collected k t x.view.id ≡ false
       → Says k t e.number (count_at g.counts c t) x
   counting c x at id here counts kept =
-      let cpus : c < g.settings.cpus = omega (arith, (shown.cpus c x at).seated, shown.good.holds.seats.within, id) in
-      let word = rest.counted c t cpus counts in
+      let word = rest.counted c t (omega (arith, (shown.cpus c x at).seated, shown.good.holds.seats.within, id)) counts in
       let net = (shown.cpus c x at).nets t e here in
       says_net k t e.number (count_at g.counts c t) x kept word.1 (subst (λ m. m + released_of e.number x ≡ bias + acquired_of e.number x) (ap (λ i. count_at g.nets i t) id ∙ sym word.0) net)
 
@@ -79,8 +78,7 @@ module _ (a : Settings) (k : OnKeeper) (xs : List OnCpu) (g : State) (t : ℕ) (
       → ((c : ℕ) (x : OnCpu) → get_elem? xs c ≡ some x → x.view.id ≡ c → Says k t e.number (count_at g.counts c t) x) → (tally_of k xs e.number t).held ≡ pos (held_of g e.number)
   held_by all cpus total occupied each =
       let sum = sums k t e.number (get_or g.counts t []) xs (pos 0) (λ c x at. each c x at (all.each c x at)) (λ c le. rest.beyond c t (omega (arith, le, all.count, cpus))) in
-      let balanced = rest.balanced t e.number occupied in
-      omega (arith, ints, sum, balanced, total)
+      omega (arith, ints, sum, rest.balanced t e.number occupied, total)
 
 -- what is held of an entry of the keeper's are the references held to it
 pub references_held : (a : Settings) (k : OnKeeper) (xs : List OnCpu) (g : State) (t : ℕ) (e : Entry) → IsKeeperOf a k → AreAllCpus a.cpus xs → AreShown g k xs → BalancesAtRest g

@@ -67,9 +67,8 @@ change_on h p k x pre at = ap (λ (l : List Change). change_at l k) (sym pre.1) 
 pub seen_attach : (h : List Change) (x y : OnCpu) (e : Entry) → IsPrefix x.view.pass h → e.number ≡ suc (length h) → IsPrefix (after_change h (Attach e)) y.view.pass
     → y.log ≡ x.log ++ tells_and_hears x → HasSeenAttach x y e
 seen_attach h x y e before number told log =
-    let short = prefix_short x.view.pass h before in
     record {
-      later = omega (arith, short, number);
+      later = omega (arith, prefix_short x.view.pass h before, number);
       attached = change_on (after_change h (Attach e)) y.view.pass e.number (Attach e) told (ap (change_at (after_change h (Attach e))) number ∙ at_new h (Attach e));
       log = log;
     }
@@ -78,10 +77,9 @@ pub seen_detach : (h : List Change) (x y : OnCpu) (e : Entry) → IsPrefix x.vie
     → HasSeenDetach x y e
 seen_detach h x y e before attached told log =
     let after = after_change h (Detach e.number) in
-    let short = prefix_short x.view.pass h before in
     record {
       end = suc (length h);
-      later = omega (arith, short);
+      later = omega (arith, prefix_short x.view.pass h before);
       ends = change_on after y.view.pass (suc (length h)) (Detach e.number) told (at_new h (Detach e.number));
       attached = attached_prefix after y.view.pass e told (attached_old h (Detach e.number) e attached);
       log = log;
@@ -94,12 +92,8 @@ learned note x y has log =
     let note_is = ap (λ (o : OnCpu). o.view.noted_pass) has.is in
     let made_is = ap (λ (o : OnCpu). o.made) has.is in
     let heard : y ≡ record x { view = record x.view { pass = y.view.pass; noted_pass = y.view.noted_pass }; known_log = y.known_log; log = y.log } =
-    subst (λ (l : List Change). y ≡ record x { view = record x.view { pass = y.view.pass; noted_pass = l }; known_log = y.known_log; log = y.log }) (sym note_is) has.is in record {
-      pass = has.pass;
-      known_log = has.known_log;
-      is = subst (λ n. y ≡ record x { view = record x.view { pass = y.view.pass; noted_pass = y.view.noted_pass }; made = n; known_log = y.known_log; log = y.log }) (sym made_is) heard;
-      log = log;
-    }
+    subst (λ (l : List Change). y ≡ record x { view = record x.view { pass = y.view.pass; noted_pass = l }; known_log = y.known_log; log = y.log }) (sym note_is) has.is in
+    assumption (log, subst (λ (n : ℕ). y ≡ record x { view = record x.view { pass = y.view.pass; noted_pass = y.view.noted_pass }; made = n; known_log = y.known_log; log = y.log }) (sym made_is) heard)
 
 -- Attaching
 

@@ -32,8 +32,7 @@ lesser d n xs ys agree c lt = agree c (omega (arith, lt))
 pub snapshots_by : (n : ℕ) (words others : List ℕ) (k l : Looking) → Agree 0 n words others → SnapshotsBelow words n k l → SnapshotsBelow others n k l
 snapshots_by zero words others k l agree is = is
 snapshots_by (suc n) words others k l agree is =
-    let next : LooksOnce is.0 (Snapshot None n) (word_of others n) l = subst (λ (w : ℕ). LooksOnce is.0 (Snapshot None n) w l) (sym (agree n (omega arith))) is.2 in
-    (is.0, snapshots_by n words others k is.0 (lesser 0 n words others agree) is.1, next)
+    (is.0, snapshots_by n words others k is.0 (lesser 0 n words others agree) is.1, subst (λ (w : ℕ). LooksOnce is.0 (Snapshot None n) w l) (sym (agree n (omega arith))) is.2)
 
 -- the snapshot of the CPU n is the word w
 pub snapshots_more : (n w : ℕ) (words : List ℕ) (k m l : Looking) → n < length words → SnapshotsBelow words n k m → LooksOnce m (Snapshot None n) w l → SnapshotsBelow (set words n w) (n + 1) k l
@@ -64,14 +63,7 @@ abbrev pub OnlyLooked : KeeperView → KeeperView → Type 0
 OnlyLooked k l = l ≡ record k { looks = l.looks; last_look = l.last_look; noted_pass = l.noted_pass }
 
 looked_none : (k l : Looking) → l ≡ k → OnlyLooked k.view l.view
-looked_none k l is = ap (λ (x : Looking). x.view) is ∙ both l.view k.view (ap (λ (x : Looking). x.view) is)
-  where
-    both : (a b : KeeperView) → a ≡ b → b ≡ record b { looks = a.looks; last_look = a.last_look; noted_pass = a.noted_pass }
-    both a b same = λ j. record b {
-      looks = sym (ap (λ (x : KeeperView). x.looks) same) j;
-      last_look = sym (ap (λ (x : KeeperView). x.last_look) same) j;
-      noted_pass = sym (ap (λ (x : KeeperView). x.noted_pass) same) j;
-    }
+looked_none k l is = subst (OnlyLooked k.view) (sym (ap (λ (x : Looking). x.view) is)) refl
 
 looked_once : (k m l : Looking) (e : Event) (w : ℕ) → OnlyLooked k.view m.view → LooksOnce m e w l → OnlyLooked k.view l.view
 looked_once k m l e w had once =
@@ -97,12 +89,9 @@ pub made_hold : (looks : Looking → Looking → Type 0) (z : Settings) (a h l b
     → looks (looking h) (looking l) → l.slots ≡ h.slots → b ≡ keeper_after_tell l → HasHeardOn l.view.history same y → IsPrefix b.log y.known_log → y.log ≡ same.log ++ has_heard same None
     → Hold looks a x b y
 made_hold looks z a h l b x same y heard pass known own is made slots tells hears told log =
-    let short = prefix_short x.view.pass h.view.history pass in
-    let long : length h.view.history ≡ length a.view.history = ap (λ (k : OnKeeper). length k.view.history) heard in
-    let changes = own.changes in
     record {
       known = known;
-      seen = omega (arith, short, long, changes);
+      seen = omega (arith, prefix_short x.view.pass h.view.history pass, ap (λ (k : OnKeeper). length k.view.history) heard, own.changes);
       end = looking l;
       made = subst (λ (k : OnKeeper). looks (looking k) (looking l)) heard made;
       view = ap (λ (k : OnKeeper). k.view) tells;
@@ -118,8 +107,7 @@ made_hold looks z a h l b x same y heard pass known own is made slots tells hear
 -- the CPU that a turn told is one of the table's
 pub told_small : (z : Settings) (turns : ℕ) (x y : OnCpu) (told : Option ℕ) → HasPerformed z turns x told y → IfSome told (λ c. c < z.cpus)
 told_small z turns x y told is =
-    let least = is.waits.last.3.2.least in
-    subst (λ (o : Option ℕ). IfSome o (λ c. c < z.cpus)) (sym least) (least_small _ z.cpus)
+    subst (λ (o : Option ℕ). IfSome o (λ c. c < z.cpus)) (sym is.waits.last.3.2.least) (least_small _ z.cpus)
 
 pub performs_outside : (z : Settings) (turns : ℕ) (inside : Bool) (x y : OnCpu) (told : Option ℕ) (result : Result (Unit {0}) Refusal) → inside ≡ false → result ≡ wait_answer told
     → HasPerformed z turns x told y → PerformsOutside z turns inside x result y
@@ -184,8 +172,7 @@ record PassedAt (z : Settings) (a : OnKeeper) (t : ℕ) (b : OnKeeper) : Type 0 
 
 still_there : (z : Settings) (a : OnKeeper) (t n : ℕ) (b : OnKeeper) (e : Entry) → slot_at a.slots t ≡ Retired e → e.number ≡ n → PassesNumber z a t (Some n) b → HasPassedFor z a t b
 still_there z a t n b e at same is =
-    let still : is_retired_as n (slot_at a.slots t) ≡ true = ap (is_retired_as n) at ∙ eq-eqb e.number n same in
-    subst (λ (s : Bool). PassesIf s z a t b) still is
+    subst (λ (s : Bool). PassesIf s z a t b) (ap (is_retired_as n) at ∙ eq-eqb e.number n same) is
 
 passed_at : (z : Settings) (numbers : List (Option ℕ)) (n : ℕ) (a b : OnKeeper) → PassesBelow z numbers n a b → (t k : ℕ) (e : Entry) → t < n → get_or numbers t None ≡ Some k
     → slot_at a.slots t ≡ Retired e → e.number ≡ k → PassedAt z a t b
@@ -227,8 +214,7 @@ passes_past z numbers s a b had none (suc n) le = ⊎_elim
     by_number t low None = refl
     by_number t low (Some k) =
         let same : slot_at b.slots t ≡ slot_at a.slots t = ap (λ (xs : List Slot). slot_at xs t) (onward_below z numbers s a b had).slots in
-        let off : is_retired_as k (slot_at b.slots t) ≡ false = ap (is_retired_as k) same ∙ not_retired k (slot_at a.slots t) (none t low) in
-        subst (λ (is : Bool). PassesIf is z b t b) (sym off) refl
+        subst (λ (is : Bool). PassesIf is z b t b) (sym (ap (is_retired_as k) same ∙ not_retired k (slot_at a.slots t) (none t low))) refl
 
 -- After the wait
 
@@ -247,13 +233,11 @@ met_none z numbers h end before since gap more t j on p snapped all keeps meets 
     let sees = meets.sees in
     let w = sees.word in
     let d = has_looked t j w in
-    let settings : p.before.view.settings ≡ z = sym (p.last.settings ∙ ap (λ (k : KeeperView). k.settings) p.passes.leaves.worked.only) ∙ on.own.settings in
-    let low : j < z.cpus = subst (λ (s : Settings). j < s.cpus) settings meets.cpu in
+    let low : j < z.cpus = subst (λ (s : Settings). j < s.cpus) (sym (p.last.settings ∙ ap (λ (k : KeeperView). k.settings) p.passes.leaves.worked.only) ∙ on.own.settings) meets.cpu in
     let now : (mark_at end.view.marks t j).snapshot ≡ Some w = (p.last.marks t j).snapshot ∙ sees.snapshot in
     let old = snapped j low in
     let by_log : (mark_at end.view.marks t j).snapshot ≡ Some old.0 =
     on.own.marks.marked t j old.0 (subst (IsSnapped t j old.0) (sym all) (snapped_on t j old.0 before more (kept_entry t more keeps) old.1)) in
-    let same : w ≡ old.0 = same_Some w old.0 (sym now ∙ by_log) in
     let first : List LogItem = p.first.log.0 in
     let last : List LogItem = p.last.log.0 in
     let looks : List LogItem = sees.log.0 ++ d ∷ [] in
@@ -265,7 +249,7 @@ met_none z numbers h end before since gap more t j on p snapped all keeps meets 
     ∙ (append_assoc ((before ++ since) ++ gap) first (looks ++ last) ∙ (append_assoc (before ++ since) gap (first ++ (looks ++ last)) ∙ append_assoc before since rest)))) in
     let there : StandsIn d rest =
     stands_past d gap (first ++ (looks ++ last)) (stands_past d first (looks ++ last) (stands_more d looks last (record { before = sees.log.0; after = []; are = refl }))) in
-    no_open t j old.0 w end.log before since rest on.own.grow whole old.1 (on.waited j low) there same sees.odd
+    no_open t j old.0 w end.log before since rest on.own.grow whole old.1 (on.waited j low) there (same_Some w old.0 (sym now ∙ by_log)) sees.odd
 
 by_slot : (z : Settings) (numbers : List (Option ℕ)) (h end : OnKeeper) (before since gap more : List LogItem) (t n c : ℕ) (x : Slot) → slot_at end.slots t ≡ x
     → Passing z numbers h end before since gap → c < z.cpus → get_or numbers t None ≡ Some n
@@ -273,10 +257,9 @@ by_slot : (z : Settings) (numbers : List (Option ℕ)) (h end : OnKeeper) (befor
 by_slot z numbers h end before since gap more t n c Vacant at on low number snapped gone all keeps = on.own.slots.vacant t n c at gone low
 by_slot z numbers h end before since gap more t n c (Live e) at on low number snapped gone all keeps = absurd (not_attached t n e.number end.log gone (on.own.slots.live t e at))
 by_slot z numbers h end before since gap more t n c (Retired e) at on low number snapped gone all keeps =
-    let same : e.number ≡ n = one_detached t e.number n end.log (on.own.slots.retired t e at) gone in
     let lt : t < MOST_SLOTS = omega (arith, in_within end.slots t e (inr at), few_slots z end on.own) in
     let there : slot_at h.slots t ≡ Retired e = ap (λ (xs : List Slot). slot_at xs t) (sym (onward_below z numbers MOST_SLOTS h end on.passes).slots) ∙ at in
-    let p = passed_at z numbers MOST_SLOTS h end on.passes t n e lt number there same in
+    let p = passed_at z numbers MOST_SLOTS h end on.passes t n e lt number there (one_detached t e.number n end.log (on.own.slots.retired t e at) gone) in
     ⊎_elim
     (λ (below : PassedBelow p.after.view t z.cpus). on.own.marks.passed t c ((p.last.marks t c).passed (below c low)))
     (λ (met : (j : ℕ) × MeetsGrace p.before t j p.after). absurd (met_none z numbers h end before since gap more t met.0 on p snapped all keeps met.1))
@@ -300,9 +283,8 @@ ready_by : (z : Settings) (a : OnKeeper) (numbers : List (Option ℕ)) (t n : �
 ready_by z a numbers t n Vacant at own are gone = inl (λ c low. own.slots.vacant t n c at gone low)
 ready_by z a numbers t n (Live e) at own are gone = absurd (not_attached t n e.number a.log gone (own.slots.live t e at))
 ready_by z a numbers t n (Retired e) at own are gone =
-    let same : e.number ≡ n = one_detached t e.number n a.log (own.slots.retired t e at) gone in
     let lt : t < MOST_SLOTS = omega (arith, in_within a.slots t e (inr at), few_slots z a own) in
-    inr (are t lt ∙ (ap retired_number at ∙ ap (λ (k : ℕ). Some k) same), λ j low. own.snapped t j e at low)
+    inr (are t lt ∙ (ap retired_number at ∙ ap (λ (k : ℕ). Some k) (one_detached t e.number n a.log (own.slots.retired t e at) gone)), λ j low. own.snapped t j e at low)
 
 pub ready : (z : Settings) (a : OnKeeper) (numbers : List (Option ℕ)) → HasOwnLog z a → ((u : ℕ) → u < MOST_SLOTS → get_or numbers u None ≡ retired_number (slot_at a.slots u)) → (t n : ℕ)
     → IsDetachedFrom t n a.log → IsReady z.cpus numbers a.log t n

@@ -14,7 +14,7 @@ use Rattle.name_registry.specs.Types.{Balance, Entry, Settings, Rest, Mark, Slot
 use Rattle.registry_values.specs.Common.{Tally, tally_shown, bias, is_retired, slot_at, no_mark, less_bias}
 use Rattle.protocol.specs.Common.{IsIn, addition_due_at, is_adding_at, subtraction_due_at, State, mark_at, count_at, total_at, at_rest, opening, after, held_of, held_at, itself, one_if_used}
 use Rattle.protocol.proofs.Occupied.{in_within}
-use Rattle.cpu_words.specs.Common.{IsPlaceCount, number_at, collected_net, collected_one, CpuShown, KeeperShown, Good, with_note, keeper_with_note, AreCountsOf, is_drawn, occupant_of, word_if, word_in, given_up, sum_collected, words_collected, occupant, RunsLawfully}
+use Rattle.cpu_words.specs.Common.{IsPlaceCount, number_at, collected_net, collected_one, CpuShown, KeeperShown, Good, with_note, keeper_with_note, AreCountsOf, is_drawn, occupant_of, word_if, given_up, sum_collected, words_collected, occupant, RunsLawfully}
 use Rattle.cpu_words.proofs.by_cpu.Locals.{place_is}
 use Rattle.cpu_words.proofs.by_keeper.KeeperSteps.{seen_by_keeper, SeenByKeeper}
 use Rattle.cpu_words.proofs.logs.Totalled.{given_by_log}
@@ -78,11 +78,7 @@ sums k t n (p ∷ row) (x ∷ xs) a each past =
 
 pub known_keeper : {table : TableId} {log : List LogItem} (a : Settings) (k : KeeperView) (rows : List KeptSlot) (n : ℕ) (x : OnPlainKeeper) → IsOurKeeper a k rows n → on_keeper table a k rows log ≡ x
     → IsKeeperOf x.words.settings x.keeper
-known_keeper a k rows n x our is = subst (λ (y : OnPlainKeeper). IsKeeperOf y.words.settings y.keeper) is record {
-  view = our.view;
-  is_shown = our.is_shown;
-  slots = λ t. slots_agree a k rows t our.view our.rows;
-}
+known_keeper a k rows n x our is = subst (λ (y : OnPlainKeeper). IsKeeperOf y.words.settings y.keeper) is (assumption (λ (t : ℕ). slots_agree a k rows t our.view our.rows))
 
 -- an entry that it has in a slot is there in its view
 there_too : (a : Settings) (k : OnKeeper) (t : ℕ) (e : Entry) → IsKeeperOf a k → IsIn e (slot_at k.slots t) → IsIn e (slot_at k.view.slots t)
@@ -111,10 +107,8 @@ held_live k xs g h t e shown live there =
     let seen = seen_by_keeper g (keeper_with_note k.view h) shown.good shown.keeper in
     let each : (c : ℕ) (x : OnCpu) → get_elem? xs c ≡ some x → IsDrawn k t e.number nothing x =
     λ c x at. record { mark = ap (λ (y : Slot). is_retired y && (mark_at k.view.marks t x.view.id).collected) live; net = λ never. absurd (false≢true never) } in
-    let sum = sums k t e.number [] xs (pos 0) each (λ c le. refl) in
     let total = shown.keeper.live_total t e (ap (λ (y : List Slot). slot_at y t) (sym seen.slots) ∙ there) in
-    let same = ap (λ (y : List ℕ). total_at y t) seen.totals in
-    omega (arith, ints, sum, total, same)
+    omega (arith, ints, sums k t e.number [] xs (pos 0) each (λ c le. refl), total, ap (λ (y : List ℕ). total_at y t) seen.totals)
 
 -- a retired one: the total is what was collected, less what was given up
 held_retired : (a : Settings) (k : OnKeeper) (xs : List OnCpu) (g : State) (h : List Change) (t : ℕ) (e : Entry) → IsKeeperOf a k → AreAllCpus a.cpus xs → IsOfKeeper g k h → AreNets g xs t e.number
@@ -130,21 +124,18 @@ held_retired a k xs g h t e known all shown nets gone there =
     let long : length ms ≡ length ns = shape.mark_rows t (omega (arith, within, shape.slots, shape.marks)) ∙ sym (shape.net_rows t (omega (arith, within, shape.slots, shape.nets))) in
     let at : (c : ℕ) → get_or (zip ms ns) c nothing ≡ (get_or ms c no_mark, get_or ns c 0) = λ c. zip_at ms ns c long in
     let each : (c : ℕ) (x : OnCpu) → get_elem? xs c ≡ some x → IsDrawn k t e.number (get_or (zip ms ns) c nothing) x = λ c x is.
-    let id = all.each c x is in
     subst (λ (p : Mark × ℕ). IsDrawn k t e.number p x) (sym (at c)) (record {
       mark = ap (λ (y : Slot). is_retired y && (mark_at k.view.marks t x.view.id).collected) gone
-          ∙ (ap (λ i. (mark_at k.view.marks t i).collected) id ∙ ap (λ (y : List (List Mark)). (mark_at y t c).collected) seen.marks);
+          ∙ (ap (λ i. (mark_at k.view.marks t i).collected) (all.each c x is) ∙ ap (λ (y : List (List Mark)). (mark_at y t c).collected) seen.marks);
       net = λ on. nets c x is (λ j. is_retired (here j) && on j);
     }) in
     let cpus : a.cpus ≡ g.settings.cpus = ap (λ (z : Settings). z.cpus) (sym known.view.settings ∙ seen.settings) in
     let sum = sums k t e.number (zip ms ns) xs (pos 0) each (λ c le. ap (λ (p : Mark × ℕ). p.0.collected) (at c) ∙ shown.keeper.beyond c t (omega (arith, le, all.count, cpus))) in
     let due : g.due ≡ Rest = sym seen.due ∙ known.view.rest in
     let adding : addition_due_at t g.due ≡ 0 = ap (addition_due_at t) due in
-    let is_adding : is_adding_at t g.due ≡ 0 = ap (is_adding_at t) due in
     let subtracting : subtraction_due_at t g.due ≡ 0 = ap (subtraction_due_at t) due in
     let total = shown.keeper.gives_up t e here in
-    let same = ap (λ (y : List ℕ). total_at y t) seen.totals in
-    omega (arith, ints, sum, total, same, adding, is_adding, subtracting)
+    omega (arith, ints, sum, total, ap (λ (y : List ℕ). total_at y t) seen.totals, adding, ap (is_adding_at t) due, subtracting)
 
 held_by : (a : Settings) (k : OnKeeper) (xs : List OnCpu) (g : State) (h : List Change) (t : ℕ) (e : Entry) → IsKeeperOf a k → AreAllCpus a.cpus xs → IsOfKeeper g k h → AreNets g xs t e.number
     → IsIn e (slot_at k.slots t) → (tally_of k xs e.number t).held ≡ tally k xs e.number
@@ -160,8 +151,7 @@ own_net g x t e had here = dite (ℕ_discrete (number_at x.view.met t) e.number)
     (λ (same : number_at x.view.met t ≡ e.number). ap (λ b. cond b (net_of e.number x) (pos 0)) (eq-eqb (number_at x.view.met t) e.number same))
     (λ (off : number_at x.view.met t ≢ e.number).
     let place : IsPlaceCount x.view t e.number bias = record { met = λ same. absurd (off same); other = λ _. refl } in
-    let net = place_is g x.view t e bias had here place in
-    ap (λ b. cond b (net_of e.number x) (pos 0)) (ne_eqb (number_at x.view.met t) e.number off) ∙ omega (arith, ints, net))
+    ap (λ b. cond b (net_of e.number x) (pos 0)) (ne_eqb (number_at x.view.met t) e.number off) ∙ omega (arith, ints, place_is g x.view t e bias had here place))
 
 pub locals_same : (f h : OnCpu → ℤ) (xs : List OnCpu) → ((c : ℕ) (x : OnCpu) → get_elem? xs c ≡ some x → f x ≡ h x) → map f xs ≡ map h xs
 locals_same f h [] each = refl
@@ -170,9 +160,7 @@ locals_same f h (x ∷ xs) each = let one = each 0 x refl in let rest = locals_s
 pub own_tally : (a : Settings) (k : OnKeeper) (xs : List OnCpu) (g : State) (t : ℕ) (e : Entry) → IsKeeperOf a k → AreShown g k xs → IsIn e (slot_at k.slots t)
     → tally_met k xs e.number t ≡ tally_of k xs e.number t
 own_tally a k xs g t e known shown is =
-    let seen = seen_by_keeper g k.view shown.good shown.keeper in
-    let there = there_too a k t e known is in
-    let here : IsIn e (slot_at g.slots t) = subst (λ (y : List Slot). IsIn e (slot_at y t)) seen.slots there in
+    let here : IsIn e (slot_at g.slots t) = subst (λ (y : List Slot). IsIn e (slot_at y t)) (seen_by_keeper g k.view shown.good shown.keeper).slots (there_too a k t e known is) in
     ap (λ locals. tally_by k locals e.number t)
     (locals_same (local_met k t e.number) (local_of k t e.number) xs (λ c x at. ap (λ net. local_by k t net x) (own_net g x t e (shown.cpus c x at) here)))
 
@@ -198,8 +186,7 @@ word_some false w v is = absurd (none-some v is)
 -- a net count that was collected is the same in both
 drawn_too : (log : List LogItem) (g f : State) (t c : ℕ) → AreCountsOf log g → AreCountsOf log f → is_drawn g t c ≡ true → count_at f.nets c t ≡ count_at g.nets c t
 drawn_too log g f t c own other on =
-    let mine : word_in g t c ≡ Some (count_at g.nets c t) = ap (λ (b : Bool). word_if b (count_at g.nets c t)) on in
-    (word_some (is_drawn f t c) (count_at f.nets c t) (count_at g.nets c t) (sym (other.words t c) ∙ (own.words t c ∙ mine))).1
+    (word_some (is_drawn f t c) (count_at f.nets c t) (count_at g.nets c t) (sym (other.words t c) ∙ (own.words t c ∙ ap (λ (b : Bool). word_if b (count_at g.nets c t)) on))).1
 
 module _ (a : Settings) (k : OnKeeper) (xs ys : List OnCpu) (known : IsKeeperOf a k) (all : AreAllCpus a.cpus xs) (alike : AreAlike k xs ys) (t : ℕ) (e : Entry) (is : IsIn e (slot_at k.slots t)) where
   here : IsIn e (slot_at alike.keeper.1.g.slots t)
@@ -212,9 +199,8 @@ module _ (a : Settings) (k : OnKeeper) (xs ys : List OnCpu) (known : IsKeeperOf 
       let own = alike.cpus c x at in
       let f = own.1.g in
       let there = occupied_too alike.log g f t e alike.keeper.1.counts own.1.counts here in
-      let net : count_at f.nets x.view.id t + released_of there.0.number x ≡ bias + acquired_of there.0.number x = own.1.shown.nets t there.0 there.1 in
       let same : count_at f.nets x.view.id t ≡ count_at g.nets c t = ap (λ i. count_at f.nets i t) (all.each c x at) ∙ drawn_too alike.log g f t c alike.keeper.1.counts own.1.counts on in
-      (λ j. sym same j + released_of (sym there.2 j) x) ∙ (net ∙ ap (λ n. bias + acquired_of n x) there.2)
+      (λ j. sym same j + released_of (sym there.2 j) x) ∙ (own.1.shown.nets t there.0 there.1 ∙ ap (λ n. bias + acquired_of n x) there.2)
 
   alike_net : (c : ℕ) (x : OnCpu) → get_elem? xs c ≡ some x → net_met t e.number x ≡ net_of e.number x
   alike_net c x at =
@@ -283,11 +269,9 @@ module _ (a : Settings) (k : OnKeeper) (xs ys : List OnCpu) (known : IsKeeperOf 
   total t n is =
       let due : g.due ≡ Rest = sym seen.due ∙ known.view.rest in
       let adding : addition_due_at t g.due ≡ 0 = ap (addition_due_at t) due in
-      let is_adding : is_adding_at t g.due ≡ 0 = ap (is_adding_at t) due in
       let subtracting : subtraction_due_at t g.due ≡ 0 = ap (subtraction_due_at t) due in
-      let same : total_at k.view.totals t ≡ total_at g.totals t = ap (λ (l : List ℕ). total_at l t) seen.totals in
       total_sum (total_at g.totals t) (addition_due_at t g.due) (given_up n log) (words_collected t log) (is_adding_at t g.due) (sum_collected t log) (subtraction_due_at t g.due)
-      (total_at k.view.totals t) (alike.keeper.1.totals.total t n is) same adding is_adding subtracting
+      (total_at k.view.totals t) (alike.keeper.1.totals.total t n is) (ap (λ (l : List ℕ). total_at l t) seen.totals) adding (ap (is_adding_at t) due) subtracting
 
   -- what is said of one entry
   pub audited_is : (t : ℕ) (e : Entry) → IsIn e (slot_at k.slots t) → audited log xs e.number t ≡ tally_of k xs e.number t
@@ -299,8 +283,7 @@ module _ (a : Settings) (k : OnKeeper) (xs ys : List OnCpu) (known : IsKeeperOf 
       let locals = locals_same (local_in log t e.number) (local_of k t e.number) xs (λ c x at. local t e.number x) in
       let held : tally_in log xs e.number ≡ (tally_of k xs e.number t).held =
       ap (λ (m : ℕ). pos (sum_by (acquired_of e.number) xs) -ℤ pos (sum_by (released_of e.number) xs + m)) (sym given) ∙ sym (alike_held a k xs ys known all alike t e is) in
-      let sum = total t e.number has in
-      λ i. record { number = e.number; slot = t; held = held i; locals = locals i; total = sum i }
+      λ i. record { number = e.number; slot = t; held = held i; locals = locals i; total = (total t e.number has) i }
 
   at_slot : (t : ℕ) (x : Slot) → slot_at k.slots t ≡ x → audited_at log xs t (occupant t log) ≡ each_at (tally_of k xs) t x
   at_slot t Vacant is = ap (audited_at log xs t) (by_log t ∙ ap occupant_of is)
@@ -332,8 +315,7 @@ exact_law a k xs s ruled seated =
       listed = λ list is. is.answer;
       tallied = λ list is. is.tally;
       held = λ all list is.
-          let due = sym (seen_by_keeper g k.view run.good shown.keeper).due ∙ is.keeper.view.rest in
-          let rest = run.laws.balance (ap at_rest due) in
+          let rest = run.laws.balance (ap at_rest (sym (seen_by_keeper g k.view run.good shown.keeper).due ∙ is.keeper.view.rest)) in
           all_met (λ y. y.held ≡ pos (held_of g y.number)) k xs a.slots list is.met
           (λ t e there. ap (λ (y : Tally). y.held) (own_tally a k xs g t e is.keeper shown there) ∙ references_held a k xs g t e is.keeper all shown rest there);
     }

@@ -9,10 +9,9 @@ use Rattle.protocol.proofs.Cells.{get_or_all}
 use Rattle.registry_values.specs.Common.{wait_answer, is_even, is_out}
 use Rattle.registry_values.proofs.Slots.{least_none}
 use Rattle.cpu_words.specs.Common.{changes_in, has_taken, has_found, has_heard_from, heard_from, HasHeardFrom, HasPassedOn, HasWaited, IsDetachedFrom, IsSeenOut, IsSnapped, KeepsSlot, did}
-use Rattle.cpu_words.proofs.logs.Marks.{passed_on, snapped_on}
+use Rattle.cpu_words.proofs.logs.Marks.{StandsIn, passed_on, snapped_on, stands_more, stands_past}
 use Rattle.cpu_words.proofs.logs.Slots.{changes_last, kept_entry, kept_parts, standing_last}
 use Rattle.passive_list.specs.Common.{OnCpu, as_teller, cpu_after_tell, OnKeeper, GoesOnBy}
-use Rattle.passive_list.proofs.Walking.{prefix_trans}
 use Rattle.name_registry.specs.Common.{HasLearned, IsNote, hears_cpu, keeper_after_hear, Finishes, GlancesBelow, GlancesOnce, HasPerformed, HasSeenAllOut, Hold, Looking, SnapshotsBelow, SomeBegan, SomeGlanced, SomePassed, TurnsWaiting, is_seen, none_seen, word_of}
 use Rattle.name_registry.proofs.Noted.{learned, by_meeting, by_meeting_again}
 use Rattle.name_registry.proofs.Passed.{IsReady, Passing, onward_below, passed_end, ready}
@@ -21,51 +20,21 @@ use Rattle.passive_list.proofs.Rows.{goes_on, no_more}
 
 -- What is in a log
 
--- the word of c was taken
-pub record IsTaken (c w : ℕ) (log : List LogItem) : Type 0 where
-  before : List LogItem
-  after : List LogItem
-  are : log ≡ before ++ has_taken c w ∷ after
-
--- it was found out of the section of the word `old`
-record IsFound (c old : ℕ) (log : List LogItem) : Type 0 where
-  new : ℕ
-  before : List LogItem
-  after : List LogItem
-  are : log ≡ before ++ has_found c new ∷ after
-  out : is_out old new ≡ true
-
-taken_more : (c w : ℕ) (log more : List LogItem) → IsTaken c w log → IsTaken c w (log ++ more)
-taken_more c w log more is = record { before = is.before; after = is.after ++ more; are = ap (λ (l : List LogItem). l ++ more) is.are ∙ append_assoc is.before (has_taken c w ∷ is.after) more }
-
-taken_past : (c w : ℕ) (first log : List LogItem) → IsTaken c w log → IsTaken c w (first ++ log)
-taken_past c w first log is =
-    record { before = first ++ is.before; after = is.after; are = ap (λ (l : List LogItem). first ++ l) is.are ∙ sym (append_assoc first is.before (has_taken c w ∷ is.after)) }
+-- the word of c was found out of the section of the word `old`
+abbrev IsFound : ℕ → ℕ → List LogItem → Type 0
+IsFound c old log = (new : ℕ) × StandsIn (has_found c new) log × (is_out old new ≡ true)
 
 found_more : (c old : ℕ) (log more : List LogItem) → IsFound c old log → IsFound c old (log ++ more)
-found_more c old log more is =
-    record { new = is.new; before = is.before; after = is.after ++ more; are = ap (λ (l : List LogItem). l ++ more) is.are ∙ append_assoc is.before (has_found c is.new ∷ is.after) more; out = is.out }
+found_more c old log more is = (is.0, stands_more (has_found c is.0) log more is.1, is.2)
 
 found_past : (c old : ℕ) (first log : List LogItem) → IsFound c old log → IsFound c old (first ++ log)
-found_past c old first log is = record {
-  new = is.new;
-  before = first ++ is.before;
-  after = is.after;
-  are = ap (λ (l : List LogItem). first ++ l) is.are ∙ sym (append_assoc first is.before (has_found c is.new ∷ is.after));
-  out = is.out;
-}
+found_past c old first log is = (is.0, stands_past (has_found c is.0) first log is.1, is.2)
 
 seen_more : (c : ℕ) (log more : List LogItem) → IsSeenOut c log → IsSeenOut c (log ++ more)
-seen_more c log more is = record {
-  old = is.old;
-  new = is.new;
-  before = is.before;
-  between = is.between;
-  after = is.after ++ more;
-  are = ap (λ (l : List LogItem). l ++ more) is.are ∙ (append_assoc is.before (has_taken c is.old ∷ (is.between ++ has_found c is.new ∷ is.after)) more
-      ∙ ap (λ (l : List LogItem). is.before ++ has_taken c is.old ∷ l) (append_assoc is.between (has_found c is.new ∷ is.after) more));
-  moved = is.moved;
-}
+seen_more c log more is =
+    let are = ap (λ (l : List LogItem). l ++ more) is.are ∙ (append_assoc is.before (has_taken c is.old ∷ (is.between ++ has_found c is.new ∷ is.after)) more
+    ∙ ap (λ (l : List LogItem). is.before ++ has_taken c is.old ∷ l) (append_assoc is.between (has_found c is.new ∷ is.after) more)) in
+    search (are, is.moved)
 
 -- what the code compares says that the word moved
 moved : (old new : ℕ) → is_out old new ≡ true → HasMoved old new
@@ -74,24 +43,25 @@ moved old new is = ⊎_elim
     (λ (other : not (old == new) ≡ true). inr (λ same. eqb-false old new (not-true (old == new) other) (sym same)))
     (or_cases (is_even new) (not (old == new)) is)
 
-seen_out : (c w : ℕ) (first second : List LogItem) → IsTaken c w first → IsFound c w second → IsSeenOut c (first ++ second)
-seen_out c w first second taken found = record {
-  old = w;
-  new = found.new;
-  before = taken.before;
-  between = taken.after ++ found.before;
-  after = found.after;
-  are = (λ k. taken.are k ++ found.are k) ∙ (append_assoc taken.before (has_taken c w ∷ taken.after) (found.before ++ has_found c found.new ∷ found.after)
-      ∙ ap (λ (l : List LogItem). taken.before ++ has_taken c w ∷ l) (sym (append_assoc taken.after found.before (has_found c found.new ∷ found.after))));
-  moved = moved w found.new found.out;
-}
+seen_out : (c w : ℕ) (first second : List LogItem) → StandsIn (has_taken c w) first → IsFound c w second → IsSeenOut c (first ++ second)
+seen_out c w first second taken is =
+    let found = is.1 in record {
+      old = w;
+      new = is.0;
+      before = taken.before;
+      between = taken.after ++ found.before;
+      after = found.after;
+      are = (λ k. taken.are k ++ found.are k) ∙ (append_assoc taken.before (has_taken c w ∷ taken.after) (found.before ++ has_found c is.0 ∷ found.after)
+          ∙ ap (λ (l : List LogItem). taken.before ++ has_taken c w ∷ l) (sym (append_assoc taken.after found.before (has_found c is.0 ∷ found.after))));
+      moved = moved w is.0 is.2;
+    }
 
 -- What looks add to the log
 
 record Snapped (words : List ℕ) (n : ℕ) (k l : Looking) : Type 0 where
   more : List LogItem
   are : l.log ≡ k.log ++ more
-  taken : (c : ℕ) → c < n → IsTaken c (word_of words c) more
+  taken : (c : ℕ) → c < n → StandsIn (has_taken c (word_of words c)) more
 
 snapped : (words : List ℕ) (n : ℕ) (k l : Looking) → SnapshotsBelow words n k l → Snapped words n k l
 snapped words zero k l is = record { more = []; are = ap (λ (x : Looking). x.log) is ∙ sym (append-nil k.log); taken = λ c lt. absurd (omega (arith, lt)) }
@@ -101,9 +71,8 @@ snapped words (suc n) k l is =
       more = p.more ++ d;
       are = ap (λ (x : Looking). x.log) is.2.change ∙ (ap (λ (x : List LogItem). x ++ d) p.are ∙ append_assoc k.log p.more d);
       taken = λ c lt. ⊎_elim
-          (λ (below : c < n). taken_more c (word_of words c) p.more d (p.taken c below))
-          (λ (le : n ≤ c). let same : n ≡ c = omega (arith, lt, le) in
-          subst (λ (m : ℕ). IsTaken m (word_of words m) (p.more ++ d)) same (taken_past n (word_of words n) p.more d (record { before = []; after = []; are = refl })))
+          (λ (below : c < n). stands_more _ p.more d (p.taken c below))
+          (λ (le : n ≤ c). subst (λ (m : ℕ). StandsIn (has_taken m (word_of words m)) (p.more ++ d)) (omega (arith, lt, le)) (stands_past _ p.more d (record { before = []; after = []; are = refl })))
           (cases_lt c n);
     }
 
@@ -114,7 +83,7 @@ record Glanced (words : List ℕ) (seen after : List Bool) (n : ℕ) (k l : Look
 
 once : (old c : ℕ) (before after : Bool) (m l : Looking) → GlancesOnce old c before m after l → (d : List LogItem) × (l.log ≡ m.log ++ d) × (after ≡ true → (before ≡ true) ⊎ IsFound c old d)
 once old c true after m l is = ([], ap (λ (x : Looking). x.log) is.1 ∙ sym (append-nil m.log), λ t. inl refl)
-once old c false after m l is = (has_found c is.0 ∷ [], ap (λ (x : Looking). x.log) is.1.change, λ t. inr (record { new = is.0; before = []; after = []; are = refl; out = sym is.2 ∙ t }))
+once old c false after m l is = (has_found c is.0 ∷ [], ap (λ (x : Looking). x.log) is.1.change, λ t. inr (is.0, record { before = []; after = []; are = refl }, sym is.2 ∙ t))
 
 glanced : (words : List ℕ) (seen after : List Bool) (n : ℕ) (k l : Looking) → GlancesBelow words seen after n k l → Glanced words seen after n k l
 glanced words seen after zero k l is = record { more = []; are = ap (λ (x : Looking). x.log) is ∙ sym (append-nil k.log); found = λ c lt t. absurd (omega (arith, lt)) }
@@ -136,49 +105,40 @@ glanced words seen after (suc n) k l is =
 
 -- so far: the keeper had done `before` as it heard the caller, and what was detached by then had passed or was retired, with these numbers; since then it took the words of all CPUs, and saw out of
 -- their sections those that are seen
-pub record SoFar (cpus : ℕ) (x : OnCpu) (words : List ℕ) (numbers : List (Option ℕ)) (seen : List Bool) (m : OnCpu) : Type 0 where
-  pub before : List LogItem
-  pub since : List LogItem
+pub record IsSoFar (cpus : ℕ) (x : OnCpu) (words : List ℕ) (numbers : List (Option ℕ)) (seen : List Bool) (m : OnCpu) (before since : List LogItem) : Type 0 where
   pub are : m.known_log ≡ before ++ since
   pub heard : HasHeardFrom None (as_teller x) before
   pub known : IsPrefix x.known_log before
   pub pass : length x.view.pass ≤ changes_in before
   pub ready : (t n : ℕ) → IsDetachedFrom t n before → IsReady cpus numbers before t n
-  pub taken : (c : ℕ) → c < cpus → IsTaken c (word_of words c) since
+  pub taken : (c : ℕ) → c < cpus → StandsIn (has_taken c (word_of words c)) since
   pub out : (c : ℕ) → c < cpus → is_seen seen c ≡ true → IsSeenOut c since
+
+abbrev pub SoFar : ℕ → OnCpu → List ℕ → List (Option ℕ) → List Bool → OnCpu → Type 0
+SoFar cpus x words numbers seen m = (before : List LogItem) × (since : List LogItem) × IsSoFar cpus x words numbers seen m before since
 
 -- it stays so of whoever knows more
 pub so_far_on : (cpus : ℕ) (x : OnCpu) (words : List ℕ) (numbers : List (Option ℕ)) (seen : List Bool) (m y : OnCpu) → IsPrefix m.known_log y.known_log → SoFar cpus x words numbers seen m
     → SoFar cpus x words numbers seen y
-so_far_on cpus x words numbers seen m y more had = record {
-  before = had.before;
-  since = had.since ++ more.0;
-  are = sym more.1 ∙ (ap (λ (l : List LogItem). l ++ more.0) had.are ∙ append_assoc had.before had.since more.0);
-  heard = had.heard;
-  known = had.known;
-  pass = had.pass;
-  ready = had.ready;
-  taken = λ c lt. taken_more c (word_of words c) had.since more.0 (had.taken c lt);
-  out = λ c lt now. seen_more c had.since more.0 (had.out c lt now);
-}
+so_far_on cpus x words numbers seen m y more had = (
+  had.0,
+  had.1 ++ more.0,
+  assumption (
+    sym more.1 ∙ (ap (λ (l : List LogItem). l ++ more.0) had.2.are ∙ append_assoc had.0 had.1 more.0),
+    λ (c : ℕ) (lt : c < cpus). stands_more _ had.1 more.0 (had.2.taken c lt),
+    λ (c : ℕ) (lt : c < cpus) (now : is_seen seen c ≡ true). seen_more c had.1 more.0 (had.2.out c lt now),
+  ),
+)
 
 -- and of other numbers, where each entry that was retired has its own among them
 pub so_far_by : (cpus : ℕ) (x : OnCpu) (words : List ℕ) (numbers others : List (Option ℕ)) (seen : List Bool) (m : OnCpu) → ((t n : ℕ) → get_or numbers t None ≡ Some n → get_or others t None ≡ Some n)
     → SoFar cpus x words numbers seen m → SoFar cpus x words others seen m
-so_far_by cpus x words numbers others seen m same had = record {
-  before = had.before;
-  since = had.since;
-  are = had.are;
-  heard = had.heard;
-  known = had.known;
-  pass = had.pass;
-  ready = λ t n gone. ⊎_elim
-      (λ (then : (c : ℕ) → c < cpus → HasPassedOn t c had.before). inl then)
-      (λ (retired : (get_or numbers t None ≡ Some n) × ((j : ℕ) → j < cpus → (w : ℕ) × IsSnapped t j w had.before)). inr (same t n retired.0, retired.1))
-      (had.ready t n gone);
-  taken = had.taken;
-  out = had.out;
-}
+so_far_by cpus x words numbers others seen m same had =
+    let ready : (t n : ℕ) → IsDetachedFrom t n had.0 → IsReady cpus others had.0 t n = λ t n gone. ⊎_elim
+    (λ (then : (c : ℕ) → c < cpus → HasPassedOn t c had.0). inl then)
+    (λ (retired : (get_or numbers t None ≡ Some n) × ((j : ℕ) → j < cpus → (w : ℕ) × IsSnapped t j w had.0)). inr (same t n retired.0, retired.1))
+    (had.2.ready t n gone) in
+    (had.0, had.1, assumption ready)
 
 -- a hold's end: the log of the keeper as it had heard the CPU, and what came to be known beyond it
 record After (log more : List LogItem) (y : OnCpu) : Type 0 where
@@ -214,17 +174,19 @@ so_far_begun z x words numbers y is =
     let hold = is.2.hold in
     let p = snapped words z.cpus _ hold.end hold.made in
     let q = after_hold _ is.0 x is.1 y hold p.more p.are in
-    let log = is.0.log in record {
-      before = log ++ hears_cpu x;
-      since = p.more ++ q.tail;
-      are = q.are;
-      heard = record { before = log; after = []; are = refl };
-      known = prefix_on x.known_log log (log ++ hears_cpu x) hold.known (hears_cpu x, refl);
-      pass = let n = hold.seen in omega (arith, n, heard_changes log (Some (as_teller x)));
-      ready = heard_ready z.cpus numbers log (Some (as_teller x)) (ready z is.0 numbers is.2.own is.2.numbers);
-      taken = λ c lt. taken_more c (word_of words c) p.more q.tail (p.taken c lt);
-      out = λ c lt seen. absurd (none_is_seen c seen);
-    }
+    let log = is.0.log in (
+      log ++ hears_cpu x,
+      p.more ++ q.tail,
+      record {
+        are = q.are;
+        heard = record { before = log; after = []; are = refl };
+        known = prefix_on x.known_log log (log ++ hears_cpu x) hold.known (hears_cpu x, refl);
+        pass = let n = hold.seen in omega (arith, n, heard_changes log (Some (as_teller x)));
+        ready = heard_ready z.cpus numbers log (Some (as_teller x)) (ready z is.0 numbers is.2.own is.2.numbers);
+        taken = λ c lt. stands_more _ p.more q.tail (p.taken c lt);
+        out = λ c lt seen. absurd (none_is_seen c seen);
+      },
+    )
 
 pub so_far_turn : (z : Settings) (x : OnCpu) (words : List ℕ) (numbers : List (Option ℕ)) (seen : List Bool) (m : OnCpu) (told : Option ℕ) (after : List Bool) (y : OnCpu)
     → SoFar z.cpus x words numbers seen m → SomeGlanced z words m seen told after y → SoFar z.cpus x words numbers after y
@@ -236,24 +198,15 @@ so_far_turn z x words numbers seen m told after y had is =
     let rest : List LogItem = h ++ (p.more ++ q.tail) in
     let gap = hold.known.0 in
     let new : List LogItem = gap ++ rest in
-    let are : y.known_log ≡ had.before ++ (had.since ++ new) =
-    q.are ∙ (append_assoc is.0.log h (p.more ++ q.tail) ∙ ap (λ (l : List LogItem). l ++ rest) (sym hold.known.1 ∙ ap (λ (l : List LogItem). l ++ gap) had.are)
-    ∙ (append_assoc (had.before ++ had.since) gap rest ∙ append_assoc had.before had.since new)) in
-    record {
-      before = had.before;
-      since = had.since ++ new;
-      are = are;
-      heard = had.heard;
-      known = had.known;
-      pass = had.pass;
-      ready = had.ready;
-      taken = λ c lt. taken_more c (word_of words c) had.since new (had.taken c lt);
-      out = λ c lt now. ⊎_elim
-          (λ (was : is_seen seen c ≡ true). seen_more c had.since new (had.out c lt was))
-          (λ (found : IsFound c (word_of words c) p.more). seen_out c (word_of words c) had.since new (had.taken c lt)
-          (found_past c (word_of words c) gap rest (found_past c (word_of words c) h (p.more ++ q.tail) (found_more c (word_of words c) p.more q.tail found))))
-          (p.found c lt now);
-    }
+    let are : y.known_log ≡ had.0 ++ (had.1 ++ new) =
+    q.are ∙ (append_assoc is.0.log h (p.more ++ q.tail) ∙ ap (λ (l : List LogItem). l ++ rest) (sym hold.known.1 ∙ ap (λ (l : List LogItem). l ++ gap) had.2.are)
+    ∙ (append_assoc (had.0 ++ had.1) gap rest ∙ append_assoc had.0 had.1 new)) in
+    let out : (c : ℕ) → c < z.cpus → is_seen after c ≡ true → IsSeenOut c (had.1 ++ new) = λ c lt now. ⊎_elim
+    (λ (was : is_seen seen c ≡ true). seen_more c had.1 new (had.2.out c lt was))
+    (λ (found : IsFound c (word_of words c) p.more). seen_out c (word_of words c) had.1 new (had.2.taken c lt)
+    (found_past c (word_of words c) gap rest (found_past c (word_of words c) h (p.more ++ q.tail) (found_more c (word_of words c) p.more q.tail found))))
+    (p.found c lt now) in
+    (had.0, had.1 ++ new, assumption (are, λ (c : ℕ) (lt : c < z.cpus). stands_more _ had.1 new (had.2.taken c lt), out))
 
 so_far_turns : (z : Settings) (x : OnCpu) (words : List ℕ) (numbers : List (Option ℕ)) (n : ℕ) (m : OnCpu) (seen : List Bool) (y : OnCpu) (after : List Bool) → SoFar z.cpus x words numbers seen m
     → TurnsWaiting (SomeGlanced z words) n m seen y after → SoFar z.cpus x words numbers after y
@@ -262,8 +215,8 @@ so_far_turns z x words numbers (suc n) m seen y after had is = so_far_turn z x w
 
 -- where no CPU was told, all were seen out
 pub all_seen : (z : Settings) (x : OnCpu) (words : List ℕ) (numbers : List (Option ℕ)) (m : OnCpu) (seen : List Bool) (told : Option ℕ) (after : List Bool) (y : OnCpu)
-    → (had : SoFar z.cpus x words numbers after y) → SomeGlanced z words m seen told after y → told ≡ None → HasWaited had.since z.cpus
-all_seen z x words numbers m seen told after y had is none = λ c lt. had.out c lt (not-false (is_seen after c) (least_none (λ d. not (is_seen after d)) z.cpus (sym is.2.least ∙ none) c lt))
+    → (had : SoFar z.cpus x words numbers after y) → SomeGlanced z words m seen told after y → told ≡ None → HasWaited had.1 z.cpus
+all_seen z x words numbers m seen told after y had is none = λ c lt. had.2.out c lt (not-false (is_seen after c) (least_none (λ d. not (is_seen after d)) z.cpus (sym is.2.least ∙ none) c lt))
 
 -- The end
 
@@ -276,19 +229,18 @@ waited_on since more cpus waited c lt = seen_more c since more (waited c lt)
 
 -- once all were seen out, the passes are made, and the CPU is told what the keeper did
 pub passed_out : (z : Settings) (x : OnCpu) (words : List ℕ) (numbers : List (Option ℕ)) (seen : List Bool) (m : OnCpu) (y : OnCpu) → (had : SoFar z.cpus x words numbers seen m)
-    → HasWaited had.since z.cpus → SomePassed z m numbers y → HasSeenAllOut z.cpus x y
+    → HasWaited had.1 z.cpus → SomePassed z m numbers y → HasSeenAllOut z.cpus x y
 passed_out z x words numbers seen m y had waited is =
-    let a = is.0 in
     let does = is.2 in
-    let before = had.before in
-    let since = had.since in
+    let before = had.0 in
+    let since = had.1 in
     let hear : List LogItem = hears_cpu m in
     let again : List LogItem = hears_cpu (cpu_after_tell m) in
     let tell : List LogItem = did (Tell None) Done in
-    let h = keeper_after_hear a m in
+    let h = keeper_after_hear is.0 m in
     let gap : List LogItem = does.known.0 ++ hear in
     let log : h.log ≡ (before ++ since) ++ gap =
-    ap (λ (l : List LogItem). l ++ hear) (sym does.known.1 ∙ ap (λ (l : List LogItem). l ++ does.known.0) had.are) ∙ append_assoc (before ++ since) does.known.0 hear in
+    ap (λ (l : List LogItem). l ++ hear) (sym does.known.1 ∙ ap (λ (l : List LogItem). l ++ does.known.0) had.2.are) ∙ append_assoc (before ++ since) does.known.0 hear in
     let on = onward_below z numbers MOST_SLOTS h does.end does.passes in
     let looks : List LogItem = gap ++ on.log.0 in
     let whole : does.end.log ≡ before ++ (since ++ looks) =
@@ -304,9 +256,9 @@ passed_out z x words numbers seen m y had waited is =
       before = before;
       since = all;
       are = are;
-      heard = had.heard;
-      known = had.known;
-      seen = had.pass;
+      heard = had.2.heard;
+      known = had.2.known;
+      seen = had.2.pass;
       waited = waited_on since (looks ++ tail) z.cpus waited;
       passed = λ t n c low gone keeps. ⊎_elim
           (λ (then : (j : ℕ) → j < z.cpus → HasPassedOn t j before). subst (HasPassedOn t c) (sym are) (passed_on t c before all (kept_entry t all keeps) (then c low)))
@@ -315,15 +267,14 @@ passed_out z x words numbers seen m y had waited is =
           let second = kept_parts t looks tail first.1 in
           subst (HasPassedOn t c) (sym to_tail) (passed_on t c does.end.log tail (kept_entry t tail second.1)
           (passed_end z numbers h does.end before since gap (since ++ looks) t n c passing low gone retired.0 retired.1 whole (kept_both t since looks first.0 second.0))))
-          (had.ready t n gone);
+          (had.2.ready t n gone);
     }
 
 -- the answer Ok
 waited_none : (z : Settings) (turns : ℕ) (x : OnCpu) (told : Option ℕ) (y : OnCpu) → told ≡ None → HasPerformed z turns x told y → HasSeenAllOut z.cpus x y
 waited_none z turns x told y none is =
     let last = is.waits.last in
-    let begun = so_far_begun z x is.snapshots is.numbers is.begun is.first in
-    let near = so_far_turns z x is.snapshots is.numbers is.waits.earlier is.begun none_seen last.0 last.1 begun last.2 in
+    let near = so_far_turns z x is.snapshots is.numbers is.waits.earlier is.begun none_seen last.0 last.1 (so_far_begun z x is.snapshots is.numbers is.begun is.first) last.2 in
     let end = so_far_turn z x is.snapshots is.numbers last.1 last.0 told is.waits.after is.waited near last.3 in
     passed_out z x is.snapshots is.numbers is.waits.after is.waited y end (all_seen z x is.snapshots is.numbers last.0 last.1 told is.waits.after is.waited end last.3 none)
     (subst (λ (o : Option ℕ). Finishes (SomePassed z) is.numbers is.waited o y) none is.end)
@@ -345,11 +296,8 @@ learns_none x = (record { pass = ([], append-nil x.view.pass); known_log = ([], 
 pub learns_more : (x m y : OnCpu) → Learns x m → Learns m y → Learns x y
 learns_more x m y first second = (
   record {
-    pass = prefix_trans x.view.pass m.view.pass y.view.pass first.0.pass second.0.pass;
-    known_log = (
-      first.0.known_log.0 ++ second.0.known_log.0,
-      sym (append_assoc x.known_log first.0.known_log.0 second.0.known_log.0) ∙ (ap (λ (l : List LogItem). l ++ second.0.known_log.0) first.0.known_log.1 ∙ second.0.known_log.1),
-    );
+    pass = prefix_on _ _ _ first.0.pass second.0.pass;
+    known_log = prefix_on _ _ _ first.0.known_log second.0.known_log;
     is = second.0.is ∙ ap (λ (o : OnCpu). record o { view = record o.view { pass = y.view.pass; noted_pass = y.view.noted_pass }; made = y.made; known_log = y.known_log; log = y.log }) first.0.is;
     log = goes_on (IsNote x.view.id) x.log m.log y.log first.0.log (subst (λ (c : ℕ). GoesOnBy (IsNote c) m.log y.log) (ap (λ (o : OnCpu). o.view.id) first.0.is) second.0.log);
   },

@@ -43,19 +43,16 @@ pairs [] [] le each = refl
 pairs [] (x ∷ keeps) le each = absurd (omega (arith, le))
 pairs (r ∷ rows) [] le each = refl
 pairs (r ∷ rows) (x ∷ keeps) le each =
-    let first : r.keeps ≡ x = each 0 (omega arith) in
-    let rest = pairs rows keeps (omega (arith, le)) (λ t lt. each (suc t) (omega (arith, lt))) in
-    rw (rest, first) refl
+    rw (pairs rows keeps (omega (arith, le)) (λ t lt. each (suc t) (omega (arith, lt))), each 0 (omega arith)) refl
 
 pub first_fit_in_rows : {log : List LogItem} (a : Settings) (k : KeeperView) (rows : List KeptSlot) (n : ℕ) (x : OnKeeper) → IsOurKeeper a k rows n
     → record { view = k; slots = states_of rows; log = log } ≡ x → position is_available_row (take a.slots rows) ≡ first_fit x
 first_fit_in_rows a k rows n x our is =
     let size : length k.keeps ≡ a.slots = our.view.sized.keeps in
     let most = (ranges a our.view.fit).slots in
-    let long = our.rows.size in
     ap (λ m. position is_available_row (take m rows)) (sym size)
     ∙ (sym (position_map is_available pair_of (take (length k.keeps) rows))
-    ∙ (ap (position is_available) (sym (pairs rows k.keeps (omega (arith, size, most, long)) (λ t lt. (our.rows.each t (omega (arith, size, lt))).keeps)))
+    ∙ (ap (position is_available) (sym (pairs rows k.keeps (omega (arith, size, most, our.rows.size)) (λ t lt. (our.rows.each t (omega (arith, size, lt))).keeps)))
     ∙ ap first_fit is))
 
 -- What looks and collections for a retired entry ask of the keeper, and what they leave.
@@ -82,27 +79,14 @@ pub may_work : {table : TableId} {log : List LogItem} (a : Settings) (k : Keeper
 may_work a k rows n x t e our is retired =
     let there : slot_at (states_of rows) t ≡ Retired e = ap (λ (y : OnPlainKeeper). slot_at y.keeper.slots t) is ∙ retired in
     let known = retired_in a k rows t e our.rows there in
-    subst (λ (y : OnPlainKeeper). MayWork y.words.settings y.keeper t) is record {
-      settings = our.view.settings;
-      rest = our.view.rest;
-      slot = known.0;
-      e = e;
-      retired = there;
-      known = known.1;
-      keeps = λ d kept. keeps_iface k t d e our.is_shown known.1 kept;
-    }
+    subst (λ (y : OnPlainKeeper). MayWork y.words.settings y.keeper t) is
+    (search (our.view.settings, our.view.rest, known.0, there, known.1, λ (d : ℕ). keeps_iface k t d e our.is_shown known.1))
 
 -- there still is after some
 pub still_works : (z : Settings) (a b : OnKeeper) (t : ℕ) → MayWork z a t → HasWorkedFor a t b → MayWork z b t
-still_works z a b t may worked = record {
-  settings = ap (λ (k : KeeperView). k.settings) worked.only ∙ may.settings;
-  rest = ap (λ (k : KeeperView). k.due) worked.only ∙ may.rest;
-  slot = may.slot;
-  e = may.e;
-  retired = ap (λ (xs : List Slot). slot_at xs t) worked.slots ∙ may.retired;
-  known = ap (λ (k : KeeperView). slot_at k.slots t) worked.only ∙ may.known;
-  keeps = λ d kept. may.keeps d (sym (ap (λ (k : KeeperView). kept_at k.keeps t) worked.only) ∙ kept);
-}
+still_works z a b t may worked =
+    subst (λ (p : KeeperView × List Slot). MayWork z (record b { view = p.0; slots = p.1 }) t) (λ i. (sym worked.only i, sym worked.slots i))
+    (search (may.settings, may.rest, may.slot, may.retired, may.known, may.keeps))
 
 -- One turn after the other
 
@@ -271,10 +255,8 @@ snapshot_at : (z : Settings) (a : OnKeeper) (l : KeeperView) (t c w : ℕ) → M
     → (x : ℕ) × ((mark_at a.view.marks t c).snapshot ≡ Some x)
 snapshot_at z a l t c w may cpu made =
     let seen = seen_by_keeper made.g a.view made.good made.before in
-    let rest : at_rest made.g.due ≡ true = ap at_rest (sym seen.due ∙ may.rest) in
     let gone : is_retired (slot_at made.g.slots t) ≡ true = ap is_retired (ap (λ (xs : List Slot). slot_at xs t) (sym seen.slots) ∙ may.known) in
-    let lt = subst (λ (s : Settings). c < s.cpus) (sym may.settings ∙ seen.settings) cpu in
-    let x = snapshot_stands made.g t c made.good.holds rest gone lt in
+    let x = snapshot_stands made.g t c made.good.holds (ap at_rest (sym seen.due ∙ may.rest)) gone (subst (λ (s : Settings). c < s.cpus) (sym may.settings ∙ seen.settings) cpu) in
     (x.0, ap (λ (ms : List (List Mark)). (mark_at ms t c).snapshot) seen.marks ∙ x.1)
 
 pub sees_section : (z : Settings) (a b : OnKeeper) (t c w : ℕ) → MayWork z a t → c < z.cpus → HasLooked a.view (Look (Some t) c) (Word w) t c w b.view
@@ -319,33 +301,18 @@ ends_since old log new d on ends = (
 )
 
 section_since : (a b d : OnKeeper) (t c : ℕ) → HasWorkedFor a t b → SeesSection b t c d → SeesSection a t c d
-section_since a b d t c worked sees = record {
-  word = sees.word;
-  look = looked_since a b d t sees.word _ worked sees.look;
-  log = ends_since a.log b.log d.log (has_looked t c sees.word) worked.log sees.log;
-  odd = sees.odd;
-  snapshot = sees.snapshot;
-  unpassed = sees.unpassed;
-}
+section_since a b d t c worked sees =
+    search (looked_since a b d t sees.word _ worked sees.look, ends_since a.log b.log d.log (has_looked t c sees.word) worked.log sees.log, sees.odd, sees.snapshot, sees.unpassed)
 
 passive_since : (a b d : OnKeeper) (t c : ℕ) → HasWorkedFor a t b → SeesPassive b t c d → SeesPassive a t c d
-passive_since a b d t c worked sees = record {
-  word = sees.word;
-  look = looked_since a b d t sees.word _ worked sees.look;
-  log = ends_since a.log b.log d.log (has_looked_passive t c sees.word) worked.log sees.log;
-  some = sees.some;
-  unclear = sees.unclear;
-}
+passive_since a b d t c worked sees =
+    search (looked_since a b d t sees.word _ worked sees.look, ends_since a.log b.log d.log (has_looked_passive t c sees.word) worked.log sees.log, sees.some, sees.unclear)
 
 -- The first CPU of all that a look stops at
 
 pub grace_met : (z : Settings) (a b d : OnKeeper) (t c : ℕ) → MayWork z a t → c < z.cpus → HasLookedFor a t b → PassedBelow b.view t c → HasLookedFor b t d → SeesSection b t c d → MeetsGrace a t c d
-grace_met z a b d t c may cpu before passed looked_ sees = record {
-  cpu = subst (λ (s : Settings). c < s.cpus) (sym may.settings) cpu;
-  sees = section_since a b d t c before.worked sees;
-  lesser = still_passed b d t c looked_.worked passed;
-  leaves = looked_more a b d t before looked_;
-}
+grace_met z a b d t c may cpu before passed looked_ sees =
+    assumption (subst (λ (s : Settings). c < s.cpus) (sym may.settings) cpu, section_since a b d t c before.worked sees, still_passed b d t c looked_.worked passed, looked_more a b d t before looked_)
 
 pub passive_met : (z : Settings) (a b d : OnKeeper) (t c : ℕ) → MayWork z a t → c < z.cpus → PassedBelow a.view t z.cpus → HasLookedFor a t b → ClearBelow b.view t c → HasLookedFor b t d
     → SeesPassive b t c d → MeetsPassive a t c d
@@ -362,13 +329,8 @@ passive_met z a b d t c may cpu passed before clear looked_ sees =
 
 -- looks for sections before it change nothing of that
 pub passive_after : (a b d : OnKeeper) (t c : ℕ) → HasLookedFor a t b → MeetsPassive b t c d → MeetsPassive a t c d
-passive_after a b d t c before meets = record {
-  cpu = subst (λ (s : Settings). c < s.cpus) (ap (λ (k : KeeperView). k.settings) before.worked.only) meets.cpu;
-  sees = passive_since a b d t c before.worked meets.sees;
-  passed = meets.passed;
-  lesser = meets.lesser;
-  leaves = looked_more a b d t before meets.leaves;
-}
+passive_after a b d t c before meets =
+    assumption (subst (λ (k : KeeperView). c < k.settings.cpus) before.worked.only meets.cpu, passive_since a b d t c before.worked meets.sees, looked_more a b d t before meets.leaves)
 
 -- The end of the work, at a slot with all marks
 
@@ -378,13 +340,6 @@ settles_after z a m d t (Grace c) may worked passed clear collected ends = absur
 settles_after z a m d t (Passive c) may worked passed clear collected ends = absurd ends
 settles_after z a m d t (Local n) may worked passed clear collected ends =
     let settings : m.view.settings ≡ z = ap (λ (k : KeeperView). k.settings) worked.only ∙ may.settings in
-    subst (λ (x : OnKeeper). MeetsLocal a t n x) (sym ends.3) (record {
-      some = ends.0;
-      held = ends.1;
-      total = ends.2;
-      passed = subst (λ (s : Settings). PassedBelow m.view t s.cpus) (sym settings) passed;
-      clear = subst (λ (s : Settings). ClearBelow m.view t s.cpus) (sym settings) clear;
-      collected = subst (λ (s : Settings). CollectedBelow m.view t s.cpus) (sym settings) collected;
-      leaves = worked;
-    })
+    let all = subst (λ (s : Settings). PassedBelow m.view t s.cpus × (ClearBelow m.view t s.cpus × CollectedBelow m.view t s.cpus)) (sym settings) (passed, (clear, collected)) in
+    subst (λ (x : OnKeeper). MeetsLocal a t n x) (sym ends.3) (assumption all)
 settles_after z a m d t (Freed u) may worked passed clear collected ends = (ends.0, record { between = m; leaves = worked; drained = ends.1; ended = ends.2 })

@@ -1,10 +1,10 @@
 -- Whether the handles have all CPUs.
-use Rattle.std.proofs.Common.{◌≡◌, ◌<◌, List, length, Option, refl, sym, ap, ◌∙◌, arith, get_or}
+use Rattle.std.proofs.Common.{◌≡◌, ◌<◌, below_more, List, length, Option, refl, sym, ap, ◌∙◌, arith, get_or}
 use Rattle.std.proofs.lemmas.Bool.{false≢true}
 use Rattle.passive_list.specs.Common.{OnPlainCpu}
 use Rattle.c_calls.specs.Opening.{bodies_of, body_at}
 use Rattle.c_calls.proofs.Handles.{body_is, count_bodies, same_bodies}
-use Rattle.c_calls.proofs.Audited.{here_more}
+use Rattle.c_calls.proofs.Audited.{IsHere}
 use Rattle.c_calls.proofs.audit.are_all.Goals as goal
 
 pub returns-then-cpus-count : goal.returns-then-cpus-count
@@ -33,7 +33,7 @@ loop-c-preserved c =
     let lt : k < length hs = omega (arith, c.loop-c-test.true, c.if-cpus-count.false, count_bodies hs, count_bodies c.args.cpus.now, ap length i.0) in
     let at : body_at (bodies_of c.args.cpus.now) k ≡ (get_or hs k h).body = ap (λ (l : List (Option OnPlainCpu)). body_at l k) (sym i.0) ∙ body_is hs k h lt in
     let had = c.is_cpu.ensures.yes c.if-not-is_cpu.false in
-    (same_bodies hs k c.is_cpu.new.cpu h lt c.is_cpu.ensures.same ∙ i.0, here_more (bodies_of c.args.cpus.now) k i.1 (had.0, at ∙ had.1, had.2))
+    (same_bodies hs k c.is_cpu.new.cpu h lt c.is_cpu.ensures.same ∙ i.0, below_more (IsHere (bodies_of c.args.cpus.now)) k i.1 (had.0, at ∙ had.1, had.2))
 
 pub returns : goal.returns
 returns c =

@@ -29,7 +29,6 @@ returns-then-not-are_all c =
 
 pub returns-then-list-count : goal.returns-then-list-count
 returns-then-list-count c =
-    let z = c.args.keeper.now.words.settings in
     let cs = bodies_of c.args.cpus.now in
     let all = subst (λ (a : Settings). AreAllHere a.cpus cs) c.settings.ensures.value (c.are_all.ensures.all c.if-not-are_all.false) in
     record {
@@ -38,7 +37,7 @@ returns-then-list-count c =
       notes = λ (done : NO_ROOM ≡ DONE). absurd (omega (arith, done));
       unchanged = λ _. (refl, c.are_all.ensures.same);
       place = c.put.ensures.same;
-      answer = no_room z c.args.keeper.now.keeper cs _ _ _ _ all (omega (arith, c.if-list-count.true, c.count_entries-count.ensures)) refl
+      answer = no_room c.args.keeper.now.words.settings c.args.keeper.now.keeper cs _ _ _ _ all (omega (arith, c.if-list-count.true, c.count_entries-count.ensures)) refl
           (c.put.ensures.value ∙ ap (put c.args.length.now.value) c.count_entries-count.ensures);
     }
 

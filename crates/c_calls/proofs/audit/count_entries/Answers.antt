@@ -6,10 +6,8 @@ use Rattle.c_calls.proofs.audit.count_entries.Goals as goal
 
 pub overflow_add-count : goal.overflow_add-count
 overflow_add-count c =
-    let k = c.args.keeper.now.keeper in
-    omega (arith, c.loop-t.invariant, c.entries_in-count.ensures, occupied_few k c.loop-t.t, one_at_most c.slot.result)
+    omega (arith, c.loop-t.invariant, c.entries_in-count.ensures, occupied_few c.args.keeper.now.keeper c.loop-t.t, one_at_most c.slot.result)
 
 pub loop-t-preserved : goal.loop-t-preserved
 loop-t-preserved c =
-    let k = c.args.keeper.now.keeper in
-    (λ i. c.loop-t.invariant i + (c.entries_in-count.ensures ∙ ap entries_in c.slot.ensures) i) ∙ sym (occupied_next k c.loop-t.t)
+    (λ i. c.loop-t.invariant i + (c.entries_in-count.ensures ∙ ap entries_in c.slot.ensures) i) ∙ sym (occupied_next c.args.keeper.now.keeper c.loop-t.t)

@@ -1,5 +1,5 @@
 -- One CPU more has heard, and all have.
-use Rattle.std.proofs.Common.{◌<◌, ◌∙◌, ◌++◌, length, ap, arith, None}
+use Rattle.std.proofs.Common.{◌<◌, ◌≤◌, ◌∙◌, ◌++◌, length, ap, arith, None}
 use Rattle.cpu_words.specs.Common.{heard_from}
 use Rattle.passive_list.specs.Common.{OnKeeper}
 use Rattle.name_registry.proofs.Gathered.{gathered_alike, gathered_notes, listened}
@@ -13,12 +13,10 @@ pass_on-note-requires c =
     let l = c.loop-c in
     let i = l.invariant in
     let cs = bodies_of c.args.cpus.now in
-    let w = c.args.keeper.now.words in
-    let size = gathered_size cs l.cpus l.c _ _ i.gathered in
     let lt : l.c < length l.cpus = omega (arith, c.loop-c-test.true, l.auto.cpus) in
     record {
-      cpu = behind_next c.args.keeper.now.words.settings.cpus w cs l.cpus l.c c.index-cpus-c.result l.note.table c.requires.all c.requires.same
-          (omega (arith, lt, size, c.requires.all.count)) lt i.table i.same;
+      cpu = behind_next c.args.keeper.now.words.settings.cpus c.args.keeper.now.words cs l.cpus l.c c.index-cpus-c.result l.note.table c.requires.all c.requires.same
+          (omega (arith, lt, gathered_size cs l.cpus l.c _ _ i.gathered, c.requires.all.count)) lt i.table i.same;
     }
 
 pub loop-c-preserved : goal.loop-c-preserved
@@ -27,9 +25,8 @@ loop-c-preserved c =
     let i = l.invariant in
     let cs = bodies_of c.args.cpus.now in
     let w = c.args.keeper.now.words in
-    let size = gathered_size cs l.cpus l.c _ _ i.gathered in
     let lt : l.c < length l.cpus = omega (arith, c.loop-c-test.true, l.auto.cpus) in
-    let low : l.c < c.args.keeper.now.words.settings.cpus = omega (arith, lt, size, c.requires.all.count) in
+    let low : l.c < c.args.keeper.now.words.settings.cpus = omega (arith, lt, gathered_size cs l.cpus l.c _ _ i.gathered, c.requires.all.count) in
     let has = c.requires.all.each l.c low in
     let x = c.pass_on-note in
     let p = x.ensures in
@@ -42,25 +39,21 @@ loop-c-preserved c =
       same = behind_more cs l.cpus l.c c.index-cpus-c.result x.new.cpu l.note.view l.note.known_log x.result.table x.result.known_log lt p i.same;
     }
 
-pub returns-clause-alike : goal.returns-clause-alike
-returns-clause-alike c =
+pub returns : goal.returns
+returns c =
     let l = c.loop-c in
-    gathered_alike _ c.args.keeper.now.keeper _ (cpus_in (bodies_of c.args.cpus.now)) (cpus_in (bodies_of l.cpus)) l.c _ l.note.known_log l.invariant.gathered
-    (let long = cpus_size l.cpus in omega (arith, c.loop-c-test.false, l.auto.cpus, long)) l.invariant.keeper c.hear_keeper.ensures.known_log c.hear_keeper.ensures.own
-
-pub returns-clause-keeper : goal.returns-clause-keeper
-returns-clause-keeper c =
-    let told = c.loop-c.invariant.keeper in
-    let e = c.hear_keeper.ensures in (
-      e.words ∙ c.loop-c.invariant.words,
-      listened c.args.keeper.now.keeper c.hear_keeper.new.keeper.keeper c.loop-c.note.view _ _ (e.view ∙ ap (λ (k : OnKeeper). record k.view { noted_pass = c.loop-c.note.view }) told)
-          (e.slots ∙ ap (λ (k : OnKeeper). k.slots) told) (e.log ∙ ap (λ (k : OnKeeper). k.log ++ heard_from None c.loop-c.note.teller) told),
-    )
-
-pub returns-clause-cpus : goal.returns-clause-cpus
-returns-clause-cpus c = all_heard c.args.keeper.now.words.settings.cpus (bodies_of c.args.cpus.now) c.loop-c.cpus c.loop-c.c _ _ c.requires.all c.loop-c.invariant.gathered
-    (omega (arith, c.loop-c-test.false, c.loop-c.auto.cpus)) c.loop-c.invariant.same
-
-pub returns-clause-notes : goal.returns-clause-notes
-returns-clause-notes c = gathered_notes (cpus_in (bodies_of c.args.cpus.now)) (cpus_in (bodies_of c.loop-c.cpus)) c.loop-c.c _ _ c.loop-c.invariant.gathered
-    (let long = cpus_size c.loop-c.cpus in omega (arith, c.loop-c-test.false, c.loop-c.auto.cpus, long))
+    let i = l.invariant in
+    let e = c.hear_keeper.ensures in
+    let cs = bodies_of c.args.cpus.now in
+    let done : length l.cpus ≤ l.c = omega (arith, c.loop-c-test.false, l.auto.cpus) in
+    let all_done : length (cpus_in (bodies_of l.cpus)) ≤ l.c = omega (arith, done, cpus_size l.cpus) in
+    record {
+      alike = gathered_alike _ c.args.keeper.now.keeper _ (cpus_in cs) (cpus_in (bodies_of l.cpus)) l.c _ l.note.known_log i.gathered all_done i.keeper e.known_log e.own;
+      keeper = (
+        e.words ∙ i.words,
+        listened c.args.keeper.now.keeper c.hear_keeper.new.keeper.keeper l.note.view _ _ (e.view ∙ ap (λ (k : OnKeeper). record k.view { noted_pass = l.note.view }) i.keeper)
+            (e.slots ∙ ap (λ (k : OnKeeper). k.slots) i.keeper) (e.log ∙ ap (λ (k : OnKeeper). k.log ++ heard_from None l.note.teller) i.keeper),
+      );
+      cpus = all_heard c.args.keeper.now.words.settings.cpus cs l.cpus l.c _ _ c.requires.all i.gathered done i.same;
+      notes = gathered_notes (cpus_in cs) (cpus_in (bodies_of l.cpus)) l.c _ _ i.gathered all_done;
+    }

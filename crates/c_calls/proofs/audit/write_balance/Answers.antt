@@ -12,14 +12,12 @@ use Rattle.c_calls.proofs.audit.write_balance.Goals as goal
 
 pub bounds-rows-t : goal.bounds-rows-t
 bounds-rows-t c =
-    let had = has _ _ _ _ _ _ _ c.rows.ensures.agree (keeper_is c.rows.ensures.are) c.requires.entry in
-    omega (arith, had.within, c.rows.ensures.agree.rows.size)
+    omega (arith, (has _ _ _ _ _ _ _ c.rows.ensures.agree (keeper_is c.rows.ensures.are) c.requires.entry).within, c.rows.ensures.agree.rows.size)
 
 pub less_bias-total-requires : goal.less_bias-total-requires
 less_bias-total-requires c =
     let had = has _ _ _ _ _ _ _ c.rows.ensures.agree (keeper_is c.rows.ensures.are) c.requires.entry in
-    let total = c.total_or_bias.ensures ∙ had.total in
-    omega (arith, total, had.high)
+    omega (arith, c.total_or_bias.ensures ∙ had.total, had.high)
 
 pub write_locals-requires-clause-entry : goal.write_locals-requires-clause-entry
 write_locals-requires-clause-entry c =
@@ -29,16 +27,14 @@ write_locals-requires-clause-entry c =
 pub overflow_add-held : goal.overflow_add-held
 overflow_add-held c =
     let had = has _ _ _ _ _ _ _ c.rows.ensures.agree (keeper_is c.rows.ensures.are) c.requires.entry in
-    let read = c.total_or_bias.ensures ∙ had.total in
-    omega (arith, ints, read, had.low, had.high, c.less_bias-total.ensures, c.sum_of_first.ensures.least, c.sum_of_first.ensures.most)
+    omega (arith, ints, c.total_or_bias.ensures ∙ had.total, had.low, had.high, c.less_bias-total.ensures, c.sum_of_first.ensures.least, c.sum_of_first.ensures.most)
 
 pub returns-clause-tally : goal.returns-clause-tally
 returns-clause-tally c =
     let had = has _ _ _ _ _ _ _ c.rows.ensures.agree (keeper_is c.rows.ensures.are) c.requires.entry in
     let read = c.total_or_bias.ensures ∙ had.total in
     let total = c.less_bias-total.ensures ∙ ap less_bias read in
-    let its = ap (λ (z : Settings). sum_of (take z.cpus c.write_locals.new.row)) c.settings.ensures.value in
-    let sum = c.sum_of_first.ensures.value ∙ its in
+    let sum = c.sum_of_first.ensures.value ∙ ap (λ (z : Settings). sum_of (take z.cpus c.write_locals.new.row)) c.settings.ensures.value in
     tally_told c.args.keeper.now.keeper (cpus_in (bodies_of c.args.cpus.now)) c.args.keeper.now.words.settings.cpus c.args.number c.args.t c.from-place.result _ _ _ c.from-place.ensures
     c.write_locals.ensures.value
     (omega (arith, ints, total, c.less_bias-total.type_inv)) (omega (arith, ints, sum, read, had.low, had.high, c.less_bias-total.ensures, c.sum_of_first.ensures.least, c.sum_of_first.ensures.most))

@@ -16,12 +16,10 @@ local-requires-clause-cpu c =
     let i = c.loop-c.invariant in
     let hs = c.loop-c.cpus in
     let k = c.loop-c.c in
-    let h = c.index-cpus-at.result in
     let few : k < c.args.keeper.now.words.settings.cpus = omega (arith, c.loop-c-test.true, ap (λ (z : Settings). z.cpus) c.settings-c-end.ensures.value) in
     let lt : k < length hs = omega (arith, few, c.requires.all.count, count_bodies hs, ap length i.0) in
-    let at : body_at (bodies_of c.args.cpus.now) k ≡ (get_or hs k h).body = ap (λ (l : List (Option OnPlainCpu)). body_at l k) (sym i.0) ∙ body_is hs k h lt in
     let has = c.requires.all.each k few in
-    (has.0, sym at ∙ has.1)
+    (has.0, sym (ap (λ (l : List (Option OnPlainCpu)). body_at l k) (sym i.0) ∙ body_is hs k c.index-cpus-at.result lt) ∙ has.1)
 
 pub loop-c-preserved : goal.loop-c-preserved
 loop-c-preserved c =

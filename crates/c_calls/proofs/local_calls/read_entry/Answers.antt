@@ -1,5 +1,5 @@
 -- The slot is that of the reference's entry.
-use Rattle.std.proofs.Common.{◌<◌, ap, arith}
+use Rattle.std.proofs.Common.{ap, arith}
 use Rattle.passive_list.specs.Common.{OnPlainRef}
 use Rattle.c_calls.proofs.local_calls.read_entry.Goals as goal
 

@@ -1,5 +1,5 @@
 -- An attach by a name that isn't both words 0.
-use Rattle.std.proofs.Common.{None, Some, Ok, refl, sym, ap, subst, ◌∙◌}
+use Rattle.std.proofs.Common.{None, Ok, refl, sym, ap, subst, ◌∙◌}
 use Rattle.std.specs.Prelude.{Result}
 use Rattle.c_calls.specs.Types.{Entry, Iface, Name, Refusal}
 use Rattle.c_handles.specs.Bodies.{OnLocalBody}
@@ -16,9 +16,8 @@ returns-in-Ok-clause-call c =
     let v = c.args.local in
     let l = c.attach_iface.new.keeper in
     let y = c.attach_iface.new.cpu in
-    let e = c.attach_iface.ensures in
     let named = sym c.from_key_words.ensures.value ∙ c.in-Some.is in
-    let made : AttachesIface (record_of Iface c.in-Some.name c.args.value) v k x l y c.attach_iface.result = record { answer = e.answer; ok = e.ok; refused = e.refused; words = e.words } in
+    let made : AttachesIface (record_of Iface c.in-Some.name c.args.value) v k x l y c.attach_iface.result = assumption c.attach_iface.ensures in
     record {
       bad = λ none. absurd (no_name _ _ named none);
       good = λ m is. subst (λ (n : Name). (r : Result Entry (Refusal × OnLocalBody)) × AttachesIface (record_of Iface n c.args.value) v k x l y r

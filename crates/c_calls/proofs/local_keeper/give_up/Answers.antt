@@ -1,4 +1,3 @@
--- `give_up`: what `spend` requires.
 use Rattle.std.proofs.Common.{sym, subst, ◌∙◌}
 use Rattle.cpu_words.specs.Common.{IsFoundCollected}
 use Rattle.passive_list.specs.Common.{OnPlainKeeper}

@@ -1,4 +1,3 @@
--- `cpus_of`: what it returns; what `of_seat` and `of` require; that each turn of its loop keeps the invariants; that nothing overflows.
 use Rattle.passive_list.specs.Common.{no_memory}
 use Rattle.std.proofs.Common.{◌≡◌, ◌∙◌, ◌+◌, ◌-◌, ◌<◌, ◌∷◌, [], length, length-append, ap, arith, rules, subst, sym, IsTrue}
 use Rattle.c_calls.specs.Types.{Settings, CpuView}
@@ -32,8 +31,7 @@ pub of_seat-cpu-requires-clause-new : goal.of_seat-cpu-requires-clause-new
 of_seat-cpu-requires-clause-new c =
     let taken = take_last _ _ _ _ _ c.in-Some.ensures.items c.loop-seat.invariant.0 in
     let its = sym (ap (λ (s : Seated CpuView). s.view.settings) taken.last) in
-    let id = sym (c.len-id.ensures ∙ c.pop.new.self.ok.0) in
-    ap (λ (s : Seated CpuView). s.view) taken.last ∙ (λ i. new_cpu (its i) (id i))
+    ap (λ (s : Seated CpuView). s.view) taken.last ∙ (λ i. new_cpu (its i) ((sym (c.len-id.ensures ∙ c.pop.new.self.ok.0)) i))
 
 pub of_seat-cpu-requires-clause-rows : goal.of_seat-cpu-requires-clause-rows
 of_seat-cpu-requires-clause-rows c =
@@ -76,7 +74,6 @@ loop-seat-preserved c =
 pub returns : goal.returns
 returns c =
     let n = c.args.words.now.value.settings.cpus in
-    let left = at_none _ c.pop.result c.pop.ensures.cases c.in_default.not-Some in
-    let none : length c.loop-seat.seats.items ≡ 0 = omega (arith, left.0, c.loop-seat.seats.ok.0) in
+    let none : length c.loop-seat.seats.items ≡ 0 = omega (arith, (at_none _ c.pop.result c.pop.ensures.cases c.in_default.not-Some).0, c.loop-seat.seats.ok.0) in
     let all : n - length c.loop-seat.seats.items ≡ n = omega (arith, none) in
     c.loop-seat.invariant.1 ∙ ap (opened_down c.args.words.now.value n) all

@@ -1,4 +1,3 @@
--- `look_anew`: its clause `call`.
 use Rattle.std.proofs.Common.{subst}
 use Rattle.c_calls.specs.Types.{Name}
 use Rattle.cpu_words.specs.Common.{key_with}

@@ -1,4 +1,3 @@
--- `recall`: what it recalls.
 use Rattle.std.proofs.Common.{subst}
 use Rattle.c_calls.specs.Types.{Name}
 use Rattle.cpu_words.specs.Common.{key_with}

@@ -1,4 +1,3 @@
--- `glance`: its clause `glanced`.
 use Rattle.std.proofs.Common.{Bool, List, ℕ, ap, subst}
 use Rattle.name_registry.specs.Common.{HasGlanced}
 use Rattle.c_calls.proofs.waiting.glance.Goals as goal

@@ -1,5 +1,5 @@
 -- Past the table's slots nothing is passed.
-use Rattle.std.proofs.Common.{◌≤◌, ap, arith, map}
+use Rattle.std.proofs.Common.{ap, arith, map}
 use Rattle.c_calls.specs.Types.{MOST_SLOTS, Settings}
 use Rattle.registry_values.proofs.Fit.{ranges}
 use Rattle.c_handles.specs.values.Texts.{none_or_number}

@@ -1,4 +1,3 @@
--- `pass_retired`: its clause `passed`.
 use Rattle.std.proofs.Common.{map, subst}
 use Rattle.c_calls.specs.Types.{Settings}
 use Rattle.c_handles.specs.values.Texts.{none_or_number}
@@ -11,8 +10,5 @@ returns-clause-passed c =
     let hear = c.hear_cpu.ensures in
     let again = c.hear_cpu-2.ensures in
     let show = c.show_cpu.ensures in
-    let numbers = map none_or_number c.args.retired.now in
-    subst (λ (z : Settings). HasPassedAll z c.args.keeper.now.keeper c.args.cpu.now.cpu numbers c.show_cpu.new.keeper.keeper c.show_cpu.new.cpu.cpu) c.requires.words.1
-    (made_passes c.args.words.now.settings numbers c.args.keeper.now.keeper c.hear_cpu.new.keeper.keeper c.pass_entries.new.keeper.keeper c.hear_cpu-2.new.keeper.keeper
-    c.show_cpu.new.keeper.keeper c.args.cpu.now.cpu c.hear_cpu.new.cpu.cpu c.hear_cpu-2.new.cpu.cpu c.show_cpu.new.cpu.cpu
-    hear.known hear.keeper hear.cpu c.pass_entries.ensures.passes again.own again.keeper again.cpu show.keeper show.cpu show.told show.log)
+    subst (λ (z : Settings). HasPassedAll z c.args.keeper.now.keeper c.args.cpu.now.cpu (map none_or_number c.args.retired.now) c.show_cpu.new.keeper.keeper c.show_cpu.new.cpu.cpu) c.requires.words.1
+    (made_passes _ _ _ _ _ _ _ _ _ _ _ hear.known hear.keeper hear.cpu c.pass_entries.ensures.passes again.own again.keeper again.cpu show.keeper show.cpu show.told show.log)

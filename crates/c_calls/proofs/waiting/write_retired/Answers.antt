@@ -16,9 +16,8 @@ loop-t-init c = record { size = refl; there = λ t lt. absurd (omega (arith, lt)
 pub loop-t-preserved : goal.loop-t-preserved
 loop-t-preserved c =
     let l = c.loop-t in
-    let own = c.settings-t-end.ensures.own in
     let slots = ap (λ (z : Settings). z.slots) c.settings-t-end.ensures.value in
-    let few = (ranges c.args.keeper.now.words.settings own.1.agree.view.fit).slots in
+    let few = (ranges c.args.keeper.now.words.settings c.settings-t-end.ensures.own.1.agree.view.fit).slots in
     let number = c.number_or_none.result in
     let put = c.number_or_none.ensures ∙ ap number_or_none (c.retired_number.ensures ∙ ap retired_number c.slot.ensures) in
     record {

@@ -1,4 +1,3 @@
--- `advance_slot`: its clause `meets`.
 use Rattle.name_registry.proofs.Worked.{passive_after, settles_after, still_clear, still_passed, worked_more}
 use Rattle.name_registry.proofs.advancing.advance_slot.Goals as goal
 

@@ -1,5 +1,4 @@
--- `clears`: its clauses `leaves` and `sees`; what `look_passive` requires.
-use Rattle.std.proofs.Common.{◌∙◌, sym}
+use Rattle.std.proofs.Common.{sym}
 use Rattle.name_registry.proofs.Worked.{look_leaves, cleared_grows}
 use Rattle.name_registry.proofs.advancing.clears.Goals as goal
 

@@ -1,4 +1,3 @@
--- `collect_all`: that each turn of its loop keeps the invariants.
 use Rattle.std.proofs.Common.{◌≡◌, ◌∙◌, true}
 use borrow.Author.Count.{below_more}
 use Rattle.protocol.specs.Common.{mark_at}

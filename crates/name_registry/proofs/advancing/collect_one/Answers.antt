@@ -1,4 +1,3 @@
--- `collect_one`: its clauses `leaves` and `collected`; what `collect` requires.
 use Rattle.name_registry.proofs.Worked.{collection_leaves}
 use Rattle.name_registry.proofs.advancing.collect_one.Goals as goal
 

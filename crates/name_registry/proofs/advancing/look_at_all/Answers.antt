@@ -1,4 +1,3 @@
--- `look_at_all`: its clauses `met`, `leaves` and `log`; what `passes` requires; that each turn of its loop keeps the invariants.
 use Rattle.std.proofs.Common.{◌≡◌, ◌∙◌, true, sym, subst, ◌<◌}
 use borrow.Author.Count.{below_more}
 use Rattle.name_registry.specs.Types.{Settings}

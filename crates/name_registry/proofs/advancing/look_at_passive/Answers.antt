@@ -1,4 +1,3 @@
--- `look_at_passive`: its clauses `met` and `leaves`; that each turn of its loop keeps the invariants.
 use Rattle.std.proofs.Common.{◌≡◌, ◌∙◌, true, sym, subst, ◌<◌}
 use borrow.Author.Count.{below_more}
 use Rattle.name_registry.specs.Types.{Settings}

@@ -1,4 +1,3 @@
--- `passes`: its clauses `leaves` and `sees`.
 use Rattle.std.proofs.Common.{◌∙◌, sym}
 use Rattle.name_registry.proofs.Worked.{sees_section, looked_none, look_leaves, looked_grows}
 use Rattle.name_registry.proofs.advancing.passes.Goals as goal

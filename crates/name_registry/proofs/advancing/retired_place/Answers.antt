@@ -1,4 +1,3 @@
--- `retired_place`: its clauses `value` and `works`.
 use Rattle.std.proofs.Common.{◌∙◌, sym}
 use Rattle.passive_list.proofs.Rows.{keeper_is}
 use Rattle.name_registry.proofs.Worked.{retired_in_rows, place_works}

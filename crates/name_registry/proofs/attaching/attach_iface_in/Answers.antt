@@ -1,4 +1,3 @@
--- `attach_iface_in`: its clauses `answer`, `refused` and `ok`; what `publish_iface` requires.
 use Rattle.std.proofs.Common.{◌≡◌, ◌++◌, ◌∙◌, ℕ, ◌+◌, ◌<◌, ◌≤◌, length, Result, Ok, IfOk, refl, sym, ap, subst}
 use Rattle.name_registry.specs.Types.{Entry, Keep, Done, Refusal, KeeperView, Vacant}
 use Rattle.registry_values.specs.Common.{attach_answer, is_iface, live_count, slot_at}
@@ -37,9 +36,8 @@ publish_iface-entry-requires-clause-driver c = a_driver _ (ap is_iface (sym c.ki
 
 pub returns-clause-answer : goal.returns-clause-answer
 returns-clause-answer c =
-    let takes = taken (goal.at.returns-clause-answer c).After-hear_cpu in
     let inside = inside_is c.inside.result c.args.cpu.now.cpu.view.begin c.inside.ensures in
-    sym (ap (λ (e : Entry). Ok e) (c.publish_iface-entry.ensures.entry ∙ takes.entry)
+    sym (ap (λ (e : Entry). Ok e) (c.publish_iface-entry.ensures.entry ∙ (taken (goal.at.returns-clause-answer c).After-hear_cpu).entry)
     ∙ (c.in-Ok.ensures.value ∙ (λ i. attach_answer (inside i) ((c.is_iface.ensures ∙ ap is_iface c.kind.ensures) i) (c.entry_for-given.ensures.value i))))
 
 pub returns-in-Err-clause-refused : goal.returns-in-Err-clause-refused
@@ -56,9 +54,8 @@ returns-clause-ok c =
     let e = c.publish_iface-entry.result in
     let b = c.publish_iface-entry.new.keeper.keeper in
     let has = c.publish_iface-entry.ensures.change in
-    let after = ap (λ (k : KeeperView). k.history) has.attached.entry.view in
     let met = attach_met a x m c.hear_cpu.new.cpu.cpu e b c.show_cpu.new.cpu.cpu c.hear_cpu.ensures.keeper c.hear_cpu.ensures.cpu c.hear_cpu.ensures.seen
-    (ap (λ x. x.number) c.publish_iface-entry.ensures.entry) after c.show_cpu.ensures.cpu c.show_cpu.ensures.log in
+    (ap (λ x. x.number) c.publish_iface-entry.ensures.entry) (ap (λ (k : KeeperView). k.history) has.attached.entry.view) c.show_cpu.ensures.cpu c.show_cpu.ensures.log in
     let slot = ap (λ (f : Entry). f.slot) c.publish_iface-entry.ensures.entry in
     let kept = subst (λ (t : ℕ). LogsAttach m.view e (m.log ++ did (Keep t v.entry.number) Done) b.log) (sym slot) c.publish_iface-entry.ensures.log in
     let logs = subst (λ (k : OnKeeper). LogsAttach k.view e (k.log ++ did (Keep e.slot v.entry.number) Done) b.log) c.hear_cpu.ensures.keeper kept in

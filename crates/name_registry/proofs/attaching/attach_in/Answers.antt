@@ -1,4 +1,3 @@
--- `attach_in`: its clauses `answer` and `ok`; what `publish` requires.
 use Rattle.std.proofs.Common.{◌≡◌, ◌∙◌, ◌+◌, ◌<◌, ◌≤◌, length, Result, Ok, IfOk, refl, sym, ap, subst}
 use Rattle.name_registry.specs.Types.{Entry, Refusal, KeeperView, Vacant}
 use Rattle.registry_values.specs.Common.{attach_answer, live_count, slot_at}
@@ -32,8 +31,7 @@ publish-entry-requires-clause-room c =
 
 pub publish-entry-requires-clause-keeps : goal.publish-entry-requires-clause-keeps
 publish-entry-requires-clause-keeps c =
-    let takes = taken (goal.at.publish-entry-requires-clause-keeps c).After-hear_cpu in
-    driver_keeps _ c.args.rec.kind takes.nothing (sym c.is_iface.ensures ∙ c.in_ok-entry.ensures.fit.1)
+    driver_keeps _ c.args.rec.kind (taken (goal.at.publish-entry-requires-clause-keeps c).After-hear_cpu).nothing (sym c.is_iface.ensures ∙ c.in_ok-entry.ensures.fit.1)
 
 pub returns-clause-answer : goal.returns-clause-answer
 returns-clause-answer c =
@@ -51,11 +49,10 @@ pub returns-clause-ok : goal.returns-clause-ok
 returns-clause-ok c =
     let a = c.args.keeper.now.keeper in
     let x = c.args.cpu.now.cpu in
-    let m = c.hear_cpu.new.keeper.keeper in
     let e = c.publish-entry.result in
     let b = c.publish-entry.new.keeper.keeper in
     let has = c.publish-entry.ensures.change in
-    let met = attach_met a x m c.hear_cpu.new.cpu.cpu e b c.show_cpu.new.cpu.cpu c.hear_cpu.ensures.keeper c.hear_cpu.ensures.cpu c.hear_cpu.ensures.seen
+    let met = attach_met a x c.hear_cpu.new.keeper.keeper c.hear_cpu.new.cpu.cpu e b c.show_cpu.new.cpu.cpu c.hear_cpu.ensures.keeper c.hear_cpu.ensures.cpu c.hear_cpu.ensures.seen
     (ap (λ x. x.number) c.publish-entry.ensures.entry) (ap (λ (k : KeeperView). k.history) has.entry.view) c.show_cpu.ensures.cpu c.show_cpu.ensures.log in
     let logs = subst (λ (k : OnKeeper). LogsAttach k.view e k.log b.log) c.hear_cpu.ensures.keeper c.publish-entry.ensures.log in
     subst (λ (k : OnKeeper). HasAttachedFor a x e k c.show_cpu.new.cpu.cpu) (sym c.show_cpu.ensures.keeper) record {

@@ -1,4 +1,3 @@
--- `live_place`: its clause `lookup`.
 use Rattle.std.proofs.Common.{◌∙◌, position, sym, ap}
 use Rattle.registry_values.specs.Common.{is_live_as}
 use Rattle.passive_list.specs.Common.{OnKeeper}

@@ -1,5 +1,5 @@
 -- One CPU more has heard, and all have.
-use Rattle.std.proofs.Common.{◌∙◌, ◌++◌, ap, subst, arith, None}
+use Rattle.std.proofs.Common.{◌∙◌, ◌≤◌, ◌++◌, length, ap, subst, arith, None}
 use mathlib.Core.List.{IsPrefix}
 use mathlib.Core.Option.{some}
 use Rattle.atomic_table.proofs.Lists.{at_index}
@@ -23,29 +23,20 @@ loop-c-preserved g c =
           l.invariant.gathered at e.heard e.told e.shown e.note.1 (l.note.teller, e.log);
     }
 
-pub returns-clause-alike : goal.returns-clause-alike
-returns-clause-alike g c =
+pub returns : goal.returns
+returns g c =
     let l = c.loop-c in
-    gathered_alike _ c.args.keeper.now.keeper c.tell_keeper-note.new.keeper.keeper c.args.cpus.now l.cpus l.c _ l.note.known_log l.invariant.gathered
-    (omega (arith, c.loop-c-test.false, l.auto.cpus)) l.invariant.keeper c.hear_keeper.ensures.known_log c.hear_keeper.ensures.own
-
-pub returns-clause-keeper : goal.returns-clause-keeper
-returns-clause-keeper g c =
-    let told = c.loop-c.invariant.keeper in
+    let i = l.invariant in
     let e = c.hear_keeper.ensures in
-    listened c.args.keeper.now.keeper c.hear_keeper.new.keeper.keeper c.loop-c.note.view _ _ (e.view ∙ ap (λ (k : OnKeeper). record k.view { noted_pass = c.loop-c.note.view }) told)
-    (e.slots ∙ ap (λ (k : OnKeeper). k.slots) told) (e.log ∙ ap (λ (k : OnKeeper). k.log ++ heard_from None c.loop-c.note.teller) told)
-
-pub returns-clause-cpus : goal.returns-clause-cpus
-returns-clause-cpus g c = gathered_learned c.args.cpus.now c.loop-c.cpus c.loop-c.c _ _ c.loop-c.invariant.gathered (omega (arith, c.loop-c-test.false, c.loop-c.auto.cpus))
-
-pub returns-clause-notes : goal.returns-clause-notes
-returns-clause-notes g c = gathered_notes c.args.cpus.now c.loop-c.cpus c.loop-c.c _ _ c.loop-c.invariant.gathered (omega (arith, c.loop-c-test.false, c.loop-c.auto.cpus))
-
-pub returns-clause-told : goal.returns-clause-told
-returns-clause-told g c =
-    let l = c.loop-c in
-    let e = c.hear_keeper.ensures in
-    told_all _ c.args.keeper.now.keeper c.tell_keeper-note.new.keeper.keeper c.hear_keeper.new.keeper.keeper c.args.cpus.now l.cpus l.c l.note.known_log l.note.view l.note.teller
-    l.invariant.gathered l.invariant.seen (omega (arith, c.loop-c-test.false, l.auto.cpus)) l.invariant.keeper e.known_log
-    (subst (IsPrefix l.note.view) (ap (λ (v : KeeperView). v.history) e.view) e.told) e.own e.log
+    let a = c.args.keeper.now.keeper in
+    let done : length l.cpus ≤ l.c = omega (arith, c.loop-c-test.false, l.auto.cpus) in
+    record {
+      alike = gathered_alike _ a c.tell_keeper-note.new.keeper.keeper c.args.cpus.now l.cpus l.c _ l.note.known_log i.gathered done i.keeper e.known_log e.own;
+      keeper = listened a c.hear_keeper.new.keeper.keeper l.note.view _ _ (e.view ∙ ap (λ (k : OnKeeper). record k.view { noted_pass = l.note.view }) i.keeper)
+          (e.slots ∙ ap (λ (k : OnKeeper). k.slots) i.keeper) (e.log ∙ ap (λ (k : OnKeeper). k.log ++ heard_from None l.note.teller) i.keeper);
+      cpus = gathered_learned c.args.cpus.now l.cpus l.c _ _ i.gathered done;
+      notes = gathered_notes c.args.cpus.now l.cpus l.c _ _ i.gathered done;
+      told = told_all _ a c.tell_keeper-note.new.keeper.keeper c.hear_keeper.new.keeper.keeper c.args.cpus.now l.cpus l.c l.note.known_log l.note.view l.note.teller i.gathered i.seen done i.keeper
+          e.known_log (subst (IsPrefix l.note.view) (ap (λ (v : KeeperView). v.history) e.view) e.told) e.own e.log;
+      words = e.words ∙ i.words;
+    }

@@ -1,4 +1,3 @@
--- `name_cpus`: what `of` requires; that each turn of its loop keeps the invariants.
 use Rattle.std.proofs.Common.{◌∙◌, ◌≤◌, ◌+◌, ◌∷◌, ◌++◌, List, [], length, length-append, ap, sym, subst, arith, append_assoc}
 use Rattle.std.specs.Vec.Iter.{into_iter_items}
 use Rattle.std.specs.Global.{Box}
@@ -10,9 +9,8 @@ use Rattle.name_registry.proofs.blank.name_cpus.Goals as goal
 
 pub of-requires : goal.of-requires
 of-requires g c =
-    let i = c.loop-cpu.invariant in
     let w : Named = record { table = g.D.Domain.table; settings = g.D.Domain.settings } in
-    let is = i.0 ∙ ap (λ (l : List (Box OnPlainCpu)). c.loop-cpu.yielded ++ l) c.in-Some.ensures.steps.0 in
+    let is = c.loop-cpu.invariant.0 ∙ ap (λ (l : List (Box OnPlainCpu)). c.loop-cpu.yielded ++ l) c.in-Some.ensures.steps.0 in
     let after = box_after w w.settings.cpus c.args.plain.items c.loop-cpu.yielded (into_iter_items c.next.new.self) c.in-Some.cpu c.requires.plain is in
     record {
       words = (ap (λ (x : OnPlainCpu). x.words.table) after.1, ap (λ (x : OnPlainCpu). x.words.settings) after.1);

@@ -1,4 +1,3 @@
--- `advance_for`: its clauses `answer` and `turn`.
 use Rattle.std.proofs.Common.{subst}
 use Rattle.name_registry.specs.Types.{Settings}
 use Rattle.name_registry.specs.Common.{HasAdvancedFor}
@@ -12,9 +11,7 @@ returns-clause-answer c =
     let show = c.show_cpu.ensures in
     subst (λ (z : Settings). HasAdvancedFor z c.args.keeper.now.keeper c.args.cpu.now.cpu c.args.number c.advance_in-answer.result c.show_cpu.new.keeper.keeper c.show_cpu.new.cpu.cpu)
     c.requires.words.1
-    (made_turn c.args.words.now.settings c.args.keeper.now.keeper c.hear_cpu.new.keeper.keeper c.advance_in-answer.new.keeper.keeper c.hear_cpu-2.new.keeper.keeper c.show_cpu.new.keeper.keeper
-    c.args.cpu.now.cpu c.hear_cpu.new.cpu.cpu c.hear_cpu-2.new.cpu.cpu c.show_cpu.new.cpu.cpu c.args.number _
-    hear.known hear.seen hear.own hear.keeper hear.cpu c.advance_in-answer.ensures.answer again.own again.keeper again.cpu show.keeper show.cpu show.told show.log)
+    (made_turn _ _ _ _ _ _ _ _ _ _ _ _ hear.known hear.seen hear.own hear.keeper hear.cpu c.advance_in-answer.ensures.answer again.own again.keeper again.cpu show.keeper show.cpu show.told show.log)
 
 pub returns-clause-turn : goal.returns-clause-turn
 returns-clause-turn c =

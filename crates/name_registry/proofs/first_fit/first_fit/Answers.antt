@@ -1,4 +1,3 @@
--- `first_fit`: its clause `value`.
 use Rattle.std.proofs.Common.{◌∙◌, ap, position, sym, take}
 use Rattle.name_registry.specs.Types.{Settings}
 use Rattle.passive_list.proofs.Rows.{keeper_is}

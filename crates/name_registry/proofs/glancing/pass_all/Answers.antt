@@ -1,4 +1,3 @@
--- `pass_all`: its clause `passed`.
 use Rattle.std.proofs.Common.{subst}
 use Rattle.name_registry.specs.Types.{Settings}
 use Rattle.name_registry.specs.Common.{HasPassedAll}
@@ -11,6 +10,4 @@ returns-clause-passed c =
     let again = c.hear_cpu-2.ensures in
     let show = c.show_cpu.ensures in
     subst (λ (z : Settings). HasPassedAll z c.args.keeper.now.keeper c.args.cpu.now.cpu c.args.numbers.now c.show_cpu.new.keeper.keeper c.show_cpu.new.cpu.cpu) c.requires.words.1
-    (made_passes c.args.words.now.settings c.args.numbers.now c.args.keeper.now.keeper c.hear_cpu.new.keeper.keeper c.pass_entries.new.keeper.keeper c.hear_cpu-2.new.keeper.keeper
-    c.show_cpu.new.keeper.keeper c.args.cpu.now.cpu c.hear_cpu.new.cpu.cpu c.hear_cpu-2.new.cpu.cpu c.show_cpu.new.cpu.cpu
-    hear.known hear.keeper hear.cpu c.pass_entries.ensures.passes again.own again.keeper again.cpu show.keeper show.cpu show.told show.log)
+    (made_passes _ _ _ _ _ _ _ _ _ _ _ hear.known hear.keeper hear.cpu c.pass_entries.ensures.passes again.own again.keeper again.cpu show.keeper show.cpu show.told show.log)

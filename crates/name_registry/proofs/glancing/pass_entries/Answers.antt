@@ -1,5 +1,5 @@
 -- Past the table's slots nothing is passed.
-use Rattle.std.proofs.Common.{◌≤◌, ap, arith}
+use Rattle.std.proofs.Common.{ap, arith}
 use Rattle.name_registry.specs.Types.{MOST_SLOTS, Settings}
 use Rattle.registry_values.proofs.Fit.{ranges}
 use Rattle.name_registry.proofs.Passed.{none_retired, passes_past}

@@ -15,9 +15,8 @@ loop-slot-init c = record { size = refl; there = λ t lt. absurd (omega (arith, 
 pub loop-slot-preserved : goal.loop-slot-preserved
 loop-slot-preserved c =
     let l = c.loop-slot in
-    let own = c.settings-slot-end.ensures.own in
     let slots = ap (λ (z : Settings). z.slots) c.settings-slot-end.ensures.value in
-    let few = (ranges c.args.keeper.now.words.settings own.1.agree.view.fit).slots in
+    let few = (ranges c.args.keeper.now.words.settings c.settings-slot-end.ensures.own.1.agree.view.fit).slots in
     let number = c.retired_number.result in
     let put = c.retired_number.ensures ∙ ap retired_number c.slot.ensures in
     record {

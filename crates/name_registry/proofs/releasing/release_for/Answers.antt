@@ -1,4 +1,3 @@
--- `release_for`: its clauses `change` and `known`; what `release_under` requires.
 use Rattle.std.proofs.Common.{◌≡◌, ◌<◌, sym, subst}
 use Rattle.passive_list.specs.Common.{OnKeeper}
 use Rattle.cpu_words.specs.Common.{IsFoundCollected, Named}
@@ -17,8 +16,7 @@ pub returns-clause-change : goal.returns-clause-change
 returns-clause-change c =
     let hear = c.hear_cpu.ensures in
     let show = c.show_cpu.ensures in
-    given_for c.args.keeper.now.keeper c.hear_cpu.new.keeper.keeper c.release_under.new.keeper.keeper c.show_cpu.new.keeper.keeper c.args.cpu.now.cpu c.hear_cpu.new.cpu.cpu c.show_cpu.new.cpu.cpu
-    c.args.reference.reference hear.known hear.keeper hear.cpu c.release_under.ensures.change show.keeper show.cpu show.told show.log
+    given_for _ _ _ _ _ _ _ _ hear.known hear.keeper hear.cpu c.release_under.ensures.change show.keeper show.cpu show.told show.log
 
 pub returns-clause-known : goal.returns-clause-known
 returns-clause-known c = knows_given _ _ _ _ _ (returns-clause-change c)

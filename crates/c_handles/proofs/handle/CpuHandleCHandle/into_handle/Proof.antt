@@ -1,7 +1,5 @@
 -- `into_handle` keeps the pointer.
-use Rattle.std.proofs.Common.{◌≡◌, refl}
-use base.Logic.{emp}
-use contract.Monad.{fact_i}
+use Rattle.std.proofs.Common.{refl}
 use Rattle.c_handles.proofs.Turned.{turned}
 use Rattle.c_handles.specs.contracts.heap.handle.Handle.{the_type as handle}
 use Rattle.c_handles.specs.contracts.cpu_body.CpuBody.{the_row as body}
@@ -12,4 +10,4 @@ use Rattle.c_handles.proofs.handle.CpuHandleCHandle.into_handle.Code as code
 
 pub into_handle_spec : {M : Type 1} → statement M
 into_handle_spec 𝓤 𝓛 𝓜 𝓡 wired = turned for_c (handle body) (λ h. (h.at, tt)) (λ h. (h.at, tt)) 𝓛 𝓜 𝓡 (λ h. record { at = h.at; body = h.body })
-    (λ h. refl) (λ h. refl) (f.clauses 𝓛 𝓜.mem 𝓡.returns) (λ y. fact_i 𝓤 (y.0.3.0.body ≡ y.0.3.0.body) (emp 𝓤) refl) f.Key.name (code.unfolded 𝓤 𝓛.H 𝓜 𝓡 wired)
+    (λ h. refl) (λ h. refl) (f.clauses 𝓛 𝓜.mem 𝓡.returns) (λ y. (_, refl, refl)) f.Key.name (code.unfolded 𝓤 𝓛.H 𝓜 𝓡 wired)

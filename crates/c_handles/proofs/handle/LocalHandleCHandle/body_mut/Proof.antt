@@ -1,8 +1,5 @@
 -- `body_mut` lends what the pointer is to.
 use Rattle.std.proofs.Common.{refl, Some}
-use denote.Memory.{lone}
-use mir.Raw.{raw}
-use Rattle.c_handles.specs.Heap.{token}
 use Rattle.c_handles.proofs.Lent.{token_tests, lent}
 use Rattle.c_handles.specs.contracts.local_body.LocalBody.{the_row as body}
 use Rattle.c_handles.specs.contracts.handle.LocalHandle.{the_type as for_c}
@@ -11,5 +8,5 @@ use Rattle.c_handles.proofs.handle.LocalHandleCHandle.body_mut.Statement.{statem
 use Rattle.c_handles.proofs.handle.LocalHandleCHandle.body_mut.Code as code
 
 pub body_mut_spec : {M : Type 1} → statement M
-body_mut_spec 𝓤 𝓛 𝓜 𝓡 wired = lent (token (raw (lone body.mir))) (token_tests body) for_c (λ h. (h.at, tt)) body (λ h. h.body) (λ h x. record { at = h.at; body = Some x }) (λ h. refl) (λ h x. refl)
+body_mut_spec 𝓤 𝓛 𝓜 𝓡 wired = lent _ (token_tests body) for_c (λ h. (h.at, tt)) body (λ h. h.body) (λ h x. record { at = h.at; body = Some x }) (λ h. refl) (λ h x. refl)
     (λ h x. refl) 𝓛 𝓜 𝓡 f.Key.name (code.unfolded 𝓤 𝓛.H 𝓜 𝓡 wired)

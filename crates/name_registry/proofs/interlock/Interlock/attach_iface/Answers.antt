@@ -1,40 +1,38 @@
--- `Interlock::attach_iface`: its clauses `ok`, `made` and `refused`.
-use Rattle.std.proofs.Common.{◌≡◌, Ok, Err, ap, subst}
+use Rattle.std.proofs.Common.{◌≡◌, Ok, Err, ap, sym, subst}
 use Rattle.name_registry.specs.Types.{Attach, ReferenceView}
+use Rattle.cpu_words.specs.Common.{IsAttachedKeeping}
 use Rattle.passive_list.specs.Common.{OnCpu, OnPlainCpu, OnPlainRef}
 use Rattle.passive_list.proofs.Rows.{keeper_is}
 use Rattle.registry_values.specs.Common.{is_iface}
 use Rattle.name_registry.specs.Common.{HasAttachedIfaceFor, attach_iface_answer, IsAttachRefusal, is_inside}
 use Rattle.name_registry.proofs.Counted.{attach_counted, iface_numbered, few_changes, one_made, iface_attached}
-use Rattle.name_registry.proofs.Noted.{iface_owned, iface_refused}
+use Rattle.name_registry.proofs.Noted.{iface_may, iface_owned, iface_refused}
 use Rattle.passive_list.proofs.Sharing.{shared, sharing}
 use Rattle.name_registry.proofs.interlock.Interlock.attach_iface.Goals as goal
 
-pub returns-in-Ok-clause-ok : goal.returns-in-Ok-clause-ok
-returns-in-Ok-clause-ok g c =
-    let own = shared c.cpu.inside.share.amount _ _ _ c.deref_mut.ensures.value c.cpu.view_is in
+pub returns-in-Ok : goal.returns-in-Ok
+returns-in-Ok g c =
+    let m = c.cpu.inside.share.amount in
+    let own = shared m _ _ _ c.deref_mut.ensures.value c.cpu.view_is in
     let k = c.args.self.now.keeper in
+    let z = k.words.settings in
     let b = c.attach_iface_in.new.keeper.keeper in
+    let x = c.args.cpu.now in
+    let v = c.args.reference in
     let e = c.in-Ok.entry in
-    let y = sharing c.cpu.inside.share.amount c.attach_iface_in.new.cpu.cpu in
-    let is = subst (λ (p : OnCpu × ReferenceView). attach_iface_answer k.words.settings k.keeper p.0 c.args.rec p.1 ≡ Ok e) (λ i. (own i, c.reference.view_is i)) c.in-Ok.ensures.answer in
-    let has = subst (λ (p : OnCpu × ReferenceView). HasAttachedIfaceFor k.keeper p.0 p.1 e b y) (λ i. (own i, c.reference.view_is i))
-    (iface_attached c.cpu.inside.share.amount _ _ _ _ _ _ c.in-Ok.ensures.ok) in
-    let owned = iface_owned k.words.settings k.keeper b c.args.cpu.now y c.args.rec c.args.reference (Ok e) is has in
-    let counted = attach_counted c.args.cpu.now y c.count_attach.new.cpu e _ c.count_attach.ensures.cpu (owned.1, owned.2) in (owned.0, counted.0, counted.1)
-
-pub returns-in-Ok-clause-made : goal.returns-in-Ok-clause-made
-returns-in-Ok-clause-made g c =
-    let own = shared c.cpu.inside.share.amount _ _ _ c.deref_mut.ensures.value c.cpu.view_is in
-    let k = c.args.self.now.keeper in
-    let b = c.attach_iface_in.new.keeper.keeper in
-    let e = c.in-Ok.entry in
-    let y = sharing c.cpu.inside.share.amount c.attach_iface_in.new.cpu.cpu in
-    let is = subst (λ (p : OnCpu × ReferenceView). attach_iface_answer k.words.settings k.keeper p.0 c.args.rec p.1 ≡ Ok e) (λ i. (own i, c.reference.view_is i)) c.in-Ok.ensures.answer in
-    let has = subst (λ (p : OnCpu × ReferenceView). HasAttachedIfaceFor k.keeper p.0 p.1 e b y) (λ i. (own i, c.reference.view_is i))
-    (iface_attached c.cpu.inside.share.amount _ _ _ _ _ _ c.in-Ok.ensures.ok) in
+    let y = sharing m c.attach_iface_in.new.cpu.cpu in
+    let is = subst (λ (p : OnCpu × ReferenceView). attach_iface_answer z k.keeper p.0 c.args.rec p.1 ≡ Ok e) (λ i. (own i, c.reference.view_is i)) c.in-Ok.ensures.answer in
+    let has = subst (λ (p : OnCpu × ReferenceView). HasAttachedIfaceFor k.keeper p.0 p.1 e b y) (λ i. (own i, c.reference.view_is i)) (iface_attached m _ _ _ _ _ _ c.in-Ok.ensures.ok) in
+    let owned = iface_owned z k.keeper b x y c.args.rec v (Ok e) is has in
+    let counted = attach_counted x y c.count_attach.new.cpu e _ c.count_attach.ensures.cpu (owned.1, owned.2) in
     let few = (few_changes _ _ _ _ c.settings-settings.ensures.own.1.agree).0 in
-    one_made _ c.args.cpu.now y c.count_attach.new.cpu (Attach e) (iface_numbered k.words.settings k.keeper c.args.cpu.now c.args.rec c.args.reference e few is) has.cpu c.count_attach.ensures.cpu
+    record {
+      may = iface_may z k.keeper x c.args.rec v (Ok e) is;
+      ok = (owned.0, counted.0, counted.1);
+      made = one_made _ x y c.count_attach.new.cpu (Attach e) (iface_numbered z k.keeper x c.args.rec v e few is) has.cpu c.count_attach.ensures.cpu;
+      keeping = subst (λ (o : OnCpu). IsAttachedKeeping e.slot e.number v.entry.number o.known_log) (sym c.count_attach.ensures.cpu) has.keeping;
+      refused = tt;
+    }
 
 pub returns-in-Err-clause-refused : goal.returns-in-Err-clause-refused
 returns-in-Err-clause-refused g c =

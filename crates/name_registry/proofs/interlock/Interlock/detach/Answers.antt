@@ -1,4 +1,3 @@
--- `Interlock::detach`: its clause `ok`.
 use Rattle.std.proofs.Common.{Ok, subst}
 use Rattle.name_registry.specs.Types.{Key}
 use Rattle.passive_list.specs.Common.{OnCpu}
@@ -17,6 +16,5 @@ returns-clause-ok g c =
     let e = c.in_ok-entry.entry in
     let y = sharing c.cpu.inside.share.amount c.detach_in.new.cpu.cpu in
     let is = subst (λ (x : OnCpu). IsDetachAnswer k x key (Ok e)) own c.in_ok-entry.ensures.answer in
-    let has = subst (λ (x : OnCpu). HasDetachedFor k x e b y) own (detached c.cpu.inside.share.amount _ _ _ _ _ c.in_ok-entry.ensures.ok) in
-    let owned = detach_owned k b c.args.cpu.now y key (Ok e) is has in
+    let owned = detach_owned k b c.args.cpu.now y key (Ok e) is (subst (λ (x : OnCpu). HasDetachedFor k x e b y) own (detached c.cpu.inside.share.amount _ _ _ _ _ c.in_ok-entry.ensures.ok)) in
     let counted = detach_counted c.args.cpu.now y c.count_detach.new.cpu e _ c.count_detach.ensures.cpu (owned.2, owned.3) in (owned.0, owned.1, counted.0, counted.1)

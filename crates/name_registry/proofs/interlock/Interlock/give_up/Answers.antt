@@ -1,4 +1,3 @@
--- `Interlock::give_up`: what it returns.
 use Rattle.std.proofs.Common.{ap, subst}
 use Rattle.name_registry.specs.Types.{ReferenceView}
 use Rattle.passive_list.specs.Common.{OnCpu}

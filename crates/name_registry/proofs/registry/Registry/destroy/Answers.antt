@@ -1,4 +1,3 @@
--- `Registry::destroy`: its clauses `refused`, `gone`, `answer` and `learned`.
 use Rattle.std.proofs.Common.{◌≡◌, ◌∙◌, false, sym}
 use Rattle.name_registry.specs.Common.{is_inside}
 use Rattle.name_registry.proofs.Attached.{inside_is}

@@ -1,4 +1,3 @@
--- `Registry::release_local_and_hear`: what it returns; what `give_up` requires.
 use Rattle.std.proofs.Common.{ap}
 use Rattle.name_registry.specs.Types.{ReferenceView}
 use Rattle.name_registry.proofs.GivenUp.{let_go_heard}

@@ -1,9 +1,6 @@
 -- `with_name` keeps both.
-use Rattle.std.proofs.Common.{◌≡◌, refl}
-use base.Logic.{emp}
-use contract.Monad.{fact_i}
+use Rattle.std.proofs.Common.{refl}
 use Rattle.c_handles.proofs.Answered.{joined}
-use Rattle.c_handles.specs.declared.values.answer.ParsedAnswer.{ParsedAnswer}
 use Rattle.c_handles.specs.contracts.values.answer.NumberAnswer.{the_type as from}
 use Rattle.c_handles.specs.contracts.values.place.NamePlace.{the_type as other}
 use Rattle.c_handles.specs.contracts.values.answer.ParsedAnswer.{the_type as into}
@@ -11,9 +8,6 @@ use Rattle.c_handles.specs.contracts.values.answer.NumberAnswer.with_name as f
 use Rattle.c_handles.proofs.values.answer.NumberAnswer.with_name.Statement.{statement}
 use Rattle.c_handles.proofs.values.answer.NumberAnswer.with_name.Code as code
 
-abbrev both : from.D → other.D → ParsedAnswer
-both a g = record { number = a.number; place = a.place; name = g }
-
 pub with_name_spec : {M : Type 1} → statement M
-with_name_spec 𝓤 𝓛 𝓜 𝓡 wired = joined from other into (λ a. a.number) (λ g. (g.at, tt)) (λ a. a.number) 𝓛 𝓜 𝓡 both
-    (λ a g. refl) (λ a g. refl) (f.clauses 𝓛 𝓜.mem 𝓡.returns) (λ y. fact_i 𝓤 (both y.0.3.0 y.0.3.1.0 ≡ both y.0.3.0 y.0.3.1.0) (emp 𝓤) refl) f.Key.name (code.unfolded 𝓤 𝓛.H 𝓜 𝓡 wired)
+with_name_spec 𝓤 𝓛 𝓜 𝓡 wired = joined from other into (λ a. a.number) (λ g. (g.at, tt)) (λ a. a.number) 𝓛 𝓜 𝓡 (λ a g. record { number = a.number; place = a.place; name = g })
+    (λ a g. refl) (λ a g. refl) (f.clauses 𝓛 𝓜.mem 𝓡.returns) (λ y. (_, refl, refl)) f.Key.name (code.unfolded 𝓤 𝓛.H 𝓜 𝓡 wired)

@@ -1,11 +1,7 @@
 -- `is_null` compares the pointer with null.
-use Rattle.std.proofs.Common.{◌≡◌, refl}
-use base.Logic.{emp}
-use contract.Monad.{fact_i}
+use Rattle.std.proofs.Common.{refl}
 use denote.Builtin.{u8}
-use Rattle.c_handles.specs.Heap.{is_nothing}
 use Rattle.c_handles.proofs.LentRow.{asked}
-use Rattle.c_handles.specs.declared.values.given.GivenBytes.{GivenBytes}
 use Rattle.c_handles.specs.contracts.values.given.GivenBytes.{the_type as for_c}
 use Rattle.c_handles.specs.contracts.values.given.GivenBytes.is_null as f
 use Rattle.c_handles.proofs.values.given.GivenBytes.is_null.Statement.{statement}
@@ -13,4 +9,4 @@ use Rattle.c_handles.proofs.values.given.GivenBytes.is_null.Code as code
 
 pub is_null_spec : {M : Type 1} → statement M
 is_null_spec 𝓤 𝓛 𝓜 𝓡 wired = asked for_c (λ p. (p.at, tt)) u8 (λ p. p.share) (λ p. p.bytes) (λ p. refl) 𝓛 (f.clauses 𝓛 𝓜.mem 𝓡.returns)
-    (λ y. let p : GivenBytes = y.0.3.0.now in fact_i 𝓤 ((p ≡ p) × (is_nothing p.bytes ≡ is_nothing p.bytes)) (emp 𝓤) (refl, refl)) 𝓜 𝓡 f.Key.name (code.unfolded 𝓤 𝓛.H 𝓜 𝓡 wired)
+    (λ y. (_, refl, (refl, refl))) 𝓜 𝓡 f.Key.name (code.unfolded 𝓤 𝓛.H 𝓜 𝓡 wired)

@@ -1,9 +1,6 @@
 -- `name` copies what the pointer is to.
-use Rattle.std.proofs.Common.{◌≡◌, refl}
-use base.Logic.{emp}
-use contract.Monad.{fact_i}
+use Rattle.std.proofs.Common.{refl}
 use Rattle.c_handles.proofs.Given.{given}
-use Rattle.c_handles.specs.declared.values.given.GivenName.{GivenName}
 use Rattle.c_handles.specs.contracts.values.plain.CName.{the_row as name}
 use Rattle.c_handles.proofs.values.plain.CName.TheLaws.{the_row_copy, the_row_laws}
 use Rattle.c_handles.specs.contracts.values.given.GivenName.{the_type as for_c}
@@ -13,4 +10,4 @@ use Rattle.c_handles.proofs.values.given.GivenName.name.Code as code
 
 pub name_spec : {M : Type 1} → statement M
 name_spec {M} 𝓤 𝓛 𝓜 𝓡 wired = given for_c (λ g. (g.at, tt)) name (λ g. g.share) (λ g. g.name) (λ g. refl) refl 𝓛 (the_row_copy.copies M 𝓤 𝓛) (the_row_laws.lawful 𝓛) (f.clauses 𝓛 𝓜.mem 𝓡.returns)
-    (λ y. let g : GivenName = y.0.3.0.now in fact_i 𝓤 ((g ≡ g) × (g.name ≡ g.name)) (emp 𝓤) (refl, refl)) 𝓜 𝓡 f.Key.name (code.unfolded 𝓤 𝓛.H 𝓜 𝓡 wired)
+    (λ y. (_, refl, (refl, refl))) 𝓜 𝓡 f.Key.name (code.unfolded 𝓤 𝓛.H 𝓜 𝓡 wired)

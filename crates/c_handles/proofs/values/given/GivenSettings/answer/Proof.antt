@@ -1,8 +1,5 @@
 -- `answer` keeps the settings.
-use Rattle.std.proofs.Common.{◌≡◌, refl}
-use base.Logic.{emp}
-use contract.Monad.{fact_i}
-use mir.Syntax.{w32}
+use Rattle.std.proofs.Common.{refl}
 use Rattle.c_handles.proofs.Answered.{answered}
 use Rattle.c_handles.specs.contracts.values.given.GivenSettings.{the_type as from}
 use Rattle.c_handles.specs.contracts.values.answer.OpenAnswer.{the_type as into}
@@ -11,6 +8,6 @@ use Rattle.c_handles.proofs.values.given.GivenSettings.answer.Statement.{stateme
 use Rattle.c_handles.proofs.values.given.GivenSettings.answer.Code as code
 
 pub answer_spec : {M : Type 1} → statement M
-answer_spec 𝓤 𝓛 𝓜 𝓡 wired = answered w32 from into (λ p. (p.at, tt)) (λ a. a.number) 𝓛 𝓜 𝓡 (λ p n. record { number = n; settings = p })
-    (λ p n. refl) (λ p n. refl) (f.clauses 𝓛 𝓜.mem 𝓡.returns) (λ y. fact_i 𝓤 (record { number = y.0.3.1.0; settings = y.0.3.0 } ≡ record { number = y.0.3.1.0; settings = y.0.3.0 }) (emp 𝓤) refl)
+answer_spec 𝓤 𝓛 𝓜 𝓡 wired = answered _ from into (λ p. (p.at, tt)) (λ a. a.number) 𝓛 𝓜 𝓡 (λ p n. record { number = n; settings = p })
+    (λ p n. refl) (λ p n. refl) (f.clauses 𝓛 𝓜.mem 𝓡.returns) (λ y. (_, refl, refl))
     f.Key.name (code.unfolded 𝓤 𝓛.H 𝓜 𝓡 wired)

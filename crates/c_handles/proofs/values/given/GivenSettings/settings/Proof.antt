@@ -1,9 +1,6 @@
 -- `settings` copies what the pointer is to.
-use Rattle.std.proofs.Common.{◌≡◌, refl}
-use base.Logic.{emp}
-use contract.Monad.{fact_i}
+use Rattle.std.proofs.Common.{refl}
 use Rattle.c_handles.proofs.Given.{given}
-use Rattle.c_handles.specs.declared.values.given.GivenSettings.{GivenSettings}
 use Rattle.c_handles.specs.contracts.values.plain.CSettings.{the_row as row}
 use Rattle.c_handles.proofs.values.plain.CSettings.TheLaws.{the_row_copy, the_row_laws}
 use Rattle.c_handles.specs.contracts.values.given.GivenSettings.{the_type as for_c}
@@ -14,4 +11,4 @@ use Rattle.c_handles.proofs.values.given.GivenSettings.settings.Code as code
 pub settings_spec : {M : Type 1} → statement M
 settings_spec {M} 𝓤 𝓛 𝓜 𝓡 wired =
     given for_c (λ g. (g.at, tt)) row (λ g. g.share) (λ g. g.settings) (λ g. refl) refl 𝓛 (the_row_copy.copies M 𝓤 𝓛) (the_row_laws.lawful 𝓛) (f.clauses 𝓛 𝓜.mem 𝓡.returns)
-    (λ y. let g : GivenSettings = y.0.3.0.now in fact_i 𝓤 ((g ≡ g) × (g.settings ≡ g.settings)) (emp 𝓤) (refl, refl)) 𝓜 𝓡 f.Key.name (code.unfolded 𝓤 𝓛.H 𝓜 𝓡 wired)
+    (λ y. (_, refl, (refl, refl))) 𝓜 𝓡 f.Key.name (code.unfolded 𝓤 𝓛.H 𝓜 𝓡 wired)

@@ -1,7 +1,6 @@
 -- `value_mut` lends what the pointer is to.
 use Rattle.std.proofs.Common.{refl, Some}
 use Rattle.c_handles.specs.contracts.values.plain.CSettings.{the_row as settings_row}
-use Rattle.c_handles.specs.Heap.{is_testable}
 use Rattle.c_handles.proofs.Lent.{lent_tests, lent}
 use Rattle.c_handles.specs.contracts.values.place.SettingsPlace.{the_type as for_c}
 use Rattle.c_handles.specs.contracts.values.place.SettingsPlace.value_mut as f
@@ -9,5 +8,5 @@ use Rattle.c_handles.proofs.values.place.SettingsPlace.value_mut.Statement.{stat
 use Rattle.c_handles.proofs.values.place.SettingsPlace.value_mut.Code as code
 
 pub value_mut_spec : {M : Type 1} → statement M
-value_mut_spec 𝓤 𝓛 𝓜 𝓡 wired = lent is_testable lent_tests for_c (λ p. (p.at, tt)) settings_row (λ p. p.value) (λ p x. record { at = p.at; value = Some x }) (λ p. refl) (λ p x. refl)
+value_mut_spec 𝓤 𝓛 𝓜 𝓡 wired = lent _ lent_tests for_c (λ p. (p.at, tt)) settings_row (λ p. p.value) (λ p x. record { at = p.at; value = Some x }) (λ p. refl) (λ p x. refl)
     (λ p x. refl) 𝓛 𝓜 𝓡 f.Key.name (code.unfolded 𝓤 𝓛.H 𝓜 𝓡 wired)

@@ -1,8 +1,5 @@
 -- `answer` keeps the place.
-use Rattle.std.proofs.Common.{◌≡◌, refl}
-use base.Logic.{emp}
-use contract.Monad.{fact_i}
-use mir.Syntax.{w64}
+use Rattle.std.proofs.Common.{refl}
 use Rattle.c_handles.proofs.Answered.{answered}
 use Rattle.c_handles.specs.contracts.values.rows.TextPlace.{the_type as from}
 use Rattle.c_handles.specs.contracts.values.answer.TextAnswer.{the_type as into}
@@ -11,6 +8,5 @@ use Rattle.c_handles.proofs.values.rows.TextPlace.answer.Statement.{statement}
 use Rattle.c_handles.proofs.values.rows.TextPlace.answer.Code as code
 
 pub answer_spec : {M : Type 1} → statement M
-answer_spec 𝓤 𝓛 𝓜 𝓡 wired = answered w64 from into (λ p. (p.at, tt)) (λ a. a.number) 𝓛 𝓜 𝓡 (λ p n. record { number = n; place = p })
-    (λ p n. refl) (λ p n. refl) (f.clauses 𝓛 𝓜.mem 𝓡.returns) (λ y. fact_i 𝓤 (record { number = y.0.3.1.0; place = y.0.3.0 } ≡ record { number = y.0.3.1.0; place = y.0.3.0 }) (emp 𝓤) refl) f.Key.name
-    (code.unfolded 𝓤 𝓛.H 𝓜 𝓡 wired)
+answer_spec 𝓤 𝓛 𝓜 𝓡 wired = answered _ from into (λ p. (p.at, tt)) (λ a. a.number) 𝓛 𝓜 𝓡 (λ p n. record { number = n; place = p })
+    (λ p n. refl) (λ p n. refl) (f.clauses 𝓛 𝓜.mem 𝓡.returns) (λ y. (_, refl, refl)) f.Key.name (code.unfolded 𝓤 𝓛.H 𝓜 𝓡 wired)

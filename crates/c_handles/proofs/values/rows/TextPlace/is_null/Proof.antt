@@ -1,12 +1,8 @@
 -- `is_null` compares the pointer with null.
-use Rattle.std.proofs.Common.{◌≡◌, refl}
+use Rattle.std.proofs.Common.{refl}
 use base.Fraction.{full_share}
-use base.Logic.{emp}
-use contract.Monad.{fact_i}
 use denote.Builtin.{u8}
-use Rattle.c_handles.specs.Heap.{is_nothing}
 use Rattle.c_handles.proofs.LentRow.{asked}
-use Rattle.c_handles.specs.declared.values.rows.TextPlace.{TextPlace}
 use Rattle.c_handles.specs.contracts.values.rows.TextPlace.{the_type as for_c}
 use Rattle.c_handles.specs.contracts.values.rows.TextPlace.is_null as f
 use Rattle.c_handles.proofs.values.rows.TextPlace.is_null.Statement.{statement}
@@ -14,4 +10,4 @@ use Rattle.c_handles.proofs.values.rows.TextPlace.is_null.Code as code
 
 pub is_null_spec : {M : Type 1} → statement M
 is_null_spec 𝓤 𝓛 𝓜 𝓡 wired = asked for_c (λ p. (p.at, tt)) u8 (λ p. full_share) (λ p. p.value) (λ p. refl) 𝓛 (f.clauses 𝓛 𝓜.mem 𝓡.returns)
-    (λ y. let p : TextPlace = y.0.3.0.now in fact_i 𝓤 ((p ≡ p) × (is_nothing p.value ≡ is_nothing p.value)) (emp 𝓤) (refl, refl)) 𝓜 𝓡 f.Key.name (code.unfolded 𝓤 𝓛.H 𝓜 𝓡 wired)
+    (λ y. (_, refl, (refl, refl))) 𝓜 𝓡 f.Key.name (code.unfolded 𝓤 𝓛.H 𝓜 𝓡 wired)
