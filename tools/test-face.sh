@@ -57,7 +57,7 @@ guarded_tests() {
     programs=$(rust_tests)
     [ "$(wc -w <<<"$programs")" -eq 7 ] || return 1
     for program in $programs; do
-        REGISTRY_CHANGES=60 guarded_rust "$program" --test-threads=1 --skip forgotten --skip had_again --skip static || return 1
+        REGISTRY_CHANGES=1 guarded_rust "$program" --test-threads=1 --skip forgotten --skip had_again --skip static || return 1
     done
 }
 
@@ -112,8 +112,8 @@ test_page() {
 
 test_c() {
     programs C: "" "$out/" smallest packet 'shared 2000' misuse allocs built turns deferred together interrupted reclaims lent history \
-        'largest 30000 1 long' names recalls 'crowd 2000' forwarder device_switch 'speed 2 8 1000' 'changes 20' 'changes 20 2 4' 'changes 20 64 255' checked
-    programs C: " in the checking build" "$out/checked-" smallest packet 'shared 500' 'crowd 200' 'forwarder 200' 'device_switch 20' 'together 20'
+        'largest 30000 1 long' names recalls forwarder device_switch 'speed 2 8 1000' 'changes 20' 'changes 20 2 4' 'changes 20 64 255' checked
+    programs C: " in the checking build" "$out/checked-" smallest packet 'shared 500' 'forwarder 200' 'device_switch 20' 'together 20'
     counted "C: programs compiled for other limits" packaging/other-limits.sh "${header%/*}" "$out/libregistry.a"
     counted "C: installed, used by pkg-config alone, and uninstalled" tools/test-install.sh
     counted "C: built as users build" tools/test-builds.sh
@@ -121,9 +121,8 @@ test_c() {
 
 # The same programs, where each access of the client's, or of all, is watched.
 test_watched() {
-    programs C: " under valgrind" "watched all $out/" smallest packet 'shared 20' misuse built interrupted reclaims lent 'history 3000 1 small' names 'crowd 20'
-    programs C: " with sanitizers" "$out/sanitized-" smallest misuse packet 'shared 500' built reclaims lent 'history 100000' names 'crowd 300' forwarder \
-        device_switch
+    programs C: " under valgrind" "watched all $out/" smallest packet 'shared 20' misuse built interrupted reclaims lent 'history 3000 1 small' names
+    programs C: " with sanitizers" "$out/sanitized-" smallest misuse packet 'shared 500' built reclaims lent 'history 100000' names forwarder device_switch
 }
 
 # Objects of the heap behind entries, freed once nobody holds them, under three checkers; each of them catches what frees a turn too early.

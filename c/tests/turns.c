@@ -18,7 +18,7 @@
 #include <unistd.h>
 
 #include "client.h"
-#include "pauses.h"
+#include "dice.h"
 #include "waiting.h"
 #include "wrapped_heap.h"
 
@@ -54,7 +54,7 @@ struct planned {
 
 static struct planned *under_way;
 static unsigned depth, waits;
-static uint64_t random_word = 1, turns_made, sleeps, yields, late, beside;
+static uint64_t turns_made, sleeps, yields, late, beside;
 static bool alone;	/* no other wait begins meanwhile */
 
 static int64_t now;	/* in nanoseconds: a turn takes TURN of them, and a sleep its length */
@@ -77,15 +77,6 @@ WRAPPED(pthread_mutex_unlock);
 
 /* What locking and unlocking a mutex fail with, unless it is 0. */
 static int lock_error, unlock_error;
-
-/* A number below `end`, by xorshift. */
-static uint64_t below(uint64_t end)
-{
-	random_word ^= random_word << 13;
-	random_word ^= random_word >> 7;
-	random_word ^= random_word << 17;
-	return (random_word >> 11) % end;
-}
 
 /* The steps that come next: those of a format, where each @ is the letter of the wait's turn. */
 static void expect_next(struct planned *wait, const char *steps)

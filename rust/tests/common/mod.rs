@@ -31,13 +31,9 @@ pub fn patience() -> kupaldiz::Patience {
     kupaldiz::Patience::at_most(LONG)
 }
 
-/// So many steps; few where a tool watches each access.
+/// So many steps, or REGISTRY_CHANGES of each hundred: few where a tool watches each access.
 pub fn scaled(steps: usize) -> usize {
-    if std::env::var_os("REGISTRY_CHANGES").is_some() {
-        steps / 100
-    } else {
-        steps
-    }
+    std::env::var("REGISTRY_CHANGES").map_or(steps, |percent| steps * percent.parse::<usize>().unwrap() / 100)
 }
 
 /// Numbers from a seed.
