@@ -32,16 +32,9 @@ struct port {
 	uint64_t mtu;
 };
 
-static void open_registry(uint64_t changes)
+static void open_registry(void)
 {
-	const struct registry_settings settings = {
-	    .cpus = CPUS,
-	    .slots = 4,
-	    .change_limit = 2 * changes,
-	    .section_limit = REGISTRY_MOST_SECTIONS,
-	    .passive_limit = REGISTRY_MOST_COUNT,
-	    .count_limit = REGISTRY_MOST_COUNT,
-	};
+	const struct registry_settings settings = settings_of(CPUS, 4);
 	struct registry_cpu cpus[CPUS] = {{0}};
 	DONE(registry_open(&settings, &keeper, cpus, CPUS));
 	for (int i = 0; i < CPUS; i++) {
@@ -180,7 +173,7 @@ int main(int argc, char **argv)
 
 	EXPECT(argc <= 2 && changes > 0 && changes <= REGISTRY_MOST_CHANGES / 2);
 	wm0 = name_of("wm0");
-	open_registry(changes);
+	open_registry();
 	for (unsigned i = 0; i < THREADS; i++)
 		EXPECT(pthread_create(&threads[i], NULL, use_all, (void *)(uintptr_t)i) == 0);
 	change(&shared[0], changes);

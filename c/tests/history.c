@@ -933,7 +933,7 @@ static void refer_more(void)
 	struct world *world = opened(&settings, 1);
 	struct registry_entry entry = {0}, wanted = {0};
 	struct registry_local local = {0};
-	uint64_t number;
+	uint64_t number = 0;
 	world->cpu = CPUS - 1;
 	struct registry_cpu *cpu = &world->cpus[world->cpu];
 	same(registry_attach(&world->keeper, cpu, &names[0], 7, &entry), model_attach(&world->model, world->cpu, 0, &names[0], 7, &wanted));

@@ -234,8 +234,7 @@ static void free_of(void *of, const struct registry_entry *gone)
 
 static void open_world(struct world *world, const pthread_mutexattr_t *type)
 {
-	const struct registry_settings settings = {
-	    CPUS, SLOTS, REGISTRY_MOST_CHANGES, REGISTRY_MOST_SECTIONS, REGISTRY_MOST_COUNT, REGISTRY_MOST_COUNT};
+	const struct registry_settings settings = settings_of(CPUS, SLOTS);
 	DONE(registry_open(&settings, &world->keeper, world->cpus, CPUS));
 	EXPECT(pthread_mutex_init(&world->mutex, type) == 0);
 	world->lock = registry_lock_of_mutex(&world->mutex);
