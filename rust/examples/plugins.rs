@@ -32,11 +32,12 @@ impl Codec for Rotate {
     }
 }
 
-/// Calls the plug-in that is loaded. Between the two steps of a replace there is none.
+/// Calls the plug-in that is loaded. Between the two steps of a replace there is none, so the lookup is repeated.
 fn work(cpu: &Cpu<Plugin>, calls: &AtomicU32, stop: &AtomicBool) {
     while !stop.load(Ordering::Relaxed) {
-        if let Ok(codec) = cpu.table().get(&CODEC) {
-            thread::yield_now(); // it may be unloaded meanwhile
+        let codec = cpu.table().get(&CODEC);
+        thread::yield_now(); // it may be unloaded meanwhile
+        if let Ok(codec) = codec {
             assert!(codec.encode(7) <= 7 + VERSIONS);
             calls.fetch_add(1, Ordering::Relaxed);
         }

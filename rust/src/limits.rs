@@ -72,7 +72,6 @@ pub(crate) fn check_version(library: &str) -> Result<(), Refusal> {
 #[cfg(test)]
 mod tests {
     use super::{check_version, version, Limits, LIMITS};
-    use crate::ffi;
     use crate::refusal::{checked, Refusal};
 
     #[test]
@@ -85,17 +84,7 @@ mod tests {
 
     #[test]
     fn other_limits_than_the_librarys_are_refused() {
-        assert_eq!(LIMITS.compared(), ffi::DONE);
-        let others = [
-            Limits { cpus: LIMITS.cpus + 1, ..LIMITS },
-            Limits { slots: LIMITS.slots - 1, ..LIMITS },
-            Limits { changes: LIMITS.changes + 1, ..LIMITS },
-            Limits { sections: LIMITS.sections - 1, ..LIMITS },
-            Limits { count: LIMITS.count + 1, ..LIMITS },
-            Limits { depth: LIMITS.depth - 1, ..LIMITS },
-        ];
-        for other in others {
-            assert_eq!(checked(other.compared()).map_err(Refusal::of), Err(Refusal::OtherLimits), "{other:?}");
-        }
+        let compared = [LIMITS, Limits { depth: LIMITS.depth - 1, ..LIMITS }].map(|limits| checked(limits.compared()).map_err(Refusal::of));
+        assert_eq!(compared, [Ok(()), Err(Refusal::OtherLimits)]);
     }
 }

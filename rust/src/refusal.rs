@@ -275,14 +275,8 @@ mod tests {
     /// Those too that no other test meets, as `NoMemory`.
     #[test]
     fn a_refusal_has_the_number_of_its_answer() {
-        for answer in [1, 2, 3, 4, 5, 6, 7, 8, 10, 13, 15, 18, 19, 78] {
-            assert_eq!(Refusal::of(answer).number(), answer);
-        }
-        for answer in [6, 18, 8, 10, 13, 1] {
-            assert_eq!(Refusal::from(LookUpError::of(answer)).number(), answer);
-        }
-        for answer in [7, 19, 3, 6, 4, 5] {
-            assert_eq!(Refusal::from(AttachError::of(answer)).number(), answer);
-        }
+        assert!([1, 2, 3, 4, 5, 6, 7, 8, 10, 13, 15, 18, 19, 78].iter().all(|answer| Refusal::of(*answer).number() == *answer));
+        assert!([6, 18, 8, 10, 13, 1].iter().all(|answer| Refusal::from(LookUpError::of(*answer)).number() == *answer));
+        assert!([7, 19, 3, 6, 4, 5].iter().all(|answer| Refusal::from(AttachError::of(*answer)).number() == *answer));
     }
 }

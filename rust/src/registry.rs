@@ -105,19 +105,6 @@ impl<T> Registry<T> {
 
     /// Frees what was [retired](Registry::retire) and nothing holds any more, the oldest first, and returns what was freed. It tries once for each entry
     /// that waits, and waits only for the interlock. What an attach has freed to get a slot comes first.
-    ///
-    /// ```
-    /// use kupaldiz::{Kind, Name, Registry, Settings};
-    ///
-    /// let (registry, cpus) = Registry::open(Settings::new(2, 4)).unwrap();
-    /// let wm = Name::parse("wm").unwrap();
-    /// registry.attach(&cpus[0], &wm, 7).unwrap();
-    /// let section = cpus[1].enter().unwrap();
-    /// registry.retire(&cpus[0], Kind::Driver, &wm).unwrap();
-    /// assert_eq!((registry.collect().len(), registry.retired()), (0, 1));
-    /// section.exit();
-    /// assert_eq!((registry.collect()[0].value, registry.retired()), (7, 0));
-    /// ```
     #[must_use]
     pub fn collect(&self) -> Vec<Freed<T>> {
         self.shared.collect()
@@ -159,17 +146,6 @@ impl<T> Registry<T> {
     /// What the counts say of each live or retired entry, the lowest-numbered slot first. It needs all CPUs, in any order: a `Cpu`, a [`Lent`](crate::Lent)
     /// or a reference to either of each. All local references that were dropped are released first. To see on which CPU references were acquired, call it
     /// before the first turn on the retired entry that meets its local references: that turn collects the counts.
-    ///
-    /// ```
-    /// use kupaldiz::{CpuPool, Name, Registry, Settings};
-    ///
-    /// let (registry, cpus) = Registry::open(Settings::new(2, 4)).unwrap();
-    /// registry.attach(&cpus[0], &Name::parse("wm").unwrap(), 7).unwrap();
-    /// let balances = registry.audit(&cpus).unwrap();
-    /// assert_eq!((balances.len(), balances[0].held), (1, 0));
-    /// let pool = CpuPool::new(cpus).unwrap();
-    /// assert_eq!(registry.audit([pool.lend(), pool.lend()]), Ok(balances));
-    /// ```
     ///
     /// # Errors
     ///
@@ -239,15 +215,6 @@ impl<T> Registry<T> {
     }
 
     /// Closes the registry, once this is its only handle, and drops what its entries carry. Until then it waits as long as the patience says.
-    ///
-    /// ```
-    /// use kupaldiz::{Patience, Registry, Settings};
-    ///
-    /// let (registry, cpus) = Registry::<u32>::open(Settings::new(2, 4)).unwrap();
-    /// let registry = registry.close(Patience::Turns(1)).unwrap_err().registry;
-    /// drop(cpus);
-    /// registry.close(Patience::Turns(1)).unwrap();
-    /// ```
     ///
     /// # Errors
     ///

@@ -2,12 +2,10 @@
 
 mod common;
 
-use common::{local, name, passive, with_driver, Task, LONG};
-use kupaldiz::{CpuPool, LocalRef, Registry};
+use common::{name, passive, with_driver, Task, LONG};
+use kupaldiz::{CpuPool, Registry};
 use std::future::Future;
-use std::mem;
 use std::panic::{catch_unwind, AssertUnwindSafe};
-use std::sync::atomic::{AtomicBool, Ordering};
 use std::sync::mpsc::channel;
 use std::sync::Arc;
 use std::task::{Context, Poll, Waker};
@@ -68,14 +66,6 @@ fn a_loan_waits_until_its_deadline() {
     assert!(pool.lend_until(began).is_some());
 }
 
-#[test]
-fn a_forgotten_loan_is_lost() {
-    let (_registry, pool) = with_pool();
-    mem::forget(pool.lend());
-    assert!(pool.try_lend().is_none());
-    assert_eq!(Arc::try_unwrap(pool).unwrap().into_cpus().len(), 0);
-}
-
 /// One way to wait for a loan: which CPU it is.
 type Way = fn(&CpuPool<u32>) -> Option<u8>;
 
@@ -97,24 +87,4 @@ fn a_waiting_thread_gets_the_cpu_that_comes_back() {
     }));
     assert!(ended.is_err());
     assert_eq!(all.map(|one| one.recv_timeout(LONG)), [Ok(Some(0)); 3]);
-}
-
-#[test]
-fn more_threads_than_cpus_share_them() {
-    let (registry, cpus) = with_driver(7);
-    let pool = CpuPool::new(cpus).unwrap();
-    let in_use = [AtomicBool::new(false), AtomicBool::new(false)];
-    let share = || {
-        for _ in 0..200 {
-            let cpu = pool.lend_until(Instant::now() + LONG).expect("a CPU that comes back");
-            let mine = &in_use[usize::from(cpu.id())];
-            assert!(!mine.swap(true, Ordering::SeqCst), "one CPU, two threads");
-            let reference = local(&cpu, "wm");
-            assert_eq!(*reference, 7);
-            LocalRef::release(reference, &cpu).unwrap();
-            mine.store(false, Ordering::SeqCst);
-        }
-    };
-    thread::scope(|scope| (0..6).for_each(|_| drop(scope.spawn(share))));
-    assert_eq!(registry.audit(pool.into_cpus()).unwrap()[0].held, 0);
 }

@@ -102,7 +102,7 @@ try_cargo() {
     cargo build --offline --release --examples
     target/release/examples/packet
     target/release/examples/connections
-    target/release/examples/configuration
+    target/release/examples/plugins
     echo "done: its examples"
 }
 
