@@ -178,10 +178,7 @@ struct New<'a, T> {
 
 impl<T> New<'_, T> {
     /// Makes the call of registry.h, which writes the entry that was attached, and the one that it replaces, if there is one.
-    ///
-    /// # Safety
-    ///
-    /// The keeper is locked, and the CPU and the driver are of its registry.
+    /// Safety: the keeper is locked, and the CPU and the driver are of its registry.
     unsafe fn attach(&mut self, keeper: &mut ffi::Keeper, word: u64, gone: *mut ffi::Entry, made: *mut ffi::Entry) -> u32 {
         let (cpu, name) = (self.cpu.handle(), &self.name.words);
         match (self.driver.as_mut().map(|driver| &mut driver.handle), self.replaces) {

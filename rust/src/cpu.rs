@@ -32,9 +32,7 @@ pub struct Cpu<T> {
 }
 
 impl<T> Cpu<T> {
-    /// # Safety
-    ///
-    /// The handle is of the CPU with this number, of this registry.
+    /// Safety: the handle is of the CPU with this number, of this registry.
     pub(crate) unsafe fn new(shared: Arc<Shared<T>>, id: u8, handle: ffi::Cpu) -> Cpu<T> {
         Cpu {
             handle: UnsafeCell::new(handle),
@@ -52,10 +50,7 @@ impl<T> Cpu<T> {
     }
 
     /// Swaps the handle out for a call that needs several in a row, and back.
-    ///
-    /// # Safety
-    ///
-    /// The other one is empty, or what the last swap has put there. Between the two nothing else is done with the CPU.
+    /// Safety: the other one is empty, or what the last swap has put there. Between the two nothing else is done with the CPU.
     pub(crate) unsafe fn swap(&self, handle: &mut ffi::Cpu) {
         // SAFETY: this thread alone has the CPU, and no reference into the cell outlives this line.
         unsafe { ptr::swap(self.handle.get(), handle) };
@@ -204,10 +199,7 @@ impl<T> Cpu<T> {
     }
 
     /// Releases a reference to the entry in this slot, or gives it up under the interlock where this CPU's count was collected.
-    ///
-    /// # Safety
-    ///
-    /// The reference is of this registry.
+    /// Safety: the reference is of this registry.
     #[inline]
     pub(crate) unsafe fn release_local(&self, slot: usize, mut local: ffi::Local) {
         let shared = self.shared();

@@ -98,10 +98,7 @@ impl Wait {
 }
 
 /// A string of the library's.
-///
-/// # Safety
-///
-/// A text of C lies there, which ends with a zero byte and is never written to or freed.
+/// Safety: a text of C lies there, which ends with a zero byte and is never written to or freed.
 pub unsafe fn string(at: *const c_char) -> &'static str {
     // SAFETY: as the caller says.
     unsafe { CStr::from_ptr(at) }.to_str().unwrap_or("")

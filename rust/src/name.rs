@@ -303,7 +303,8 @@ mod tests {
     fn other_names_are_no_ids() {
         let others = ["a", "wm0", "q000000000000", "a00000000000", "a0000000000000", "a00000000000w", "p000000000z00", "zzzzzzzzzzzzzzz"];
         let behind = (0..24).map(|bit| Name::from_id(0).words.low | 1 << bit);
-        let behind = behind.map(|low| Name::of_words(ffi::Name { low, ..Name::from_id(0).words })).chain([Name::of_words(ffi::Name::default())]);
+        let behind =
+            behind.map(|low| Name::of_words(ffi::Name { low, ..Name::from_id(0).words })).chain([Name::of_words(ffi::Name::default())]);
         for name in others.iter().map(|other| Name::parse(other).unwrap()).chain(behind) {
             assert_eq!((name.id(), by_archive(0, &name).1), (None, None), "{name}");
         }

@@ -109,9 +109,7 @@ pub struct Found<'section, 'cpu, T> {
 }
 
 impl<'section, 'cpu, T> Found<'section, 'cpu, T> {
-    /// # Safety
-    ///
-    /// The CPU found the entry in a section, or an outer one, that is open for as long as the value lives.
+    /// Safety: the CPU found the entry in a section, or an outer one, that is open for as long as the value lives.
     #[inline]
     pub(crate) unsafe fn new(cpu: &'cpu Cpu<T>, record: Record<T>) -> Self {
         Found { record, cpu, section: PhantomData }
@@ -342,10 +340,7 @@ impl<T> Cpu<T> {
     }
 
     /// Makes a call that looks an entry up, and wakes the tasks: it may have held another entry until it returned.
-    ///
-    /// # Safety
-    ///
-    /// As of `found_by`.
+    /// Safety: as of `found_by`.
     #[inline(always)]
     unsafe fn looked_up_by(&self, call: LookUp, kind: Kind, name: &Name) -> Result<Record<T>, LookUpError> {
         let tasks = self.tasks();
@@ -356,10 +351,7 @@ impl<T> Cpu<T> {
     }
 
     /// Makes a call that looks an entry up.
-    ///
-    /// # Safety
-    ///
-    /// registry.h says of the call that it looks an entry up on the CPU, and writes it if it is done.
+    /// Safety: registry.h says of the call that it looks an entry up on the CPU, and writes it if it is done.
     #[inline(always)]
     unsafe fn found_by(&self, call: LookUp, kind: Kind, name: &Name) -> Result<Record<T>, u32> {
         // SAFETY: this thread alone has the CPU, whose handle isn't empty.

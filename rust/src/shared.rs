@@ -74,10 +74,7 @@ pub struct Lease<T> {
 
 impl<T> Kept<T> {
     /// Notes what a new entry carries.
-    ///
-    /// # Safety
-    ///
-    /// As of `Carried::note`.
+    /// Safety: as of `Carried::note`.
     pub unsafe fn note(&mut self, entry: Plain, carried: Carried<T>) {
         // SAFETY: as the caller says.
         unsafe { carried.note(entry) };
@@ -104,10 +101,7 @@ impl<T> Kept<T> {
     }
 
     /// One turn of C on the retired entry with this number; with a CPU, of a destroy.
-    ///
-    /// # Safety
-    ///
-    /// The handle, where there is one, is of a CPU of this registry, which this thread runs on, and not in use.
+    /// Safety: the handle, where there is one, is of a CPU of this registry, which this thread runs on, and not in use.
     #[inline]
     pub(crate) unsafe fn turn(&mut self, cpu: Option<*mut ffi::Cpu>, number: u64) -> Met {
         let mut stage = ffi::Stage::default();
@@ -121,10 +115,7 @@ impl<T> Kept<T> {
     }
 
     /// Takes the row of an entry out, if it is there.
-    ///
-    /// # Safety
-    ///
-    /// A turn has freed the entry with this number, and the caller has its token, if it has one.
+    /// Safety: a turn has freed the entry with this number, and the caller has its token, if it has one.
     unsafe fn take(&mut self, number: u64) -> Option<Freed<T>> {
         let place = self.rows.iter().position(|row| row.number == number)?;
         let carried = self.rows.swap_remove(place).carried;
@@ -216,10 +207,7 @@ impl<T> Shared<T> {
     }
 
     /// Puts the handle of a CPU back.
-    ///
-    /// # Safety
-    ///
-    /// It is of the CPU with this number, of this registry, and its caller has no more of it.
+    /// Safety: it is of the CPU with this number, of this registry, and its caller has no more of it.
     pub unsafe fn put_cpu(&self, id: u8, cpu: ffi::Cpu) {
         locked(&self.spare)[usize::from(id)] = cpu;
     }
@@ -229,10 +217,7 @@ impl<T> Shared<T> {
 impl<T> Shared<T> {
     /// One turn of the work on the retired entry, on a CPU or on none: what was freed, or what was met. Where local references hold it, those to it that
     /// were dropped are given up, and the turn is made once more.
-    ///
-    /// # Safety
-    ///
-    /// As of `Kept::turn`. The caller has the entry's token, if it has one.
+    /// Safety: as of `Kept::turn`. The caller has the entry's token, if it has one.
     #[inline(always)]
     pub(crate) unsafe fn turn(&self, cpu: Option<*mut ffi::Cpu>, entry: Plain) -> Result<Freed<T>, Met> {
         let mut kept = self.kept();
@@ -247,10 +232,7 @@ impl<T> Shared<T> {
     }
 
     /// Goes on with a turn. Apart, and all of it in registers: most turns of whoever waits end before, and the lock waits for what they store.
-    ///
-    /// # Safety
-    ///
-    /// As of `turn`, whose turn was just made under this lock: it met so many local references, or the entry is freed.
+    /// Safety: as of `turn`, whose turn was just made under this lock: it met so many local references, or the entry is freed.
     #[inline(never)]
     unsafe fn go_on(
         &self,

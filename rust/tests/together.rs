@@ -9,8 +9,8 @@ mod common;
 
 use common::{name, scaled, Dice, Drops, Tracked};
 use kupaldiz::{
-    AttachError, Cpu, DestroyError, Entry, Found, Holder, Kind, LocalRef, Name, PassiveRef, Patience, ReadGuard, Refusal, Refused, Registry,
-    Retired, Settings, LIMITS,
+    AttachError, Cpu, DestroyError, Entry, Found, Holder, Kind, LocalRef, Name, PassiveRef, Patience, ReadGuard, Refusal, Refused,
+    Registry, Retired, Settings, LIMITS,
 };
 use std::sync::atomic::{AtomicU64, Ordering};
 use std::sync::Mutex;
