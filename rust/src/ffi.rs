@@ -1,7 +1,7 @@
 //! The calls of registry.h that this crate makes, as C declares them. What the caller must keep is written there; the modules above say how
 //! they keep it.
 
-use crate::limits::Limits;
+use crate::settings::Limits;
 use std::ffi::c_void;
 use std::ffi::CStr;
 use std::os::raw::c_char;

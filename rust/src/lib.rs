@@ -144,7 +144,6 @@ mod carried;
 mod changes;
 mod cpu;
 mod ffi;
-mod limits;
 mod lock;
 mod mapped;
 mod name;
@@ -162,7 +161,6 @@ mod table;
 mod values;
 
 pub use cpu::Cpu;
-pub use limits::{limits, version, Limits, LIMITS};
 pub use mapped::Mapped;
 pub use name::{Name, NameFault};
 pub use patience::Patience;
@@ -173,6 +171,6 @@ pub use refusal::{AttachError, DestroyError, DetachError, LookUpError, Refusal, 
 pub use registry::{Drained, Registry, StillOpen};
 pub use retired::Retired;
 pub use section::{Entries, Found, ReadGuard, Section};
-pub use settings::Settings;
+pub use settings::{limits, version, Limits, Settings, LIMITS};
 pub use table::Table;
 pub use values::{Balance, Entry, Freed, Holder, Kind};

@@ -252,20 +252,15 @@ impl<T> Cpu<T> {
     /// The same reference, which co-owns its CPU, or the same error: a struct may own both.
     ///
     /// ```
-    /// use kupaldiz::{Cpu, Kind, Name, PassiveRc, Registry, Settings};
+    /// use kupaldiz::{Kind, Name, Registry, Settings};
     /// use std::rc::Rc;
     ///
-    /// struct Worker {
-    ///     cpu: Rc<Cpu<u64>>,
-    ///     driver: PassiveRc<u64>,
-    /// }
-    ///
-    /// let (registry, mut cpus) = Registry::open(Settings::new(2, 1)).unwrap();
-    /// let wm = Name::parse("wm").unwrap();
-    /// registry.attach(&cpus[1], &wm, 7).unwrap();
-    /// let cpu = Rc::new(cpus.remove(0));
-    /// let worker = Worker { driver: cpu.get_rc(Kind::Driver, &wm).unwrap(), cpu };
-    /// assert_eq!((*worker.driver, worker.cpu.holds(1)), (7, true));
+    /// let (registry, mut cpus) = Registry::open(Settings::new(1, 1)).unwrap();
+    /// let (cpu, wm) = (Rc::new(cpus.remove(0)), Name::parse("wm").unwrap());
+    /// registry.attach(&cpu, &wm, 7).unwrap();
+    /// let driver = cpu.get_rc(Kind::Driver, &wm).unwrap();
+    /// drop(cpu);
+    /// assert_eq!(*driver, 7);
     /// ```
     #[inline]
     #[track_caller]

@@ -5,11 +5,10 @@
 use crate::basket::Baskets;
 use crate::carried::{Carried, Plain};
 use crate::ffi;
-use crate::limits::{check_version, version, LIMITS};
 use crate::lock::{locked, locked_mut, Mutex, MutexGuard, Tasks};
 use crate::places::Notes;
 use crate::refusal::{checked, Refusal};
-use crate::settings::Settings;
+use crate::settings::{check_version, version, Settings, LIMITS};
 use crate::values::{Freed, Met};
 use std::cmp::Reverse;
 use std::mem;

@@ -101,7 +101,7 @@ try_cargo() {
     echo "done: its tests: $(awk '/^test result/ { n += $4 } END { print n }' "$room/said") passed"
     cargo build --offline --release --examples
     target/release/examples/packet
-    target/release/examples/connections
+    target/release/examples/tasks
     target/release/examples/plugins
     echo "done: its examples"
 }
