@@ -37,7 +37,7 @@ $(OUT)/recalls: STRICT = -std=c11 -D_GNU_SOURCE -mno-red-zone $(WARNINGS)
 $(OUT)/recalls: LINK = -Wl,--wrap=malloc
 $(addprefix $(OUT)/,reclaims sanitized-reclaims raced-reclaims): LINK = -Wl,--wrap=malloc,--wrap=pthread_create,--wrap=pthread_cond_init,--wrap=pthread_cond_timedwait
 $(OUT)/lent $(OUT)/sanitized-lent: LINK = -Wl,--wrap=malloc,--wrap=pthread_condattr_init,--wrap=pthread_cond_init,--wrap=pthread_key_create,--wrap=pthread_setspecific
-$(OUT)/turns: c/tests/pauses.h c/tests/dice.h
+$(OUT)/turns: c/tests/pauses.h c/tests/dice.h netbsd/tests/child.h
 $(OUT)/turns: CFLAGS += -include c/tests/pauses.h
 $(OUT)/turns: LINK = -Wl,--wrap=registry_destroy,--wrap=registry_perform_begin,--wrap=registry_perform_turn,--wrap=clock_gettime,--wrap=nanosleep,--wrap=sched_yield \
     -Wl,--wrap=registry_local_release,--wrap=registry_local_give_up,--wrap=registry_advance,--wrap=pthread_mutex_lock,--wrap=pthread_mutex_unlock
@@ -48,7 +48,7 @@ $(PROGRAMS:%=$(OUT)/%): c/examples/client.h c/examples/expect.h $(FACE) $(ARCHIV
 	$(CC) $(STRICT) $(CPPFLAGS) $(CFLAGS) $(INCLUDES) $(LDFLAGS) -o $@ $(filter %.c,$^) $(ARCHIVE) -pthread $(LINK)
 
 # The checking build: the test of what it tells, and programs that it says nothing of.
-$(OUT)/checked: c/tests/checked.c
+$(OUT)/checked: c/tests/checked.c netbsd/tests/child.h
 $(OUT)/checked: LINK = -Wl,--wrap=registry_find
 $(CHECKING:%=$(OUT)/checked-%): $(OUT)/checked-%: %.c
 

@@ -15,12 +15,11 @@
  */
 enum { SPINS = 16, MOST_PAUSES = 256, YIELDS = 8, FIRST_SLEEP = 16 * 1000, LONGEST_SLEEP = 8 * 1000 * 1000 };
 
-/* Between the turns of a wait: how often it has spun and yielded, how long it sleeps next in nanoseconds, and when it gives up. */
+/* Between the turns of a wait: when it gives up, how often it has spun or yielded, and how long it sleeps next in nanoseconds. */
 struct pause {
-	unsigned spins;
-	unsigned yields;
-	int64_t sleep;
 	const struct timespec *deadline;
+	unsigned made;
+	int64_t sleep;
 };
 
 /* Ends the program if the mutex wasn't locked or unlocked. */
@@ -49,7 +48,7 @@ struct registry_lock registry_lock_of_mutex(pthread_mutex_t *mutex)
 
 static struct pause begin_pause(const struct timespec *deadline)
 {
-	return (struct pause){0, 0, FIRST_SLEEP, deadline};
+	return (struct pause){deadline, 0, FIRST_SLEEP};
 }
 
 /* How many nanoseconds are left until the deadline, at most `most`; 0 or less once it has passed. */
@@ -78,12 +77,6 @@ static int64_t time_left(const struct timespec *deadline, int64_t most)
 #endif
 #endif
 
-static void spin(unsigned times)
-{
-	for (unsigned i = 0; i < times; i++)
-		SPIN_PAUSE();
-}
-
 /* The length of the sleep after one of this length. */
 static int64_t longer(int64_t sleep)
 {
@@ -96,19 +89,17 @@ static bool pause_once(struct pause *pause)
 	int64_t length = time_left(pause->deadline, pause->sleep);
 	if (length <= 0)
 		return false;
-	if (pause->spins < SPINS) {
-		spin(1U << pause->spins < MOST_PAUSES ? 1U << pause->spins : MOST_PAUSES);
-		pause->spins++;
+	if (pause->made >= SPINS + YIELDS) {
+		const struct timespec sleep = {0, (long)length};
+		nanosleep(&sleep, NULL);
+		pause->sleep = longer(pause->sleep);
 		return true;
 	}
-	if (pause->yields < YIELDS) {
-		pause->yields++;
+	if (pause->made >= SPINS)
 		sched_yield();
-		return true;
-	}
-	struct timespec sleep = {0, (long)length};
-	nanosleep(&sleep, NULL);
-	pause->sleep = longer(pause->sleep);
+	for (unsigned i = 0; pause->made < SPINS && i < 1U << pause->made && i < MOST_PAUSES; i++)
+		SPIN_PAUSE();
+	pause->made++;
 	return true;
 }
 
@@ -375,25 +366,6 @@ static void *reclaim_all(void *of)
 	return NULL;
 }
 
-static struct reclaimer *make_reclaimer(const struct registry_lock *lock, struct registry_deferred *deferred)
-{
-	struct reclaimer *made = malloc(sizeof *made);
-	if (made == NULL)
-		return NULL;
-	*made = (struct reclaimer){.lock = *lock, .deferred = deferred, .mutex = PTHREAD_MUTEX_INITIALIZER};
-	if (make_condition(&made->changed))
-		return made;
-	free(made);
-	return NULL;
-}
-
-static void free_reclaimer(struct reclaimer *reclaimer)
-{
-	pthread_cond_destroy(&reclaimer->changed);
-	pthread_mutex_destroy(&reclaimer->mutex);
-	free(reclaimer);
-}
-
 /* Starts the thread, which takes no signal. */
 static int start_thread(struct reclaimer *reclaimer)
 {
@@ -405,26 +377,29 @@ static int start_thread(struct reclaimer *reclaimer)
 	return error;
 }
 
-/* The caller has the interlock. */
-static registry_answer start(const struct registry_lock *lock, struct registry_deferred *deferred)
+static struct reclaimer *make_reclaimer(const struct registry_lock *lock, struct registry_deferred *deferred)
 {
-	if (deferred->reclaimer != NULL)
-		return REGISTRY_FULL_HANDLE;
-	struct reclaimer *made = make_reclaimer(lock, deferred);
+	struct reclaimer *made = malloc(sizeof *made);
 	if (made == NULL)
-		return REGISTRY_NO_MEMORY;
-	if (start_thread(made) != 0) {
-		free_reclaimer(made);
-		return REGISTRY_NO_MEMORY;
+		return NULL;
+	*made = (struct reclaimer){.lock = *lock, .deferred = deferred, .mutex = PTHREAD_MUTEX_INITIALIZER};
+	if (make_condition(&made->changed)) {
+		if (start_thread(made) == 0)
+			return made;
+		pthread_cond_destroy(&made->changed);
 	}
-	deferred->reclaimer = made;
-	return REGISTRY_DONE;
+	free(made);
+	return NULL;
 }
 
 registry_answer registry_reclaimer_start(const struct registry_lock *lock, struct registry_deferred *deferred)
 {
+	registry_answer answer = REGISTRY_FULL_HANDLE;
 	lock->take(lock->of);
-	registry_answer answer = start(lock, deferred);
+	if (deferred->reclaimer == NULL) {
+		deferred->reclaimer = make_reclaimer(lock, deferred);
+		answer = deferred->reclaimer != NULL ? REGISTRY_DONE : REGISTRY_NO_MEMORY;
+	}
 	lock->give(lock->of);
 	return answer;
 }
@@ -442,7 +417,9 @@ registry_answer registry_reclaimer_stop(const struct registry_lock *lock, struct
 	pthread_setcancelstate(PTHREAD_CANCEL_DISABLE, &cancels);
 	pthread_join(reclaimer->thread, NULL);
 	pthread_setcancelstate(cancels, NULL);
-	free_reclaimer(reclaimer);
+	pthread_cond_destroy(&reclaimer->changed);
+	pthread_mutex_destroy(&reclaimer->mutex);
+	free(reclaimer);
 	return REGISTRY_DONE;
 }
 

@@ -153,9 +153,7 @@ static void *read_all(void *of)
 static struct registry_entry attach(struct world *world, unsigned which)
 {
 	struct registry_entry made;
-	world->lock.take(world->lock.of);
-	DONE(registry_attach(&world->keeper, &world->cpus[READERS + which], &names[which], (uintptr_t)make_object(), &made));
-	world->lock.give(world->lock.of);
+	DONE_UNDER(&world->mutex, registry_attach(&world->keeper, &world->cpus[READERS + which], &names[which], (uintptr_t)make_object(), &made));
 	return made;
 }
 
@@ -192,9 +190,7 @@ static void change_by_destroy(struct world *world, unsigned which)
 	struct registry_cpu *cpu = &world->cpus[READERS + which];
 	struct registry_entry entry = attach(world, which);
 	rest();
-	world->lock.take(world->lock.of);
-	DONE(registry_detach(&world->keeper, cpu, REGISTRY_DRIVER, &names[which], NULL));
-	world->lock.give(world->lock.of);
+	DONE_UNDER(&world->mutex, registry_detach(&world->keeper, cpu, REGISTRY_DRIVER, &names[which], NULL));
 	free_after(destroy, world, cpu, entry.number, object_of(&entry), DESTROYS_EARLY);
 }
 
@@ -208,9 +204,7 @@ static void change_by_list(struct world *world, unsigned which)
 {
 	attach(world, which);
 	rest();
-	world->lock.take(world->lock.of);
-	DONE(registry_deferred_detach(&world->deferred, &world->cpus[READERS + which], REGISTRY_DRIVER, &names[which], NULL));
-	world->lock.give(world->lock.of);
+	DONE_UNDER(&world->mutex, registry_deferred_detach(&world->deferred, &world->cpus[READERS + which], REGISTRY_DRIVER, &names[which], NULL));
 	DONE(registry_deferred_barrier(&world->lock, &world->deferred, NULL));
 }
 

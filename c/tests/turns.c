@@ -14,9 +14,8 @@
 #include <pthread.h>
 #include <sched.h>
 #include <signal.h>
-#include <sys/wait.h>
-#include <unistd.h>
 
+#include "../../netbsd/tests/child.h"
 #include "client.h"
 #include "dice.h"
 #include "waiting.h"
@@ -337,38 +336,36 @@ static void test_many_turns(unsigned turns)
 	alone = false;
 }
 
-/* A child that takes the interlock and gives it up is aborted, and says that this call failed so. */
-static void expect_abort(const struct registry_lock *of_mutex, const char *call, int error)
+static pthread_mutex_t mutex = PTHREAD_MUTEX_INITIALIZER;
+
+static void take(void)
 {
-	int status, ends[2];
-	char wanted[200], said_last[200] = "";
+	registry_lock_of_mutex(&mutex).take(&mutex);
+}
+
+static void give(void)
+{
+	registry_lock_of_mutex(&mutex).give(&mutex);
+}
+
+/* A child that takes the interlock and gives it up is aborted, and says that this call failed so. An emulator says behind it that the child was aborted. */
+static void expect_abort(const char *call, int error)
+{
+	char wanted[200], said[200];
 	snprintf(wanted, sizeof wanted, "registry: %s of the interlock: %s\n", call, strerror(error));
-	EXPECT(pipe(ends) == 0);
-	pid_t child = fork();
-	EXPECT(child >= 0);
-	if (child == 0) {
-		EXPECT(dup2(ends[1], STDERR_FILENO) >= 0);
-		of_mutex->take(of_mutex->of);
-		of_mutex->give(of_mutex->of);
-		_exit(0);
-	}
-	EXPECT(close(ends[1]) == 0 && read(ends[0], said_last, sizeof said_last - 1) > 0 && close(ends[0]) == 0);
-	/* An emulator says behind it that the child was aborted. */
-	EXPECT(strncmp(said_last, wanted, strlen(wanted)) == 0);
-	EXPECT(waitpid(child, &status, 0) == child && WIFSIGNALED(status) && WTERMSIG(status) == SIGABRT);
+	int status = run_in_child(take, give, said, sizeof said);
+	EXPECT(strncmp(said, wanted, strlen(wanted)) == 0 && WIFSIGNALED(status) && WTERMSIG(status) == SIGABRT);
 }
 
 /* The program is aborted if a mutex fails, with any error. */
 static void test_errors(void)
 {
-	pthread_mutex_t mutex = PTHREAD_MUTEX_INITIALIZER;
-	const struct registry_lock of_mutex = registry_lock_of_mutex(&mutex);
 	for (int i = 0; i < 2 * MOST_ERROR; i++) {
 		bool by_lock = i % 2 == 0;
 		int error = 1 + i / 2;
 		lock_error = by_lock ? error : 0;
 		unlock_error = by_lock ? 0 : error;
-		expect_abort(&of_mutex, by_lock ? "pthread_mutex_lock" : "pthread_mutex_unlock", error);
+		expect_abort(by_lock ? "pthread_mutex_lock" : "pthread_mutex_unlock", error);
 	}
 	lock_error = unlock_error = 0;
 }
