@@ -71,7 +71,6 @@ ends_without_yields() {
 rust_examples=(
     "packet: nobody sent by wm0 once it was taken out"
     "plugins: 11 plug-ins were unloaded, and no call was lost"
-    "threads: wm is gone, its speed was 1000"
     "shutdown: closed, and 3 devices were written"
     "tasks: 400 tasks, and the driver came back: 1000"
 )
