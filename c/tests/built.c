@@ -26,8 +26,6 @@ static void test_limits(void)
 	memset(&limits, 0, sizeof limits);
 	registry_limits(NULL);
 	registry_limits(&limits);
-	EXPECT(limits.cpus == REGISTRY_MOST_CPUS && limits.slots == REGISTRY_MOST_SLOTS && limits.changes == REGISTRY_MOST_CHANGES);
-	EXPECT(limits.sections == REGISTRY_MOST_SECTIONS && limits.count == REGISTRY_MOST_COUNT && limits.depth == REGISTRY_MOST_DEPTH);
 	EXPECT(memcmp(&limits, &LIMITS, sizeof limits) == 0);
 }
 

@@ -161,17 +161,6 @@ static void *use_cpus(void *of)
 	return of;
 }
 
-static void test_crowd(void)
-{
-	pthread_t threads[THREADS];
-	for (unsigned i = 0; i < THREADS; i++)
-		EXPECT(pthread_create(&threads[i], NULL, use_cpus, NULL) == 0);
-	for (unsigned i = 0; i < THREADS; i++)
-		EXPECT(pthread_join(threads[i], NULL) == 0);
-	EXPECT(atomic_load(&uses) == THREADS * ROUNDS);
-	expect_all_free();
-}
-
 /* A thread ends three sections deep. */
 static void *end_inside(void *of)
 {
@@ -266,17 +255,24 @@ static void *fork_with_cpu(void *of)
 	return of;
 }
 
-/* At the fork some threads have CPUs and others wait for one. The parent goes on. */
 static void test_fork(void)
 {
-	pthread_t threads[THREADS];
 	int status;
-	for (unsigned i = 0; i < THREADS; i++)
-		EXPECT(pthread_create(&threads[i], NULL, use_cpus, NULL) == 0);
 	pid_t child = (pid_t)(intptr_t)run(fork_with_cpu, NULL);
 	EXPECT(waitpid(child, &status, 0) == child && WIFSIGNALED(status) && WTERMSIG(status) == SIGKILL);
+}
+
+/* More threads than CPUs share them. At a fork some have CPUs and others wait for one; the parent goes on. */
+static void test_crowd(void)
+{
+	pthread_t threads[THREADS];
+	for (unsigned i = 0; i < THREADS; i++)
+		EXPECT(pthread_create(&threads[i], NULL, use_cpus, NULL) == 0);
+	if (FORKS)
+		test_fork();
 	for (unsigned i = 0; i < THREADS; i++)
 		EXPECT(pthread_join(threads[i], NULL) == 0);
+	EXPECT(atomic_load(&uses) == THREADS * ROUNDS);
 	expect_all_free();
 }
 
@@ -297,11 +293,9 @@ int main(void)
 	DONE(registry_open(&settings, &keeper, cpus, CPUS));
 	test_misuse();
 	test_refused();
-	test_crowd();
 	test_ends();
 	test_deadlines();
-	if (FORKS)
-		test_fork();
+	test_crowd();
 	test_many();
 	DONE(registry_close(cpus, CPUS, &keeper));
 	puts("lent end");

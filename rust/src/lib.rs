@@ -10,12 +10,9 @@
 //!
 //! # The terms
 //!
-//! - An [`Entry`] is a driver or an interface that was attached. It is live until it is detached, and then [`Retired`] until it is freed. It carries a `T`:
-//!   one type for all entries of a registry, such as an `enum`, a `Box<dyn Driver>` for plug-ins, or `()`. Everything that holds the entry derefs to it.
-//! - A [`Cpu`] is a handle, not a processor. One thread at a time uses it. A [`CpuPool`] lends CPUs to more threads.
-//! - A [`Section`] is open on a CPU while it looks entries up. A [`PassiveRef`] holds an entry beyond the section, on one CPU. A [`LocalRef`] may be stored
-//!   and go to other threads.
-//! - The interlock is the lock of a [`Registry`]. Each change takes it, and each turn. A turn is one attempt to free a retired entry.
+//! An [`Entry`] is live until it is detached, and then [`Retired`] until it is freed. It carries a `T`: one type for all entries of a registry, such as an
+//! `enum`, a `Box<dyn Driver>` for plug-ins, or `()`. Everything that holds the entry derefs to it. The interlock is the lock of a [`Registry`]. Each change
+//! takes it, and each turn: one attempt to free a retired entry.
 //!
 //! # The calls
 //!
