@@ -48,14 +48,14 @@ guarded_rust() {
 
 # The programs of the crate's tests, as cargo names them where it isn't told to be quiet; except those that run the compiler or themselves, or look at types.
 rust_tests() {
-    (cd rust && CARGO_TERM_QUIET=false RUSTFLAGS=$(tests/watching.sh) cargo test --offline --no-run --test '*' 2>&1) | grep -oE '/[^ ()]*/(carried|face|leaving|memory|model|pool|together)-[0-9a-f]+'
+    (cd rust && CARGO_TERM_QUIET=false RUSTFLAGS=$(tests/watching.sh) cargo test --offline --no-run --test '*' 2>&1) | grep -oE '/[^ ()]*/(carried|face|leaving|memory|model|together)-[0-9a-f]+'
 }
 
 # Each of them under valgrind, except what forgets on purpose; the stress with fewer changes.
 guarded_tests() {
     local program programs
     programs=$(rust_tests)
-    [ "$(wc -w <<<"$programs")" -eq 7 ] || return 1
+    [ "$(wc -w <<<"$programs")" -eq 6 ] || return 1
     for program in $programs; do
         REGISTRY_CHANGES=1 guarded_rust "$program" --test-threads=1 --skip forgotten --skip had_again --skip static || return 1
     done

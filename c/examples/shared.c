@@ -43,18 +43,12 @@ static void open_registry(void)
 	}
 }
 
-/* Locks a CPU that is free, or waits for the thread's own choice if none is. */
+/* Locks the thread's CPU: others share it. */
 static struct shared_cpu *lock_cpu(unsigned thread)
 {
-	struct shared_cpu *choice = &shared[thread % CPUS];
-
-	for (unsigned i = 0; i < CPUS; i++) {
-		struct shared_cpu *next = &shared[(thread + i) % CPUS];
-		if (pthread_mutex_trylock(&next->mutex) == 0)
-			return next;
-	}
-	EXPECT(pthread_mutex_lock(&choice->mutex) == 0);
-	return choice;
+	struct shared_cpu *on = &shared[thread % CPUS];
+	EXPECT(pthread_mutex_lock(&on->mutex) == 0);
+	return on;
 }
 
 static void unlock_cpu(struct shared_cpu *on)

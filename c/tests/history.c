@@ -783,27 +783,19 @@ static void closed(struct world *world)
 	__real_free(world);
 }
 
-static unsigned live(const struct world *world)
-{
-	unsigned count = 0;
-	for (unsigned s = 0; s < world->model.settings.slots; s++)
-		count += world->model.slots[s].state == LIVE;
-	return count;
-}
-
 /* At the end of the history an attach is refused in each slot, and each live entry can still be detached. */
 static void end_history(struct world *world)
 {
 	struct registry_entry none = {0};
 	settle(world);
-	if (world->model.changes + 2 + live(world) > world->model.settings.change_limit)
+	if (world->model.changes + 2 + count_of(&world->model, LIVE) > world->model.settings.change_limit)
 		for (unsigned i = 0; i < NAMES; i++)
 			same(registry_attach(&world->keeper, &world->cpus[0], &names[i], 1, &none), model_attach(&world->model, 0, 0, &names[i], 1, &none));
-	while (live(world) > 0)
+	while (count_of(&world->model, LIVE) > 0)
 		detach(world);
 	settle(world);
 	audit(world);
-	EXPECT(live(world) == 0);
+	EXPECT(count_of(&world->model, LIVE) == 0);
 }
 
 /* The last changes before the limit, one by one, and the end. How many changes there were. */
@@ -929,15 +921,6 @@ static void refer_often(void)
 	closed(world);
 }
 
-/* Bytes that are no text: one of them is the number, the others are 0. */
-static const unsigned char *any_bytes(unsigned number)
-{
-	static unsigned char bytes[REGISTRY_KEY_BYTES];
-	memset(bytes, 0, sizeof bytes);
-	bytes[number % sizeof bytes] = (unsigned char)number;
-	return bytes;
-}
-
 int main(int argc, char **argv)
 {
 	uint64_t changes = argc > 1 ? strtoull(argv[1], NULL, 10) : LONGEST;
@@ -947,9 +930,9 @@ int main(int argc, char **argv)
 		char text[8];
 		snprintf(text, sizeof text, "n%u", i);
 		names[i] = name_of(text);
-		/* Every other name is of any bytes. */
+		/* Every other name is no text. */
 		if (i % 2 == 1)
-			DONE(registry_name_of_bytes(any_bytes(i), REGISTRY_KEY_BYTES, &names[i]));
+			names[i] = (struct registry_name){i / 4, i};
 	}
 	if (part == NULL || strcmp(part, "counts") == 0)
 		refer_often();

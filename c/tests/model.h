@@ -267,25 +267,37 @@ static inline uint32_t model_enter_find(struct model *model, unsigned cpu, uint6
 	return answer;
 }
 
-static inline uint32_t model_acquire(struct model *model, unsigned cpu, uint64_t *number)
+/* The slot of the CPU's last found entry, or NULL. */
+static inline struct model_slot *last_slot(struct model *model, unsigned cpu)
 {
-	struct model_slot *slot = model->cpus[cpu].found == 0 ? NULL : model_slot_of(model, model->cpus[cpu].found);
+	return model->cpus[cpu].found == 0 ? NULL : model_slot_of(model, model->cpus[cpu].found);
+}
+
+/* One passive reference more to the slot, if there is one: else `none`. */
+static inline uint32_t refer(struct model *model, unsigned cpu, struct model_slot *slot, uint32_t none)
+{
 	if (slot == NULL)
-		return REGISTRY_NOTHING_FOUND;
+		return none;
 	if (slot->passive[cpu] == model->settings.passive_limit)
 		return REGISTRY_PASSIVE_FULL;
 	slot->passive[cpu]++;
-	*number = slot->entry.number;
 	return REGISTRY_DONE;
+}
+
+static inline uint32_t model_acquire(struct model *model, unsigned cpu, uint64_t *number)
+{
+	uint32_t answer = refer(model, cpu, last_slot(model, cpu), REGISTRY_NOTHING_FOUND);
+	if (answer == REGISTRY_DONE)
+		*number = model->cpus[cpu].found;
+	return answer;
 }
 
 /* A reference to the entry that the CPU remembers, if there may be one. */
 static inline bool is_got(struct model *model, unsigned cpu, uint64_t kind, const struct registry_name *name, struct registry_entry *found)
 {
 	struct model_slot *slot = recalled(model, cpu, kind, name);
-	if (slot == NULL || slot->passive[cpu] == model->settings.passive_limit)
+	if (refer(model, cpu, slot, REGISTRY_NOT_FOUND) != REGISTRY_DONE)
 		return false;
-	slot->passive[cpu]++;
 	*found = slot->entry;
 	return true;
 }
@@ -337,13 +349,7 @@ static inline struct model_slot *held_slot(struct model *model, unsigned cpu, ui
 
 static inline uint32_t model_copy(struct model *model, unsigned cpu, uint64_t number)
 {
-	struct model_slot *slot = held_slot(model, cpu, number);
-	if (slot == NULL)
-		return REGISTRY_NOT_HELD;
-	if (slot->passive[cpu] == model->settings.passive_limit)
-		return REGISTRY_PASSIVE_FULL;
-	slot->passive[cpu]++;
-	return REGISTRY_DONE;
+	return refer(model, cpu, held_slot(model, cpu, number), REGISTRY_NOT_HELD);
 }
 
 /* Whether it is the last found one. No entry has the number 0. */
@@ -423,7 +429,7 @@ static inline void leave_block(struct model *model, unsigned cpu)
 /* A local reference to the last found entry. */
 static inline uint32_t acquire_last(struct model *model, unsigned cpu, uint64_t *number)
 {
-	struct model_slot *slot = model->cpus[cpu].found == 0 ? NULL : model_slot_of(model, model->cpus[cpu].found);
+	struct model_slot *slot = last_slot(model, cpu);
 	if (slot == NULL)
 		return REGISTRY_NOTHING_FOUND;
 	if (slot->net[cpu] == (int64_t)model->settings.count_limit)

@@ -208,21 +208,13 @@ impl Error for Refusal {}
 /// `Refusal::from` converts it first.
 ///
 /// ```
-/// use kupaldiz::{AttachError, Cpu, Name, Refusal, Refused, Registry, Settings};
-/// use std::error::Error;
-/// use std::rc::Rc;
+/// use kupaldiz::{AttachError, Refused, Registry, Settings};
 ///
 /// let (registry, cpus) = Registry::open(Settings::new(1, 2)).unwrap();
 /// let wm = "wm".parse().unwrap();
-/// registry.attach(&cpus[0], &wm, Rc::new(1)).unwrap();
-/// let Refused { refusal, given } = registry.attach(&cpus[0], &wm, Rc::new(2)).unwrap_err();
-/// assert_eq!((refusal, *given), (AttachError::NameTaken, 2));
-///
-/// fn attach(registry: &Registry<Rc<u8>>, cpu: &Cpu<Rc<u8>>, name: &Name) -> Result<(), Box<dyn Error + Send + Sync>> {
-///     registry.attach(cpu, name, Rc::new(3)).map_err(Refusal::from)?;
-///     Ok(())
-/// }
-/// assert!(attach(&registry, &cpus[0], &wm).unwrap_err().is::<Refusal>());
+/// registry.attach(&cpus[0], &wm, 1).unwrap();
+/// let Refused { refusal, given } = registry.attach(&cpus[0], &wm, 2).unwrap_err();
+/// assert_eq!((refusal, given), (AttachError::NameTaken, 2));
 /// ```
 #[derive(Clone, Copy, PartialEq, Eq, Hash)]
 pub struct Refused<E, G> {

@@ -50,7 +50,7 @@ races find
 judge "a race is reported where a find isn't after its attach"
 races freed
 judge "a race is reported where a value isn't freed after its last use"
-run address "" --test carried --test face --test leaving --test model --test pool --test together
+run address "" --test carried --test face --test leaving --test model --test together
 judge "no access out of bounds, or of what was freed"
 echo "$((4 - failed)) passed, $failed failed"
 exit "$failed"
