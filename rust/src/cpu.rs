@@ -10,7 +10,6 @@ use std::cell::{Cell, UnsafeCell};
 use std::fmt;
 use std::mem;
 use std::panic::Location;
-use std::ptr;
 use std::sync::Arc;
 
 /// One of the registry's CPUs, for the thread that has it. It is a handle, not a processor. It co-owns its registry. It may be stored, and go to another
@@ -47,13 +46,6 @@ impl<T> Cpu<T> {
     #[inline]
     pub(crate) fn handle(&self) -> *mut ffi::Cpu {
         self.handle.get()
-    }
-
-    /// Swaps the handle out for a call that needs several in a row, and back.
-    /// Safety: the other one is empty, or what the last swap has put there. Between the two nothing else is done with the CPU.
-    pub(crate) unsafe fn swap(&self, handle: &mut ffi::Cpu) {
-        // SAFETY: this thread alone has the CPU, and no reference into the cell outlives this line.
-        unsafe { ptr::swap(self.handle.get(), handle) };
     }
 
     #[inline]

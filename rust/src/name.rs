@@ -219,11 +219,9 @@ mod tests {
         fn registry_id_of_name(name: *const ffi::Name, id: *mut u64) -> u32;
     }
 
-    /// What the archive says of these bytes.
-    fn parsed_by_archive(bytes: &[u8]) -> Result<ffi::Name, NameFault> {
-        let (mut words, mut place) = (ffi::Name::default(), 0);
-        // SAFETY: the bytes are those of the slice, and each of the two places is a value of its own.
-        match unsafe { registry_name_parse(bytes.as_ptr(), bytes.len(), &mut words, &mut place) } {
+    /// What the archive's answer says of a name: its words, or the place of its first bad byte.
+    fn told(answer: u32, words: ffi::Name, place: u64) -> Result<ffi::Name, NameFault> {
+        match answer {
             ffi::DONE => Ok(words),
             70 => Err(NameFault::Empty),
             71 => Err(NameFault::TooLong),
@@ -232,16 +230,17 @@ mod tests {
         }
     }
 
-    /// What the archive makes of these bytes.
+    fn parsed_by_archive(bytes: &[u8]) -> Result<ffi::Name, NameFault> {
+        let (mut words, mut place) = (ffi::Name::default(), 0);
+        // SAFETY: the bytes are those of the slice, and each of the two places is a value of its own.
+        let answer = unsafe { registry_name_parse(bytes.as_ptr(), bytes.len(), &mut words, &mut place) };
+        told(answer, words, place)
+    }
+
     fn made_by_archive(bytes: &[u8]) -> Result<ffi::Name, NameFault> {
         let mut words = ffi::Name::default();
         // SAFETY: the bytes are those of the slice, and the place is a value of its own.
-        match unsafe { registry_name_of_bytes(bytes.as_ptr(), bytes.len(), &mut words) } {
-            ffi::DONE => Ok(words),
-            70 => Err(NameFault::Empty),
-            71 => Err(NameFault::TooLong),
-            other => panic!("{other}"),
-        }
+        told(unsafe { registry_name_of_bytes(bytes.as_ptr(), bytes.len(), &mut words) }, words, 0)
     }
 
     #[test]

@@ -7,7 +7,7 @@ use crate::places::Holders;
 use crate::refusal::{checked, DestroyError, DetachError, Foreign, Refusal, Refused};
 use crate::retired::Retired;
 use crate::settings::Settings;
-use crate::shared::{no_cpus, Shared};
+use crate::shared::Shared;
 use crate::values::{Balance, Entry, Freed};
 use std::error::Error;
 use std::fmt;
@@ -172,16 +172,14 @@ impl<T> Registry<T> {
 
     /// Writes the balances, and returns how many. The CPUs are all of this registry's, in their order.
     fn audit_into(&self, cpus: &[&Cpu<T>], list: &mut [ffi::Balance]) -> Result<usize, Refusal> {
-        let (mut handles, mut length, mut kept) = (no_cpus(cpus.len()), 0, self.shared.kept());
-        let swap = |handles: &mut [ffi::Cpu]| {
-            // SAFETY: it is done once before the call and once after it, in the same order.
-            handles.iter_mut().zip(cpus).for_each(|(handle, cpu)| unsafe { cpu.swap(handle) });
-        };
-        swap(&mut handles);
-        let row = handles.as_mut_ptr();
+        let (mut length, mut kept) = (0, self.shared.kept());
+        // SAFETY: this thread alone has each CPU. Its handle is moved to the row for the call, and back.
+        let mut row: Vec<ffi::Cpu> = cpus.iter().map(|cpu| unsafe { cpu.handle().read() }).collect();
+        let handles = row.as_mut_ptr();
         // SAFETY: as for `perform`, of so many CPUs.
-        let answer = unsafe { ffi::registry_audit(&mut kept.keeper, row, cpus.len(), list.as_mut_ptr(), list.len(), &mut length) };
-        swap(&mut handles);
+        let answer = unsafe { ffi::registry_audit(&mut kept.keeper, handles, cpus.len(), list.as_mut_ptr(), list.len(), &mut length) };
+        // SAFETY: as above.
+        row.into_iter().zip(cpus).for_each(|(handle, cpu)| unsafe { cpu.handle().write(handle) });
         checked(answer).map_err(Refusal::of)?;
         Ok(length)
     }

@@ -15,11 +15,6 @@ use std::mem;
 use std::sync::atomic::{AtomicUsize, Ordering};
 use std::sync::Arc;
 
-/// A place for each of so many CPUs, all of them empty.
-pub fn no_cpus(count: usize) -> Vec<ffi::Cpu> {
-    (0..count).map(|_| ffi::Cpu::EMPTY).collect()
-}
-
 /// What the interlock guards.
 pub struct Kept<T> {
     pub keeper: ffi::Keeper,
@@ -152,7 +147,7 @@ impl<T> Shared<T> {
         check_version(version())?;
         checked(LIMITS.compared()).map_err(Refusal::of)?;
         let mut keeper = ffi::Keeper::EMPTY;
-        let (mut cpus, slots) = (no_cpus(usize::from(settings.cpus)), usize::from(settings.slots));
+        let (mut cpus, slots): (Vec<_>, _) = ((0..settings.cpus).map(|_| ffi::Cpu::EMPTY).collect(), usize::from(settings.slots));
         // SAFETY: all handles are empty, and there are as many as are told.
         let answer = unsafe { ffi::registry_open(&settings.to_c(), &mut keeper, cpus.as_mut_ptr(), cpus.len()) };
         checked(answer).map_err(Refusal::of)?;

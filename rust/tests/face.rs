@@ -4,8 +4,8 @@ mod common;
 
 use common::{detach, local, name, passive, patience, why, with_driver, LONG};
 use kupaldiz::{
-    CpuPool, Found, Hold, Holder, Kind, LocalRef, Mapped, Name, NameFault, PassiveRc, PassiveRef, Patience, ReadGuard, Refusal, Registry,
-    Retired, Settings, LIMITS,
+    Cpu, CpuPool, Found, Freed, Hold, Holder, Kind, LocalRef, Mapped, Name, NameFault, PassiveRc, PassiveRef, Patience, ReadGuard, Refusal,
+    Registry, Retired, Settings, LIMITS,
 };
 use std::collections::hash_map::DefaultHasher;
 use std::collections::{BTreeSet, HashSet};
@@ -157,10 +157,14 @@ fn a_wait_lasts_as_long_as_it_is_told() {
 
 #[test]
 fn a_wait_ends_once_the_reader_has_left() {
-    for way in 0..4 {
+    let ways: [fn(&Registry<u8>, &Cpu<u8>, Retired<u8>) -> Option<Freed<u8>>; 3] = [
+        |_, cpu, retired| retired.destroy(cpu, patience()).ok(),
+        |_, _, retired| retired.wait(patience()).ok(),
+        |registry, cpu, retired| registry.perform(cpu, patience()).ok().and_then(|()| retired.advance().ok()),
+    ];
+    for wait in ways {
         let (registry, mut cpus) = with_driver(7);
-        let (writer, reader) = (cpus.remove(0), cpus.remove(0));
-        let (inside, is_inside) = channel();
+        let (reader, (inside, is_inside)) = (cpus.remove(1), channel());
         let reading = thread::spawn(move || {
             let guard = reader.read(Kind::Driver, &WM).unwrap();
             inside.send(()).unwrap();
@@ -168,24 +172,8 @@ fn a_wait_ends_once_the_reader_has_left() {
             *guard
         });
         is_inside.recv().unwrap();
-        let retired = registry.detach(&writer, Kind::Driver, &WM).unwrap();
-        let freed = match way {
-            0 => retired.destroy(&writer, patience()),
-            1 => {
-                drop(writer);
-                retired.wait(patience())
-            }
-            2 => {
-                registry.perform(&writer, patience()).unwrap();
-                retired.advance()
-            }
-            // Also on another thread, with a CPU that it borrows.
-            _ => {
-                let pool = CpuPool::new([writer]).unwrap();
-                thread::spawn(move || retired.destroy(&pool.lend(), patience())).join().unwrap()
-            }
-        };
-        assert_eq!((freed.unwrap().value, reading.join().unwrap()), (7, 7));
+        let retired = registry.detach(&cpus[0], Kind::Driver, &WM).unwrap();
+        assert_eq!((wait(&registry, &cpus[0], retired).unwrap().value, reading.join().unwrap()), (7, 7));
     }
 }
 
