@@ -16,11 +16,6 @@
 
 enum { CPUS = 8, THREADS = 24, ROUNDS = 300 };
 
-WRAPPED(pthread_cond_init);
-WRAPPED(pthread_condattr_init);
-WRAPPED(pthread_key_create);
-WRAPPED(pthread_setspecific);
-
 /* In a child of several threads the address sanitizer's heap may stay locked for ever. */
 #ifdef __SANITIZE_ADDRESS__
 enum { FORKS = 0 };
@@ -31,30 +26,11 @@ enum { FORKS = 1 };
 /* What fails next. */
 static enum { NOTHING, MALLOC, ATTRIBUTES, CONDITION, KEY, OPENING, PLACE } fault;
 
-void *__wrap_malloc(size_t size)
-{
-	return fault == MALLOC ? NULL : __real_malloc(size);
-}
-
-int __wrap_pthread_condattr_init(pthread_condattr_t *made)
-{
-	return fault == ATTRIBUTES ? ENOMEM : __real_pthread_condattr_init(made);
-}
-
-int __wrap_pthread_cond_init(pthread_cond_t *made, const pthread_condattr_t *attributes)
-{
-	return fault == CONDITION ? ENOMEM : __real_pthread_cond_init(made, attributes);
-}
-
-int __wrap_pthread_key_create(pthread_key_t *made, void (*end)(void *))
-{
-	return fault == KEY ? EAGAIN : __real_pthread_key_create(made, end);
-}
-
-int __wrap_pthread_setspecific(pthread_key_t key, const void *value)
-{
-	return fault == PLACE && value != NULL ? ENOMEM : __real_pthread_setspecific(key, value);
-}
+FAILING(void *, malloc, (size_t size), (size), fault == MALLOC, NULL)
+FAILING(int, pthread_condattr_init, (pthread_condattr_t *made), (made), fault == ATTRIBUTES, ENOMEM)
+FAILING(int, pthread_cond_init, (pthread_cond_t *made, const pthread_condattr_t *attributes), (made, attributes), fault == CONDITION, ENOMEM)
+FAILING(int, pthread_key_create, (pthread_key_t *made, void (*end)(void *)), (made, end), fault == KEY, EAGAIN)
+FAILING(int, pthread_setspecific, (pthread_key_t key, const void *value), (key, value), fault == PLACE && value != NULL, ENOMEM)
 
 static const struct registry_settings settings = {CPUS, 4, 1000, 100000, 100, 100};
 static const struct timespec PAST = {0, 0};

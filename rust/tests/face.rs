@@ -155,9 +155,11 @@ fn a_wait_lasts_as_long_as_it_is_told() {
     assert_eq!((freed.to_string(), freed.entry.name, freed.value), ("freed slot 0".to_string(), WM, 7));
 }
 
+type Wait = fn(&Registry<u8>, &Cpu<u8>, Retired<u8>) -> Option<Freed<u8>>;
+
 #[test]
 fn a_wait_ends_once_the_reader_has_left() {
-    let ways: [fn(&Registry<u8>, &Cpu<u8>, Retired<u8>) -> Option<Freed<u8>>; 3] = [
+    let ways: [Wait; 3] = [
         |_, cpu, retired| retired.destroy(cpu, patience()).ok(),
         |_, _, retired| retired.wait(patience()).ok(),
         |registry, cpu, retired| registry.perform(cpu, patience()).ok().and_then(|()| retired.advance().ok()),
