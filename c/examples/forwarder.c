@@ -104,8 +104,7 @@ static void *forward_all(void *arg)
 static void refer_to_driver(struct registry_cpu *cpu, struct registry_local *local)
 {
 	struct registry_entry found;
-	DONE(registry_enter(cpu));
-	DONE(registry_find(cpu, REGISTRY_DRIVER, &driver, &found));
+	DONE(registry_enter_find(cpu, REGISTRY_DRIVER, &driver, &found));
 	DONE(registry_local_acquire_entry(cpu, &found, local));
 	DONE(registry_exit(cpu));
 }

@@ -464,6 +464,13 @@ static struct pool *pool_of(const struct registry_threads *threads)
 	return pool != NULL && pool->forks == forks ? pool : NULL;
 }
 
+/* The place that this thread has, or NULL. */
+static struct place *own_place(const struct registry_threads *threads)
+{
+	const struct pool *pool = pool_of(threads);
+	return pool != NULL ? pthread_getspecific(pool->key) : NULL;
+}
+
 static void give_back(struct place *place)
 {
 	struct pool *pool = place->pool;
@@ -622,21 +629,19 @@ registry_answer registry_thread_register(struct registry_threads *threads, const
 
 registry_answer registry_thread_unregister(struct registry_threads *threads)
 {
-	struct pool *pool = pool_of(threads);
-	struct place *place = pool != NULL ? pthread_getspecific(pool->key) : NULL;
+	struct place *place = own_place(threads);
 	bool inside = false;
 	if (place == NULL)
 		return REGISTRY_EMPTY_HANDLE;
 	if (registry_inside(place->cpu, &inside) == REGISTRY_DONE && inside)
 		return REGISTRY_INSIDE;
-	pthread_setspecific(pool->key, NULL);
+	pthread_setspecific(place->pool->key, NULL);
 	give_back(place);
 	return REGISTRY_DONE;
 }
 
 struct registry_cpu *registry_thread_cpu(const struct registry_threads *threads)
 {
-	struct pool *pool = pool_of(threads);
-	const struct place *place = pool != NULL ? pthread_getspecific(pool->key) : NULL;
+	const struct place *place = own_place(threads);
 	return place != NULL ? place->cpu : NULL;
 }

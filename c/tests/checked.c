@@ -21,6 +21,7 @@ static struct bench {
 } one, two;
 
 static pthread_mutex_t interlock = PTHREAD_MUTEX_INITIALIZER;
+static struct registry_lock lock;	/* by that mutex */
 static struct registry_name wm, wm0;
 static struct registry_entry found;
 static struct registry_local local;
@@ -199,7 +200,6 @@ static void closed_copy(void)
 /* A wait is told as the program's call. */
 static void closed_registry(void)
 {
-	const struct registry_lock lock = registry_lock_of_mutex(&interlock);
 	struct registry_keeper copy = one.keeper;
 	AT(0, registry_close(one.cpus, 2, &one.keeper));
 	(void)!AT(1, registry_perform_wait(&lock, &copy, &two.cpus[0], NULL, NULL));
@@ -284,7 +284,6 @@ static void told_interlock(void)
 
 static void *wait_once(void *of)
 {
-	const struct registry_lock lock = registry_lock_of_mutex(&interlock);
 	DONE(AT(0, registry_perform_wait(&lock, &one.keeper, &one.cpus[1], NULL, NULL)));
 	return of;
 }
@@ -319,7 +318,6 @@ static void open_at_close(void)
 
 static void waits_inside(void)
 {
-	const struct registry_lock lock = registry_lock_of_mutex(&interlock);
 	DONE(AT(0, registry_enter_find(&one.cpus[1], REGISTRY_DRIVER, &wm, NULL)));
 	DONE(registry_detach(&one.keeper, &one.cpus[0], REGISTRY_DRIVER, &wm, &found));
 	(void)!AT(1, registry_destroy_wait(&lock, &one.keeper, &one.cpus[0], found.number, NULL, NULL));
@@ -327,7 +325,6 @@ static void waits_inside(void)
 
 static void barrier_inside(void)
 {
-	const struct registry_lock lock = registry_lock_of_mutex(&interlock);
 	struct registry_entry row[1];
 	struct registry_deferred deferred = {.keeper = &one.keeper, .entries = row, .room = 1};
 	DONE(AT(0, registry_enter(&one.cpus[1])));
@@ -350,9 +347,9 @@ static void give(void *of)
 /* It waits while another thread is inside a section, by a lock that is no mutex. */
 static void *copy_and_release(void *of)
 {
-	const struct registry_lock lock = {take, give, NULL};
+	const struct registry_lock other = {take, give, NULL};
 	const struct timespec past = {0, 0};
-	EXPECT(registry_perform_wait(&lock, &one.keeper, &one.cpus[0], &past, NULL) == REGISTRY_WAITING);
+	EXPECT(registry_perform_wait(&other, &one.keeper, &one.cpus[0], &past, NULL) == REGISTRY_WAITING);
 	DONE(registry_copy(&one.cpus[0], found.number));
 	stay();
 	DONE(registry_release(&one.cpus[0], found.number));
@@ -452,7 +449,6 @@ static void without_interlock(void)
 /* A recursive interlock stays locked as often. In the child of a fork it is that of a registry of its own. */
 static void recursive(void)
 {
-	const struct registry_lock lock = registry_lock_of_mutex(&interlock);
 	pthread_mutexattr_t often;
 	int status;
 	EXPECT(pthread_mutexattr_init(&often) == 0 && pthread_mutexattr_settype(&often, PTHREAD_MUTEX_RECURSIVE) == 0);
@@ -551,6 +547,7 @@ static bool holds(const struct row *row)
 int main(void)
 {
 	unsigned failed = 0;
+	lock = registry_lock_of_mutex(&interlock);
 	wm = name_of("wm");
 	wm0 = name_of("wm0");
 	lines = mmap(NULL, 10 * sizeof *lines, PROT_READ | PROT_WRITE, MAP_SHARED | MAP_ANONYMOUS, -1, 0);

@@ -335,13 +335,6 @@ static void acquire(struct world *world)
 	EXPECT(number == wanted || !given.wants);
 }
 
-static void copy(struct world *world)
-{
-	const struct given given = any_given(world);
-	uint64_t number = any_number(world);
-	same(registry_copy(given.cpu, number), WANTED(A_CPU, model_copy(&world->model, given.at, number)));
-}
-
 static void read_held(struct world *world)
 {
 	struct registry_entry entry = {0}, wanted = {0};
@@ -354,12 +347,16 @@ static void read_held(struct world *world)
 	EXPECT(held == (!given.wants || wrong != REGISTRY_DONE || answer == REGISTRY_DONE));
 }
 
-static void release(struct world *world)
-{
-	const struct given given = any_given(world);
-	uint64_t number = any_number(world);
-	same(registry_release(given.cpu, number), WANTED(A_CPU, model_release(&world->model, given.at, number)));
-}
+#define BY_NUMBER(name)                                                                                                            \
+	static void name(struct world *world)                                                                                      \
+	{                                                                                                                          \
+		const struct given given = any_given(world);                                                                       \
+		uint64_t number = any_number(world);                                                                               \
+		same(registry_##name(given.cpu, number), WANTED(A_CPU, model_##name(&world->model, given.at, number)));            \
+	}
+
+BY_NUMBER(copy)
+BY_NUMBER(release)
 
 /* What an acquire of a local reference returns: to the last found entry, or to the one that is given. */
 static uint32_t wanted_local(struct world *world, const struct given *given, bool by_entry, const struct registry_entry *entry, bool is_full, uint64_t *number)

@@ -186,16 +186,15 @@ static void *register_late(void *deadline)
 
 static void test_deadlines(void)
 {
-	const struct timespec long_past = {INT64_MIN, 0}, no_time = {1, -1};
+	static struct timespec late[] = {{0, 0}, {INT64_MIN, 0}, {1, -1}};
 	struct registry_threads narrow = {0}, wide = pool;
 	DONE(registry_threads_open(&narrow, cpus, 1));
 	pool = narrow;
 	DONE(registry_thread_register(&pool, NULL, NULL));
-	EXPECT((uintptr_t)run(register_late, (void *)(uintptr_t)&PAST) == REGISTRY_NO_CPU);
-	EXPECT((uintptr_t)run(register_late, (void *)(uintptr_t)&long_past) == REGISTRY_NO_CPU);
-	EXPECT((uintptr_t)run(register_late, (void *)(uintptr_t)&no_time) == REGISTRY_NO_CPU);
+	for (unsigned i = 0; i < sizeof late / sizeof *late; i++)
+		EXPECT((uintptr_t)run(register_late, &late[i]) == REGISTRY_NO_CPU);
 	DONE(registry_thread_unregister(&pool));
-	EXPECT((uintptr_t)run(register_late, (void *)(uintptr_t)&PAST) == REGISTRY_DONE);
+	EXPECT((uintptr_t)run(register_late, &late[0]) == REGISTRY_DONE);
 	DONE(registry_threads_close(&pool));
 	pool = wide;
 }

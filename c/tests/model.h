@@ -85,27 +85,16 @@ static inline struct model_slot *live_slot(struct model *model, uint64_t kind, c
 	return NULL;
 }
 
-/* The place of a name among so many. */
-static inline uint64_t place_of(const struct registry_name *name, uint64_t count)
+/* The place of the name's hint. */
+static inline uint64_t hint_of(const struct model *model, const struct registry_name *name)
 {
-	return ((name->high + name->low) * 0xc4ceb9fe1a85ec53 >> 32) * count >> 32;
-}
-
-static inline uint64_t *hints_of(struct model *model, unsigned cpu, const struct registry_name *name)
-{
-	return model->cpus[cpu].hints[place_of(name, HINTS * model->settings.slots)];
-}
-
-/* The places of the last two misses with the name's hint. */
-static inline uint64_t *missed_with(struct model *model, unsigned cpu, const struct registry_name *name)
-{
-	return model->cpus[cpu].missed[place_of(name, HINTS * model->settings.slots)];
+	return ((name->high + name->low) * 0xc4ceb9fe1a85ec53 >> 32) * HINTS * model->settings.slots >> 32;
 }
 
 /* The entry that the CPU remembers with this kind and name, or NULL. */
 static inline struct registry_entry *remembered(struct model *model, unsigned cpu, uint64_t kind, const struct registry_name *name)
 {
-	const uint64_t *hints = hints_of(model, cpu, name);
+	const uint64_t *hints = model->cpus[cpu].hints[hint_of(model, name)];
 	for (unsigned i = 0; i < 2; i++)
 		if (hints[i] != 0 && is_of(&model->cpus[cpu].rows[hints[i] - 1], kind, name))
 			return &model->cpus[cpu].rows[hints[i] - 1];
@@ -116,7 +105,7 @@ static inline struct registry_entry *remembered(struct model *model, unsigned cp
 static inline void remember(struct model *model, unsigned cpu, uint64_t kind, const struct registry_name *name, const struct model_slot *slot)
 {
 	struct registry_entry *row;
-	uint64_t *hints = hints_of(model, cpu, name);
+	uint64_t *hints = model->cpus[cpu].hints[hint_of(model, name)];
 	if (slot == NULL) {
 		while ((row = remembered(model, cpu, kind, name)) != NULL)
 			row->number = 0;
@@ -164,7 +153,7 @@ static inline const struct registry_entry *next_older(const struct model *model,
 /* The number of the newest entry when the CPU missed this kind and name, or 0. */
 static inline uint64_t missed_under(struct model *model, unsigned cpu, uint64_t kind, const struct registry_name *name)
 {
-	const uint64_t *places = missed_with(model, cpu, name);
+	const uint64_t *places = model->cpus[cpu].missed[hint_of(model, name)];
 	for (unsigned i = 0; i < 2; i++)
 		if (is_of(&model->cpus[cpu].misses[places[i]], kind, name))
 			return model->cpus[cpu].misses[places[i]].number;
@@ -187,7 +176,7 @@ static inline uint64_t most_misses(const struct model *model)
 static inline void remember_miss(struct model *model, unsigned cpu, uint64_t kind, const struct registry_name *name)
 {
 	struct model_cpu *own = &model->cpus[cpu];
-	uint64_t *places = missed_with(model, cpu, name);
+	uint64_t *places = model->cpus[cpu].missed[hint_of(model, name)];
 	if (!is_of(&own->misses[places[0]], kind, name)) {
 		places[1] = places[0];
 		places[0] = own->next_miss;
