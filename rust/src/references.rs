@@ -130,11 +130,9 @@ fn release<T>(cpu: &Cpu<T>, record: &Record<T>) {
 /// let wm = Name::parse("wm").unwrap();
 /// registry.attach(&cpus[0], &wm, 7).unwrap();
 /// let reference = cpus[0].get_local(Kind::Driver, &wm).unwrap();
-/// let reference = thread::spawn(move || {
-///     assert_eq!(*reference, 7);
-///     reference
-/// });
-/// LocalRef::release(reference.join().unwrap(), &cpus[0]).unwrap();
+/// let reference = thread::spawn(move || reference).join().unwrap();
+/// assert_eq!(*reference, 7);
+/// LocalRef::release(reference, &cpus[0]).unwrap();
 /// ```
 ///
 /// # Dropped without a CPU

@@ -265,12 +265,12 @@ fn a_part_is_held_by_what_it_was_made_of() {
     let read = ReadGuard::map(cpu.read(Kind::Driver, &WM).unwrap(), |port| port.text.as_str());
     let passive = PassiveRef::map(passive(&cpu, "wm"), |port| &port.mtu);
     let plain = LocalRef::map(local(&cpu, "wm"), |port| &port.text[5..]);
-    let gone = detach(&registry, &cpus[0], "wm");
+    let mut gone = detach(&registry, &cpus[0], "wm");
     assert_eq!((format!("{read} {passive}"), format!("{plain:?}")), ("port 1500 1500".to_string(), "Mapped(\"1500\")".to_string()));
     drop(read);
     assert_eq!(gone.holder(), Some(Holder::Passive(0)));
     let passive = Mapped::into_inner(passive);
-    assert_eq!((passive.mtu, PassiveRef::entry(&passive)), (1500, gone.entry));
+    assert_eq!((passive.mtu, PassiveRef::entry(&passive).name), (1500, WM));
     drop(passive);
     assert_eq!(gone.holder(), Some(Holder::Local(1)));
     // A part of a local reference goes where the reference may.

@@ -3,8 +3,7 @@
 
 pub mod watched;
 
-use kupaldiz::{Cpu, DestroyError, Entry, Freed, Holder, Kind, LocalRef, Name, PassiveRef, Refusal, Refused, Registry, Retired, Settings};
-use std::cell::RefCell;
+use kupaldiz::{Cpu, DestroyError, Freed, Holder, Kind, LocalRef, Name, PassiveRef, Refusal, Refused, Registry, Retired, Settings};
 use std::future::Future;
 use std::pin::Pin;
 use std::process;
@@ -76,38 +75,27 @@ pub fn with_driver<T>(value: T) -> (Registry<T>, Vec<Cpu<T>>) {
 }
 
 /// A detached entry on which turns are made one by one.
-pub struct Gone<T> {
-    retired: RefCell<Option<Retired<T>>>,
-    pub entry: Entry,
-}
+pub struct Gone<T>(Option<Retired<T>>);
 
 /// Detaches the driver.
 pub fn detach<T>(registry: &Registry<T>, cpu: &Cpu<T>, text: &str) -> Gone<T> {
-    let retired = registry.detach(cpu, Kind::Driver, &name(text)).unwrap();
-    Gone { entry: retired.entry(), retired: RefCell::new(Some(retired)) }
+    Gone(Some(registry.detach(cpu, Kind::Driver, &name(text)).unwrap()))
 }
 
 impl<T> Gone<T> {
-    /// Takes the token out.
-    pub fn token(&self) -> Retired<T> {
-        self.retired.take().expect("it isn't freed")
-    }
-
     /// What holds it, as one turn meets it; none where the turn freed it.
-    pub fn holder(&self) -> Option<Holder> {
-        match self.token().advance() {
-            Ok(_) => None,
-            Err(Refused { refusal: DestroyError::StillHeld(holder), given }) => {
-                self.retired.replace(Some(given));
-                Some(holder)
-            }
-            Err(refused) => panic!("{refused}"),
+    pub fn holder(&mut self) -> Option<Holder> {
+        let Refused { refusal, given } = self.0.take().expect("it isn't freed").advance().err()?;
+        self.0 = Some(given);
+        match refusal {
+            DestroyError::StillHeld(holder) => Some(holder),
+            other => panic!("{other}"),
         }
     }
 
     /// What one turn frees.
-    pub fn freed(&self) -> Freed<T> {
-        self.token().advance().unwrap_or_else(|held| panic!("{held}"))
+    pub fn freed(self) -> Freed<T> {
+        self.0.expect("it isn't freed").advance().unwrap_or_else(|held| panic!("{held}"))
     }
 }
 
