@@ -222,19 +222,16 @@ uint32_t __wrap_registry_local_give_up(struct registry_keeper *of, struct regist
 }
 
 /* No wait is under way where a mutex's errors are tried. */
-int __wrap_pthread_mutex_lock(pthread_mutex_t *mutex)
-{
-	if (under_way != NULL)
-		EXPECT(mutex == &mutexes[step('l')->mutex]);
-	return lock_error != 0 ? lock_error : __real_pthread_mutex_lock(mutex);
-}
+#define OF_MUTEX(call, letter, error)                                                                                              \
+	int __wrap_##call(pthread_mutex_t *mutex)                                                                                  \
+	{                                                                                                                          \
+		if (under_way != NULL)                                                                                             \
+			EXPECT(mutex == &mutexes[step(letter)->mutex]);                                                            \
+		return error != 0 ? error : __real_##call(mutex);                                                                  \
+	}
 
-int __wrap_pthread_mutex_unlock(pthread_mutex_t *mutex)
-{
-	if (under_way != NULL)
-		EXPECT(mutex == &mutexes[step('u')->mutex]);
-	return unlock_error != 0 ? unlock_error : __real_pthread_mutex_unlock(mutex);
-}
+OF_MUTEX(pthread_mutex_lock, 'l', lock_error)
+OF_MUTEX(pthread_mutex_unlock, 'u', unlock_error)
 
 /* A deadline that is past, that never comes, or that is up to some seconds away. */
 static void plan_deadline(struct planned *wait)
