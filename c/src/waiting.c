@@ -46,11 +46,6 @@ struct registry_lock registry_lock_of_mutex(pthread_mutex_t *mutex)
 	return (struct registry_lock){lock_mutex, unlock_mutex, mutex};
 }
 
-static struct pause begin_pause(const struct timespec *deadline)
-{
-	return (struct pause){deadline, 0, FIRST_SLEEP};
-}
-
 /* How many nanoseconds are left until the deadline, at most `most`; 0 or less once it has passed. */
 static int64_t time_left(const struct timespec *deadline, int64_t most)
 {
@@ -106,7 +101,7 @@ static bool pause_once(struct pause *pause)
 registry_answer registry_destroy_wait(const struct registry_lock *lock, struct registry_keeper *keeper, struct registry_cpu *cpu, uint64_t number,
     const struct timespec *deadline, struct registry_stage *met)
 {
-	struct pause pause = begin_pause(deadline);
+	struct pause pause = {deadline, 0, FIRST_SLEEP};
 	registry_answer answer;
 	do {
 		lock->take(lock->of);
@@ -119,7 +114,7 @@ registry_answer registry_destroy_wait(const struct registry_lock *lock, struct r
 registry_answer registry_perform_wait(const struct registry_lock *lock, struct registry_keeper *keeper, struct registry_cpu *cpu,
     const struct timespec *deadline, uint64_t *waited)
 {
-	struct pause pause = begin_pause(deadline);
+	struct pause pause = {deadline, 0, FIRST_SLEEP};
 	struct registry_wait wait;
 	lock->take(lock->of);
 	registry_answer answer = registry_perform_begin(keeper, cpu, &wait);
@@ -212,15 +207,6 @@ static void tell(struct reclaimer *reclaimer, bool *what)
 	pthread_mutex_unlock(&reclaimer->mutex);
 }
 
-static void append(struct registry_deferred *deferred, const struct registry_entry *entry)
-{
-	struct reclaimer *reclaimer = deferred->reclaimer;
-	deferred->registry = deferred->keeper->at;
-	deferred->entries[deferred->count++] = *entry;
-	if (reclaimer != NULL)
-		tell(reclaimer, &reclaimer->more);
-}
-
 /* Whether the list takes one entry more. With a place for each slot it does, or nothing is live: each entry that waits has a slot. */
 static bool has_room(const struct registry_deferred *deferred)
 {
@@ -232,13 +218,17 @@ static bool has_room(const struct registry_deferred *deferred)
 registry_answer registry_deferred_detach(struct registry_deferred *deferred, struct registry_cpu *cpu, uint64_t kind, const struct registry_name *name,
     struct registry_entry *gone)
 {
+	struct reclaimer *reclaimer = deferred->reclaimer;
 	struct registry_entry entry;
 	registry_answer answer = registry_deferred_free(deferred, NULL);
 	if (answer == REGISTRY_DONE)
 		answer = has_room(deferred) ? registry_detach(deferred->keeper, cpu, kind, name, &entry) : REGISTRY_NO_ROOM;
 	if (answer != REGISTRY_DONE)
 		return answer;
-	append(deferred, &entry);
+	deferred->registry = deferred->keeper->at;
+	deferred->entries[deferred->count++] = entry;
+	if (reclaimer != NULL)
+		tell(reclaimer, &reclaimer->more);
 	if (gone != NULL)
 		*gone = entry;
 	return REGISTRY_DONE;
@@ -290,7 +280,7 @@ static registry_answer turn_of_barrier(struct registry_deferred *deferred, struc
 
 registry_answer registry_deferred_barrier(const struct registry_lock *lock, struct registry_deferred *deferred, const struct timespec *deadline)
 {
-	struct pause pause = begin_pause(deadline);
+	struct pause pause = {deadline, 0, FIRST_SLEEP};
 	struct awaited awaited = {.count = 0};
 	registry_answer answer;
 	do {
@@ -508,14 +498,6 @@ static struct pool *make_pool(struct registry_cpu *cpus, size_t count)
 	return NULL;
 }
 
-static bool any_empty(const struct registry_cpu *cpus, size_t count)
-{
-	for (size_t i = 0; i < count; i++)
-		if (cpus[i].at == NULL)
-			return true;
-	return false;
-}
-
 registry_answer registry_threads_open(struct registry_threads *threads, struct registry_cpu *cpus, size_t count)
 {
 	static pthread_once_t once = PTHREAD_ONCE_INIT;
@@ -523,8 +505,9 @@ registry_answer registry_threads_open(struct registry_threads *threads, struct r
 		return REGISTRY_NULL;
 	if (count == 0 || count > REGISTRY_MOST_CPUS)
 		return REGISTRY_BAD_SETTINGS;
-	if (any_empty(cpus, count))
-		return REGISTRY_EMPTY_HANDLE;
+	for (size_t i = 0; i < count; i++)
+		if (cpus[i].at == NULL)
+			return REGISTRY_EMPTY_HANDLE;
 	if (pool_of(threads) != NULL)
 		return REGISTRY_FULL_HANDLE;
 	pthread_once(&once, watch_forks);
@@ -586,12 +569,10 @@ static bool wait_for_place(struct pool *pool, const struct timespec *deadline)
 /* A free place, as soon as there is one. NULL if none came free by the deadline. The caller has the mutex. */
 static struct place *await_place(struct pool *pool, const struct timespec *deadline)
 {
-	struct place *place = free_place(pool);
+	struct place *place;
 	bool waits = true;
-	while (place == NULL && waits) {
+	while ((place = free_place(pool)) == NULL && waits)
 		waits = wait_for_place(pool, deadline);
-		place = free_place(pool);
-	}
 	return place;
 }
 
