@@ -1,8 +1,7 @@
 /*
  * model.h - a registry in plain C, without threads and without words: what each call returns, by the text of registry.h alone
  *
- * How many sections a CPU has begun depends on what it remembers, which is as in memory.rt of passive_list.
- * One function for each call, with the same answer. A name is a small number here, and an entry is what registry.h writes.
+ * One function for each call, with the same answer. What a CPU remembers, on which its count of sections depends, is as in memory.rt of passive_list.
  */
 #ifndef MODEL_H
 #define MODEL_H
@@ -43,11 +42,6 @@ struct model_cpu {
 	uint64_t next_miss;		/* the place of the next one */
 };
 
-/* A wait of a perform: the CPUs whose section was open as it began, and is open still. */
-struct model_wait {
-	bool open[CPUS];
-};
-
 struct model {
 	struct registry_settings settings;
 	uint64_t changes;
@@ -55,7 +49,7 @@ struct model {
 	bool no_memory;			/* each block that a call takes is refused */
 	struct model_slot slots[SLOTS];
 	struct model_cpu cpus[CPUS];
-	struct model_wait wait;
+	bool waits[CPUS];		/* the CPUs whose section was open as a perform began, and is open still */
 };
 
 static inline bool is_inside(const struct model *model, unsigned cpu)
@@ -205,7 +199,7 @@ static inline uint32_t model_exit(struct model *model, unsigned cpu)
 	if (--own->depth > 0)
 		return REGISTRY_DONE;
 	own->found = 0;
-	model->wait.open[cpu] = false;
+	model->waits[cpu] = false;
 	for (unsigned s = 0; s < model->settings.slots; s++)
 		model->slots[s].open[cpu] = false;
 	return REGISTRY_DONE;
@@ -609,7 +603,7 @@ static inline uint32_t model_perform_begin(struct model *model, unsigned cpu)
 	if (is_inside(model, cpu))
 		return REGISTRY_INSIDE;
 	for (unsigned c = 0; c < model->settings.cpus; c++)
-		model->wait.open[c] = is_inside(model, c);
+		model->waits[c] = is_inside(model, c);
 	return REGISTRY_DONE;
 }
 
@@ -618,7 +612,7 @@ static inline uint32_t model_perform_turn(struct model *model, unsigned cpu, uin
 	if (is_inside(model, cpu))
 		return REGISTRY_INSIDE;
 	for (unsigned c = 0; c < model->settings.cpus; c++)
-		if (model->wait.open[c]) {
+		if (model->waits[c]) {
 			*waited = c;
 			return REGISTRY_WAITING;
 		}

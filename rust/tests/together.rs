@@ -260,24 +260,13 @@ impl<'all, const CPUS: usize, const OWN: usize> Worker<'all, CPUS, OWN> {
     }
 }
 
-/// Attaches the names, as long as a slot is left.
-fn fill(registry: &Registry<Tracked>, cpu: &Cpu<Tracked>, drops: &Drops, names: &[Name]) -> Vec<Live> {
-    let attach = |(label, name)| match registry.attach(cpu, name, drops.make(label)) {
-        Ok(entry) => Some((entry.number, label)),
-        Err(refused) => {
-            assert_eq!(refused.refusal, AttachError::NoSlot);
-            None
-        }
-    };
-    (0..).zip(names).map(attach).collect()
-}
-
 /// So many random calls of each thread, once as many slots are filled as there are names for.
 fn run<const CPUS: usize, const OWN: usize>(slots: usize, seed: u64, steps: usize) {
     let (drops, handed) = (Drops::default(), Handed::default());
     let names: Vec<Name> = (0..CPUS * OWN).map(|place| name(&format!("d{place}"))).collect();
     let (registry, cpus) = Registry::open(Settings::new(CPUS as u8, slots as u8)).unwrap();
-    let live = fill(&registry, &cpus[0], &drops, &names);
+    let attach = |(label, name)| registry.attach(&cpus[0], name, drops.make(label)).map(|entry| (entry.number, label)).ok();
+    let live: Vec<Live> = (0..).zip(&names).map(attach).collect();
     assert_eq!(live.iter().flatten().count(), slots.min(names.len()));
     let known = |live: &Live| Known { number: AtomicU64::new(live.map_or(0, |live| live.0)), ..Known::default() };
     let known: Vec<Known> = live.iter().map(known).collect();
