@@ -108,6 +108,7 @@ static void released_elsewhere(void)
 static void released_to_another(void)
 {
 	DONE(registry_enter_find(&one.cpus[0], REGISTRY_DRIVER, &wm, &found));
+	EXPECT(registry_find(&one.cpus[0], REGISTRY_DRIVER, &wm0, NULL) == REGISTRY_NOT_FOUND);
 	DONE(AT(0, registry_acquire_entry(&one.cpus[0], &found)));
 	AT(1, registry_release(&two.cpus[0], found.number));
 }
@@ -172,7 +173,10 @@ static void local_twice(void)
 
 static void local_given(void)
 {
-	acquire_local(&local);
+	DONE(registry_enter_find(&one.cpus[0], REGISTRY_DRIVER, &wm, &found));
+	EXPECT(registry_find(&one.cpus[0], REGISTRY_DRIVER, &wm0, NULL) == REGISTRY_NOT_FOUND);
+	DONE(registry_local_acquire_entry(&one.cpus[0], &found, &local));
+	DONE(registry_exit(&one.cpus[0]));
 	struct registry_local copy = local;
 	DONE(AT(0, registry_attach_iface(&one.keeper, &one.cpus[0], &local, &wm0, 8, NULL)));
 	AT(1, registry_local_read(&copy, NULL));
@@ -430,12 +434,27 @@ static void unregistered(void)
 	visit(&others);
 }
 
+/* All CPUs of the largest registry, and what calls return and write that no other row makes. */
 static void largest(void)
 {
 	const struct registry_settings settings = settings_of(REGISTRY_MOST_CPUS, 1);
 	static struct registry_keeper keeper;
 	static struct registry_cpu cpus[REGISTRY_MOST_CPUS];
+	struct registry_entry row[1];
+	struct registry_stage met;
+	size_t count;
+	bool held = false;
 	DONE(registry_open(&settings, &keeper, cpus, REGISTRY_MOST_CPUS));
+	DONE(registry_attach(&keeper, &cpus[0], &wm, 7, &found));
+	EXPECT(registry_room(&keeper) == REGISTRY_NO_SLOT && registry_look_up(&cpus[0], REGISTRY_DRIVER, &wm, row) == REGISTRY_DONE && row->value == 7);
+	DONE(registry_get(&cpus[0], REGISTRY_DRIVER, &wm, NULL));
+	EXPECT(registry_held(&cpus[0], found.number, &held) == REGISTRY_DONE && held);
+	DONE(registry_release(&cpus[0], found.number));
+	DONE(registry_enter(&cpus[0]));
+	EXPECT(registry_walk(&cpus[0], row, 1, &count) == REGISTRY_DONE && count == 1);
+	DONE(registry_exit(&cpus[0]));
+	DONE(registry_detach(&keeper, &cpus[0], REGISTRY_DRIVER, &wm, NULL));
+	EXPECT(registry_advance(&keeper, found.number, &met) == REGISTRY_DONE && met.stage == REGISTRY_FREED);
 	DONE(registry_audit(&keeper, cpus, REGISTRY_MOST_CPUS, NULL, 0, NULL));
 	DONE(registry_close(cpus, REGISTRY_MOST_CPUS, &keeper));
 }
@@ -511,7 +530,7 @@ static const struct row ROWS[] = {
 	    "passive, CPU 0, @1, thread @t\npassive, CPU 0, @0, thread @t\n"},
 	{"handed over", handed_over, ""},
 	{"unregistered", unregistered, ""},
-	{"all CPUs of the largest registry in a call", largest, ""},
+	{"the largest registry", largest, ""},
 	{"told that no interlock is needed", without_interlock, ""},
 	{"a recursive interlock, and a child's registry", recursive, ""},
 };

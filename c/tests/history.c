@@ -12,7 +12,7 @@
  * The linker leads malloc, realloc and free here (--wrap), except in the brief program: each call takes and frees as many blocks of memory as the model
  * says, and a registry that is closed has none any more. So the test knows the words of a registry's table, too. The section word of a CPU says how many
  * sections it has begun: exactly as many as the model counts, so what the CPU remembers begins none. In small registries no call of one CPU alone writes on
- * a line of 64 bytes that another one's calls or a detach write on. The last line says how many calls were compared, of how many changes.
+ * a line of 64 bytes that another one's calls or a detach write on.
  */
 #include <inttypes.h>
 
@@ -192,7 +192,6 @@ static uint32_t wrong_with(const struct model *model, const struct given *given,
 /* What a call on `world` with `given` returns: what is wrong, or what the model's call returns. */
 #define WANTED(needs, call) ((wrong = wrong_with(&world->model, &given, needs)) != REGISTRY_DONE ? wrong : (call))
 
-/* The answer is the one that is wanted. */
 static uint32_t same(uint32_t answer, uint32_t wanted)
 {
 	compared++;

@@ -6,7 +6,6 @@ use crate::values::{Entry, Kind};
 use std::mem::MaybeUninit;
 use std::ptr;
 
-/// What lies in the block.
 #[repr(C)]
 struct Block<T> {
     /// First, so that it has the block's address.
@@ -45,7 +44,6 @@ macro_rules! copied {
 copied!(Carried Record);
 
 impl<T> Carried<T> {
-    /// Puts a value into a block of its own.
     pub fn new(value: T) -> Carried<T> {
         let plain = MaybeUninit::uninit();
         Carried { at: Box::into_raw(Box::new(Block { value, plain })) }
@@ -128,7 +126,6 @@ impl<T> Record<T> {
         Record { plain, carried: Carried::of_word(entry.value) }
     }
 
-    /// The entry as C has it.
     #[inline]
     pub fn to_c(self) -> ffi::Entry {
         let Plain { number, name, slot, kind, .. } = self.plain;

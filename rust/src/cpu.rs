@@ -26,7 +26,6 @@ pub struct Cpu<T> {
     /// The share of a local reference that was released here, for the next one that is acquired.
     given_back: Cell<Option<Arc<Lease<T>>>>,
     id: u8,
-    /// Whether places are noted.
     is_tracked: bool,
 }
 
@@ -42,7 +41,6 @@ impl<T> Cpu<T> {
         }
     }
 
-    /// The handle, for one call.
     #[inline]
     pub(crate) fn handle(&self) -> *mut ffi::Cpu {
         self.handle.get()

@@ -185,7 +185,6 @@ pub struct Entries<'section, 'cpu, T> {
 }
 
 impl<T> Entries<'_, '_, T> {
-    /// What is still to come.
     fn left(&self) -> &[ffi::Entry] {
         &self.row[self.next..]
     }

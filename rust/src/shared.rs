@@ -187,12 +187,10 @@ impl<T> Shared<T> {
         self.tasks.wake();
     }
 
-    /// What the interlock guards, for whoever asks first.
     pub fn kept(&self) -> MutexGuard<'_, Kept<T>> {
         locked(&self.kept)
     }
 
-    /// The handle of a CPU that nobody has.
     pub fn take_cpu(&self, id: u8) -> Option<ffi::Cpu> {
         let mut spare = locked(&self.spare);
         let place = spare.get_mut(usize::from(id))?;
