@@ -19,7 +19,6 @@ static void test_version(void)
 	EXPECT(strcmp(registry_version(), text) == 0 && registry_version() == registry_version());
 }
 
-/* The limits are the header's. */
 static void test_limits(void)
 {
 	struct registry_limits limits;
@@ -48,7 +47,6 @@ static void test_comparison(void)
 		test_other(place);
 }
 
-/* Opens a registry with these settings, and closes it again. */
 static registry_answer opened(const struct registry_settings *settings, size_t count)
 {
 	registry_answer answer = registry_open(settings, &keeper, cpus, count);

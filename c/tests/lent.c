@@ -44,7 +44,6 @@ static unsigned which(const struct registry_cpu *cpu)
 	return (unsigned)(cpu - cpus);
 }
 
-/* Runs a function on a thread of its own until that ends. */
 static void *run(void *(*function)(void *), void *of)
 {
 	pthread_t thread;

@@ -7,10 +7,8 @@
 
 enum { NUMBERS = 300, ROOM = 2 * REGISTRY_NAME_ROOM, SPOILT = 'X' };
 
-/* Where names are written to. */
 static char text[ROOM];
 
-/* Only the first bytes were written. */
 static bool wrote(size_t bytes)
 {
 	for (size_t i = 0; i < ROOM; i++)

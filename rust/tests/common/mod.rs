@@ -57,12 +57,10 @@ impl Dice {
     }
 }
 
-/// A local reference to a driver.
 pub fn local<T>(cpu: &Cpu<T>, text: &str) -> LocalRef<T> {
     cpu.get_local(Kind::Driver, &name(text)).map_err(|refusal| panic!("{refusal}")).ok().unwrap()
 }
 
-/// A passive one.
 pub fn passive<'cpu, T>(cpu: &'cpu Cpu<T>, text: &str) -> PassiveRef<'cpu, T> {
     cpu.get(Kind::Driver, &name(text)).map_err(|refusal| panic!("{refusal}")).ok().unwrap()
 }
