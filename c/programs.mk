@@ -7,7 +7,7 @@ WRAP = -Wl,--wrap=malloc,--wrap=realloc,--wrap=free
 # Where the programs lie.
 vpath %.c c/examples c/tests
 
-PROGRAMS = smallest packet shared misuse allocs changes built $(OVER_WAITING) turns history largest names crowd forwarder device_switch $(PROGRAMS_$(PROCESSOR)) $(BENCHED)
+PROGRAMS = smallest packet shared misuse allocs changes built $(OVER_WAITING) turns history largest names forwarder device_switch $(PROGRAMS_$(PROCESSOR)) $(BENCHED)
 # Tests of waiting.h: each is compiled with it.
 OVER_WAITING = deferred together interrupted reclaims lent
 # They read registers of x86-64.
@@ -16,7 +16,7 @@ PROGRAMS_x86_64 = recalls
 BENCH = bench
 BENCHED = $(if $(wildcard $(BENCH)/common.c),speed)
 # In the checking build, too, which says nothing of them.
-CHECKING = smallest packet shared crowd forwarder device_switch together
+CHECKING = smallest packet shared forwarder device_switch together
 
 all: $(PROGRAMS:%=$(OUT)/%) $(OUT)/checked $(CHECKING:%=$(OUT)/checked-%)
 
@@ -27,17 +27,17 @@ $(OUT):
 $(filter-out $(OUT)/largest,$(PROGRAMS:%=$(OUT)/%)): $(OUT)/%: %.c
 $(OUT)/largest: c/tests/history.c
 $(OUT)/largest: CFLAGS += -DMODEL_OF_THE_LARGEST
-$(addprefix $(OUT)/,deferred history largest): c/tests/model.c c/tests/model.h
+$(addprefix $(OUT)/,deferred history largest): c/tests/model.h c/tests/dice.h
 $(OUT)/allocs: c/src/heap.c
 $(addprefix $(OUT)/,history largest allocs recalls): c/tests/wrapped_heap.h
 $(addprefix $(OUT)/,history largest allocs): LINK = $(WRAP)
-$(addprefix $(OUT)/,shared crowd forwarder device_switch turns $(OVER_WAITING) $(BENCHED)): c/src/waiting.c c/include/waiting.h
+$(addprefix $(OUT)/,shared forwarder device_switch turns $(OVER_WAITING) $(BENCHED)): c/src/waiting.c c/include/waiting.h
 $(OUT)/forwarder $(OUT)/device_switch: c/examples/workers.h
 $(OUT)/recalls: STRICT = -std=c11 -D_GNU_SOURCE -mno-red-zone $(WARNINGS)
 $(OUT)/recalls: LINK = -Wl,--wrap=malloc
 $(addprefix $(OUT)/,reclaims sanitized-reclaims raced-reclaims): LINK = -Wl,--wrap=malloc,--wrap=pthread_create,--wrap=pthread_cond_init,--wrap=pthread_cond_timedwait
 $(OUT)/lent $(OUT)/sanitized-lent: LINK = -Wl,--wrap=malloc,--wrap=pthread_condattr_init,--wrap=pthread_cond_init,--wrap=pthread_key_create,--wrap=pthread_setspecific
-$(OUT)/turns: c/tests/pauses.h
+$(OUT)/turns: c/tests/pauses.h c/tests/dice.h netbsd/tests/child.h
 $(OUT)/turns: CFLAGS += -include c/tests/pauses.h
 $(OUT)/turns: LINK = -Wl,--wrap=registry_destroy,--wrap=registry_perform_begin,--wrap=registry_perform_turn,--wrap=clock_gettime,--wrap=nanosleep,--wrap=sched_yield \
     -Wl,--wrap=registry_local_release,--wrap=registry_local_give_up,--wrap=registry_advance,--wrap=pthread_mutex_lock,--wrap=pthread_mutex_unlock
@@ -48,7 +48,7 @@ $(PROGRAMS:%=$(OUT)/%): c/examples/client.h c/examples/expect.h $(FACE) $(ARCHIV
 	$(CC) $(STRICT) $(CPPFLAGS) $(CFLAGS) $(INCLUDES) $(LDFLAGS) -o $@ $(filter %.c,$^) $(ARCHIVE) -pthread $(LINK)
 
 # The checking build: the test of what it tells, and programs that it says nothing of.
-$(OUT)/checked: c/tests/checked.c
+$(OUT)/checked: c/tests/checked.c netbsd/tests/child.h
 $(OUT)/checked: LINK = -Wl,--wrap=registry_find
 $(CHECKING:%=$(OUT)/checked-%): $(OUT)/checked-%: %.c
 
@@ -56,7 +56,7 @@ $(OUT)/checked $(CHECKING:%=$(OUT)/checked-%): c/src/check.c c/src/waiting.c c/i
 	$(CC) $(STRICT) $(CPPFLAGS) $(CFLAGS) -DREGISTRY_CHECK $(INCLUDES) $(LDFLAGS) -o $@ $(filter %.c,$^) $(ARCHIVE) -pthread $(LINK)
 
 # history is brief without an allocator of its own, which the sanitizers' would fight.
-SANITIZED = smallest packet shared misuse built history names crowd forwarder device_switch $(WAITING_SANITIZED)
+SANITIZED = smallest packet shared misuse built history names forwarder device_switch $(WAITING_SANITIZED)
 # The address sanitizer takes the stack of a cancelled thread for one in use.
 WAITING_SANITIZED = reclaims lent
 
@@ -64,11 +64,11 @@ sanitized: $(SANITIZED:%=$(OUT)/sanitized-%)
 
 $(SANITIZED:%=$(OUT)/sanitized-%): $(OUT)/sanitized-%: %.c
 
-$(addprefix $(OUT)/sanitized-,shared crowd forwarder device_switch $(WAITING_SANITIZED)): c/src/waiting.c
+$(addprefix $(OUT)/sanitized-,shared forwarder device_switch $(WAITING_SANITIZED)): c/src/waiting.c
 
 # What is C of the archive is compiled with the test that sees it. It comes first, so the archive's own isn't called.
 $(OUT)/sanitized-names: c/src/strings.c
-$(OUT)/sanitized-history: c/src/composed.c c/tests/model.c c/tests/model.h c/tests/wrapped_heap.h
+$(OUT)/sanitized-history: c/src/composed.c c/tests/model.h c/tests/dice.h c/tests/wrapped_heap.h
 $(OUT)/sanitized-history: CPPFLAGS += -DHISTORY_BRIEFLY
 $(OUT)/sanitized-names $(OUT)/sanitized-history: LINK = -Wl,-z,muldefs
 
@@ -100,17 +100,16 @@ ORDERED = misuse history
 
 ordered: $(ORDERED:%=$(OUT)/ordered-%)
 
-$(OUT)/ordered-history: c/tests/model.c c/tests/model.h
+$(OUT)/ordered-history: c/tests/model.h c/tests/dice.h
 
 $(ORDERED:%=$(OUT)/ordered-%): $(OUT)/ordered-%: %.c c/tests/ordered.c c/examples/client.h c/examples/expect.h c/tests/wrapped_heap.h $(FACE) $(ARCHIVE)
 	$(CC) -std=c11 -D_GNU_SOURCE -DHISTORY_BRIEFLY $(WARNINGS) $(CPPFLAGS) $(CFLAGS) $(INCLUDES) $(LDFLAGS) -o $@ $(filter %.c,$^) $(ARCHIVE) -pthread \
 	    -Wl,--wrap=malloc,--wrap=free,--wrap=registry_open
 
 # What ends with status 0 where it finds nothing wrong, with the words that make it brief; and the names of the pages, plain.
-CHECKED = smallest packet shared checked misuse built turns $(OVER_WAITING) history names crowd forwarder device_switch
+CHECKED = smallest packet shared checked misuse built turns $(OVER_WAITING) history names forwarder device_switch
 words_history = 300000
 words_together = 20
-words_crowd = 50
 words_forwarder = 200
 words_device_switch = 20
 NETBSD_CHECKED = threads drivers model kernel

@@ -1,11 +1,5 @@
-//! Tells where the archive lies, the first of these that is there:
-//!
-//! 1. libregistry.a in the folder that `REGISTRY_LIB_DIR` names;
-//! 2. archive/PROCESSOR/libregistry.a, which a released crate has within;
-//! 3. ../out/libregistry.a, where tools/build-archive.sh of the repository puts it; of another processor than `x86_64` ../out/PROCESSOR/libregistry.a;
-//! 4. libkupaldiz.a as it is installed: in the folder that pkg-config names.
-//!
-//! Where none is there, the crate is only checked: what links says how to get one.
+//! Tells where the archive lies. README.md has the order in which it is looked for; of another processor than `x86_64` it is in a folder of that name. Where
+//! none is there, the crate is only checked: what links says how to get one.
 //!
 //! The limits that the archive was built for are in registry_limits.h: beside it, with the installed headers, or else in this crate. They are constants of
 //! the crate. The header also names the archive's version: over one of another version the crate doesn't compile.
@@ -30,11 +24,7 @@ impl Archive {
     /// The header with its limits; this crate's own where none lies there.
     fn limits(&self, here: &Path) -> PathBuf {
         let beside = self.header.join("registry_limits.h");
-        if beside.exists() {
-            beside
-        } else {
-            here.join("registry_limits.h")
-        }
+        Some(beside).filter(|header| header.exists()).unwrap_or_else(|| here.join("registry_limits.h"))
     }
 }
 
@@ -66,20 +56,14 @@ fn find(here: &Path) -> Archive {
     }
     let (processor, out) = (env::var("CARGO_CFG_TARGET_ARCH").unwrap(), here.join("../out"));
     let within = registry(here.join("archive").join(&processor));
-    let made = registry(if processor == "x86_64" { out } else { out.join(processor) });
-    if within.path().exists() {
-        within
-    } else if made.path().exists() {
-        made
-    } else {
-        installed().unwrap_or(made)
-    }
+    let made = || registry(if processor == "x86_64" { out.clone() } else { out.join(&processor) });
+    let is_there = |archive: &Archive| archive.path().exists();
+    [within, made()].into_iter().find(is_there).or_else(|| installed().filter(is_there)).unwrap_or_else(made)
 }
 
-/// The library as it is installed, if pkg-config knows it.
+/// The library as pkg-config knows it.
 fn installed() -> Option<Archive> {
-    let archive = Archive { folder: variable("libdir")?, name: "kupaldiz", header: variable("includedir")?.join("kupaldiz") };
-    archive.path().exists().then_some(archive)
+    Some(Archive { folder: variable("libdir")?, name: "kupaldiz", header: variable("includedir")?.join("kupaldiz") })
 }
 
 /// A folder of the installed library, as pkg-config says it.

@@ -60,7 +60,7 @@ test_clients() {
     check "history is built over a shared C library" make -s CC="${cross}gcc" "out/$processor/history"
     check "the clients in C are built, no warning" make_for . all
     check "each answer is the model's" emulated -L "/usr/$processor-linux-gnu" "$out/history" 3000 1 small
-    programs C: "" "emulated $out/" smallest packet shared misuse built 'crowd 20' names 'turns emulated' 'deferred 200 1' \
+    programs C: "" "emulated $out/" smallest packet shared misuse built names 'turns emulated' 'deferred 200 1' \
         'forwarder 200' 'device_switch 20' 'together 20'
     counted "programs compiled for other limits" env CC="${cross}gcc" RUN="$emulator" packaging/other-limits.sh crates/registry_c/include "$out/libregistry.a"
 }
@@ -99,7 +99,7 @@ fetch_rust() {
 rust_tests() (
     local room=$PWD/$out/debian
     cd rust || return
-    local -x REGISTRY_CHANGES=60 LD_LIBRARY_PATH=$room/usr/lib/x86_64-linux-gnu RUSTC=$room/usr/bin/rustc CARGO_TARGET_DIR=$PWD/../out/$processor/rust
+    local -x REGISTRY_CHANGES=1 LD_LIBRARY_PATH=$room/usr/lib/x86_64-linux-gnu RUSTC=$room/usr/bin/rustc CARGO_TARGET_DIR=$PWD/../out/$processor/rust
     local -x CARGO_TARGET_AARCH64_UNKNOWN_LINUX_GNU_LINKER=${cross}gcc CARGO_TARGET_AARCH64_UNKNOWN_LINUX_GNU_RUNNER="env -u LD_LIBRARY_PATH $emulator"
     local -x RUSTFLAGS='-C target-feature=+crt-static'
     local words=("$room/usr/bin/cargo" test --offline --no-fail-fast --target "$processor-unknown-linux-gnu")

@@ -48,16 +48,16 @@ guarded_rust() {
 
 # The programs of the crate's tests, as cargo names them where it isn't told to be quiet; except those that run the compiler or themselves, or look at types.
 rust_tests() {
-    (cd rust && CARGO_TERM_QUIET=false RUSTFLAGS=$(tests/watching.sh) cargo test --offline --no-run --test '*' 2>&1) | grep -oE '/[^ ()]*/(carried|face|leaving|memory|model|pool|together)-[0-9a-f]+'
+    (cd rust && CARGO_TERM_QUIET=false RUSTFLAGS=$(tests/watching.sh) cargo test --offline --no-run --test '*' 2>&1) | grep -oE '/[^ ()]*/(carried|face|leaving|memory|model|together)-[0-9a-f]+'
 }
 
 # Each of them under valgrind, except what forgets on purpose; the stress with fewer changes.
 guarded_tests() {
     local program programs
     programs=$(rust_tests)
-    [ "$(wc -w <<<"$programs")" -eq 7 ] || return 1
+    [ "$(wc -w <<<"$programs")" -eq 6 ] || return 1
     for program in $programs; do
-        REGISTRY_CHANGES=60 guarded_rust "$program" --test-threads=1 --skip forgotten --skip had_again --skip static || return 1
+        REGISTRY_CHANGES=1 guarded_rust "$program" --test-threads=1 --skip forgotten --skip had_again --skip static || return 1
     done
 }
 
@@ -71,12 +71,8 @@ ends_without_yields() {
 rust_examples=(
     "packet: nobody sent by wm0 once it was taken out"
     "plugins: 11 plug-ins were unloaded, and no call was lost"
-    "configuration: 100 versions, 0 left"
-    "connections: 40 connections were closed, and each after its last packet"
-    "threads: wm is gone, its speed was 1000"
     "shutdown: closed, and 3 devices were written"
     "tasks: 400 tasks, and the driver came back: 1000"
-    "metrics: no count was lost"
 )
 
 # says_last TEXT COMMAND..: the command ends well, and its last line is this.
@@ -112,8 +108,8 @@ test_page() {
 
 test_c() {
     programs C: "" "$out/" smallest packet 'shared 2000' misuse allocs built turns deferred together interrupted reclaims lent history \
-        'largest 30000 1 long' names recalls 'crowd 2000' forwarder device_switch 'speed 2 8 1000' 'changes 20' 'changes 20 2 4' 'changes 20 64 255' checked
-    programs C: " in the checking build" "$out/checked-" smallest packet 'shared 500' 'crowd 200' 'forwarder 200' 'device_switch 20' 'together 20'
+        'largest 30000 1 long' names recalls forwarder device_switch 'speed 2 8 1000' 'changes 20' 'changes 20 2 4' 'changes 20 64 255' checked
+    programs C: " in the checking build" "$out/checked-" smallest packet 'shared 500' 'forwarder 200' 'device_switch 20' 'together 20'
     counted "C: programs compiled for other limits" packaging/other-limits.sh "${header%/*}" "$out/libregistry.a"
     counted "C: installed, used by pkg-config alone, and uninstalled" tools/test-install.sh
     counted "C: built as users build" tools/test-builds.sh
@@ -121,9 +117,8 @@ test_c() {
 
 # The same programs, where each access of the client's, or of all, is watched.
 test_watched() {
-    programs C: " under valgrind" "watched all $out/" smallest packet 'shared 20' misuse built interrupted reclaims lent 'history 3000 1 small' names 'crowd 20'
-    programs C: " with sanitizers" "$out/sanitized-" smallest misuse packet 'shared 500' built reclaims lent 'history 100000' names 'crowd 300' forwarder \
-        device_switch
+    programs C: " under valgrind" "watched all $out/" smallest packet 'shared 20' misuse built interrupted reclaims lent 'history 3000 1 small' names
+    programs C: " with sanitizers" "$out/sanitized-" smallest misuse packet 'shared 500' built reclaims lent 'history 100000' names forwarder device_switch
 }
 
 # Objects of the heap behind entries, freed once nobody holds them, under three checkers; each of them catches what frees a turn too early.

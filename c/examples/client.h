@@ -33,6 +33,12 @@ static inline struct registry_name name_of(const char *text)
 	return name;
 }
 
+/* So many CPUs and slots, and the largest limits of counts. */
+static inline struct registry_settings settings_of(uint64_t cpus, uint64_t slots)
+{
+	return (struct registry_settings){cpus, slots, REGISTRY_MOST_CHANGES, REGISTRY_MOST_SECTIONS, REGISTRY_MOST_COUNT, REGISTRY_MOST_COUNT};
+}
+
 /* Lets other threads on. A yield would do so only where the system's does: a sleep does it everywhere, under valgrind too. */
 static inline void rest(void)
 {

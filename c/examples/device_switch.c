@@ -55,13 +55,13 @@ static struct registry_local swap_file(struct registry_local file)
 }
 
 /* Opens the device: the file is the reference to its driver. */
-static uint32_t open_file(struct registry_cpu *cpu, struct registry_local *file)
+static registry_answer open_file(struct registry_cpu *cpu, struct registry_local *file)
 {
 	struct registry_entry found;
-	DONE(registry_enter(cpu));
-	uint32_t answer = registry_find(cpu, REGISTRY_DRIVER, &disk, &found);
-	if (answer == REGISTRY_DONE)
-		answer = registry_local_acquire_entry(cpu, &found, file);
+	registry_answer answer = registry_enter_find(cpu, REGISTRY_DRIVER, &disk, &found);
+	if (answer != REGISTRY_DONE)
+		return answer;
+	DONE(registry_local_acquire_entry(cpu, &found, file));
 	DONE(registry_exit(cpu));
 	return answer;
 }
@@ -142,22 +142,18 @@ static uint64_t load_and_unload(uint64_t version)
 	const struct registry_lock lock = registry_lock_of_mutex(&interlock);
 	struct registry_cpu *cpu = &cpus[OPENERS];
 	struct registry_entry entry;
-	lock.take(lock.of);
-	DONE(registry_attach(&keeper, cpu, &disk, (uint64_t)(uintptr_t)load_softc(version), &entry));
-	lock.give(lock.of);
+	DONE_UNDER(&interlock, registry_attach(&keeper, cpu, &disk, (uint64_t)(uintptr_t)load_softc(version), NULL));
 	wait_for_rounds(OPENS_A_LOAD / 2);
 	uint64_t opens = upgrade(cpu, load_softc(version + 1));
 	wait_for_rounds(OPENS_A_LOAD / 2);
-	lock.take(lock.of);
-	DONE(registry_detach(&keeper, cpu, REGISTRY_DRIVER, &disk, &entry));
-	lock.give(lock.of);
+	DONE_UNDER(&interlock, registry_detach(&keeper, cpu, REGISTRY_DRIVER, &disk, &entry));
 	DONE(registry_destroy_wait(&lock, &keeper, cpu, entry.number, NULL, NULL));
 	return opens + free_softc((struct softc *)(uintptr_t)entry.value);
 }
 
 int main(void)
 {
-	const struct registry_settings settings = {CPUS, 2, REGISTRY_MOST_CHANGES, REGISTRY_MOST_SECTIONS, 100, 100};
+	const struct registry_settings settings = settings_of(CPUS, 2);
 	static struct worker openers[OPENERS];
 	uint64_t in_drivers = 0;
 	disk = name_of("disk");

@@ -104,8 +104,7 @@ static void *forward_all(void *arg)
 static void refer_to_driver(struct registry_cpu *cpu, struct registry_local *local)
 {
 	struct registry_entry found;
-	DONE(registry_enter(cpu));
-	DONE(registry_find(cpu, REGISTRY_DRIVER, &driver, &found));
+	DONE(registry_enter_find(cpu, REGISTRY_DRIVER, &driver, &found));
 	DONE(registry_local_acquire_entry(cpu, &found, local));
 	DONE(registry_exit(cpu));
 }
@@ -116,18 +115,14 @@ static bool change(unsigned which, bool is_live, struct registry_deferred *defer
 	struct registry_cpu *cpu = &cpus[FORWARDERS];
 	struct registry_entry entry;
 	struct registry_local local = {0};
-	uint32_t answer;
 	if (is_live) {
-		pthread_mutex_lock(&interlock);
-		answer = registry_deferred_detach(deferred, cpu, REGISTRY_INTERFACE, &ports[which], &entry);
-		pthread_mutex_unlock(&interlock);
-		DONE(answer);
+		DONE_UNDER(&interlock, registry_deferred_detach(deferred, cpu, REGISTRY_INTERFACE, &ports[which], NULL));
 		return true;
 	}
 	entry.value = (uint64_t)(uintptr_t)make_port();
 	refer_to_driver(cpu, &local);
 	pthread_mutex_lock(&interlock);
-	answer = registry_deferred_attach_iface(deferred, cpu, &local, &ports[which], entry.value, &entry);
+	registry_answer answer = registry_deferred_attach_iface(deferred, cpu, &local, &ports[which], entry.value, &entry);
 	pthread_mutex_unlock(&interlock);
 	if (answer == REGISTRY_DONE)
 		return true;
@@ -179,9 +174,7 @@ static uint64_t change_all(struct registry_deferred *deferred)
 
 static void open_all(void)
 {
-	/* Each port that is attached counts one more on its CPU, and what a freed port gives up lowers no CPU's count: the limit is far off. */
-	const struct registry_settings settings = {
-	    CPUS, SLOTS, REGISTRY_MOST_CHANGES, REGISTRY_MOST_SECTIONS, 100, REGISTRY_MOST_COUNT};
+	const struct registry_settings settings = settings_of(CPUS, SLOTS);
 	struct registry_entry made;
 	driver = name_of("fwd");
 	for (unsigned i = 0; i < PORTS; i++) {
@@ -197,9 +190,8 @@ static void close_all(void)
 {
 	const struct registry_lock lock = registry_lock_of_mutex(&interlock);
 	struct registry_entry gone;
-	struct registry_stage met;
 	DONE(registry_detach(&keeper, &cpus[FORWARDERS], REGISTRY_DRIVER, &driver, &gone));
-	DONE(registry_destroy_wait(&lock, &keeper, &cpus[FORWARDERS], gone.number, NULL, &met));
+	DONE(registry_destroy_wait(&lock, &keeper, &cpus[FORWARDERS], gone.number, NULL, NULL));
 	DONE(registry_close(cpus, CPUS, &keeper));
 }
 

@@ -103,14 +103,7 @@ static void attach_both(struct registry_cpu *cpu)
 
 int main(void)
 {
-	const struct registry_settings settings = {
-	    .cpus = CPUS,
-	    .slots = 4,
-	    .change_limit = 100,
-	    .section_limit = REGISTRY_MOST_SECTIONS,
-	    .passive_limit = REGISTRY_MOST_COUNT,
-	    .count_limit = REGISTRY_MOST_COUNT,
-	};
+	const struct registry_settings settings = settings_of(CPUS, 4);
 	pthread_t senders[SENDERS];
 	wm = name_of("wm");
 	wm0 = name_of("wm0");
@@ -124,9 +117,7 @@ int main(void)
 	atomic_store(&gone, true);
 	for (int i = 0; i < SENDERS; i++)
 		EXPECT(pthread_join(senders[i], NULL) == 0);
-	for (int i = 0; i < CPUS; i++)
-		DONE(registry_close_cpu(&cpus[i]));
-	DONE(registry_close_keeper(&keeper));
+	DONE(registry_close(cpus, CPUS, &keeper));
 	puts("nobody sent by wm0 once it was taken out");
 	return 0;
 }

@@ -32,16 +32,9 @@ struct port {
 	uint64_t mtu;
 };
 
-static void open_registry(uint64_t changes)
+static void open_registry(void)
 {
-	const struct registry_settings settings = {
-	    .cpus = CPUS,
-	    .slots = 4,
-	    .change_limit = 2 * changes,
-	    .section_limit = REGISTRY_MOST_SECTIONS,
-	    .passive_limit = REGISTRY_MOST_COUNT,
-	    .count_limit = REGISTRY_MOST_COUNT,
-	};
+	const struct registry_settings settings = settings_of(CPUS, 4);
 	struct registry_cpu cpus[CPUS] = {{0}};
 	DONE(registry_open(&settings, &keeper, cpus, CPUS));
 	for (int i = 0; i < CPUS; i++) {
@@ -50,18 +43,12 @@ static void open_registry(uint64_t changes)
 	}
 }
 
-/* Locks a CPU that is free, or waits for the thread's own choice if none is. */
+/* Locks the thread's CPU: others share it. */
 static struct shared_cpu *lock_cpu(unsigned thread)
 {
-	struct shared_cpu *choice = &shared[thread % CPUS];
-
-	for (unsigned i = 0; i < CPUS; i++) {
-		struct shared_cpu *next = &shared[(thread + i) % CPUS];
-		if (pthread_mutex_trylock(&next->mutex) == 0)
-			return next;
-	}
-	EXPECT(pthread_mutex_lock(&choice->mutex) == 0);
-	return choice;
+	struct shared_cpu *on = &shared[thread % CPUS];
+	EXPECT(pthread_mutex_lock(&on->mutex) == 0);
+	return on;
 }
 
 static void unlock_cpu(struct shared_cpu *on)
@@ -180,7 +167,7 @@ int main(int argc, char **argv)
 
 	EXPECT(argc <= 2 && changes > 0 && changes <= REGISTRY_MOST_CHANGES / 2);
 	wm0 = name_of("wm0");
-	open_registry(changes);
+	open_registry();
 	for (unsigned i = 0; i < THREADS; i++)
 		EXPECT(pthread_create(&threads[i], NULL, use_all, (void *)(uintptr_t)i) == 0);
 	change(&shared[0], changes);

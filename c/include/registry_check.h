@@ -134,9 +134,7 @@ registry_answer registry_checked_thread_unregister(struct registry_threads *, RE
 #define REGISTRY_TAGGED	((REGISTRY_CHECK + 0) > 1)
 
 /* The limits are compared in the program's own file. */
-static inline registry_answer registry_open_checked(const struct registry_settings *settings, struct registry_keeper *keeper,
-    struct registry_cpu *cpus, size_t count, REGISTRY_FROM) REGISTRY_CHECKED;
-static inline registry_answer registry_open_checked(const struct registry_settings *settings, struct registry_keeper *keeper,
+REGISTRY_CHECKED static inline registry_answer registry_open_checked(const struct registry_settings *settings, struct registry_keeper *keeper,
     struct registry_cpu *cpus, size_t count, REGISTRY_FROM)
 {
 	return registry_checked_open(registry_open_compared(settings, keeper, cpus, count), keeper, cpus, count, file, line);

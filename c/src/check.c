@@ -539,14 +539,19 @@ CHECKED(perform_turn, (struct registry_keeper *keeper, struct registry_cpu *cpu,
 CHECKED(audit, (struct registry_keeper *keeper, struct registry_cpu *cpus, size_t count, struct registry_balance *list, size_t room, size_t *length,
     REGISTRY_FROM), use_locked(keeper); use_all(cpus, count), (keeper, cpus, count, list, room, length))
 
-static void note_entry(struct record *record, const struct registry_entry *entry)
+/* The record of a reference to the entry that a CPU has acquired. */
+static struct record reference_of(enum kind kind, const struct record *on, const struct registry_entry *entry)
 {
-	record->made = now;
-	record->number = entry->number;
-	if (registry_name_format(&entry->name, record->name, sizeof record->name) != REGISTRY_DONE)
-		record->name[0] = 0;
-	for (char *byte = record->name; *byte != 0; byte++)
+	struct record record = *on;
+	record.kind = kind;
+	record.user.call = NULL;
+	record.made = now;
+	record.number = entry->number;
+	if (registry_name_format(&entry->name, record.name, sizeof record.name) != REGISTRY_DONE)
+		record.name[0] = 0;
+	for (char *byte = record.name; *byte != 0; byte++)
 		*byte = isprint((unsigned char)*byte) ? *byte : '?';
+	return record;
 }
 
 /* A CPU has acquired a reference with this number, which has a tag, or gets one. The call's result, and the number that the program gets. */
@@ -557,13 +562,9 @@ static registry_answer acquired(registry_answer answer, const struct record *on,
 		return end(answer);
 	registry_read(cpu, entry.number, &entry);
 	lock_table();
-	struct record record = *on;
-	record.kind = PASSIVE;
+	struct record record = reference_of(PASSIVE, on, &entry);
 	record.key = entry.number;
-	record.tag = (uint32_t)(*number >> NUMBER_BITS);
-	note_entry(&record, &entry);
-	if (tagged)
-		record.tag = tags++ % TAGS + 1;
+	record.tag = tagged ? tags++ % TAGS + 1 : (uint32_t)(*number >> NUMBER_BITS);
 	insert(record);
 	unlock_table();
 	*number = (uint64_t)record.tag << NUMBER_BITS | record.number;
@@ -625,19 +626,22 @@ registry_answer registry_checked_release(struct registry_cpu *cpu, uint64_t numb
 	return end(answer);
 }
 
-/* A CPU has acquired a local reference, which gets a handle of the program's. */
-static registry_answer acquired_local(registry_answer answer, const struct record *on, struct registry_local library, struct registry_local *local)
+/* A local reference to this entry, or to the last found one. It gets a handle of the program's. */
+static registry_answer acquire_local(struct registry_cpu *cpu, bool by_entry, const struct registry_entry *entry, struct registry_local *local)
 {
-	struct registry_entry entry = {0};
+	const struct record *on = use(CPU, cpu);
+	struct registry_entry own = entry != NULL ? *entry : (struct registry_entry){0};
+	if (local == NULL)
+		tell(&now, "the pointer to the handle of the local reference is NULL");
+	struct registry_local library = *local;
+	own.number = plain(own.number);
+	registry_answer answer = by_entry ? registry_local_acquire_entry(cpu, entry != NULL ? &own : NULL, &library) : registry_local_acquire(cpu, &library);
 	if (answer != REGISTRY_DONE)
 		return end(answer);
-	registry_local_read(&library, &entry);
+	registry_local_read(&library, &own);
 	lock_table();
-	struct record record = *on;
-	record.kind = LOCAL;
-	record.user.call = NULL;
+	struct record record = reference_of(LOCAL, on, &own);
 	record.local = library;
-	note_entry(&record, &entry);
 	record.key = ++locals;
 	insert(record);
 	unlock_table();
@@ -648,25 +652,13 @@ static registry_answer acquired_local(registry_answer answer, const struct recor
 registry_answer registry_checked_local_acquire(struct registry_cpu *cpu, struct registry_local *local, REGISTRY_FROM)
 {
 	begin("registry_local_acquire", file, line);
-	const struct record *on = use(CPU, cpu);
-	if (local == NULL)
-		tell(&now, "the pointer to the handle of the local reference is NULL");
-	struct registry_local library = *local;
-	registry_answer answer = registry_local_acquire(cpu, &library);
-	return acquired_local(answer, on, library, local);
+	return acquire_local(cpu, false, NULL, local);
 }
 
 registry_answer registry_checked_local_acquire_entry(struct registry_cpu *cpu, const struct registry_entry *entry, struct registry_local *local, REGISTRY_FROM)
 {
 	begin("registry_local_acquire_entry", file, line);
-	const struct record *on = use(CPU, cpu);
-	if (local == NULL)
-		tell(&now, "the pointer to the handle of the local reference is NULL");
-	struct registry_local library = *local;
-	struct registry_entry own = entry != NULL ? *entry : (struct registry_entry){0};
-	own.number = plain(own.number);
-	registry_answer answer = registry_local_acquire_entry(cpu, entry != NULL ? &own : NULL, &library);
-	return acquired_local(answer, on, library, local);
+	return acquire_local(cpu, true, entry, local);
 }
 
 /* ---- The calls of waiting.h, which make those above. ---- */

@@ -7,36 +7,6 @@
 /* Two words that no name has. To look them up clears what the CPU found last. */
 static const struct registry_name NO_NAME = {0, 0};
 
-/* A CPU that isn't closed is inside a section. */
-static bool is_inside(const struct registry_cpu *cpu)
-{
-	bool inside = false;
-	return registry_inside(cpu, &inside) == REGISTRY_DONE && inside;
-}
-
-static bool any_inside(const struct registry_cpu *cpus, size_t count)
-{
-	for (size_t i = 0; i < count; i++)
-		if (is_inside(&cpus[i]))
-			return true;
-	return false;
-}
-
-registry_answer registry_close(struct registry_cpu *cpus, size_t count, struct registry_keeper *keeper)
-{
-	if (cpus == NULL && count != 0)
-		return REGISTRY_NULL;
-	if (any_inside(cpus, count))
-		return REGISTRY_INSIDE;
-	/* Each of these refuses an empty handle alone, which is passed over. */
-	for (size_t i = 0; i < count; i++)
-		registry_close_cpu(&cpus[i]);
-	registry_close_keeper(keeper);
-	return REGISTRY_DONE;
-}
-
-/* ---- References to the entry that is given. ---- */
-
 /* Whether a call with what this points to may be made on the CPU: it is there, and a section is open. */
 static registry_answer judge(const struct registry_cpu *cpu, const void *given)
 {
@@ -48,6 +18,22 @@ static registry_answer judge(const struct registry_cpu *cpu, const void *given)
 		return REGISTRY_NULL;
 	return inside ? REGISTRY_DONE : REGISTRY_OUTSIDE;
 }
+
+registry_answer registry_close(struct registry_cpu *cpus, size_t count, struct registry_keeper *keeper)
+{
+	if (cpus == NULL && count != 0)
+		return REGISTRY_NULL;
+	for (size_t i = 0; i < count; i++)
+		if (judge(&cpus[i], cpus) == REGISTRY_DONE)
+			return REGISTRY_INSIDE;
+	/* Each of these refuses an empty handle alone, which is passed over. */
+	for (size_t i = 0; i < count; i++)
+		registry_close_cpu(&cpus[i]);
+	registry_close_keeper(keeper);
+	return REGISTRY_DONE;
+}
+
+/* ---- References to the entry that is given. ---- */
 
 /* Makes the entry the last found one, if it is live. */
 static registry_answer find_again(struct registry_cpu *cpu, const struct registry_entry *entry)

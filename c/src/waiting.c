@@ -15,12 +15,11 @@
  */
 enum { SPINS = 16, MOST_PAUSES = 256, YIELDS = 8, FIRST_SLEEP = 16 * 1000, LONGEST_SLEEP = 8 * 1000 * 1000 };
 
-/* Between the turns of a wait: how often it has spun and yielded, how long it sleeps next in nanoseconds, and when it gives up. */
+/* Between the turns of a wait: when it gives up, how often it has spun or yielded, and how long it sleeps next in nanoseconds. */
 struct pause {
-	unsigned spins;
-	unsigned yields;
-	int64_t sleep;
 	const struct timespec *deadline;
+	unsigned made;
+	int64_t sleep;
 };
 
 /* Ends the program if the mutex wasn't locked or unlocked. */
@@ -45,11 +44,6 @@ static void unlock_mutex(void *mutex)
 struct registry_lock registry_lock_of_mutex(pthread_mutex_t *mutex)
 {
 	return (struct registry_lock){lock_mutex, unlock_mutex, mutex};
-}
-
-static struct pause begin_pause(const struct timespec *deadline)
-{
-	return (struct pause){0, 0, FIRST_SLEEP, deadline};
 }
 
 /* How many nanoseconds are left until the deadline, at most `most`; 0 or less once it has passed. */
@@ -78,12 +72,6 @@ static int64_t time_left(const struct timespec *deadline, int64_t most)
 #endif
 #endif
 
-static void spin(unsigned times)
-{
-	for (unsigned i = 0; i < times; i++)
-		SPIN_PAUSE();
-}
-
 /* The length of the sleep after one of this length. */
 static int64_t longer(int64_t sleep)
 {
@@ -96,26 +84,24 @@ static bool pause_once(struct pause *pause)
 	int64_t length = time_left(pause->deadline, pause->sleep);
 	if (length <= 0)
 		return false;
-	if (pause->spins < SPINS) {
-		spin(1U << pause->spins < MOST_PAUSES ? 1U << pause->spins : MOST_PAUSES);
-		pause->spins++;
+	if (pause->made >= SPINS + YIELDS) {
+		const struct timespec sleep = {0, (long)length};
+		nanosleep(&sleep, NULL);
+		pause->sleep = longer(pause->sleep);
 		return true;
 	}
-	if (pause->yields < YIELDS) {
-		pause->yields++;
+	if (pause->made >= SPINS)
 		sched_yield();
-		return true;
-	}
-	struct timespec sleep = {0, (long)length};
-	nanosleep(&sleep, NULL);
-	pause->sleep = longer(pause->sleep);
+	for (unsigned i = 0; pause->made < SPINS && i < 1U << pause->made && i < MOST_PAUSES; i++)
+		SPIN_PAUSE();
+	pause->made++;
 	return true;
 }
 
 registry_answer registry_destroy_wait(const struct registry_lock *lock, struct registry_keeper *keeper, struct registry_cpu *cpu, uint64_t number,
     const struct timespec *deadline, struct registry_stage *met)
 {
-	struct pause pause = begin_pause(deadline);
+	struct pause pause = {deadline, 0, FIRST_SLEEP};
 	registry_answer answer;
 	do {
 		lock->take(lock->of);
@@ -128,7 +114,7 @@ registry_answer registry_destroy_wait(const struct registry_lock *lock, struct r
 registry_answer registry_perform_wait(const struct registry_lock *lock, struct registry_keeper *keeper, struct registry_cpu *cpu,
     const struct timespec *deadline, uint64_t *waited)
 {
-	struct pause pause = begin_pause(deadline);
+	struct pause pause = {deadline, 0, FIRST_SLEEP};
 	struct registry_wait wait;
 	lock->take(lock->of);
 	registry_answer answer = registry_perform_begin(keeper, cpu, &wait);
@@ -221,15 +207,6 @@ static void tell(struct reclaimer *reclaimer, bool *what)
 	pthread_mutex_unlock(&reclaimer->mutex);
 }
 
-static void append(struct registry_deferred *deferred, const struct registry_entry *entry)
-{
-	struct reclaimer *reclaimer = deferred->reclaimer;
-	deferred->registry = deferred->keeper->at;
-	deferred->entries[deferred->count++] = *entry;
-	if (reclaimer != NULL)
-		tell(reclaimer, &reclaimer->more);
-}
-
 /* Whether the list takes one entry more. With a place for each slot it does, or nothing is live: each entry that waits has a slot. */
 static bool has_room(const struct registry_deferred *deferred)
 {
@@ -241,13 +218,17 @@ static bool has_room(const struct registry_deferred *deferred)
 registry_answer registry_deferred_detach(struct registry_deferred *deferred, struct registry_cpu *cpu, uint64_t kind, const struct registry_name *name,
     struct registry_entry *gone)
 {
+	struct reclaimer *reclaimer = deferred->reclaimer;
 	struct registry_entry entry;
 	registry_answer answer = registry_deferred_free(deferred, NULL);
 	if (answer == REGISTRY_DONE)
 		answer = has_room(deferred) ? registry_detach(deferred->keeper, cpu, kind, name, &entry) : REGISTRY_NO_ROOM;
 	if (answer != REGISTRY_DONE)
 		return answer;
-	append(deferred, &entry);
+	deferred->registry = deferred->keeper->at;
+	deferred->entries[deferred->count++] = entry;
+	if (reclaimer != NULL)
+		tell(reclaimer, &reclaimer->more);
 	if (gone != NULL)
 		*gone = entry;
 	return REGISTRY_DONE;
@@ -299,7 +280,7 @@ static registry_answer turn_of_barrier(struct registry_deferred *deferred, struc
 
 registry_answer registry_deferred_barrier(const struct registry_lock *lock, struct registry_deferred *deferred, const struct timespec *deadline)
 {
-	struct pause pause = begin_pause(deadline);
+	struct pause pause = {deadline, 0, FIRST_SLEEP};
 	struct awaited awaited = {.count = 0};
 	registry_answer answer;
 	do {
@@ -375,25 +356,6 @@ static void *reclaim_all(void *of)
 	return NULL;
 }
 
-static struct reclaimer *make_reclaimer(const struct registry_lock *lock, struct registry_deferred *deferred)
-{
-	struct reclaimer *made = malloc(sizeof *made);
-	if (made == NULL)
-		return NULL;
-	*made = (struct reclaimer){.lock = *lock, .deferred = deferred, .mutex = PTHREAD_MUTEX_INITIALIZER};
-	if (make_condition(&made->changed))
-		return made;
-	free(made);
-	return NULL;
-}
-
-static void free_reclaimer(struct reclaimer *reclaimer)
-{
-	pthread_cond_destroy(&reclaimer->changed);
-	pthread_mutex_destroy(&reclaimer->mutex);
-	free(reclaimer);
-}
-
 /* Starts the thread, which takes no signal. */
 static int start_thread(struct reclaimer *reclaimer)
 {
@@ -405,26 +367,29 @@ static int start_thread(struct reclaimer *reclaimer)
 	return error;
 }
 
-/* The caller has the interlock. */
-static registry_answer start(const struct registry_lock *lock, struct registry_deferred *deferred)
+static struct reclaimer *make_reclaimer(const struct registry_lock *lock, struct registry_deferred *deferred)
 {
-	if (deferred->reclaimer != NULL)
-		return REGISTRY_FULL_HANDLE;
-	struct reclaimer *made = make_reclaimer(lock, deferred);
+	struct reclaimer *made = malloc(sizeof *made);
 	if (made == NULL)
-		return REGISTRY_NO_MEMORY;
-	if (start_thread(made) != 0) {
-		free_reclaimer(made);
-		return REGISTRY_NO_MEMORY;
+		return NULL;
+	*made = (struct reclaimer){.lock = *lock, .deferred = deferred, .mutex = PTHREAD_MUTEX_INITIALIZER};
+	if (make_condition(&made->changed)) {
+		if (start_thread(made) == 0)
+			return made;
+		pthread_cond_destroy(&made->changed);
 	}
-	deferred->reclaimer = made;
-	return REGISTRY_DONE;
+	free(made);
+	return NULL;
 }
 
 registry_answer registry_reclaimer_start(const struct registry_lock *lock, struct registry_deferred *deferred)
 {
+	registry_answer answer = REGISTRY_FULL_HANDLE;
 	lock->take(lock->of);
-	registry_answer answer = start(lock, deferred);
+	if (deferred->reclaimer == NULL) {
+		deferred->reclaimer = make_reclaimer(lock, deferred);
+		answer = deferred->reclaimer != NULL ? REGISTRY_DONE : REGISTRY_NO_MEMORY;
+	}
 	lock->give(lock->of);
 	return answer;
 }
@@ -442,7 +407,9 @@ registry_answer registry_reclaimer_stop(const struct registry_lock *lock, struct
 	pthread_setcancelstate(PTHREAD_CANCEL_DISABLE, &cancels);
 	pthread_join(reclaimer->thread, NULL);
 	pthread_setcancelstate(cancels, NULL);
-	free_reclaimer(reclaimer);
+	pthread_cond_destroy(&reclaimer->changed);
+	pthread_mutex_destroy(&reclaimer->mutex);
+	free(reclaimer);
 	return REGISTRY_DONE;
 }
 
@@ -487,6 +454,13 @@ static struct pool *pool_of(const struct registry_threads *threads)
 	return pool != NULL && pool->forks == forks ? pool : NULL;
 }
 
+/* The place that this thread has, or NULL. */
+static struct place *own_place(const struct registry_threads *threads)
+{
+	const struct pool *pool = pool_of(threads);
+	return pool != NULL ? pthread_getspecific(pool->key) : NULL;
+}
+
 static void give_back(struct place *place)
 {
 	struct pool *pool = place->pool;
@@ -524,14 +498,6 @@ static struct pool *make_pool(struct registry_cpu *cpus, size_t count)
 	return NULL;
 }
 
-static bool any_empty(const struct registry_cpu *cpus, size_t count)
-{
-	for (size_t i = 0; i < count; i++)
-		if (cpus[i].at == NULL)
-			return true;
-	return false;
-}
-
 registry_answer registry_threads_open(struct registry_threads *threads, struct registry_cpu *cpus, size_t count)
 {
 	static pthread_once_t once = PTHREAD_ONCE_INIT;
@@ -539,8 +505,9 @@ registry_answer registry_threads_open(struct registry_threads *threads, struct r
 		return REGISTRY_NULL;
 	if (count == 0 || count > REGISTRY_MOST_CPUS)
 		return REGISTRY_BAD_SETTINGS;
-	if (any_empty(cpus, count))
-		return REGISTRY_EMPTY_HANDLE;
+	for (size_t i = 0; i < count; i++)
+		if (cpus[i].at == NULL)
+			return REGISTRY_EMPTY_HANDLE;
 	if (pool_of(threads) != NULL)
 		return REGISTRY_FULL_HANDLE;
 	pthread_once(&once, watch_forks);
@@ -602,12 +569,10 @@ static bool wait_for_place(struct pool *pool, const struct timespec *deadline)
 /* A free place, as soon as there is one. NULL if none came free by the deadline. The caller has the mutex. */
 static struct place *await_place(struct pool *pool, const struct timespec *deadline)
 {
-	struct place *place = free_place(pool);
+	struct place *place;
 	bool waits = true;
-	while (place == NULL && waits) {
+	while ((place = free_place(pool)) == NULL && waits)
 		waits = wait_for_place(pool, deadline);
-		place = free_place(pool);
-	}
 	return place;
 }
 
@@ -645,21 +610,19 @@ registry_answer registry_thread_register(struct registry_threads *threads, const
 
 registry_answer registry_thread_unregister(struct registry_threads *threads)
 {
-	struct pool *pool = pool_of(threads);
-	struct place *place = pool != NULL ? pthread_getspecific(pool->key) : NULL;
+	struct place *place = own_place(threads);
 	bool inside = false;
 	if (place == NULL)
 		return REGISTRY_EMPTY_HANDLE;
 	if (registry_inside(place->cpu, &inside) == REGISTRY_DONE && inside)
 		return REGISTRY_INSIDE;
-	pthread_setspecific(pool->key, NULL);
+	pthread_setspecific(place->pool->key, NULL);
 	give_back(place);
 	return REGISTRY_DONE;
 }
 
 struct registry_cpu *registry_thread_cpu(const struct registry_threads *threads)
 {
-	struct pool *pool = pool_of(threads);
-	const struct place *place = pool != NULL ? pthread_getspecific(pool->key) : NULL;
+	const struct place *place = own_place(threads);
 	return place != NULL ? place->cpu : NULL;
 }

@@ -19,15 +19,12 @@ static void test_version(void)
 	EXPECT(strcmp(registry_version(), text) == 0 && registry_version() == registry_version());
 }
 
-/* The limits are the header's. */
 static void test_limits(void)
 {
 	struct registry_limits limits;
 	memset(&limits, 0, sizeof limits);
 	registry_limits(NULL);
 	registry_limits(&limits);
-	EXPECT(limits.cpus == REGISTRY_MOST_CPUS && limits.slots == REGISTRY_MOST_SLOTS && limits.changes == REGISTRY_MOST_CHANGES);
-	EXPECT(limits.sections == REGISTRY_MOST_SECTIONS && limits.count == REGISTRY_MOST_COUNT && limits.depth == REGISTRY_MOST_DEPTH);
 	EXPECT(memcmp(&limits, &LIMITS, sizeof limits) == 0);
 }
 
@@ -50,7 +47,6 @@ static void test_comparison(void)
 		test_other(place);
 }
 
-/* Opens a registry with these settings, and closes it again. */
 static registry_answer opened(const struct registry_settings *settings, size_t count)
 {
 	registry_answer answer = registry_open(settings, &keeper, cpus, count);

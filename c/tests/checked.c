@@ -8,9 +8,8 @@
 #include <signal.h>
 #include <stdatomic.h>
 #include <sys/mman.h>
-#include <sys/wait.h>
-#include <unistd.h>
 
+#include "../../netbsd/tests/child.h"
 #include "client.h"
 #include "waiting.h"
 
@@ -22,13 +21,16 @@ static struct bench {
 } one, two;
 
 static pthread_mutex_t interlock = PTHREAD_MUTEX_INITIALIZER;
+static struct registry_lock lock;	/* by that mutex */
 static struct registry_name wm, wm0;
 static struct registry_entry found;
 static struct registry_local local;
-static int *lines;	/* of calls, which the parent sees */
+static int *lines;	/* of calls, and the child's thread: the parent sees them */
 static atomic_bool is_there;
 
 #define AT(place, call) (lines[place] = __LINE__, (call))
+
+enum { THREAD = 7 };
 
 /* What a find does before the library's. */
 static void (*before_find)(void);
@@ -43,6 +45,8 @@ registry_answer __wrap_registry_find(struct registry_cpu *cpu, uint64_t kind, co
 
 static void open_both(void)
 {
+	alarm(20);
+	lines[THREAD] = (int)getpid();
 	DONE(AT(8, registry_open(&SETTINGS, &one.keeper, one.cpus, 2)));
 	DONE(AT(9, registry_open(&SETTINGS, &two.keeper, two.cpus, 2)));
 	DONE(registry_attach(&one.keeper, &one.cpus[0], &wm, 7, NULL));
@@ -104,6 +108,7 @@ static void released_elsewhere(void)
 static void released_to_another(void)
 {
 	DONE(registry_enter_find(&one.cpus[0], REGISTRY_DRIVER, &wm, &found));
+	EXPECT(registry_find(&one.cpus[0], REGISTRY_DRIVER, &wm0, NULL) == REGISTRY_NOT_FOUND);
 	DONE(AT(0, registry_acquire_entry(&one.cpus[0], &found)));
 	AT(1, registry_release(&two.cpus[0], found.number));
 }
@@ -168,7 +173,10 @@ static void local_twice(void)
 
 static void local_given(void)
 {
-	acquire_local(&local);
+	DONE(registry_enter_find(&one.cpus[0], REGISTRY_DRIVER, &wm, &found));
+	EXPECT(registry_find(&one.cpus[0], REGISTRY_DRIVER, &wm0, NULL) == REGISTRY_NOT_FOUND);
+	DONE(registry_local_acquire_entry(&one.cpus[0], &found, &local));
+	DONE(registry_exit(&one.cpus[0]));
 	struct registry_local copy = local;
 	DONE(AT(0, registry_attach_iface(&one.keeper, &one.cpus[0], &local, &wm0, 8, NULL)));
 	AT(1, registry_local_read(&copy, NULL));
@@ -196,7 +204,6 @@ static void closed_copy(void)
 /* A wait is told as the program's call. */
 static void closed_registry(void)
 {
-	const struct registry_lock lock = registry_lock_of_mutex(&interlock);
 	struct registry_keeper copy = one.keeper;
 	AT(0, registry_close(one.cpus, 2, &one.keeper));
 	(void)!AT(1, registry_perform_wait(&lock, &copy, &two.cpus[0], NULL, NULL));
@@ -281,7 +288,6 @@ static void told_interlock(void)
 
 static void *wait_once(void *of)
 {
-	const struct registry_lock lock = registry_lock_of_mutex(&interlock);
 	DONE(AT(0, registry_perform_wait(&lock, &one.keeper, &one.cpus[1], NULL, NULL)));
 	return of;
 }
@@ -316,7 +322,6 @@ static void open_at_close(void)
 
 static void waits_inside(void)
 {
-	const struct registry_lock lock = registry_lock_of_mutex(&interlock);
 	DONE(AT(0, registry_enter_find(&one.cpus[1], REGISTRY_DRIVER, &wm, NULL)));
 	DONE(registry_detach(&one.keeper, &one.cpus[0], REGISTRY_DRIVER, &wm, &found));
 	(void)!AT(1, registry_destroy_wait(&lock, &one.keeper, &one.cpus[0], found.number, NULL, NULL));
@@ -324,7 +329,6 @@ static void waits_inside(void)
 
 static void barrier_inside(void)
 {
-	const struct registry_lock lock = registry_lock_of_mutex(&interlock);
 	struct registry_entry row[1];
 	struct registry_deferred deferred = {.keeper = &one.keeper, .entries = row, .room = 1};
 	DONE(AT(0, registry_enter(&one.cpus[1])));
@@ -347,9 +351,9 @@ static void give(void *of)
 /* It waits while another thread is inside a section, by a lock that is no mutex. */
 static void *copy_and_release(void *of)
 {
-	const struct registry_lock lock = {take, give, NULL};
+	const struct registry_lock other = {take, give, NULL};
 	const struct timespec past = {0, 0};
-	EXPECT(registry_perform_wait(&lock, &one.keeper, &one.cpus[0], &past, NULL) == REGISTRY_WAITING);
+	EXPECT(registry_perform_wait(&other, &one.keeper, &one.cpus[0], &past, NULL) == REGISTRY_WAITING);
 	DONE(registry_copy(&one.cpus[0], found.number));
 	stay();
 	DONE(registry_release(&one.cpus[0], found.number));
@@ -430,6 +434,31 @@ static void unregistered(void)
 	visit(&others);
 }
 
+/* All CPUs of the largest registry, and what calls return and write that no other row makes. */
+static void largest(void)
+{
+	const struct registry_settings settings = settings_of(REGISTRY_MOST_CPUS, 1);
+	static struct registry_keeper keeper;
+	static struct registry_cpu cpus[REGISTRY_MOST_CPUS];
+	struct registry_entry row[1];
+	struct registry_stage met;
+	size_t count;
+	bool held = false;
+	DONE(registry_open(&settings, &keeper, cpus, REGISTRY_MOST_CPUS));
+	DONE(registry_attach(&keeper, &cpus[0], &wm, 7, &found));
+	EXPECT(registry_room(&keeper) == REGISTRY_NO_SLOT && registry_look_up(&cpus[0], REGISTRY_DRIVER, &wm, row) == REGISTRY_DONE && row->value == 7);
+	DONE(registry_get(&cpus[0], REGISTRY_DRIVER, &wm, NULL));
+	EXPECT(registry_held(&cpus[0], found.number, &held) == REGISTRY_DONE && held);
+	DONE(registry_release(&cpus[0], found.number));
+	DONE(registry_enter(&cpus[0]));
+	EXPECT(registry_walk(&cpus[0], row, 1, &count) == REGISTRY_DONE && count == 1);
+	DONE(registry_exit(&cpus[0]));
+	DONE(registry_detach(&keeper, &cpus[0], REGISTRY_DRIVER, &wm, NULL));
+	EXPECT(registry_advance(&keeper, found.number, &met) == REGISTRY_DONE && met.stage == REGISTRY_FREED);
+	DONE(registry_audit(&keeper, cpus, REGISTRY_MOST_CPUS, NULL, 0, NULL));
+	DONE(registry_close(cpus, REGISTRY_MOST_CPUS, &keeper));
+}
+
 static void without_interlock(void)
 {
 	registry_check_interlock(&one.keeper, NULL);
@@ -439,7 +468,6 @@ static void without_interlock(void)
 /* A recursive interlock stays locked as often. In the child of a fork it is that of a registry of its own. */
 static void recursive(void)
 {
-	const struct registry_lock lock = registry_lock_of_mutex(&interlock);
 	pthread_mutexattr_t often;
 	int status;
 	EXPECT(pthread_mutexattr_init(&often) == 0 && pthread_mutexattr_settype(&often, PTHREAD_MUTEX_RECURSIVE) == 0);
@@ -459,84 +487,63 @@ static void recursive(void)
 		_exit(0);
 }
 
-/* What a process says, with @0 for the place of the call that AT has noted as 0, and @t for the thread; and whether it is aborted. */
+/* What a process says, with @0 for the place of the call that AT has noted as 0, and @t for the thread. If it begins with a place, it is aborted. */
 struct row {
 	const char *name;
 	void (*body)(void);
 	const char *says;
-	bool aborts;
 };
 
 static const struct row ROWS[] = {
-	{"a reference released twice", released_twice, "@1: registry_release: wm's reference 1 was released already at @0\n", true},
+	{"a reference released twice", released_twice, "@1: registry_release: wm's reference 1 was released already at @0\n"},
 	{"the same, and another CPU has one", released_twice_beside,
-	    "@1: registry_release: wm's reference 1 was released already at @0; wm's reference 1 is CPU 1's, acquired at @2\n", true},
-	{"on another CPU", released_elsewhere, "@1: registry_release: wm's reference 1 is CPU 0's, acquired at @0, and this is CPU 1\n", true},
+	    "@1: registry_release: wm's reference 1 was released already at @0; wm's reference 1 is CPU 1's, acquired at @2\n"},
+	{"on another CPU", released_elsewhere, "@1: registry_release: wm's reference 1 is CPU 0's, acquired at @0, and this is CPU 1\n"},
 	{"of another registry", released_to_another,
-	    "@1: registry_release: wm's reference 1, acquired at @0, is of the registry opened at @8, and this is CPU 0\n", true},
-	{"never acquired", never_acquired, "@0: registry_release: CPU 0 never acquired a reference 1\n", true},
-	{"left behind", left_behind, "@1: registry_thread_unregister: wm's reference 1, acquired at @0, stays on CPU 0\n", true},
-	{"released twice, and the CPU has another", taken_from_another, "@1: registry_release: wm's reference 1 was released already at @0\n", true},
-	{"read after its release", read_afterwards, "@1: registry_read: wm's reference 1 was released already at @0\n", true},
-	{"a local reference released twice", local_twice, "@1: registry_local_release: wm's local reference was released already at @0\n", true},
-	{"a local reference of an interface", local_given, "@1: registry_local_read: wm's local reference was released already at @0\n", true},
-	{"a handle that was never set", never_set, "@0: registry_enter: the handle of the CPU is neither {0} nor what a call has set\n", true},
-	{"no handle", no_pointer, "@0: registry_attach: the pointer to the handle of the keeper is NULL\n", true},
-	{"a copy of a closed CPU", closed_copy, "@1: registry_inside: the CPU was closed at @0, and this is a copy of its handle\n", true},
-	{"a closed registry", closed_registry, "@1: registry_perform_wait: the keeper was closed at @0, and this is a copy of its handle\n", true},
-	{"two registries", two_registries,
-	    "@0: registry_attach: the CPU is of the registry opened at @9, and the keeper of the one opened at @8\n", true},
-	{"two threads", two_threads, "@1: registry_depth: another thread uses the CPU: registry_find at @0\n", true},
-	{"in a signal handler", in_a_signal, "@1: registry_depth: a signal handler makes this call, within registry_find at @0\n", true},
-	{"in a child", in_a_child, "@0: registry_depth: the registry was opened at @8, before the fork of this process\n", true},
-	{"asynchronous cancellation", cancelled_anywhere, "@0: registry_depth: asynchronous cancellation of this thread is enabled\n", true},
-	{"overlapping pointers", overlapping, "@0: registry_look_up: the name lies within the entry that the call writes\n", true},
+	    "@1: registry_release: wm's reference 1, acquired at @0, is of the registry opened at @8, and this is CPU 0\n"},
+	{"never acquired", never_acquired, "@0: registry_release: CPU 0 never acquired a reference 1\n"},
+	{"left behind", left_behind, "@1: registry_thread_unregister: wm's reference 1, acquired at @0, stays on CPU 0\n"},
+	{"released twice, and the CPU has another", taken_from_another, "@1: registry_release: wm's reference 1 was released already at @0\n"},
+	{"read after its release", read_afterwards, "@1: registry_read: wm's reference 1 was released already at @0\n"},
+	{"a local reference released twice", local_twice, "@1: registry_local_release: wm's local reference was released already at @0\n"},
+	{"a local reference of an interface", local_given, "@1: registry_local_read: wm's local reference was released already at @0\n"},
+	{"a handle that was never set", never_set, "@0: registry_enter: the handle of the CPU is neither {0} nor what a call has set\n"},
+	{"no handle", no_pointer, "@0: registry_attach: the pointer to the handle of the keeper is NULL\n"},
+	{"a copy of a closed CPU", closed_copy, "@1: registry_inside: the CPU was closed at @0, and this is a copy of its handle\n"},
+	{"a closed registry", closed_registry, "@1: registry_perform_wait: the keeper was closed at @0, and this is a copy of its handle\n"},
+	{"two registries", two_registries, "@0: registry_attach: the CPU is of the registry opened at @9, and the keeper of the one opened at @8\n"},
+	{"two threads", two_threads, "@1: registry_depth: another thread uses the CPU: registry_find at @0\n"},
+	{"in a signal handler", in_a_signal, "@1: registry_depth: a signal handler makes this call, within registry_find at @0\n"},
+	{"in a child", in_a_child, "@0: registry_depth: the registry was opened at @8, before the fork of this process\n"},
+	{"asynchronous cancellation", cancelled_anywhere, "@0: registry_depth: asynchronous cancellation of this thread is enabled\n"},
+	{"overlapping pointers", overlapping, "@0: registry_look_up: the name lies within the entry that the call writes\n"},
 	{"without the interlock", told_interlock,
-	    "@1: registry_attach: this thread doesn't hold the keeper's interlock, known by registry_check_interlock at @0\n", true},
+	    "@1: registry_attach: this thread doesn't hold the keeper's interlock, known by registry_check_interlock at @0\n"},
 	{"without the interlock of a wait", learned_interlock,
-	    "@1: registry_settings_of: this thread doesn't hold the keeper's interlock, known by registry_perform_wait at @0\n", true},
-	{"with the interlock in a call that takes it", waits_for_itself, "@0: registry_local_drop: this thread holds the interlock, which the call takes\n", true},
-	{"a section at the close", open_at_close, "@1: registry_close: CPU 1 is inside the section that began at @0\n", true},
-	{"a wait in a section", waits_inside, "@1: registry_destroy_wait: this thread is inside the section that began on CPU 1 at @0\n", true},
-	{"a barrier in a section", barrier_inside, "@1: registry_deferred_barrier: this thread is inside the section that began on CPU 1 at @0\n", true},
+	    "@1: registry_settings_of: this thread doesn't hold the keeper's interlock, known by registry_perform_wait at @0\n"},
+	{"with the interlock in a call that takes it", waits_for_itself, "@0: registry_local_drop: this thread holds the interlock, which the call takes\n"},
+	{"a section at the close", open_at_close, "@1: registry_close: CPU 1 is inside the section that began at @0\n"},
+	{"a wait in a section", waits_inside, "@1: registry_destroy_wait: this thread is inside the section that began on CPU 1 at @0\n"},
+	{"a barrier in a section", barrier_inside, "@1: registry_deferred_barrier: this thread is inside the section that began on CPU 1 at @0\n"},
 	{"who holds", who_holds,
 	    "local, CPU 1, @3, thread @t\npassive, CPU 0, @1, thread @t\npassive, CPU 0, @0, thread @t\nsection, CPU 1, @2, thread @t\n"
-	    "passive, CPU 0, @1, thread @t\npassive, CPU 0, @0, thread @t\n", false},
-	{"handed over", handed_over, "", false},
-	{"unregistered", unregistered, "", false},
-	{"told that no interlock is needed", without_interlock, "", false},
-	{"a recursive interlock, and a child's registry", recursive, "", false},
+	    "passive, CPU 0, @1, thread @t\npassive, CPU 0, @0, thread @t\n"},
+	{"handed over", handed_over, ""},
+	{"unregistered", unregistered, ""},
+	{"the largest registry", largest, ""},
+	{"told that no interlock is needed", without_interlock, ""},
+	{"a recursive interlock, and a child's registry", recursive, ""},
 };
 
-/* The process of a row, and the end of a pipe with what it says. */
-static pid_t start(const struct row *row, int *says)
-{
-	int ends[2];
-	EXPECT(pipe(ends) == 0);
-	pid_t child = fork();
-	EXPECT(child >= 0);
-	if (child == 0) {
-		alarm(20);
-		dup2(ends[1], 2);
-		close(ends[1]);
-		open_both();
-		row->body();
-		_exit(0);
-	}
-	close(ends[1]);
-	*says = ends[0];
-	return child;
-}
-
 /* The text with places and the thread in it. */
-static void fill(char *filled, size_t room, const char *text, pid_t child)
+static void fill(char *filled, size_t room, const char *text)
 {
 	size_t length = 0;
 	for (; *text != 0; text++)
 		if (*text != '@')
 			length += (size_t)snprintf(filled + length, room - length, "%c", *text);
 		else if (*++text == 't')
-			length += (size_t)snprintf(filled + length, room - length, "%d", (int)child);
+			length += (size_t)snprintf(filled + length, room - length, "%d", lines[THREAD]);
 		else
 			length += (size_t)snprintf(filled + length, room - length, "%s:%d", __FILE__, lines[*text - '0']);
 	filled[length] = 0;
@@ -545,18 +552,11 @@ static void fill(char *filled, size_t room, const char *text, pid_t child)
 static bool holds(const struct row *row)
 {
 	char said[1000], wanted[1000];
-	int status, says;
-	size_t length = 0;
-	pid_t child = start(row, &says);
-	for (ssize_t more = 1; more > 0; length += (size_t)more)
-		more = read(says, said + length, sizeof said - 1 - length);
-	said[length] = 0;
-	close(says);
-	EXPECT(waitpid(child, &status, 0) == child);
-	fill(wanted, sizeof wanted, row->says, child);
+	int status = run_in_child(open_both, row->body, said, sizeof said);
+	fill(wanted, sizeof wanted, row->says);
 	/* An emulator says more of an abort. */
-	bool right = row->aborts ? strncmp(said, wanted, strlen(wanted)) == 0 && WIFSIGNALED(status) && WTERMSIG(status) == SIGABRT
-	                         : strcmp(said, wanted) == 0 && status == 0;
+	bool right = row->says[0] == '@' ? strncmp(said, wanted, strlen(wanted)) == 0 && WIFSIGNALED(status) && WTERMSIG(status) == SIGABRT
+	                                 : strcmp(said, wanted) == 0 && status == 0;
 	if (!right)
 		printf("FAILED  %s, with status %x. It said:\n%sWanted:\n%s", row->name, (unsigned)status, said, wanted);
 	return right;
@@ -565,6 +565,7 @@ static bool holds(const struct row *row)
 int main(void)
 {
 	unsigned failed = 0;
+	lock = registry_lock_of_mutex(&interlock);
 	wm = name_of("wm");
 	wm0 = name_of("wm0");
 	lines = mmap(NULL, 10 * sizeof *lines, PROT_READ | PROT_WRITE, MAP_SHARED | MAP_ANONYMOUS, -1, 0);

@@ -6,6 +6,7 @@
  * CPU 0 holds entries by sections and passive references, and another thread's work on retired entries is played by advances beside the list, also
  * between the turns of a barrier. The list's row is longer or shorter than the slots, and its keeper is now and then another registry's, or none.
  */
+#include "dice.h"
 #include "model.h"
 #include "waiting.h"
 
@@ -16,7 +17,6 @@ static struct registry_keeper keeper;
 static struct registry_cpu cpus[2];
 static pthread_mutex_t mutex = PTHREAD_MUTEX_INITIALIZER;
 static struct registry_name names[NAMES];
-static uint64_t random_state;
 
 /* What the list told as freed, and what the model's list has. */
 struct told {
@@ -27,14 +27,6 @@ struct told {
 static struct told told;
 static struct told waiting;
 static unsigned most_freed;
-
-static uint64_t below(uint64_t end)
-{
-	random_state ^= random_state << 13;
-	random_state ^= random_state >> 7;
-	random_state ^= random_state << 17;
-	return (random_state >> 11) % end;
-}
 
 static void note(void *of, const struct registry_entry *gone)
 {
@@ -97,7 +89,7 @@ static void attach_iface(void)
 {
 	struct registry_entry made = {0}, wanted = {0};
 	struct registry_local driver = {0};
-	uint64_t number, same_number;
+	uint64_t number, same_number = 0;
 	const struct registry_name *of = &names[below(NAMES)], *name = &names[below(NAMES)];
 	uint32_t found = registry_enter_find(&cpus[1], REGISTRY_DRIVER, of, &made);
 	if (found != REGISTRY_DONE)
@@ -297,7 +289,7 @@ int main(int argc, char **argv)
 {
 	unsigned long rounds = argc > 1 ? strtoul(argv[1], NULL, 10) : 1000;
 	const struct registry_settings settings = {2, SLOTS, REGISTRY_MOST_CHANGES, REGISTRY_MOST_SECTIONS, 100, REGISTRY_MOST_COUNT};
-	random_state = (argc > 2 ? strtoull(argv[2], NULL, 10) : 1) * 0x9e3779b97f4a7c15 | 1;
+	seed_dice(argc > 2 ? strtoull(argv[2], NULL, 10) : 1);
 	model.settings = settings;
 	for (unsigned i = 0; i < NAMES; i++) {
 		char text[8];

@@ -9,17 +9,13 @@
 #include "client.h"
 #include "waiting.h"
 
-/* One way to wait: what keeps it waiting and ends that, the wait, and what it returns at its deadline. */
-struct way {
-	void (*hold)(void);
-	void (*let_go)(void);
-	registry_answer (*wait)(const struct timespec *deadline);
-	registry_answer late;
-};
+/* The ways to wait, and what each returns at its deadline. */
+enum way { DESTROY, PERFORM, BARRIER, REGISTER, WAYS };
+static const registry_answer late[WAYS] = {REGISTRY_STILL_HELD, REGISTRY_WAITING, REGISTRY_STILL_HELD, REGISTRY_NO_CPU};
 
 /* A thread that waits. */
 struct waiter {
-	const struct way *way;
+	enum way way;
 	const struct timespec *deadline;
 	registry_answer answer;
 	atomic_bool ended;
@@ -43,84 +39,46 @@ static void count_signal(int signal)
 	atomic_fetch_add(&signals, 1);
 }
 
-/* Attaches an entry, and finds it in a section on CPU 0. */
-static void find_new(void)
+/* Keeps the wait waiting: this thread takes the pool's one CPU, or CPU 0 is in a section, which may hold what is retired then. */
+static void hold(enum way way)
 {
 	struct registry_entry made;
-	DONE(registry_attach(&keeper, &cpus[1], &wm, 7, &made));
-	DONE(registry_enter_find(&cpus[0], REGISTRY_DRIVER, &wm, NULL));
-	number = made.number;
-}
-
-static void leave(void)
-{
-	DONE(registry_exit(&cpus[0]));
-}
-
-static void hold_retired(void)
-{
-	find_new();
-	DONE(registry_detach(&keeper, &cpus[1], REGISTRY_DRIVER, &wm, NULL));
-}
-
-static registry_answer destroy(const struct timespec *deadline)
-{
-	return registry_destroy_wait(&lock, &keeper, &cpus[1], number, deadline, NULL);
-}
-
-static void hold_section(void)
-{
+	if (way == REGISTER) {
+		DONE(registry_thread_register(&pool, NULL, NULL));
+		return;
+	}
 	DONE(registry_enter(&cpus[0]));
+	if (way == PERFORM)
+		return;
+	DONE(registry_attach(&keeper, &cpus[1], &wm, 7, &made));
+	number = made.number;
+	DONE(way == DESTROY ? registry_detach(&keeper, &cpus[1], REGISTRY_DRIVER, &wm, NULL)
+	                    : registry_deferred_detach(&list, &cpus[1], REGISTRY_DRIVER, &wm, NULL));
 }
 
-static registry_answer perform(const struct timespec *deadline)
+static void let_go(enum way way)
 {
-	return registry_perform_wait(&lock, &keeper, &cpus[1], deadline, NULL);
+	DONE(way == REGISTER ? registry_thread_unregister(&pool) : registry_exit(&cpus[0]));
 }
 
-static void hold_in_list(void)
+static registry_answer wait_by(enum way way, const struct timespec *deadline)
 {
-	find_new();
-	DONE(registry_deferred_detach(&list, &cpus[1], REGISTRY_DRIVER, &wm, NULL));
-}
-
-static registry_answer barrier(const struct timespec *deadline)
-{
-	return registry_deferred_barrier(&lock, &list, deadline);
-}
-
-/* The pool has one CPU, which this thread takes. */
-static void hold_cpu(void)
-{
-	DONE(registry_thread_register(&pool, NULL, NULL));
-}
-
-static void give_cpu(void)
-{
-	DONE(registry_thread_unregister(&pool));
-}
-
-static registry_answer get_cpu(const struct timespec *deadline)
-{
+	if (way == DESTROY)
+		return registry_destroy_wait(&lock, &keeper, &cpus[1], number, deadline, NULL);
+	if (way == PERFORM)
+		return registry_perform_wait(&lock, &keeper, &cpus[1], deadline, NULL);
+	if (way == BARRIER)
+		return registry_deferred_barrier(&lock, &list, deadline);
 	registry_answer answer = registry_thread_register(&pool, deadline, NULL);
 	if (answer == REGISTRY_DONE)
-		give_cpu();
+		let_go(REGISTER);
 	return answer;
 }
-
-enum { FOR_CPU = 3 };
-
-static const struct way ways[] = {
-    {hold_retired, leave, destroy, REGISTRY_STILL_HELD},
-    {hold_section, leave, perform, REGISTRY_WAITING},
-    {hold_in_list, leave, barrier, REGISTRY_STILL_HELD},
-    [FOR_CPU] = {hold_cpu, give_cpu, get_cpu, REGISTRY_NO_CPU},
-};
 
 static void *wait_in_thread(void *of)
 {
 	struct waiter *waiter = of;
-	waiter->answer = waiter->way->wait(waiter->deadline);
+	waiter->answer = wait_by(waiter->way, waiter->deadline);
 	atomic_store(&waiter->ended, true);
 	return NULL;
 }
@@ -145,15 +103,15 @@ static void end(struct waiter *waiter)
 }
 
 /* A deadline that never comes ends no wait for a CPU, however it is written. turns.c has the other waits. */
-static void test_far(const struct way *way)
+static void test_far(void)
 {
 	static const struct timespec deadlines[] = {{INT64_MAX, 999999999}, {INT64_MAX, 0}, {INT32_MAX, 0}};
 	for (unsigned i = 0; i < sizeof deadlines / sizeof *deadlines; i++) {
-		struct waiter waiter = {.way = way, .deadline = &deadlines[i]};
-		way->hold();
+		struct waiter waiter = {.way = REGISTER, .deadline = &deadlines[i]};
+		hold(REGISTER);
 		start_and_rest(&waiter);
 		EXPECT(!atomic_load(&waiter.ended));
-		way->let_go();
+		let_go(REGISTER);
 		end(&waiter);
 		EXPECT(waiter.answer == REGISTRY_DONE);
 	}
@@ -177,7 +135,7 @@ static void storm(struct waiter *waiter, unsigned most)
 }
 
 /* A wait of a moment under a storm ends at its deadline. */
-static void wait_in_storm(const struct way *way)
+static void wait_in_storm(enum way way)
 {
 	enum { MOMENT = 50000000, LATE = 20 };
 	const int64_t until = now() + MOMENT;
@@ -187,38 +145,38 @@ static void wait_in_storm(const struct way *way)
 	storm(&waiter, UINT32_MAX);
 	EXPECT(now() >= until && now() < until + (int64_t)LATE * 1000000000);
 	end(&waiter);
-	EXPECT(waiter.answer == way->late);
+	EXPECT(waiter.answer == late[way]);
 }
 
 /* Signals end no wait early, and delay none past its deadline. */
-static void test_signals(const struct way *way)
+static void test_signals(enum way way)
 {
 	struct waiter whole = {.way = way};
-	way->hold();
+	hold(way);
 	atomic_store(&signals, 0);
 	while (atomic_load(&signals) == 0)
 		wait_in_storm(way);
 	start(&whole);
 	storm(&whole, 2000);
 	EXPECT(!atomic_load(&whole.ended));
-	way->let_go();
+	let_go(way);
 	storm(&whole, UINT32_MAX);
 	end(&whole);
 	EXPECT(whole.answer == REGISTRY_DONE);
 }
 
 /* A wait that is cancelled leaves the interlock free, and everything as a deadline leaves it: the next wait goes on. */
-static void test_cancelled(const struct way *way)
+static void test_cancelled(enum way way)
 {
 	struct waiter waiter = {.way = way};
 	void *result;
-	way->hold();
+	hold(way);
 	start_and_rest(&waiter);
 	EXPECT(pthread_cancel(waiter.thread) == 0 && pthread_join(waiter.thread, &result) == 0);
 	EXPECT(result == PTHREAD_CANCELED && !atomic_load(&waiter.ended));
 	EXPECT(pthread_mutex_trylock(&mutex) == 0 && pthread_mutex_unlock(&mutex) == 0);
-	way->let_go();
-	DONE(way->wait(NULL));
+	let_go(way);
+	DONE(wait_by(way, NULL));
 }
 
 /* A thread that is to be cancelled stops a reclaimer: it waits for its end, is cancelled later, and leaves nothing behind. */
@@ -249,11 +207,11 @@ int main(void)
 	wm = name_of("wm");
 	DONE(registry_open(&settings, &keeper, cpus, 3));
 	DONE(registry_threads_open(&pool, &cpus[2], 1));
-	for (unsigned i = 0; i < sizeof ways / sizeof *ways; i++) {
-		test_signals(&ways[i]);
-		test_cancelled(&ways[i]);
+	for (enum way way = 0; way < WAYS; way++) {
+		test_signals(way);
+		test_cancelled(way);
 	}
-	test_far(&ways[FOR_CPU]);
+	test_far();
 	test_cancelled_stop();
 	DONE(registry_threads_close(&pool));
 	DONE(registry_close(cpus, 3, &keeper));

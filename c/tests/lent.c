@@ -16,11 +16,6 @@
 
 enum { CPUS = 8, THREADS = 24, ROUNDS = 300 };
 
-WRAPPED(pthread_cond_init);
-WRAPPED(pthread_condattr_init);
-WRAPPED(pthread_key_create);
-WRAPPED(pthread_setspecific);
-
 /* In a child of several threads the address sanitizer's heap may stay locked for ever. */
 #ifdef __SANITIZE_ADDRESS__
 enum { FORKS = 0 };
@@ -31,30 +26,11 @@ enum { FORKS = 1 };
 /* What fails next. */
 static enum { NOTHING, MALLOC, ATTRIBUTES, CONDITION, KEY, OPENING, PLACE } fault;
 
-void *__wrap_malloc(size_t size)
-{
-	return fault == MALLOC ? NULL : __real_malloc(size);
-}
-
-int __wrap_pthread_condattr_init(pthread_condattr_t *made)
-{
-	return fault == ATTRIBUTES ? ENOMEM : __real_pthread_condattr_init(made);
-}
-
-int __wrap_pthread_cond_init(pthread_cond_t *made, const pthread_condattr_t *attributes)
-{
-	return fault == CONDITION ? ENOMEM : __real_pthread_cond_init(made, attributes);
-}
-
-int __wrap_pthread_key_create(pthread_key_t *made, void (*end)(void *))
-{
-	return fault == KEY ? EAGAIN : __real_pthread_key_create(made, end);
-}
-
-int __wrap_pthread_setspecific(pthread_key_t key, const void *value)
-{
-	return fault == PLACE && value != NULL ? ENOMEM : __real_pthread_setspecific(key, value);
-}
+FAILING(void *, malloc, (size_t size), (size), fault == MALLOC, NULL)
+FAILING(int, pthread_condattr_init, (pthread_condattr_t *made), (made), fault == ATTRIBUTES, ENOMEM)
+FAILING(int, pthread_cond_init, (pthread_cond_t *made, const pthread_condattr_t *attributes), (made, attributes), fault == CONDITION, ENOMEM)
+FAILING(int, pthread_key_create, (pthread_key_t *made, void (*end)(void *)), (made, end), fault == KEY, EAGAIN)
+FAILING(int, pthread_setspecific, (pthread_key_t key, const void *value), (key, value), fault == PLACE && value != NULL, ENOMEM)
 
 static const struct registry_settings settings = {CPUS, 4, 1000, 100000, 100, 100};
 static const struct timespec PAST = {0, 0};
@@ -68,7 +44,6 @@ static unsigned which(const struct registry_cpu *cpu)
 	return (unsigned)(cpu - cpus);
 }
 
-/* Runs a function on a thread of its own until that ends. */
 static void *run(void *(*function)(void *), void *of)
 {
 	pthread_t thread;
@@ -161,17 +136,6 @@ static void *use_cpus(void *of)
 	return of;
 }
 
-static void test_crowd(void)
-{
-	pthread_t threads[THREADS];
-	for (unsigned i = 0; i < THREADS; i++)
-		EXPECT(pthread_create(&threads[i], NULL, use_cpus, NULL) == 0);
-	for (unsigned i = 0; i < THREADS; i++)
-		EXPECT(pthread_join(threads[i], NULL) == 0);
-	EXPECT(atomic_load(&uses) == THREADS * ROUNDS);
-	expect_all_free();
-}
-
 /* A thread ends three sections deep. */
 static void *end_inside(void *of)
 {
@@ -221,16 +185,15 @@ static void *register_late(void *deadline)
 
 static void test_deadlines(void)
 {
-	const struct timespec long_past = {INT64_MIN, 0}, no_time = {1, -1};
+	static struct timespec late[] = {{0, 0}, {INT64_MIN, 0}, {1, -1}};
 	struct registry_threads narrow = {0}, wide = pool;
 	DONE(registry_threads_open(&narrow, cpus, 1));
 	pool = narrow;
 	DONE(registry_thread_register(&pool, NULL, NULL));
-	EXPECT((uintptr_t)run(register_late, (void *)(uintptr_t)&PAST) == REGISTRY_NO_CPU);
-	EXPECT((uintptr_t)run(register_late, (void *)(uintptr_t)&long_past) == REGISTRY_NO_CPU);
-	EXPECT((uintptr_t)run(register_late, (void *)(uintptr_t)&no_time) == REGISTRY_NO_CPU);
+	for (unsigned i = 0; i < sizeof late / sizeof *late; i++)
+		EXPECT((uintptr_t)run(register_late, &late[i]) == REGISTRY_NO_CPU);
 	DONE(registry_thread_unregister(&pool));
-	EXPECT((uintptr_t)run(register_late, (void *)(uintptr_t)&PAST) == REGISTRY_DONE);
+	EXPECT((uintptr_t)run(register_late, &late[0]) == REGISTRY_DONE);
 	DONE(registry_threads_close(&pool));
 	pool = wide;
 }
@@ -266,17 +229,24 @@ static void *fork_with_cpu(void *of)
 	return of;
 }
 
-/* At the fork some threads have CPUs and others wait for one. The parent goes on. */
 static void test_fork(void)
 {
-	pthread_t threads[THREADS];
 	int status;
-	for (unsigned i = 0; i < THREADS; i++)
-		EXPECT(pthread_create(&threads[i], NULL, use_cpus, NULL) == 0);
 	pid_t child = (pid_t)(intptr_t)run(fork_with_cpu, NULL);
 	EXPECT(waitpid(child, &status, 0) == child && WIFSIGNALED(status) && WTERMSIG(status) == SIGKILL);
+}
+
+/* More threads than CPUs share them. At a fork some have CPUs and others wait for one; the parent goes on. */
+static void test_crowd(void)
+{
+	pthread_t threads[THREADS];
+	for (unsigned i = 0; i < THREADS; i++)
+		EXPECT(pthread_create(&threads[i], NULL, use_cpus, NULL) == 0);
+	if (FORKS)
+		test_fork();
 	for (unsigned i = 0; i < THREADS; i++)
 		EXPECT(pthread_join(threads[i], NULL) == 0);
+	EXPECT(atomic_load(&uses) == THREADS * ROUNDS);
 	expect_all_free();
 }
 
@@ -297,11 +267,9 @@ int main(void)
 	DONE(registry_open(&settings, &keeper, cpus, CPUS));
 	test_misuse();
 	test_refused();
-	test_crowd();
 	test_ends();
 	test_deadlines();
-	if (FORKS)
-		test_fork();
+	test_crowd();
 	test_many();
 	DONE(registry_close(cpus, CPUS, &keeper));
 	puts("lent end");

@@ -6,95 +6,74 @@
 
 #include "client.h"
 
-static const struct registry_settings SETTINGS = {2, 4, 100, 100, 10, 10};
-
-/* A registry with one driver, `wm`, number 1. */
-struct bench {
+/* A registry with one driver, `wm`, number 1, and a local reference to it: on pages of their own. */
+static struct bench {
 	struct registry_keeper keeper;
 	struct registry_cpu cpus[2];
-};
+	struct registry_local local;
+} *bench;
 
-static struct registry_name wm;
-
-static void open_bench(struct bench *bench)
+static void open_bench(void)
 {
-	DONE(registry_open(&SETTINGS, &bench->keeper, bench->cpus, 2));
+	const struct registry_settings settings = {2, 4, 100, 100, 10, 10};
+	const struct registry_name wm = name_of("wm");
+	DONE(registry_open(&settings, &bench->keeper, bench->cpus, 2));
 	DONE(registry_attach(&bench->keeper, &bench->cpus[0], &wm, 7, NULL));
-}
-
-static void close_bench(struct bench *bench)
-{
-	DONE(registry_close(bench->cpus, 2, &bench->keeper));
-}
-
-static void acquire_wm(struct bench *bench, struct registry_local *local)
-{
 	DONE(registry_enter_find(&bench->cpus[0], REGISTRY_DRIVER, &wm, NULL));
-	DONE(registry_local_acquire(&bench->cpus[0], local));
+	DONE(registry_local_acquire(&bench->cpus[0], &bench->local));
+	DONE(registry_acquire(&bench->cpus[0], NULL));
 	DONE(registry_exit(&bench->cpus[0]));
 }
 
-/* Nothing but one local reference holds the driver, however often it is destroyed. */
-static void expect_kept(struct bench *bench)
-{
-	struct registry_stage met;
-	for (unsigned i = 0; i < 10; i++)
-		EXPECT(registry_destroy(&bench->keeper, &bench->cpus[0], 1, &met) == REGISTRY_STILL_HELD);
-	EXPECT(met.stage == REGISTRY_LOCAL && met.what == 1);
-}
-
-/* A reference that can't be given up any more: the keeper that has collected its count is closed, and then the CPUs are. */
+/* A local reference that can't be given up any more: the keeper that has collected its count is closed, and then the CPUs are. */
 static void check_outlived(bool early)
 {
-	struct bench bench = {0};
-	struct registry_local local = {0};
-	open_bench(&bench);
-	acquire_wm(&bench, &local);
-	DONE(registry_detach(&bench.keeper, &bench.cpus[0], REGISTRY_DRIVER, &wm, NULL));
-	expect_kept(&bench);
-	DONE(registry_close_keeper(&bench.keeper));
-	EXPECT(registry_local_release(&bench.cpus[0], &local) == REGISTRY_COLLECTED);
+	const struct registry_name wm = name_of("wm");
+	struct registry_stage met;
+	open_bench();
+	DONE(registry_release(&bench->cpus[0], 1));
+	DONE(registry_detach(&bench->keeper, &bench->cpus[0], REGISTRY_DRIVER, &wm, NULL));
+	for (unsigned i = 0; i < 10; i++)
+		EXPECT(registry_destroy(&bench->keeper, &bench->cpus[0], 1, &met) == REGISTRY_STILL_HELD && met.stage == REGISTRY_LOCAL && met.what == 1);
+	DONE(registry_close_keeper(&bench->keeper));
+	EXPECT(registry_local_release(&bench->cpus[0], &bench->local) == REGISTRY_COLLECTED);
 	if (early)
-		DONE(registry_local_forget(&local));
-	close_bench(&bench);
-	EXPECT(registry_local_forget(&local) == (early ? REGISTRY_EMPTY_HANDLE : REGISTRY_DONE));
-	EXPECT(registry_local_forget(&local) == REGISTRY_EMPTY_HANDLE);
+		DONE(registry_local_forget(&bench->local));
+	DONE(registry_close(bench->cpus, 2, &bench->keeper));
+	EXPECT(registry_local_forget(&bench->local) == (early ? REGISTRY_EMPTY_HANDLE : REGISTRY_DONE));
+	EXPECT(registry_local_forget(&bench->local) == REGISTRY_EMPTY_HANDLE);
 }
 
-/* Handles in memory that isn't written to: the calls that take them as const are done. */
-static void check_constant(void)
+/* In memory that isn't written to the calls that take handles as const are done. */
+static void check_constant(size_t page)
 {
-	struct handles { struct bench bench; struct registry_local local; } *handles;
-	size_t page = (size_t)sysconf(_SC_PAGESIZE);
-	void *memory;
+	const struct registry_cpu *cpu = &bench->cpus[0];
 	struct registry_entry entry;
 	uint64_t depth;
 	bool held;
-	EXPECT(posix_memalign(&memory, page, page) == 0);
-	handles = memset(memory, 0, page);
-	struct registry_cpu *cpu = &handles->bench.cpus[0];
-	open_bench(&handles->bench);
-	acquire_wm(&handles->bench, &handles->local);
-	DONE(registry_get(cpu, REGISTRY_DRIVER, &wm, NULL));
-	EXPECT(mprotect(memory, page, PROT_READ) == 0);
-	DONE(registry_settings_of(&handles->bench.keeper, NULL));
-	DONE(registry_room(&handles->bench.keeper));
+	open_bench();
+	EXPECT(mprotect(bench, page, PROT_READ) == 0);
+	DONE(registry_settings_of(&bench->keeper, NULL));
+	DONE(registry_room(&bench->keeper));
 	EXPECT(registry_depth(cpu, &depth) == REGISTRY_DONE && depth == 0 && registry_inside(cpu, NULL) == REGISTRY_DONE);
 	EXPECT(registry_held(cpu, 1, &held) == REGISTRY_DONE && held);
 	EXPECT(registry_read(cpu, 1, &entry) == REGISTRY_DONE && entry.value == 7);
-	EXPECT(registry_local_read(&handles->local, &entry) == REGISTRY_DONE && entry.number == 1);
-	EXPECT(mprotect(memory, page, PROT_READ | PROT_WRITE) == 0);
-	DONE(registry_local_release(cpu, &handles->local));
-	close_bench(&handles->bench);
-	free(memory);
+	EXPECT(registry_local_read(&bench->local, &entry) == REGISTRY_DONE && entry.number == 1);
+	EXPECT(mprotect(bench, page, PROT_READ | PROT_WRITE) == 0);
+	DONE(registry_local_release(&bench->cpus[0], &bench->local));
+	DONE(registry_close(bench->cpus, 2, &bench->keeper));
 }
 
 int main(void)
 {
-	wm = name_of("wm");
+	size_t page = (size_t)sysconf(_SC_PAGESIZE);
+	void *memory;
+	EXPECT(posix_memalign(&memory, page, page) == 0);
+	bench = memset(memory, 0, page);
 	check_outlived(true);
 	check_outlived(false);
-	check_constant();
+	check_constant(page);
+	free(memory);
 	puts("misuse answered");
 	return 0;
 }

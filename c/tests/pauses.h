@@ -1,11 +1,3 @@
-/*
- * pauses.h - leads the pause instruction of waiting.c to a test: it is included before all of that file
- */
-#ifndef PAUSES_H
-#define PAUSES_H
-
+/* pauses.h - leads the pause instruction of waiting.c to turns.c: it is included before all of both files */
 void pause_seen(void);
-
 #define SPIN_PAUSE pause_seen
-
-#endif

@@ -12,13 +12,6 @@
  *
  * The table can't be written, so each write ends in a signal. There the changer stops, and then the write is done by one instruction while the table is
  * open. The looker stops by a trap after an instruction. The program is linked with --wrap for malloc, so that the table has pages of its own.
- *
- * - Each result is what the registry had at a moment during the call, and never from before the last result, nor from before a find's on another CPU.
- * - An entry that the CPU remembers, and that is live all the time, is found without a section. So is it that there is none, if no entry is live, or if the
- *   newest one was the same as the CPU found none.
- * - A section writes the CPU's section word twice. A lookup has one, and a get one more if it finds an entry, and tries it in vain. A get writes its
- *   passive word once for its reference, and twice more for each try in vain. The calls write nothing else.
- * - A get has one reference, to an entry that isn't destroyed, or none if it finds nothing.
  */
 #include <semaphore.h>
 #include <signal.h>
@@ -200,7 +193,9 @@ static void judge_moment(uint64_t from, uint64_t to, uint64_t number)
 	EXPECT(last_seen <= to);
 }
 
-/* What a lookup wrote: it began after `from` changes had returned, and ended before the one after `to` began. */
+/* What a lookup wrote: it began after `from` changes had returned, and ended before the one after `to` began. A section writes the CPU's section word twice.
+   A lookup has one, and a get one more if it tries what it has found in vain. A get writes its passive word once for its reference, and twice for each such
+   try. */
 static void judge_writes(uint64_t from, uint64_t to, uint64_t number)
 {
 	bool is_recalled = section_writes == 0 && number == remembered;

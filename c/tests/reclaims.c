@@ -14,27 +14,15 @@
 #include "waiting.h"
 #include "wrapped_heap.h"
 
-WRAPPED(pthread_create);
-WRAPPED(pthread_cond_init);
 WRAPPED(pthread_cond_timedwait);
 
 /* What fails next. */
 static enum { NOTHING, MALLOC, CONDITION, THREAD, FAULTS } fault;
 
-void *__wrap_malloc(size_t size)
-{
-	return fault == MALLOC ? NULL : __real_malloc(size);
-}
-
-int __wrap_pthread_create(pthread_t *thread, const pthread_attr_t *attributes, void *(*run)(void *), void *of)
-{
-	return fault == THREAD ? EAGAIN : __real_pthread_create(thread, attributes, run, of);
-}
-
-int __wrap_pthread_cond_init(pthread_cond_t *made, const pthread_condattr_t *attributes)
-{
-	return fault == CONDITION ? ENOMEM : __real_pthread_cond_init(made, attributes);
-}
+FAILING(void *, malloc, (size_t size), (size), fault == MALLOC, NULL)
+FAILING(int, pthread_cond_init, (pthread_cond_t *made, const pthread_condattr_t *attributes), (made, attributes), fault == CONDITION, ENOMEM)
+FAILING(int, pthread_create, (pthread_t *thread, const pthread_attr_t *attributes, void *(*run)(void *), void *of), (thread, attributes, run, of),
+    fault == THREAD, EAGAIN)
 
 /* How long the thread's last sleep was at most, and the shortest one since this was set, in nanoseconds. */
 static atomic_int_fast64_t last_sleep, shortest_sleep;

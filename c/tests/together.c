@@ -153,34 +153,27 @@ static void *read_all(void *of)
 static struct registry_entry attach(struct world *world, unsigned which)
 {
 	struct registry_entry made;
-	world->lock.take(world->lock.of);
-	DONE(registry_attach(&world->keeper, &world->cpus[READERS + which], &names[which], (uintptr_t)make_object(), &made));
-	world->lock.give(world->lock.of);
+	DONE_UNDER(&world->mutex, registry_attach(&world->keeper, &world->cpus[READERS + which], &names[which], (uintptr_t)make_object(), &made));
 	return made;
 }
 
-typedef registry_answer waiting_call(struct world *world, struct registry_cpu *cpu, uint64_t number, const struct timespec *deadline);
-
-static registry_answer destroy(struct world *world, struct registry_cpu *cpu, uint64_t number, const struct timespec *deadline)
+/* Waits for the entry with this number, or without one for the sections that are open. */
+static registry_answer wait_for(struct world *world, struct registry_cpu *cpu, uint64_t number, const struct timespec *deadline)
 {
+	if (number == 0)
+		return registry_perform_wait(&world->lock, &world->keeper, cpu, deadline, NULL);
 	return registry_destroy_wait(&world->lock, &world->keeper, cpu, number, deadline, NULL);
 }
 
-static registry_answer perform(struct world *world, struct registry_cpu *cpu, uint64_t number, const struct timespec *deadline)
-{
-	(void)number;
-	return registry_perform_wait(&world->lock, &world->keeper, cpu, deadline, NULL);
-}
-
 /* Frees an object once the wait is done, or too early. */
-static void free_after(waiting_call *wait, struct world *world, struct registry_cpu *cpu, uint64_t number, struct object *object, bool early)
+static void free_after(struct world *world, struct registry_cpu *cpu, uint64_t number, struct object *object, bool early)
 {
 	static const struct timespec past = {0, 0};
-	registry_answer answer = wait(world, cpu, number, early ? &past : NULL);
+	registry_answer answer = wait_for(world, cpu, number, early ? &past : NULL);
 	const bool is_in_use = answer != REGISTRY_DONE;
 	if (is_in_use) {
 		spoil(object);
-		answer = wait(world, cpu, number, NULL);
+		answer = wait_for(world, cpu, number, NULL);
 	}
 	DONE(answer);
 	if (!is_in_use)
@@ -192,25 +185,21 @@ static void change_by_destroy(struct world *world, unsigned which)
 	struct registry_cpu *cpu = &world->cpus[READERS + which];
 	struct registry_entry entry = attach(world, which);
 	rest();
-	world->lock.take(world->lock.of);
-	DONE(registry_detach(&world->keeper, cpu, REGISTRY_DRIVER, &names[which], NULL));
-	world->lock.give(world->lock.of);
-	free_after(destroy, world, cpu, entry.number, object_of(&entry), DESTROYS_EARLY);
+	DONE_UNDER(&world->mutex, registry_detach(&world->keeper, cpu, REGISTRY_DRIVER, &names[which], NULL));
+	free_after(world, cpu, entry.number, object_of(&entry), DESTROYS_EARLY);
 }
 
 static void change_by_perform(struct world *world, unsigned which)
 {
 	struct object *before = atomic_exchange(&world->current, make_object());
-	free_after(perform, world, &world->cpus[READERS + which], 0, before, PERFORMS_EARLY);
+	free_after(world, &world->cpus[READERS + which], 0, before, PERFORMS_EARLY);
 }
 
 static void change_by_list(struct world *world, unsigned which)
 {
 	attach(world, which);
 	rest();
-	world->lock.take(world->lock.of);
-	DONE(registry_deferred_detach(&world->deferred, &world->cpus[READERS + which], REGISTRY_DRIVER, &names[which], NULL));
-	world->lock.give(world->lock.of);
+	DONE_UNDER(&world->mutex, registry_deferred_detach(&world->deferred, &world->cpus[READERS + which], REGISTRY_DRIVER, &names[which], NULL));
 	DONE(registry_deferred_barrier(&world->lock, &world->deferred, NULL));
 }
 
@@ -234,8 +223,7 @@ static void free_of(void *of, const struct registry_entry *gone)
 
 static void open_world(struct world *world, const pthread_mutexattr_t *type)
 {
-	const struct registry_settings settings = {
-	    CPUS, SLOTS, REGISTRY_MOST_CHANGES, REGISTRY_MOST_SECTIONS, REGISTRY_MOST_COUNT, REGISTRY_MOST_COUNT};
+	const struct registry_settings settings = settings_of(CPUS, SLOTS);
 	DONE(registry_open(&settings, &world->keeper, world->cpus, CPUS));
 	EXPECT(pthread_mutex_init(&world->mutex, type) == 0);
 	world->lock = registry_lock_of_mutex(&world->mutex);

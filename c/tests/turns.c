@@ -14,11 +14,10 @@
 #include <pthread.h>
 #include <sched.h>
 #include <signal.h>
-#include <sys/wait.h>
-#include <unistd.h>
 
+#include "../../netbsd/tests/child.h"
 #include "client.h"
-#include "pauses.h"
+#include "dice.h"
 #include "waiting.h"
 #include "wrapped_heap.h"
 
@@ -54,7 +53,7 @@ struct planned {
 
 static struct planned *under_way;
 static unsigned depth, waits;
-static uint64_t random_word = 1, turns_made, sleeps, yields, late, beside;
+static uint64_t turns_made, sleeps, yields, late, beside;
 static bool alone;	/* no other wait begins meanwhile */
 
 static int64_t now;	/* in nanoseconds: a turn takes TURN of them, and a sleep its length */
@@ -77,15 +76,6 @@ WRAPPED(pthread_mutex_unlock);
 
 /* What locking and unlocking a mutex fail with, unless it is 0. */
 static int lock_error, unlock_error;
-
-/* A number below `end`, by xorshift. */
-static uint64_t below(uint64_t end)
-{
-	random_word ^= random_word << 13;
-	random_word ^= random_word >> 7;
-	random_word ^= random_word << 17;
-	return (random_word >> 11) % end;
-}
 
 /* The steps that come next: those of a format, where each @ is the letter of the wait's turn. */
 static void expect_next(struct planned *wait, const char *steps)
@@ -232,19 +222,16 @@ uint32_t __wrap_registry_local_give_up(struct registry_keeper *of, struct regist
 }
 
 /* No wait is under way where a mutex's errors are tried. */
-int __wrap_pthread_mutex_lock(pthread_mutex_t *mutex)
-{
-	if (under_way != NULL)
-		EXPECT(mutex == &mutexes[step('l')->mutex]);
-	return lock_error != 0 ? lock_error : __real_pthread_mutex_lock(mutex);
-}
+#define OF_MUTEX(call, letter, error)                                                                                              \
+	int __wrap_##call(pthread_mutex_t *mutex)                                                                                  \
+	{                                                                                                                          \
+		if (under_way != NULL)                                                                                             \
+			EXPECT(mutex == &mutexes[step(letter)->mutex]);                                                            \
+		return error != 0 ? error : __real_##call(mutex);                                                                  \
+	}
 
-int __wrap_pthread_mutex_unlock(pthread_mutex_t *mutex)
-{
-	if (under_way != NULL)
-		EXPECT(mutex == &mutexes[step('u')->mutex]);
-	return unlock_error != 0 ? unlock_error : __real_pthread_mutex_unlock(mutex);
-}
+OF_MUTEX(pthread_mutex_lock, 'l', lock_error)
+OF_MUTEX(pthread_mutex_unlock, 'u', unlock_error)
 
 /* A deadline that is past, that never comes, or that is up to some seconds away. */
 static void plan_deadline(struct planned *wait)
@@ -346,38 +333,36 @@ static void test_many_turns(unsigned turns)
 	alone = false;
 }
 
-/* A child that takes the interlock and gives it up is aborted, and says that this call failed so. */
-static void expect_abort(const struct registry_lock *of_mutex, const char *call, int error)
+static pthread_mutex_t mutex = PTHREAD_MUTEX_INITIALIZER;
+
+static void take(void)
 {
-	int status, ends[2];
-	char wanted[200], said_last[200] = "";
+	registry_lock_of_mutex(&mutex).take(&mutex);
+}
+
+static void give(void)
+{
+	registry_lock_of_mutex(&mutex).give(&mutex);
+}
+
+/* A child that takes the interlock and gives it up is aborted, and says that this call failed so. An emulator says behind it that the child was aborted. */
+static void expect_abort(const char *call, int error)
+{
+	char wanted[200], said[200];
 	snprintf(wanted, sizeof wanted, "registry: %s of the interlock: %s\n", call, strerror(error));
-	EXPECT(pipe(ends) == 0);
-	pid_t child = fork();
-	EXPECT(child >= 0);
-	if (child == 0) {
-		EXPECT(dup2(ends[1], STDERR_FILENO) >= 0);
-		of_mutex->take(of_mutex->of);
-		of_mutex->give(of_mutex->of);
-		_exit(0);
-	}
-	EXPECT(close(ends[1]) == 0 && read(ends[0], said_last, sizeof said_last - 1) > 0 && close(ends[0]) == 0);
-	/* An emulator says behind it that the child was aborted. */
-	EXPECT(strncmp(said_last, wanted, strlen(wanted)) == 0);
-	EXPECT(waitpid(child, &status, 0) == child && WIFSIGNALED(status) && WTERMSIG(status) == SIGABRT);
+	int status = run_in_child(take, give, said, sizeof said);
+	EXPECT(strncmp(said, wanted, strlen(wanted)) == 0 && WIFSIGNALED(status) && WTERMSIG(status) == SIGABRT);
 }
 
 /* The program is aborted if a mutex fails, with any error. */
 static void test_errors(void)
 {
-	pthread_mutex_t mutex = PTHREAD_MUTEX_INITIALIZER;
-	const struct registry_lock of_mutex = registry_lock_of_mutex(&mutex);
 	for (int i = 0; i < 2 * MOST_ERROR; i++) {
 		bool by_lock = i % 2 == 0;
 		int error = 1 + i / 2;
 		lock_error = by_lock ? error : 0;
 		unlock_error = by_lock ? 0 : error;
-		expect_abort(&of_mutex, by_lock ? "pthread_mutex_lock" : "pthread_mutex_unlock", error);
+		expect_abort(by_lock ? "pthread_mutex_lock" : "pthread_mutex_unlock", error);
 	}
 	lock_error = unlock_error = 0;
 }

@@ -19,6 +19,14 @@
 /* A call that the linker leads to the program. */
 #define WRAPPED(call) extern __typeof__(call) __real_##call, __wrap_##call
 
+/* The same. It fails, and returns `result`, while this is so. */
+#define FAILING(type, call, parameters, arguments, is_so, result)                                                                  \
+	WRAPPED(call);                                                                                                             \
+	type __wrap_##call parameters                                                                                              \
+	{                                                                                                                          \
+		return is_so ? result : __real_##call arguments;                                                                   \
+	}
+
 WRAPPED(malloc);
 WRAPPED(realloc);
 WRAPPED(free);

@@ -6,38 +6,29 @@ use std::error::Error;
 use std::sync::atomic::{AtomicBool, AtomicU32, Ordering};
 use std::thread;
 
-/// A plug-in. All callers share it, so its methods take `&self`.
-trait Codec: Send + Sync {
-    fn encode(&self, byte: u8) -> u8;
-    fn calls(&self) -> u32;
-}
-
-type Plugin = Box<dyn Codec>;
-const CODEC: Name = Name::from_static("codec");
-const VERSIONS: u8 = 10;
-
-#[derive(Default)]
-struct Rotate {
-    by: u8,
+/// A plug-in. All callers share it.
+struct Plugin {
+    encode: Box<dyn Fn(u8) -> u8 + Send + Sync>,
     calls: AtomicU32,
 }
 
-impl Codec for Rotate {
-    fn encode(&self, byte: u8) -> u8 {
-        self.calls.fetch_add(1, Ordering::Relaxed);
-        byte.wrapping_add(self.by)
-    }
-    fn calls(&self) -> u32 {
-        self.calls.load(Ordering::Relaxed)
+impl Plugin {
+    fn rotating(by: u8) -> Plugin {
+        Plugin { encode: Box::new(move |byte| byte.wrapping_add(by)), calls: AtomicU32::new(0) }
     }
 }
 
-/// Calls the plug-in that is loaded. Between the two steps of a replace there is none.
+const CODEC: Name = Name::from_static("codec");
+const VERSIONS: u8 = 10;
+
+/// Calls the plug-in that is loaded. Between the two steps of a replace there is none, so the lookup is repeated.
 fn work(cpu: &Cpu<Plugin>, calls: &AtomicU32, stop: &AtomicBool) {
     while !stop.load(Ordering::Relaxed) {
-        if let Ok(codec) = cpu.table().get(&CODEC) {
-            thread::yield_now(); // it may be unloaded meanwhile
-            assert!(codec.encode(7) <= 7 + VERSIONS);
+        let codec = cpu.table().get(&CODEC);
+        thread::yield_now(); // it may be unloaded meanwhile
+        if let Ok(codec) = codec {
+            assert!((codec.encode)(7) <= 7 + VERSIONS);
+            codec.calls.fetch_add(1, Ordering::Relaxed);
             calls.fetch_add(1, Ordering::Relaxed);
         }
     }
@@ -45,7 +36,7 @@ fn work(cpu: &Cpu<Plugin>, calls: &AtomicU32, stop: &AtomicBool) {
 
 /// Waits for the last call, and returns how many there were.
 fn unload(old: Retired<Plugin>) -> Result<u32, Refusal> {
-    Ok(old.wait(Patience::Forever)?.value.calls())
+    Ok(old.wait(Patience::Forever)?.value.calls.into_inner())
 }
 
 /// Loads one version after the other, and returns how many calls the unloaded ones had.
@@ -54,7 +45,7 @@ fn load_all(cpu: &Cpu<Plugin>, calls: &AtomicU32) -> Result<u32, Refusal> {
         while calls.load(Ordering::Relaxed) < 100 * u32::from(by) {
             thread::yield_now();
         }
-        let (_, old) = cpu.table().replace(&CODEC, Box::new(Rotate { by, ..Rotate::default() }))?;
+        let (_, old) = cpu.table().replace(&CODEC, Plugin::rotating(by))?;
         Ok(sum + unload(old)?)
     })
 }
@@ -62,7 +53,7 @@ fn load_all(cpu: &Cpu<Plugin>, calls: &AtomicU32) -> Result<u32, Refusal> {
 fn main() -> Result<(), Box<dyn Error>> {
     let (registry, mut cpus) = Registry::<Plugin>::open(Settings::new(4, 2))?;
     let mine = cpus.pop().ok_or(Refusal::MissingCpu)?;
-    registry.attach(&mine, &CODEC, Box::new(Rotate::default()))?;
+    registry.attach(&mine, &CODEC, Plugin::rotating(0))?;
     let (calls, stop) = (AtomicU32::new(0), AtomicBool::new(false));
     let unloaded = thread::scope(|scope| {
         let (calls, stop) = (&calls, &stop);

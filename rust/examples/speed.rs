@@ -68,21 +68,16 @@ const KINDS: [(&str, Operations); 8] = [
 /// The nanoseconds that an operation takes its thread: the time from the first thread's first to the last thread's last, over the operations
 /// of one thread. Each thread makes some before, which don't count, and begins when all have.
 fn nanoseconds_each(cpus: &mut [Cpu<u64>], names: &[Name], make: Operations, count: u64) -> Result<f64, Refusal> {
-    let meeting = Barrier::new(cpus.len());
+    let meeting = &Barrier::new(cpus.len());
+    let timed = |cpu: &Cpu<u64>| {
+        make(cpu, names, count / 3)?;
+        meeting.wait();
+        let began = Instant::now();
+        assert_eq!(make(cpu, names, count)?, count);
+        Ok((began, Instant::now()))
+    };
     let spans: Vec<(Instant, Instant)> = thread::scope(|scope| {
-        let workers: Vec<_> = cpus
-            .iter_mut()
-            .map(|cpu| {
-                let meeting = &meeting;
-                scope.spawn(move || {
-                    make(cpu, names, count / 3)?;
-                    meeting.wait();
-                    let began = Instant::now();
-                    assert_eq!(make(cpu, names, count)?, count);
-                    Ok((began, Instant::now()))
-                })
-            })
-            .collect();
+        let workers: Vec<_> = cpus.iter_mut().map(|cpu| scope.spawn(move || timed(cpu))).collect();
         workers.into_iter().map(|worker| worker.join().expect("it doesn't panic")).collect::<Result<_, Refusal>>()
     })?;
     let began = spans.iter().map(|span| span.0).min().expect("a thread");

@@ -1,9 +1,8 @@
 //! Async tasks, with one CPU for all: each keeps a `LocalRef` across an await, and no CPU. No runtime is needed, and any will do.
 
-use kupaldiz::{CpuPool, Kind, Name, Refusal, Registry, Settings};
+use kupaldiz::{CpuPool, Kind, LocalRef, Name, Refusal, Registry, Settings};
 use std::error::Error;
 use std::future::Future;
-use std::pin::Pin;
 use std::sync::Arc;
 use std::task::{Context, Poll, Wake, Waker};
 use std::thread::{self, Thread};
@@ -33,27 +32,12 @@ fn run<F: Future>(task: F) -> F::Output {
     }
 }
 
-/// Lets other tasks run, once.
-#[derive(Default)]
-struct Pause(bool);
-
-impl Future for Pause {
-    type Output = ();
-
-    fn poll(mut self: Pin<&mut Self>, context: &mut Context<'_>) -> Poll<()> {
-        context.waker().wake_by_ref();
-        match std::mem::replace(&mut self.0, true) {
-            true => Poll::Ready(()),
-            false => Poll::Pending,
-        }
-    }
-}
-
-/// Looks the driver up, sleeps, and uses it. The loan ends with its line, before the next await. The reference that is dropped is released by a later call.
+/// Looks the driver up and uses it. A loan ends with its line, before the next await: what is kept across that is the reference.
 async fn use_driver(pool: &CpuPool<u32>) -> Result<u32, Refusal> {
     let driver = pool.lend_async().await.get_local(Kind::Driver, &WM)?;
-    Pause::default().await;
-    Ok(*driver)
+    let speed = *driver;
+    LocalRef::release(driver, &*pool.lend_async().await)?;
+    Ok(speed)
 }
 
 /// A runtime may move such a task to another thread.

@@ -29,7 +29,6 @@ pub struct Baskets {
 }
 
 impl Baskets {
-    /// Of a registry with so many slots.
     pub fn new(slots: usize) -> Baskets {
         Baskets { of_slot: (0..slots).map(|_| Basket::default()).collect(), filled: Filled::default() }
     }
@@ -64,18 +63,15 @@ impl Baskets {
         self.filled.words[slot / 64].load(Ordering::Relaxed) >> (slot % 64) & 1 != 0
     }
 
-    /// Whether there is any.
     #[inline]
     pub fn has_any(&self) -> bool {
         self.filled.words.iter().any(|word| word.load(Ordering::Relaxed) != 0)
     }
 
-    /// The slots that have something.
     pub fn slots(&self) -> impl Iterator<Item = usize> + '_ {
         (0..self.of_slot.len()).filter(move |slot| self.has(*slot))
     }
 
-    /// How many lie in all baskets.
     pub fn total(&self) -> usize {
         self.slots().map(|slot| locked(&self.of_slot[slot].dropped).len()).sum()
     }

@@ -6,7 +6,6 @@ use crate::values::{Entry, Kind};
 use std::mem::MaybeUninit;
 use std::ptr;
 
-/// What lies in the block.
 #[repr(C)]
 struct Block<T> {
     /// First, so that it has the block's address.
@@ -45,17 +44,13 @@ macro_rules! copied {
 copied!(Carried Record);
 
 impl<T> Carried<T> {
-    /// Puts a value into a block of its own.
     pub fn new(value: T) -> Carried<T> {
         let plain = MaybeUninit::uninit();
         Carried { at: Box::into_raw(Box::new(Block { value, plain })) }
     }
 
     /// Notes the entry that was attached.
-    ///
-    /// # Safety
-    ///
-    /// It was attached with the value, and the interlock has been held since.
+    /// Safety: it was attached with the value, and the interlock has been held since.
     pub unsafe fn note(self, plain: Plain) {
         // SAFETY: the address is that of a block.
         let place = unsafe { ptr::addr_of_mut!((*self.at).plain) };
@@ -64,10 +59,7 @@ impl<T> Carried<T> {
     }
 
     /// The entry that carries it.
-    ///
-    /// # Safety
-    ///
-    /// It was noted before, as this thread knows it, and the value isn't taken.
+    /// Safety: it was noted before, as this thread knows it, and the value isn't taken.
     #[inline]
     pub unsafe fn plain(self) -> Plain {
         // SAFETY: the address is that of a block.
@@ -91,10 +83,7 @@ impl<T> Carried<T> {
     }
 
     /// The value, out of its block, which is freed.
-    ///
-    /// # Safety
-    ///
-    /// Nobody has a reference to it nor will get one, and it is taken once.
+    /// Safety: nobody has a reference to it nor will get one, and it is taken once.
     pub unsafe fn take(self) -> T {
         // SAFETY: the address is that of a block, and the caller is the last who uses it.
         unsafe { Box::from_raw(self.at) }.value
@@ -137,7 +126,6 @@ impl<T> Record<T> {
         Record { plain, carried: Carried::of_word(entry.value) }
     }
 
-    /// The entry as C has it.
     #[inline]
     pub fn to_c(self) -> ffi::Entry {
         let Plain { number, name, slot, kind, .. } = self.plain;
@@ -145,10 +133,7 @@ impl<T> Record<T> {
     }
 
     /// The record that a call writes where it is done; or the call's answer.
-    ///
-    /// # Safety
-    ///
-    /// If the call returns `DONE`, it has written the entry, which is of a registry whose entries carry a `T`.
+    /// Safety: if the call returns `DONE`, it has written the entry, which is of a registry whose entries carry a `T`.
     #[inline]
     pub unsafe fn written(call: impl FnOnce(*mut ffi::Entry) -> u32) -> Result<Record<T>, u32> {
         let mut entry = MaybeUninit::uninit();
@@ -160,10 +145,7 @@ impl<T> Record<T> {
     }
 
     /// What the entry carries.
-    ///
-    /// # Safety
-    ///
-    /// Something holds the entry for as long as the reference lives: an open section that found it, or a reference that was acquired to it.
+    /// Safety: something holds the entry for as long as the reference lives: an open section that found it, or a reference that was acquired to it.
     #[inline]
     pub unsafe fn value<'a>(&self) -> &'a T {
         // SAFETY: the address is that of a block: each entry of a registry whose entries carry a `T` was attached with one.

@@ -29,17 +29,6 @@ impl<T> Registry<T> {
     /// Attaches an interface that carries this value, as [`attach`](Registry::attach) does, on the driver that the reference is to. The interface's slot keeps
     /// the reference, so the driver outlives the interface.
     ///
-    /// ```
-    /// use kupaldiz::{Kind, Name, Registry, Settings};
-    ///
-    /// let (registry, cpus) = Registry::open(Settings::new(1, 4)).unwrap();
-    /// let (wm, wm0) = (Name::parse("wm").unwrap(), Name::parse("wm0").unwrap());
-    /// registry.attach(&cpus[0], &wm, 7).unwrap();
-    /// let driver = cpus[0].get_local(Kind::Driver, &wm).unwrap();
-    /// let made = registry.attach_iface(&cpus[0], &wm0, driver, 1500).unwrap();
-    /// assert_eq!((made.number, made.kind), (2, Kind::Iface));
-    /// ```
-    ///
     /// # Errors
     ///
     /// `OtherRegistry` for the CPU or the reference, `Inside`, `NeedsDriver` if the reference is to an interface, `NameTaken`, `NoSlot`,
@@ -56,17 +45,6 @@ impl<T> Registry<T> {
 
     /// Replaces what the live driver with this name carries: detaches it, and [attaches](Registry::attach) another one with this value, under one hold of the
     /// interlock. A lookup between the two finds nothing. The new one needs a slot of its own. On an error the old entry stays.
-    ///
-    /// ```
-    /// use kupaldiz::{Kind, Name, Patience, Registry, Settings};
-    ///
-    /// let (registry, cpus) = Registry::open(Settings::new(2, 4)).unwrap();
-    /// let wm = Name::parse("wm").unwrap();
-    /// registry.attach(&cpus[0], &wm, 7).unwrap();
-    /// let (made, old) = registry.replace(&cpus[0], &wm, 8).unwrap();
-    /// assert_eq!((made.number, old.destroy(&cpus[0], Patience::Forever).unwrap().value), (3, 7));
-    /// assert_eq!(*cpus[1].get(Kind::Driver, &wm).unwrap(), 8);
-    /// ```
     ///
     /// # Errors
     ///
@@ -200,10 +178,7 @@ struct New<'a, T> {
 
 impl<T> New<'_, T> {
     /// Makes the call of registry.h, which writes the entry that was attached, and the one that it replaces, if there is one.
-    ///
-    /// # Safety
-    ///
-    /// The keeper is locked, and the CPU and the driver are of its registry.
+    /// Safety: the keeper is locked, and the CPU and the driver are of its registry.
     unsafe fn attach(&mut self, keeper: &mut ffi::Keeper, word: u64, gone: *mut ffi::Entry, made: *mut ffi::Entry) -> u32 {
         let (cpu, name) = (self.cpu.handle(), &self.name.words);
         match (self.driver.as_mut().map(|driver| &mut driver.handle), self.replaces) {

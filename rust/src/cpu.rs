@@ -10,7 +10,6 @@ use std::cell::{Cell, UnsafeCell};
 use std::fmt;
 use std::mem;
 use std::panic::Location;
-use std::ptr;
 use std::sync::Arc;
 
 /// One of the registry's CPUs, for the thread that has it. It is a handle, not a processor. It co-owns its registry. It may be stored, and go to another
@@ -27,14 +26,11 @@ pub struct Cpu<T> {
     /// The share of a local reference that was released here, for the next one that is acquired.
     given_back: Cell<Option<Arc<Lease<T>>>>,
     id: u8,
-    /// Whether places are noted.
     is_tracked: bool,
 }
 
 impl<T> Cpu<T> {
-    /// # Safety
-    ///
-    /// The handle is of the CPU with this number, of this registry.
+    /// Safety: the handle is of the CPU with this number, of this registry.
     pub(crate) unsafe fn new(shared: Arc<Shared<T>>, id: u8, handle: ffi::Cpu) -> Cpu<T> {
         Cpu {
             handle: UnsafeCell::new(handle),
@@ -45,20 +41,9 @@ impl<T> Cpu<T> {
         }
     }
 
-    /// The handle, for one call.
     #[inline]
     pub(crate) fn handle(&self) -> *mut ffi::Cpu {
         self.handle.get()
-    }
-
-    /// Swaps the handle out for a call that needs several in a row, and back.
-    ///
-    /// # Safety
-    ///
-    /// The other one is empty, or what the last swap has put there. Between the two nothing else is done with the CPU.
-    pub(crate) unsafe fn swap(&self, handle: &mut ffi::Cpu) {
-        // SAFETY: this thread alone has the CPU, and no reference into the cell outlives this line.
-        unsafe { ptr::swap(self.handle.get(), handle) };
     }
 
     #[inline]
@@ -204,10 +189,7 @@ impl<T> Cpu<T> {
     }
 
     /// Releases a reference to the entry in this slot, or gives it up under the interlock where this CPU's count was collected.
-    ///
-    /// # Safety
-    ///
-    /// The reference is of this registry.
+    /// Safety: the reference is of this registry.
     #[inline]
     pub(crate) unsafe fn release_local(&self, slot: usize, mut local: ffi::Local) {
         let shared = self.shared();

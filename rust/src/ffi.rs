@@ -1,7 +1,7 @@
 //! The calls of registry.h that this crate makes, as C declares them. What the caller must keep is written there; the modules above say how
 //! they keep it.
 
-use crate::limits::Limits;
+use crate::settings::Limits;
 use std::ffi::c_void;
 use std::ffi::CStr;
 use std::os::raw::c_char;
@@ -9,31 +9,24 @@ use std::ptr;
 
 include!(concat!(env!("OUT_DIR"), "/limits.rs"));
 
-/// Answers, as registry.h numbers them.
-macro_rules! answers {
-    ($($name:ident = $number:literal),* $(,)?) => {
-        $(pub const $name: u32 = $number;)*
+/// Numbers of registry.h: answers, kinds, stages.
+macro_rules! numbers {
+    ($type:ident: $($name:ident = $number:literal),*) => {
+        $(pub const $name: $type = $number;)*
     };
 }
 
-answers! {
-    DONE = 0, NO_MEMORY = 1, BAD_SETTINGS = 2, NAME_TAKEN = 3, NO_SLOT = 4, HISTORY_FULL = 5, NOT_FOUND = 6, INSIDE = 7, SECTIONS_SPENT = 8,
+numbers! {
+    u32: DONE = 0, NO_MEMORY = 1, BAD_SETTINGS = 2, NAME_TAKEN = 3, NO_SLOT = 4, HISTORY_FULL = 5, NOT_FOUND = 6, INSIDE = 7, SECTIONS_SPENT = 8,
     PASSIVE_FULL = 10, LOCAL_FULL = 13, NOT_RETIRED = 14, MISSING_CPU = 15, STILL_HELD = 16, WAITING = 17, TOO_DEEP = 18, NEEDS_DRIVER = 19,
-    OTHER_LIMITS = 78,
+    OTHER_LIMITS = 78
 }
-
-pub const INTERFACE: u64 = 1;
-pub const DRIVER: u64 = 2;
-
-pub const GRACE: u64 = 0;
-pub const PASSIVE: u64 = 1;
-pub const LOCAL: u64 = 2;
-pub const FREED: u64 = 3;
+numbers! { u64: INTERFACE = 1, DRIVER = 2 }
+numbers! { u64: GRACE = 0, PASSIVE = 1, LOCAL = 2, FREED = 3 }
 
 /// Handles: the one word is never looked into, and the value is moved and never copied.
 macro_rules! handles {
-    ($($(#[$doc:meta])* $name:ident,)*) => {$(
-        $(#[$doc])*
+    ($($name:ident)*) => {$(
         #[repr(C)]
         pub struct $name {
             at: *mut c_void,
@@ -54,75 +47,49 @@ macro_rules! handles {
     )*};
 }
 
-handles! {
-    /// The keeper's.
-    Keeper,
-    /// A CPU's.
-    Cpu,
-    /// A local reference's.
-    Local,
-}
+handles! { Keeper Cpu Local }
 
 // SAFETY: a shared reference to a handle gives nothing but whether it is empty; every call takes it by a pointer to a value that is owned.
 unsafe impl Sync for Local {}
 
-#[repr(C)]
-#[derive(Clone, Copy, Debug, PartialEq, Eq, Hash, PartialOrd, Ord, Default)]
-pub struct Name {
-    pub high: u64,
-    pub low: u64,
+/// A struct has so many words of 64 bits, in C as here.
+macro_rules! words {
+    ($($name:ty: $words:expr),*) => {
+        $(const _: () = assert!(std::mem::size_of::<$name>() == 8 * ($words));)*
+    };
 }
 
-#[repr(C)]
-#[derive(Clone, Copy)]
-pub struct Settings {
-    pub cpus: u64,
-    pub slots: u64,
-    pub change_limit: u64,
-    pub section_limit: u64,
-    pub passive_limit: u64,
-    pub count_limit: u64,
+/// Structs, with the words that each has.
+macro_rules! structs {
+    ($($(#[$meta:meta])* $name:ident: $words:expr, $($field:ident: $type:ty),*;)*) => {$(
+        #[repr(C)]
+        #[derive(Clone, Copy)]
+        $(#[$meta])*
+        pub struct $name {
+            $(pub $field: $type,)*
+        }
+
+        words! { $name: $words }
+    )*};
 }
 
-#[repr(C)]
-#[derive(Clone, Copy, Default)]
-pub struct Entry {
-    pub number: u64,
-    pub slot: u64,
-    pub kind: u64,
-    pub name: Name,
-    pub value: u64,
+structs! {
+    #[derive(Debug, PartialEq, Eq, Hash, PartialOrd, Ord, Default)]
+    Name: 2, high: u64, low: u64;
+    Settings: 6, cpus: u64, slots: u64, change_limit: u64, section_limit: u64, passive_limit: u64, count_limit: u64;
+    #[derive(Default)]
+    Entry: 6, number: u64, slot: u64, kind: u64, name: Name, value: u64;
+    #[derive(Default)]
+    Stage: 2, stage: u64, what: u64;
+    Balance: 4 + MOST_CPUS, number: u64, slot: u64, held: i64, locals: [i64; MOST_CPUS], total: i64;
+    Wait: 2 * MOST_CPUS + MOST_SLOTS + 1, snapshots: [u64; MOST_CPUS], retired: [u64; MOST_SLOTS], seen: [u64; MOST_CPUS], begun: u64;
 }
 
-#[repr(C)]
-#[derive(Clone, Copy, Default)]
-pub struct Stage {
-    pub stage: u64,
-    pub what: u64,
-}
-
-#[repr(C)]
-#[derive(Clone, Copy)]
-pub struct Balance {
-    pub number: u64,
-    pub slot: u64,
-    pub held: i64,
-    pub locals: [i64; MOST_CPUS],
-    pub total: i64,
-}
+words! { Keeper: 1, Cpu: 1, Local: 1, Limits: 6 }
 
 impl Balance {
     /// Not written yet.
     pub const EMPTY: Balance = Balance { number: 0, slot: 0, held: 0, locals: [0; MOST_CPUS], total: 0 };
-}
-
-#[repr(C)]
-#[derive(Clone, Copy)]
-pub struct Wait {
-    pub snapshots: [u64; MOST_CPUS],
-    pub retired: [u64; MOST_SLOTS],
-    pub seen: [u64; MOST_CPUS],
-    pub begun: u64,
 }
 
 impl Wait {
@@ -130,23 +97,8 @@ impl Wait {
     pub const EMPTY: Wait = Wait { snapshots: [0; MOST_CPUS], retired: [0; MOST_SLOTS], seen: [0; MOST_CPUS], begun: 0 };
 }
 
-/// A struct has so many words of 64 bits, in C as here.
-macro_rules! words {
-    ($($name:ident: $words:expr),* $(,)?) => {
-        $(const _: () = assert!(std::mem::size_of::<$name>() == 8 * ($words));)*
-    };
-}
-
-words! {
-    Keeper: 1, Cpu: 1, Local: 1, Name: 2, Settings: 6, Entry: 6, Stage: 2, Limits: 6,
-    Balance: 4 + MOST_CPUS, Wait: 2 * MOST_CPUS + MOST_SLOTS + 1,
-}
-
 /// A string of the library's.
-///
-/// # Safety
-///
-/// A text of C lies there, which ends with a zero byte and is never written to or freed.
+/// Safety: a text of C lies there, which ends with a zero byte and is never written to or freed.
 pub unsafe fn string(at: *const c_char) -> &'static str {
     // SAFETY: as the caller says.
     unsafe { CStr::from_ptr(at) }.to_str().unwrap_or("")

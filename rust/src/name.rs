@@ -20,8 +20,8 @@ use std::str::{self, FromStr};
 /// assert_eq!(Name::parse(""), Err(NameFault::Empty));
 /// assert_eq!(Name::parse("wM0"), Err(NameFault::BadByte(1)));
 ///
-/// let vlan = Name::from_bytes(b"eth0.100").unwrap();
-/// assert_eq!(vlan.as_str(), Some("eth0.100"));
+/// let loopback = Name::from_bytes(&[127, 0, 0, 1]).unwrap();
+/// assert_eq!((loopback.as_bytes(), loopback.as_str()), (&[127, 0, 0, 1][..], Some("\u{7f}\0\0\u{1}")));
 /// ```
 #[derive(Clone, Copy, PartialEq, Eq, Hash, PartialOrd, Ord)]
 pub struct Name {
@@ -44,36 +44,21 @@ impl Name {
     ///
     /// [`NameFault`], in the order `Empty`, `TooLong`, `BadByte`.
     pub const fn parse(text: &str) -> Result<Name, NameFault> {
-        let text = text.as_bytes();
-        if text.is_empty() {
-            return Err(NameFault::Empty);
-        }
-        if text.len() >= ROOM {
+        let (bytes, mut place) = (text.as_bytes(), 0);
+        if bytes.len() >= ROOM {
             return Err(NameFault::TooLong);
         }
-        let mut bytes = [0; ROOM];
-        let mut place = 0;
-        while place < text.len() {
-            let byte = text[place];
-            if !(byte.is_ascii_lowercase() || place > 0 && byte.is_ascii_digit()) {
+        while place < bytes.len() {
+            if !(bytes[place].is_ascii_lowercase() || place > 0 && bytes[place].is_ascii_digit()) {
                 return Err(NameFault::BadByte(place));
             }
-            bytes[place] = byte;
             place += 1;
         }
-        Ok(Name::of_row(bytes))
+        Name::from_bytes(bytes)
     }
 
     /// The name with these bytes, whichever they are. Zeros at the end aren't told from no bytes: give keys that may end in them, such as addresses, one
     /// length.
-    ///
-    /// ```
-    /// use kupaldiz::{Name, NameFault};
-    ///
-    /// let loopback = Name::from_bytes(&[127, 0, 0, 1]).unwrap();
-    /// assert_eq!((loopback.as_bytes(), loopback.as_str()), (&[127, 0, 0, 1][..], Some("\u{7f}\0\0\u{1}")));
-    /// assert_eq!(Name::from_bytes(&[0; 4]), Err(NameFault::Empty));
-    /// ```
     ///
     /// # Errors
     ///
@@ -82,23 +67,21 @@ impl Name {
         if bytes.len() > ROOM {
             return Err(NameFault::TooLong);
         }
-        let mut row = [0; ROOM];
-        let mut place = 0;
+        let (mut row, mut place) = ([0; ROOM], 0);
         while place < bytes.len() {
             row[place] = bytes[place];
             place += 1;
         }
-        let name = Name::of_row(row);
-        if name.words.high == 0 && name.words.low == 0 {
-            return Err(NameFault::Empty);
+        match u128::from_be_bytes(row) {
+            0 => Err(NameFault::Empty),
+            _ => Ok(Name::of_row(row)),
         }
-        Ok(name)
     }
 
-    /// The name with these bytes, the zeros at their end left out.
+    /// The name with these bytes, and zeros at their end.
     const fn of_row(bytes: [u8; ROOM]) -> Name {
-        let words = ffi::Name { high: word(&bytes, 0), low: word(&bytes, 8) };
-        Name { words, bytes }
+        let both = u128::from_be_bytes(bytes);
+        Name { words: ffi::Name { high: (both >> 64) as u64, low: both as u64 }, bytes }
     }
 
     /// The name with this text, for a constant. In a constant, a text that is no name is a compile error.
@@ -129,9 +112,8 @@ impl Name {
     /// ```
     #[must_use]
     pub const fn from_id(id: u64) -> Name {
-        let mut bytes = [0; ROOM];
+        let (mut bytes, mut place) = ([0; ROOM], 1);
         bytes[0] = b'a' + (id >> 60) as u8;
-        let mut place = 1;
         while place < ID_BYTES {
             let digit = (id >> (5 * (ID_BYTES - 1 - place)) & 31) as u8;
             bytes[place] = if digit < 10 { b'0' + digit } else { b'a' + digit - 10 };
@@ -151,10 +133,7 @@ impl Name {
     /// The name that these words of the archive are.
     #[inline]
     pub(crate) fn of_words(words: ffi::Name) -> Name {
-        let mut bytes = [0; ROOM];
-        bytes[..8].copy_from_slice(&words.high.to_be_bytes());
-        bytes[8..].copy_from_slice(&words.low.to_be_bytes());
-        Name { words, bytes }
+        Name { words, bytes: (u128::from(words.high) << 64 | u128::from(words.low)).to_be_bytes() }
     }
 
     /// Its bytes, up to the last one that isn't 0.
@@ -169,17 +148,6 @@ impl Name {
     pub fn as_str(&self) -> Option<&str> {
         str::from_utf8(self.as_bytes()).ok()
     }
-}
-
-/// Eight bytes from this place on, the first the highest of the word.
-const fn word(bytes: &[u8; ROOM], first: usize) -> u64 {
-    let mut word = 0;
-    let mut place = first;
-    while place < first + 8 {
-        word = word << 8 | bytes[place] as u64;
-        place += 1;
-    }
-    word
 }
 
 impl FromStr for Name {
@@ -251,11 +219,9 @@ mod tests {
         fn registry_id_of_name(name: *const ffi::Name, id: *mut u64) -> u32;
     }
 
-    /// What the archive says of these bytes.
-    fn parsed_by_archive(bytes: &[u8]) -> Result<ffi::Name, NameFault> {
-        let (mut words, mut place) = (ffi::Name::default(), 0);
-        // SAFETY: the bytes are those of the slice, and each of the two places is a value of its own.
-        match unsafe { registry_name_parse(bytes.as_ptr(), bytes.len(), &mut words, &mut place) } {
+    /// What the archive's answer says of a name: its words, or the place of its first bad byte.
+    fn told(answer: u32, words: ffi::Name, place: u64) -> Result<ffi::Name, NameFault> {
+        match answer {
             ffi::DONE => Ok(words),
             70 => Err(NameFault::Empty),
             71 => Err(NameFault::TooLong),
@@ -264,16 +230,17 @@ mod tests {
         }
     }
 
-    /// What the archive makes of these bytes.
+    fn parsed_by_archive(bytes: &[u8]) -> Result<ffi::Name, NameFault> {
+        let (mut words, mut place) = (ffi::Name::default(), 0);
+        // SAFETY: the bytes are those of the slice, and each of the two places is a value of its own.
+        let answer = unsafe { registry_name_parse(bytes.as_ptr(), bytes.len(), &mut words, &mut place) };
+        told(answer, words, place)
+    }
+
     fn made_by_archive(bytes: &[u8]) -> Result<ffi::Name, NameFault> {
         let mut words = ffi::Name::default();
         // SAFETY: the bytes are those of the slice, and the place is a value of its own.
-        match unsafe { registry_name_of_bytes(bytes.as_ptr(), bytes.len(), &mut words) } {
-            ffi::DONE => Ok(words),
-            70 => Err(NameFault::Empty),
-            71 => Err(NameFault::TooLong),
-            other => panic!("{other}"),
-        }
+        told(unsafe { registry_name_of_bytes(bytes.as_ptr(), bytes.len(), &mut words) }, words, 0)
     }
 
     #[test]
@@ -333,9 +300,12 @@ mod tests {
 
     #[test]
     fn other_names_are_no_ids() {
-        for other in ["a", "wm0", "q000000000000", "a00000000000", "a0000000000000", "a00000000000w", "p000000000z00", "zzzzzzzzzzzzzzz"] {
-            let name = Name::parse(other).unwrap();
-            assert_eq!((name.id(), by_archive(0, &name).1), (None, None), "{other}");
+        let others = ["a", "wm0", "q000000000000", "a00000000000", "a0000000000000", "a00000000000w", "p000000000z00", "zzzzzzzzzzzzzzz"];
+        let behind = (0..24).map(|bit| Name::from_id(0).words.low | 1 << bit);
+        let behind =
+            behind.map(|low| Name::of_words(ffi::Name { low, ..Name::from_id(0).words })).chain([Name::of_words(ffi::Name::default())]);
+        for name in others.iter().map(|other| Name::parse(other).unwrap()).chain(behind) {
+            assert_eq!((name.id(), by_archive(0, &name).1), (None, None), "{name}");
         }
     }
 }

@@ -35,7 +35,6 @@ impl Patience {
 
 const SPINS: u32 = 16;
 const YIELDS: u32 = 8;
-/// The pause instructions of the longest spin.
 const MOST_PAUSES: u32 = 256;
 const FIRST_SLEEP: Duration = Duration::from_micros(16);
 const LONGEST_SLEEP: Duration = Duration::from_millis(8);
@@ -52,20 +51,13 @@ enum Pause {
 impl Pause {
     /// After so many turns, from 1.
     fn after(made: u32) -> Pause {
-        if made > SPINS + YIELDS {
-            let sleep = FIRST_SLEEP * doubled(made - SPINS - YIELDS - 1);
-            return Pause::Sleep(sleep.min(LONGEST_SLEEP));
+        let doubled = |from: u32| 1 << (made - from - 1).min(9);
+        match made {
+            0..=SPINS => Pause::Spin(MOST_PAUSES.min(doubled(0))),
+            made if made <= SPINS + YIELDS => Pause::Yield,
+            _ => Pause::Sleep(LONGEST_SLEEP.min(FIRST_SLEEP * doubled(SPINS + YIELDS))),
         }
-        if made > SPINS {
-            return Pause::Yield;
-        }
-        Pause::Spin(doubled(made - 1).min(MOST_PAUSES))
     }
-}
-
-/// 1, doubled so often, 9 times at most.
-fn doubled(times: u32) -> u32 {
-    1 << times.min(9)
 }
 
 /// One wait: what is left of the patience.
@@ -82,16 +74,12 @@ impl Pauses {
     /// Whether another turn may be made, after a pause that has passed then. Call it after each turn.
     pub fn another(&mut self) -> bool {
         self.made = self.made.saturating_add(1);
-        match self.patience {
-            Patience::Turns(turns) if self.made >= turns => false,
-            Patience::Turns(_) | Patience::Forever => self.pause(Duration::MAX),
-            Patience::Until(deadline) => self.pause(deadline.saturating_duration_since(Instant::now())),
-        }
-    }
-
-    /// Lets time pass. Where it sleeps, for so long at most. Whether there was any time.
-    fn pause(&self, left: Duration) -> bool {
-        if left == Duration::ZERO {
+        let left = match self.patience {
+            Patience::Turns(turns) if self.made >= turns => return false,
+            Patience::Turns(_) | Patience::Forever => Duration::MAX,
+            Patience::Until(deadline) => deadline.saturating_duration_since(Instant::now()),
+        };
+        if left.is_zero() {
             return false;
         }
         match Pause::after(self.made) {

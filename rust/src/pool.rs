@@ -27,21 +27,14 @@ use std::time::Instant;
 ///
 /// ```
 /// use kupaldiz::{CpuPool, Kind, Name, Registry, Settings};
-/// use std::thread;
 ///
 /// let (registry, cpus) = Registry::open(Settings::new(2, 4)).unwrap();
 /// let wm = Name::parse("wm").unwrap();
 /// registry.attach(&cpus[0], &wm, 7).unwrap();
 /// let pool = CpuPool::new(cpus).unwrap();
-/// thread::scope(|scope| {
-///     for _ in 0..8 {
-///         scope.spawn(|| {
-///             let cpu = pool.lend();
-///             let section = cpu.enter().unwrap();
-///             assert_eq!(section.find(Kind::Driver, &wm).map(|found| *found), Some(7));
-///         });
-///     }
-/// });
+/// let cpu = pool.lend();
+/// assert_eq!(*cpu.read(Kind::Driver, &wm).unwrap(), 7);
+/// drop(cpu);
 /// assert_eq!(pool.into_cpus().len(), 2);
 /// ```
 pub struct CpuPool<T> {

@@ -50,9 +50,7 @@ impl<T> PassiveRc<T> {
 macro_rules! passive {
     ($name:ident $(<$life:lifetime>)?, $cpu:ty) => {
         impl<$($life,)? T> $name<$($life,)? T> {
-            /// # Safety
-            ///
-            /// A reference to the entry was acquired on the CPU for this one.
+            /// Safety: a reference to the entry was acquired on the CPU for this one.
             #[inline]
             pub(crate) unsafe fn new(cpu: $cpu, record: Record<T>) -> Self {
                 $name { cpu, record }
@@ -132,11 +130,9 @@ fn release<T>(cpu: &Cpu<T>, record: &Record<T>) {
 /// let wm = Name::parse("wm").unwrap();
 /// registry.attach(&cpus[0], &wm, 7).unwrap();
 /// let reference = cpus[0].get_local(Kind::Driver, &wm).unwrap();
-/// let reference = thread::spawn(move || {
-///     assert_eq!(*reference, 7);
-///     reference
-/// });
-/// LocalRef::release(reference.join().unwrap(), &cpus[0]).unwrap();
+/// let reference = thread::spawn(move || reference).join().unwrap();
+/// assert_eq!(*reference, 7);
+/// LocalRef::release(reference, &cpus[0]).unwrap();
 /// ```
 ///
 /// # Dropped without a CPU
@@ -163,9 +159,7 @@ pub struct LocalRef<T> {
 }
 
 impl<T> LocalRef<T> {
-    /// # Safety
-    ///
-    /// The handle is a reference to the entry, which the lease's CPU acquired.
+    /// Safety: the handle is a reference to the entry, which the lease's CPU acquired.
     #[inline]
     pub(crate) unsafe fn new(lease: Arc<Lease<T>>, record: Record<T>, handle: ffi::Local) -> LocalRef<T> {
         LocalRef { record, handle, lease: Some(lease) }

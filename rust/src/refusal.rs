@@ -208,21 +208,13 @@ impl Error for Refusal {}
 /// `Refusal::from` converts it first.
 ///
 /// ```
-/// use kupaldiz::{AttachError, Cpu, Name, Refusal, Refused, Registry, Settings};
-/// use std::error::Error;
-/// use std::rc::Rc;
+/// use kupaldiz::{AttachError, Refused, Registry, Settings};
 ///
 /// let (registry, cpus) = Registry::open(Settings::new(1, 2)).unwrap();
 /// let wm = "wm".parse().unwrap();
-/// registry.attach(&cpus[0], &wm, Rc::new(1)).unwrap();
-/// let Refused { refusal, given } = registry.attach(&cpus[0], &wm, Rc::new(2)).unwrap_err();
-/// assert_eq!((refusal, *given), (AttachError::NameTaken, 2));
-///
-/// fn attach(registry: &Registry<Rc<u8>>, cpu: &Cpu<Rc<u8>>, name: &Name) -> Result<(), Box<dyn Error + Send + Sync>> {
-///     registry.attach(cpu, name, Rc::new(3)).map_err(Refusal::from)?;
-///     Ok(())
-/// }
-/// assert!(attach(&registry, &cpus[0], &wm).unwrap_err().is::<Refusal>());
+/// registry.attach(&cpus[0], &wm, 1).unwrap();
+/// let Refused { refusal, given } = registry.attach(&cpus[0], &wm, 2).unwrap_err();
+/// assert_eq!((refusal, given), (AttachError::NameTaken, 2));
 /// ```
 #[derive(Clone, Copy, PartialEq, Eq, Hash)]
 pub struct Refused<E, G> {
@@ -275,14 +267,8 @@ mod tests {
     /// Those too that no other test meets, as `NoMemory`.
     #[test]
     fn a_refusal_has_the_number_of_its_answer() {
-        for answer in [1, 2, 3, 4, 5, 6, 7, 8, 10, 13, 15, 18, 19, 78] {
-            assert_eq!(Refusal::of(answer).number(), answer);
-        }
-        for answer in [6, 18, 8, 10, 13, 1] {
-            assert_eq!(Refusal::from(LookUpError::of(answer)).number(), answer);
-        }
-        for answer in [7, 19, 3, 6, 4, 5] {
-            assert_eq!(Refusal::from(AttachError::of(answer)).number(), answer);
-        }
+        assert!([1, 2, 3, 4, 5, 6, 7, 8, 10, 13, 15, 18, 19, 78].iter().all(|answer| Refusal::of(*answer).number() == *answer));
+        assert!([6, 18, 8, 10, 13, 1].iter().all(|answer| Refusal::from(LookUpError::of(*answer)).number() == *answer));
+        assert!([7, 19, 3, 6, 4, 5].iter().all(|answer| Refusal::from(AttachError::of(*answer)).number() == *answer));
     }
 }

@@ -7,7 +7,7 @@ use crate::places::Holders;
 use crate::refusal::{checked, DestroyError, DetachError, Foreign, Refusal, Refused};
 use crate::retired::Retired;
 use crate::settings::Settings;
-use crate::shared::{no_cpus, Shared};
+use crate::shared::Shared;
 use crate::values::{Balance, Entry, Freed};
 use std::error::Error;
 use std::fmt;
@@ -105,19 +105,6 @@ impl<T> Registry<T> {
 
     /// Frees what was [retired](Registry::retire) and nothing holds any more, the oldest first, and returns what was freed. It tries once for each entry
     /// that waits, and waits only for the interlock. What an attach has freed to get a slot comes first.
-    ///
-    /// ```
-    /// use kupaldiz::{Kind, Name, Registry, Settings};
-    ///
-    /// let (registry, cpus) = Registry::open(Settings::new(2, 4)).unwrap();
-    /// let wm = Name::parse("wm").unwrap();
-    /// registry.attach(&cpus[0], &wm, 7).unwrap();
-    /// let section = cpus[1].enter().unwrap();
-    /// registry.retire(&cpus[0], Kind::Driver, &wm).unwrap();
-    /// assert_eq!((registry.collect().len(), registry.retired()), (0, 1));
-    /// section.exit();
-    /// assert_eq!((registry.collect()[0].value, registry.retired()), (7, 0));
-    /// ```
     #[must_use]
     pub fn collect(&self) -> Vec<Freed<T>> {
         self.shared.collect()
@@ -160,17 +147,6 @@ impl<T> Registry<T> {
     /// or a reference to either of each. All local references that were dropped are released first. To see on which CPU references were acquired, call it
     /// before the first turn on the retired entry that meets its local references: that turn collects the counts.
     ///
-    /// ```
-    /// use kupaldiz::{CpuPool, Name, Registry, Settings};
-    ///
-    /// let (registry, cpus) = Registry::open(Settings::new(2, 4)).unwrap();
-    /// registry.attach(&cpus[0], &Name::parse("wm").unwrap(), 7).unwrap();
-    /// let balances = registry.audit(&cpus).unwrap();
-    /// assert_eq!((balances.len(), balances[0].held), (1, 0));
-    /// let pool = CpuPool::new(cpus).unwrap();
-    /// assert_eq!(registry.audit([pool.lend(), pool.lend()]), Ok(balances));
-    /// ```
-    ///
     /// # Errors
     ///
     /// `OtherRegistry` for any of them. `MissingCpu` if they aren't all CPUs of the registry, each once.
@@ -196,16 +172,14 @@ impl<T> Registry<T> {
 
     /// Writes the balances, and returns how many. The CPUs are all of this registry's, in their order.
     fn audit_into(&self, cpus: &[&Cpu<T>], list: &mut [ffi::Balance]) -> Result<usize, Refusal> {
-        let (mut handles, mut length, mut kept) = (no_cpus(cpus.len()), 0, self.shared.kept());
-        let swap = |handles: &mut [ffi::Cpu]| {
-            // SAFETY: it is done once before the call and once after it, in the same order.
-            handles.iter_mut().zip(cpus).for_each(|(handle, cpu)| unsafe { cpu.swap(handle) });
-        };
-        swap(&mut handles);
-        let row = handles.as_mut_ptr();
+        let (mut length, mut kept) = (0, self.shared.kept());
+        // SAFETY: this thread alone has each CPU. Its handle is moved to the row for the call, and back.
+        let mut row: Vec<ffi::Cpu> = cpus.iter().map(|cpu| unsafe { cpu.handle().read() }).collect();
+        let handles = row.as_mut_ptr();
         // SAFETY: as for `perform`, of so many CPUs.
-        let answer = unsafe { ffi::registry_audit(&mut kept.keeper, row, cpus.len(), list.as_mut_ptr(), list.len(), &mut length) };
-        swap(&mut handles);
+        let answer = unsafe { ffi::registry_audit(&mut kept.keeper, handles, cpus.len(), list.as_mut_ptr(), list.len(), &mut length) };
+        // SAFETY: as above.
+        row.into_iter().zip(cpus).for_each(|(handle, cpu)| unsafe { cpu.handle().write(handle) });
         checked(answer).map_err(Refusal::of)?;
         Ok(length)
     }
@@ -239,15 +213,6 @@ impl<T> Registry<T> {
     }
 
     /// Closes the registry, once this is its only handle, and drops what its entries carry. Until then it waits as long as the patience says.
-    ///
-    /// ```
-    /// use kupaldiz::{Patience, Registry, Settings};
-    ///
-    /// let (registry, cpus) = Registry::<u32>::open(Settings::new(2, 4)).unwrap();
-    /// let registry = registry.close(Patience::Turns(1)).unwrap_err().registry;
-    /// drop(cpus);
-    /// registry.close(Patience::Turns(1)).unwrap();
-    /// ```
     ///
     /// # Errors
     ///

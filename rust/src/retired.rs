@@ -35,9 +35,7 @@ pub struct Retired<T> {
 }
 
 impl<T> Retired<T> {
-    /// # Safety
-    ///
-    /// The entry that carries this was just detached, and no other token is of it.
+    /// Safety: the entry that carries this was just detached, and no other token is of it.
     pub(crate) unsafe fn new(shared: Arc<Shared<T>>, carried: Carried<T>) -> Retired<T> {
         let shared = Some(shared);
         Retired { shared, carried }

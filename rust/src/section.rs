@@ -109,9 +109,7 @@ pub struct Found<'section, 'cpu, T> {
 }
 
 impl<'section, 'cpu, T> Found<'section, 'cpu, T> {
-    /// # Safety
-    ///
-    /// The CPU found the entry in a section, or an outer one, that is open for as long as the value lives.
+    /// Safety: the CPU found the entry in a section, or an outer one, that is open for as long as the value lives.
     #[inline]
     pub(crate) unsafe fn new(cpu: &'cpu Cpu<T>, record: Record<T>) -> Self {
         Found { record, cpu, section: PhantomData }
@@ -187,7 +185,6 @@ pub struct Entries<'section, 'cpu, T> {
 }
 
 impl<T> Entries<'_, '_, T> {
-    /// What is still to come.
     fn left(&self) -> &[ffi::Entry] {
         &self.row[self.next..]
     }
@@ -254,20 +251,15 @@ impl<T> Cpu<T> {
     /// The same reference, which co-owns its CPU, or the same error: a struct may own both.
     ///
     /// ```
-    /// use kupaldiz::{Cpu, Kind, Name, PassiveRc, Registry, Settings};
+    /// use kupaldiz::{Kind, Name, Registry, Settings};
     /// use std::rc::Rc;
     ///
-    /// struct Worker {
-    ///     cpu: Rc<Cpu<u64>>,
-    ///     driver: PassiveRc<u64>,
-    /// }
-    ///
-    /// let (registry, mut cpus) = Registry::open(Settings::new(2, 1)).unwrap();
-    /// let wm = Name::parse("wm").unwrap();
-    /// registry.attach(&cpus[1], &wm, 7).unwrap();
-    /// let cpu = Rc::new(cpus.remove(0));
-    /// let worker = Worker { driver: cpu.get_rc(Kind::Driver, &wm).unwrap(), cpu };
-    /// assert_eq!((*worker.driver, worker.cpu.holds(1)), (7, true));
+    /// let (registry, mut cpus) = Registry::open(Settings::new(1, 1)).unwrap();
+    /// let (cpu, wm) = (Rc::new(cpus.remove(0)), Name::parse("wm").unwrap());
+    /// registry.attach(&cpu, &wm, 7).unwrap();
+    /// let driver = cpu.get_rc(Kind::Driver, &wm).unwrap();
+    /// drop(cpu);
+    /// assert_eq!(*driver, 7);
     /// ```
     #[inline]
     #[track_caller]
@@ -342,10 +334,7 @@ impl<T> Cpu<T> {
     }
 
     /// Makes a call that looks an entry up, and wakes the tasks: it may have held another entry until it returned.
-    ///
-    /// # Safety
-    ///
-    /// As of `found_by`.
+    /// Safety: as of `found_by`.
     #[inline(always)]
     unsafe fn looked_up_by(&self, call: LookUp, kind: Kind, name: &Name) -> Result<Record<T>, LookUpError> {
         let tasks = self.tasks();
@@ -356,10 +345,7 @@ impl<T> Cpu<T> {
     }
 
     /// Makes a call that looks an entry up.
-    ///
-    /// # Safety
-    ///
-    /// registry.h says of the call that it looks an entry up on the CPU, and writes it if it is done.
+    /// Safety: registry.h says of the call that it looks an entry up on the CPU, and writes it if it is done.
     #[inline(always)]
     unsafe fn found_by(&self, call: LookUp, kind: Kind, name: &Name) -> Result<Record<T>, u32> {
         // SAFETY: this thread alone has the CPU, whose handle isn't empty.

@@ -5,21 +5,15 @@
 use crate::basket::Baskets;
 use crate::carried::{Carried, Plain};
 use crate::ffi;
-use crate::limits::{check_version, version, LIMITS};
 use crate::lock::{locked, locked_mut, Mutex, MutexGuard, Tasks};
 use crate::places::Notes;
 use crate::refusal::{checked, Refusal};
-use crate::settings::Settings;
+use crate::settings::{check_version, version, Settings, LIMITS};
 use crate::values::{Freed, Met};
 use std::cmp::Reverse;
 use std::mem;
 use std::sync::atomic::{AtomicUsize, Ordering};
 use std::sync::Arc;
-
-/// A place for each of so many CPUs, all of them empty.
-pub fn no_cpus(count: usize) -> Vec<ffi::Cpu> {
-    (0..count).map(|_| ffi::Cpu::EMPTY).collect()
-}
 
 /// What the interlock guards.
 pub struct Kept<T> {
@@ -74,10 +68,7 @@ pub struct Lease<T> {
 
 impl<T> Kept<T> {
     /// Notes what a new entry carries.
-    ///
-    /// # Safety
-    ///
-    /// As of `Carried::note`.
+    /// Safety: as of `Carried::note`.
     pub unsafe fn note(&mut self, entry: Plain, carried: Carried<T>) {
         // SAFETY: as the caller says.
         unsafe { carried.note(entry) };
@@ -104,10 +95,7 @@ impl<T> Kept<T> {
     }
 
     /// One turn of C on the retired entry with this number; with a CPU, of a destroy.
-    ///
-    /// # Safety
-    ///
-    /// The handle, where there is one, is of a CPU of this registry, which this thread runs on, and not in use.
+    /// Safety: the handle, where there is one, is of a CPU of this registry, which this thread runs on, and not in use.
     #[inline]
     pub(crate) unsafe fn turn(&mut self, cpu: Option<*mut ffi::Cpu>, number: u64) -> Met {
         let mut stage = ffi::Stage::default();
@@ -121,10 +109,7 @@ impl<T> Kept<T> {
     }
 
     /// Takes the row of an entry out, if it is there.
-    ///
-    /// # Safety
-    ///
-    /// A turn has freed the entry with this number, and the caller has its token, if it has one.
+    /// Safety: a turn has freed the entry with this number, and the caller has its token, if it has one.
     unsafe fn take(&mut self, number: u64) -> Option<Freed<T>> {
         let place = self.rows.iter().position(|row| row.number == number)?;
         let carried = self.rows.swap_remove(place).carried;
@@ -162,7 +147,7 @@ impl<T> Shared<T> {
         check_version(version())?;
         checked(LIMITS.compared()).map_err(Refusal::of)?;
         let mut keeper = ffi::Keeper::EMPTY;
-        let (mut cpus, slots) = (no_cpus(usize::from(settings.cpus)), usize::from(settings.slots));
+        let (mut cpus, slots): (Vec<_>, _) = ((0..settings.cpus).map(|_| ffi::Cpu::EMPTY).collect(), usize::from(settings.slots));
         // SAFETY: all handles are empty, and there are as many as are told.
         let answer = unsafe { ffi::registry_open(&settings.to_c(), &mut keeper, cpus.as_mut_ptr(), cpus.len()) };
         checked(answer).map_err(Refusal::of)?;
@@ -202,12 +187,10 @@ impl<T> Shared<T> {
         self.tasks.wake();
     }
 
-    /// What the interlock guards, for whoever asks first.
     pub fn kept(&self) -> MutexGuard<'_, Kept<T>> {
         locked(&self.kept)
     }
 
-    /// The handle of a CPU that nobody has.
     pub fn take_cpu(&self, id: u8) -> Option<ffi::Cpu> {
         let mut spare = locked(&self.spare);
         let place = spare.get_mut(usize::from(id))?;
@@ -216,10 +199,7 @@ impl<T> Shared<T> {
     }
 
     /// Puts the handle of a CPU back.
-    ///
-    /// # Safety
-    ///
-    /// It is of the CPU with this number, of this registry, and its caller has no more of it.
+    /// Safety: it is of the CPU with this number, of this registry, and its caller has no more of it.
     pub unsafe fn put_cpu(&self, id: u8, cpu: ffi::Cpu) {
         locked(&self.spare)[usize::from(id)] = cpu;
     }
@@ -229,10 +209,7 @@ impl<T> Shared<T> {
 impl<T> Shared<T> {
     /// One turn of the work on the retired entry, on a CPU or on none: what was freed, or what was met. Where local references hold it, those to it that
     /// were dropped are given up, and the turn is made once more.
-    ///
-    /// # Safety
-    ///
-    /// As of `Kept::turn`. The caller has the entry's token, if it has one.
+    /// Safety: as of `Kept::turn`. The caller has the entry's token, if it has one.
     #[inline(always)]
     pub(crate) unsafe fn turn(&self, cpu: Option<*mut ffi::Cpu>, entry: Plain) -> Result<Freed<T>, Met> {
         let mut kept = self.kept();
@@ -247,10 +224,7 @@ impl<T> Shared<T> {
     }
 
     /// Goes on with a turn. Apart, and all of it in registers: most turns of whoever waits end before, and the lock waits for what they store.
-    ///
-    /// # Safety
-    ///
-    /// As of `turn`, whose turn was just made under this lock: it met so many local references, or the entry is freed.
+    /// Safety: as of `turn`, whose turn was just made under this lock: it met so many local references, or the entry is freed.
     #[inline(never)]
     unsafe fn go_on(
         &self,

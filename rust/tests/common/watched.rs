@@ -130,9 +130,7 @@ mod edges {
         unsafe { __tsan_release(place(&ATTACHED, value >> 4)) };
     }
 
-    /// # Safety
-    ///
-    /// An entry lies there.
+    /// Safety: an entry lies there.
     pub unsafe fn found(entry: Word) {
         let entry = entry as *const u64;
         // SAFETY: the caller guarantees it: a number, four words, and the value.
@@ -169,9 +167,7 @@ mod edges {
         }
     }
 
-    /// # Safety
-    ///
-    /// A stage lies there.
+    /// Safety: a stage lies there.
     pub unsafe fn is_freed(met: Word) -> bool {
         // SAFETY: the caller guarantees it.
         unsafe { *(met as *const u64) == 3 }
@@ -183,9 +179,7 @@ mod edges {
 #[cfg(registry_watched)]
 macro_rules! wrapped {
     ($($call:ident($($name:ident: $type:ty),*) [$($handle:ident),*] $(once [$($once:ident),*])? $(($local:ident))? $(closes $closed:ident)? $(before $before:block)? $(after $after:block)?;)*) => {$(
-        /// # Safety
-        ///
-        /// As of the call that it wraps.
+        /// Safety: as of the call that it wraps.
         #[export_name = concat!("__wrap_", stringify!($call))]
         #[deny(unsafe_op_in_unsafe_fn)]
         pub unsafe extern "C" fn $call($($name: $type),*) -> u32 {
