@@ -90,10 +90,12 @@ static bool pause_once(struct pause *pause)
 		pause->sleep = longer(pause->sleep);
 		return true;
 	}
-	if (pause->made >= SPINS)
+	if (pause->made >= SPINS) {
 		sched_yield();
-	for (unsigned i = 0; pause->made < SPINS && i < 1U << pause->made && i < MOST_PAUSES; i++)
-		SPIN_PAUSE();
+	} else {
+		for (unsigned i = 0; i < 1U << pause->made && i < MOST_PAUSES; i++)
+			SPIN_PAUSE();
+	}
 	pause->made++;
 	return true;
 }

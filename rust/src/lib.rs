@@ -1,18 +1,27 @@
 //! A small table of named entries, such as interfaces, drivers or plug-ins, that many threads read without a lock. Each entry carries a value of yours.
 //!
+//! # The problem
+//!
+//! A kernel looks up a network interface for each packet and a driver for each device call, on every CPU at once. A lock or reference count that
+//! every CPU writes bounces its cache line among all of them. But if a lookup writes nothing that other CPUs see, the thread that removes an interface
+//! can't see who still uses it. It has to find out before the interface's memory is reused.
+//!
 //! # The mechanism
 //!
-//! A lock or reference count that every CPU writes bounces its cache line among all of them. Here a lookup writes one word of its own CPU when it begins and
-//! when it ends. (A CPU remembers what it found: of that [`Cpu::look_up`], which returns a copy, writes none, and [`Cpu::get`] only the word that counts its
-//! reference.) The thread that removes an entry unlinks it and records the word of each CPU. It reads the words again until each has changed or says that its
-//! CPU is outside. No lookup that began afterwards can have found the entry. References are counted on the CPU that acquires them. The counts are read, or
-//! collected, after that. Only then is the entry freed: its slot is reused, and its `T` is returned.
+//! A lookup writes one word of its own CPU when it begins and when it ends. (A CPU remembers what it found: of that [`Cpu::look_up`], which returns a
+//! copy, writes none, and [`Cpu::get`] only the word that counts its reference.) The thread that removes an entry unlinks it and records the word of each
+//! CPU. It reads the words again until each has changed or says that its CPU is outside. No lookup that began afterwards can have found the entry.
+//! References are counted on the CPU that acquires them. The counts are read, or collected, after that. Only then is the entry freed: its slot is reused,
+//! and its `T` is returned.
 //!
 //! # The terms
 //!
-//! An [`Entry`] is live until it is detached, and then [`Retired`] until it is freed. It carries a `T`: one type for all entries of a registry, such as an
-//! `enum`, a `Box<dyn Driver>` for plug-ins, or `()`. Everything that holds the entry derefs to it. The interlock is the lock of a [`Registry`]. Each change
-//! takes it, and each turn: one attempt to free a retired entry.
+//! - An [`Entry`] is a driver or an interface that was attached. It is live until it is detached, and then [`Retired`] until it is freed. It carries a `T`:
+//!   one type for all entries of a registry, such as an `enum`, a `Box<dyn Driver>` for plug-ins, or `()`. Everything that holds the entry derefs to it.
+//! - A [`Cpu`] is a handle, not a processor. One thread at a time uses it. A [`CpuPool`] lends CPUs to more threads.
+//! - A [`Section`] is open on a CPU while it looks entries up. A [`PassiveRef`] holds an entry beyond the section, on one CPU. A [`LocalRef`] may be stored
+//!   and go to other threads.
+//! - The interlock is the lock of a [`Registry`]. Each change takes it, and each turn. A turn is one attempt to free a retired entry.
 //!
 //! # The calls
 //!
@@ -117,8 +126,13 @@
 //!
 //! # What is proved
 //!
-//! README.md says what is proved of the calls of registry.h, and what is assumed. This crate uses the comparison of the limits and seven calls of C, which are
-//! tested, not proved: the text of an error, the library's version and limits, the two acquires of an entry that is given, and the two replacements.
+//! The calls of registry.h are proved, in Rattle, except some in C, which registry.h marks. Proved
+//! of every list of steps of the protocol: no entry is freed while a section that may have found
+//! it, or a reference, holds it. That a program in mid-run is in a state that such a list leads to
+//! is assumed (docs/GUARANTEES.md of the repository). So is a caller that keeps the rules of
+//! registry.h. This crate uses the comparison of the limits and seven of the calls in C, which are
+//! tested, not proved: the text of an error, the library's version and limits, the two acquires of
+//! an entry that is given, and the two replacements.
 //!
 //! This crate isn't proved: it is tested. Some 100 blocks are `unsafe`, half of them in `section.rs`, `shared.rs` and `changes.rs`: for the calls and the texts
 //! that they return; for the way from an entry to the `T`, and to a part of it; and where its own types move what they hold. Each says what makes it sound. A
