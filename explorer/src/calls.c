@@ -4,9 +4,6 @@
  * A call announces where it is and what must hold before it can go on, says what it touches, and then is the layer's
  * own. Calls that only look at what is the thread's have no point.
  */
-#include <stdio.h>
-#include <string.h>
-
 #include "inside.h"
 
 void at_call(const char *call)

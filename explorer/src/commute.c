@@ -17,8 +17,6 @@
  * wrong, such neighbours leave the same memory in both orders. For this, two steps must conflict here if the one acquires the clock that the other
  * has released.
  */
-#include <string.h>
-
 #include "inside.h"
 
 /* Whether two accesses are of the same thing, and one of them writes it. */

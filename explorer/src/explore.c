@@ -4,16 +4,10 @@
  * First all schedules, with the reduction; where these don't end, all with at most 0, 1, 2, .. preemptions; and then some by random priorities. Once a run
  * goes wrong, schedules with fewer switches are tried until one of them does.
  */
-#include <limits.h>
 #include <malloc.h>
 #include <signal.h>
-#include <stdarg.h>
-#include <stdio.h>
-#include <stdlib.h>
-#include <string.h>
 #include <sys/mman.h>
 #include <sys/wait.h>
-#include <unistd.h>
 
 #include "inside.h"
 
@@ -58,8 +52,7 @@ static void run_setup(void *arg)
 {
 	(void)arg;
 	prepare();
-	if (run.count == 1)
-		refuse("setup has made no thread");
+	refuse_if(run.count == 1, "setup has made no thread");
 	start_routines();
 	run.phase = RUNNING;
 	point("finish", NULL, all_have_ended, NULL);
@@ -131,15 +124,13 @@ static int status_of(void (*body)(void))
 	int status;
 	fflush(NULL);
 	pid_t child = fork();
-	if (child < 0)
-		refuse("no process is left");
+	refuse_if(child < 0, "no process is left");
 	if (child == 0) {
 		body();
 		fflush(NULL);
 		_exit(0);
 	}
-	if (waitpid(child, &status, 0) != child)
-		refuse("the child is gone");
+	refuse_if(waitpid(child, &status, 0) != child, "the child is gone");
 	return status;
 }
 
@@ -364,8 +355,7 @@ static void cut_down(struct bench_found *found)
 /* A thread goes on for so many points. How many there are then. */
 static unsigned add_turns(unsigned count, unsigned thread, unsigned long turns)
 {
-	if (turns > POINTS - count)
-		refuse("the schedule is too long");
+	refuse_if(turns > POINTS - count, "the schedule is too long");
 	for (; turns > 0; turns--)
 		search->steps[count++].chosen = (uint8_t)thread;
 	return count;
@@ -397,8 +387,7 @@ static bool goes_wrong(void (*body)(void), struct bench_found *found)
 {
 	enum end end = in_child(body, false);
 	*found = search->found;
-	if (end == UNFIT)
-		refuse("%s", found->line);
+	refuse_if(end == UNFIT, "%s", found->line);
 	found->first = end == FAILED ? search->runs : 0;
 	return end == FAILED;
 }
@@ -426,8 +415,7 @@ static void fill_options(const struct bench_options *given)
 	options.seed = options.seed == 0 ? 1 : options.seed;
 	options.ticks = options.ticks == 0 ? 1 : options.ticks;
 	options.failures = options.failures == 0 ? 1 : options.failures;
-	if (options.failures > BENCH_FAILURES)
-		refuse("at most %d failures in a run", BENCH_FAILURES);
+	refuse_if(options.failures > BENCH_FAILURES, "at most %d failures in a run", BENCH_FAILURES);
 }
 
 static void make_search(void)
@@ -449,12 +437,10 @@ static void make_search(void)
 
 int bench_explore(void (*setup)(void), const struct bench_options *given)
 {
-	if (run.current != NULL)
-		refuse("bench_explore inside of a run");
+	refuse_if(run.current != NULL, "bench_explore inside of a run");
 	fill_options(given);
 	check_own_calls();
-	if (setup == NULL)
-		refuse("there is no setup");
+	refuse_if(setup == NULL, "there is no setup");
 	prepare = setup;
 	make_search();
 	struct bench_found *found = &search->told;
@@ -467,8 +453,7 @@ int bench_explore(void (*setup)(void), const struct bench_options *given)
 	}
 	if (!options.quiet)
 		show(stdout, found);
-	if (options.picture != NULL && found->first != 0 && !draw(options.picture, found))
-		refuse("%s can't be written", options.picture);
+	refuse_if(options.picture != NULL && found->first != 0 && !draw(options.picture, found), "%s can't be written", options.picture);
 	if (options.found != NULL)
 		*options.found = *found;
 	return found->first != 0;
@@ -479,8 +464,7 @@ int bench_explore(void (*setup)(void), const struct bench_options *given)
 void bench_thread(const char *name, void (*body)(void *), void *arg)
 {
 	(void)here(__func__);
-	if (body == NULL)
-		refuse("bench_thread without a body");
+	refuse_if(body == NULL, "bench_thread without a body");
 	make_routine(name, body, arg, false);
 	if (run.phase != SETTING_UP)
 		start_routines();
@@ -494,6 +478,5 @@ void bench_outcome(const char *format, ...)
 	va_start(words, format);
 	length += (size_t)vsnprintf(run.outcome + length, sizeof(run.outcome) - length, format, words);
 	va_end(words);
-	if (length >= sizeof(run.outcome))
-		refuse("an outcome has more than %d bytes", BENCH_TEXT - 1);
+	refuse_if(length >= sizeof(run.outcome), "an outcome has more than %d bytes", BENCH_TEXT - 1);
 }

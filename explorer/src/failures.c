@@ -5,10 +5,6 @@
  * these fail. The first plan is empty. A failpoint that is met and isn't in the plan makes a further plan, with that one too, unless it has too many. So each
  * failpoint that some schedule meets fails in all schedules that meet it.
  */
-#include <stdio.h>
-#include <stdlib.h>
-#include <string.h>
-
 #include "inside.h"
 
 /* Begins the next plan. Whether there is one. */

@@ -4,8 +4,6 @@
  * Each thread takes memory from a part of its own, so that an address doesn't depend on the order of the threads. Nothing is used again in a run. What is given
  * back is filled, and looked at again at the end. Behind each block lies a fence.
  */
-#include <stdio.h>
-#include <string.h>
 #include <sys/mman.h>
 
 #include "inside.h"
@@ -33,8 +31,7 @@ static const char *call_of(const struct thread *self)
 static unsigned char *reserve_room(unsigned number, size_t size, size_t align)
 {
 	size_t begin = (used[number] + align - 1) / align * align;
-	if (size > PART || begin + size + FENCE > PART)
-		refuse("the code takes more than %d bytes in one run", PART);
+	refuse_if(size > PART || begin + size + FENCE > PART, "the code takes more than %d bytes in one run", PART);
 	used[number] = begin + size + FENCE;
 	return parts + (size_t)number * PART + begin;
 }
@@ -89,8 +86,7 @@ static bool is_within(const struct block *block, const volatile void *at, size_t
 
 static _Noreturn void report_use(const char *what, const char *place, const struct block *block)
 {
-	if (block->live)
-		fail("%s%s: beyond a block of %zu bytes", what, AT_PLACE(place), block->size);
+	fail_if(block->live, "%s%s: beyond a block of %zu bytes", what, AT_PLACE(place), block->size);
 	fail("%s%s: use of freed memory: thread \"%s\" gave it back by %s%s", what, AT_PLACE(place), run.routines[block->freed_by].name, block->freed_call,
 	    AT_PLACE(block->freed_place));
 }
@@ -151,8 +147,7 @@ void bench_free(void *address)
 	struct block *block = block_at(address);
 	if (address == NULL)
 		return;
-	if (block == NULL || block->at != address)
-		fail("%s: no block of memory", call_of(kupaldiz_self));
+	fail_if(block == NULL || block->at != address, "%s: no block of memory", call_of(kupaldiz_self));
 	check_block(block);
 	end_block(block);
 	memset(block->at, FREED, block->size);
@@ -198,6 +193,5 @@ void check_heap(void)
 		left++;
 		first = block;
 	}
-	if (left > options.left)
-		fail("%u blocks of memory are left at the end, one of them taken by %s%s", left, first->call, AT_PLACE(first->place));
+	fail_if(left > options.left, "%u blocks of memory are left at the end, one of them taken by %s%s", left, first->call, AT_PLACE(first->place));
 }

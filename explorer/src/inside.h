@@ -2,8 +2,6 @@
 #ifndef KUPALDIZ_BENCH_INSIDE_H
 #define KUPALDIZ_BENCH_INSIDE_H
 
-#include <stdio.h>
-
 #include "layer.h"
 #include "stand_ins.h"
 
@@ -432,6 +430,8 @@ void report_stuck(void);
 
 _Noreturn void fail(const char *format, ...) __attribute__((format(printf, 1, 2)));
 _Noreturn void refuse(const char *format, ...) __attribute__((format(printf, 1, 2)));
+#define fail_if(condition, ...)		((condition) ? fail(__VA_ARGS__) : (void)0)
+#define refuse_if(condition, ...)	((condition) ? refuse(__VA_ARGS__) : (void)0)
 void write_schedule(char *text, size_t room);
 const char *short_place(const char *place);
 const char *place_of_step(const struct step *step);

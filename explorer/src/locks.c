@@ -3,10 +3,6 @@
  *
  * A thread that waits names what it waits for; the scheduler asks that before it goes on with the thread. Nothing looks again and again.
  */
-#include <errno.h>
-#include <stdio.h>
-#include <string.h>
-
 #include "inside.h"
 
 /* ---- Time. ---- */

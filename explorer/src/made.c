@@ -1,7 +1,4 @@
 /* made.c - locks, callouts and works in queues, as far as they lie in memory that is given back; and wake-ups that nobody waited for */
-#include <stdio.h>
-#include <string.h>
-
 #include "inside.h"
 
 void track_made(const char *call, const void *lock)
@@ -37,8 +34,7 @@ void check_none_left(void)
 		left++;
 		call = rows[at].made;
 	}
-	if (left > 0)
-		fail("%u locks, condition variables or callouts are left at the end, one of them made by %s", left, call);
+	fail_if(left > 0, "%u locks, condition variables or callouts are left at the end, one of them made by %s", left, call);
 }
 
 WRAPPED(void, mutex_init, (kmutex_t *mutex, kmutex_type_t type, int level), (mutex, type, level),

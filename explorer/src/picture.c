@@ -1,8 +1,4 @@
 /* picture.c - a schedule as a picture: a row for each thread, time to the right, and the steps underneath */
-#include <stdarg.h>
-#include <stdio.h>
-#include <string.h>
-
 #include "inside.h"
 
 enum { WIDE = 900, LEFT = 110, RIGHT = 18, TOP = 60, ROW = 58, LINE_HIGH = 16, LETTERS = 125 };

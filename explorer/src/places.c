@@ -1,9 +1,6 @@
 /* places.c - the place of an instruction: its file and line, as far as the program has them for addr2line(1), or its function */
 #include <dlfcn.h>
 #include <link.h>
-#include <stdio.h>
-#include <string.h>
-#include <unistd.h>
 
 #include "inside.h"
 
@@ -52,8 +49,7 @@ static void find_place(const void *pc, struct spot *spot)
 	*spot = (struct spot){.pc = pc};
 	snprintf(command, sizeof(command), "addr2line -f -s -i -e '%s' %#lx 2>/dev/null", file, at);
 	FILE *said = popen(command, "r");
-	if (said == NULL)
-		refuse("no process is left");
+	refuse_if(said == NULL, "no process is left");
 	read_place(said, at, spot);
 	pclose(said);
 }

@@ -5,8 +5,6 @@
  * clocks of words.c: Flanagan, Freund, "FastTrack: Efficient and Precise Dynamic Race Detection", PLDI 2009. It keeps the last uses of each eight bytes:
  * those that no later use of the same bytes has replaced.
  */
-#include <string.h>
-
 #include "inside.h"
 
 enum { GRAIN = 8 };

@@ -3,10 +3,7 @@
 #error "the bench is for x86-64 alone: it switches stacks by that processor's instructions"
 #endif
 
-#include <stdio.h>
-#include <string.h>
 #include <sys/mman.h>
-#include <unistd.h>
 
 #if __has_include(<valgrind/valgrind.h>)
 #include <valgrind/valgrind.h>
@@ -162,8 +159,7 @@ static void begin_routine(void)
 /* A thread that runs `body(arg)`. It isn't begun. */
 struct routine *make_routine(const char *name, void (*body)(void *), void *arg, bool daemon)
 {
-	if (run.count == THREADS - 1)
-		refuse("there are more than %d threads", THREADS - 1);
+	refuse_if(run.count == THREADS - 1, "there are more than %d threads", THREADS - 1);
 	struct routine *made = &run.routines[run.count];
 	*made = (struct routine){.made = true, .daemon = daemon, .number = run.count, .name = name, .body = body, .arg = arg, .deadline = NEVER,
 	    .made_at = run.step == 0 ? -1 : (int)run.step - 1};

@@ -1,7 +1,4 @@
 /* schedule.c - points, and which thread goes on from one */
-#include <stdio.h>
-#include <string.h>
-
 #include "inside.h"
 
 struct run run;
@@ -295,8 +292,7 @@ static void end_step(void)
 {
 	if (run.step > search->fresh && search->mode == REDUCED)
 		find_races_of_step(run.step - 1);
-	if (run.step == POINTS)
-		fail("the run doesn't end: it has come to %d points", POINTS);
+	fail_if(run.step == POINTS, "the run doesn't end: it has come to %d points", POINTS);
 }
 
 /* Lets time go on to the next deadline. Once the clock may not hurry any more it waits until no thread is enabled, and so changes places with none. */
@@ -333,8 +329,7 @@ static void choose(void)
 struct routine *here(const char *call)
 {
 	struct routine *me = run.current;
-	if (me == NULL)
-		refuse("%s outside of bench_explore", call);
+	refuse_if(me == NULL, "%s outside of bench_explore", call);
 	struct thread *self = kupaldiz_self;
 	me->self = self;
 	if (me->name == NULL && self != NULL)

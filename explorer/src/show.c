@@ -1,7 +1,4 @@
 /* show.c - what was found, as lines; a schedule as a short text */
-#include <stdio.h>
-#include <string.h>
-
 #include "inside.h"
 
 /* How many points a thread goes on from a step. */

@@ -5,7 +5,6 @@
  * its own, and so each of its runs has a process of its own.
  */
 #include <link.h>
-#include <string.h>
 #include <sys/mman.h>
 
 #include "inside.h"
@@ -41,8 +40,7 @@ static void add_part(uintptr_t from, uintptr_t to)
 	to &= ~(uintptr_t)7;
 	if (from >= to)
 		return;
-	if (count == MOST_PARTS)
-		refuse("the program has too many parts");
+	refuse_if(count == MOST_PARTS, "the program has too many parts");
 	parts[count++] = (struct part){.at = (char *)from, .kept = map_pages(to - from, MAP_PRIVATE), .size = to - from};
 }
 

@@ -1,8 +1,4 @@
 /* stuck.c - what is wrong where no thread can go on */
-#include <stdarg.h>
-#include <stdio.h>
-#include <string.h>
-
 #include "inside.h"
 
 const char *name_of_routine(const struct routine *routine)

@@ -1,5 +1,4 @@
 /* tables.c - memory that no run begins anew, and the tables in it: they grow, and some are looked up by a key */
-#include <string.h>
 #include <sys/mman.h>
 
 #include "inside.h"
@@ -17,8 +16,7 @@ static const size_t sizes[TABLES] = {
 void *map_pages(size_t size, int how)
 {
 	void *at = mmap(NULL, size, PROT_READ | PROT_WRITE, how | MAP_ANONYMOUS | MAP_NORESERVE, -1, 0);
-	if (at == MAP_FAILED)
-		refuse("out of memory");
+	refuse_if(at == MAP_FAILED, "out of memory");
 	return at;
 }
 

@@ -3,8 +3,6 @@
  *
  * Each plain access is told before it is made. An atomic access of the layer's headers has had its point; any other one gets it here.
  */
-#include <string.h>
-
 #include "inside.h"
 
 #define PC	__builtin_return_address(0)
@@ -168,8 +166,7 @@ void *__tsan_create_fiber(unsigned flags) __attribute__((weak));
 /* Stops where that library has the compiler's calls. */
 void check_own_calls(void)
 {
-	if (__tsan_create_fiber != NULL)
-		refuse("the program is linked with -fsanitize=thread: compile with it, and link without it");
+	refuse_if(__tsan_create_fiber != NULL, "the program is linked with -fsanitize=thread: compile with it, and link without it");
 }
 
 void kupaldiz_unseen(const char *file)

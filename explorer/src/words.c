@@ -4,8 +4,6 @@
  * Each thread has a vector clock: what of the others' comes before it. Whoever gives something leaves its clock there, and whoever takes it joins that
  * with its own. Two accesses are ordered where the later thread's clock has the earlier one's.
  */
-#include <string.h>
-
 #include "inside.h"
 
 /* What was left at a thing. */

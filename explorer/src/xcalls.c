@@ -102,8 +102,7 @@ void xc_wait(uint64_t ticket)
 	struct routine *me = here(__func__);
 	const struct thread *self = begin_plain(__func__);
 	require_sleepable(self);
-	if (ticket == 0 || ticket > asked)
-		stop(self, "no such call");
+	stop_if(self, ticket == 0 || ticket > asked, "no such call");
 	me->noted = ticket;
 	point(__func__, NULL, is_xcall_complete, NULL);
 	touch(ON_XCALL, NULL, 0, ACQUIRES);

@@ -158,10 +158,8 @@ static unsigned running_cpu(const struct thread *me, const callout_t *callout)
 void callout_destroy(callout_t *callout)
 {
 	struct thread *me = lock_callout(begin_call(__func__), callout);
-	if ((callout->c_state & PENDING) != 0)
-		stop(me, "the callout is pending");
-	if (running_cpu(me, callout) < KUPALDIZ_CPUS)
-		stop(me, "the callout runs");
+	stop_if(me, (callout->c_state & PENDING) != 0, "the callout is pending");
+	stop_if(me, running_cpu(me, callout) < KUPALDIZ_CPUS, "the callout runs");
 	callout->c_made = ENDED;
 	pthread_mutex_unlock(&lock);
 }
@@ -177,8 +175,7 @@ void callout_setfunc(callout_t *callout, void (*body)(void *), void *arg)
 /* Lets it wait for its time. The caller has the lock. */
 static void make_pending(struct thread *me, callout_t *callout, int ticks)
 {
-	if (callout->c_body == NULL)
-		stop(me, "the callout has no function");
+	stop_if(me, callout->c_body == NULL, "the callout has no function");
 	if ((callout->c_state & PENDING) != 0)
 		unlink_callout(callout);
 	callout->c_state = (callout->c_state & ~(uint32_t)(FIRED | INVOKING)) | PENDING;
@@ -238,8 +235,7 @@ static void await_end(struct thread *me, const callout_t *callout)
 bool callout_halt(callout_t *callout, void *interlock)
 {
 	struct thread *me = lock_callout(begin_call(__func__), callout);
-	if (interlock != NULL && !has_mutex(me, interlock))
-		stop(me, "the thread does not have the lock");
+	stop_if(me, interlock != NULL && !has_mutex(me, interlock), "the thread does not have the lock");
 	bool expired = cancel(callout), runs = running_cpu(me, callout) < KUPALDIZ_CPUS;
 	if (runs) {
 		if (interlock != NULL)

@@ -1,14 +1,4 @@
 /* kernel.c - assertions, panic(9), kpause(9), kthread(9) and copy_user(9) */
-#ifndef _GNU_SOURCE
-#define _GNU_SOURCE
-#endif
-#include <errno.h>
-#include <sched.h>
-#include <stdarg.h>
-#include <stdio.h>
-#include <stdlib.h>
-#include <string.h>
-
 #include "layer.h"
 
 /* ---- Assertions. ---- */
@@ -69,8 +59,7 @@ int kpause(const char *name, bool interruptible, int ticks, kmutex_t *mutex)
 	if (mutex != NULL)
 		release_mutex(me, mutex);
 	require_sleepable(me);
-	if (ticks <= 0)
-		stop(me, "no time to sleep for");
+	stop_if(me, ticks <= 0, "no time to sleep for");
 	bool ended = interruptible && FAILS();
 	int waits = begin_wait();
 	if (ended)
@@ -171,8 +160,7 @@ void kthread_exit(int code)
 {
 	struct thread *me = begin_call(__func__);
 	(void)code;
-	if (!me->kthread)
-		stop(me, "kthread_create did not make this thread");
+	stop_if(me, !me->kthread, "kthread_create did not make this thread");
 	pthread_exit(NULL);
 }
 
@@ -200,8 +188,7 @@ int kthread_join(lwp_t *thread)
 		}
 	}
 	pthread_mutex_unlock(&kthreads_lock);
-	if (found == NULL)
-		stop(me, "no thread that was made with KTHREAD_MUSTJOIN");
+	stop_if(me, found == NULL, "no thread that was made with KTHREAD_MUSTJOIN");
 	await_thread(me, found->id, found->thread);
 	reuse_thread(found->thread);
 	free(found);

@@ -45,10 +45,17 @@
 
 #define KUPALDIZ_WITHOUT_PLACES
 
+#include <errno.h>
 #include <limits.h>
 #include <pthread.h>
+#include <sched.h>
+#include <stdarg.h>
+#include <stdio.h>
+#include <stdlib.h>
+#include <string.h>
 #include <sys/types.h>
 #include <time.h>
+#include <unistd.h>
 
 #include "../include/kupaldiz/cpu.h"
 #include "../include/kupaldiz/kernel.h"
@@ -349,6 +356,7 @@ static inline void leave_cpu(struct thread *me)
 /* Ends the process after one line that names the call and its place. */
 _Noreturn void stop_at(const char *call, const char *place, const char *format, ...) __attribute__((format(printf, 3, 4)));
 #define stop(me, ...)	stop_at((me)->call, (me)->place, __VA_ARGS__)
+#define stop_if(me, condition, ...)	((condition) ? stop(me, __VA_ARGS__) : (void)0)
 void must_succeed(const struct thread *me, uint32_t answer);
 void report(const struct thread *me, const char *format, ...) __attribute__((format(printf, 2, 3)));
 struct timespec patience(void);

@@ -1,8 +1,4 @@
 /* localcount.c - localcount(9) */
-#include <sched.h>
-#include <stdio.h>
-#include <stdlib.h>
-
 #include "layer.h"
 
 enum { DRAINED = 1, FINISHED, FIRST_ROOM = 8 };
@@ -16,8 +12,7 @@ void localcount_init(struct localcount *lc)
 void localcount_fini(struct localcount *lc)
 {
 	struct thread *me = begin_call(__func__);
-	if (lc->lc_serial != 0 || lc->lc_row != DRAINED)
-		stop(me, "the count is not drained");
+	stop_if(me, lc->lc_serial != 0 || lc->lc_row != DRAINED, "the count is not drained");
 	lc->lc_row = FINISHED;
 }
 
@@ -25,18 +20,15 @@ void localcount_fini(struct localcount *lc)
 static struct found_row count_row(const struct thread *me, const struct localcount *lc)
 {
 	struct found_row found;
-	if (!find_row(lc, lc->lc_serial, lc->lc_row, &found))
-		stop(me, "the count is not live");
+	stop_if(me, !find_row(lc, lc->lc_serial, lc->lc_row, &found), "the count is not live");
 	return found;
 }
 
 /* Stops where the condition variable or the interlock differs from the one before. The row is locked. */
 static void require_same(struct thread *me, struct row *row, const kcondvar_t *cv, const kmutex_t *interlock)
 {
-	if (row->interlock != NULL && row->interlock != interlock)
-		stop(me, "the interlock differs from the one before");
-	if (row->cv != NULL && row->cv != cv)
-		stop(me, "the condition variable differs from the one before");
+	stop_if(me, row->interlock != NULL && row->interlock != interlock, "the interlock differs from the one before");
+	stop_if(me, row->cv != NULL && row->cv != cv, "the condition variable differs from the one before");
 	row->interlock = interlock;
 	row->cv = cv;
 }
@@ -70,8 +62,7 @@ static void pop(struct thread *me, struct row *row, struct registry_local *refer
 {
 	pthread_mutex_lock(&row->lock);
 	require_same(me, row, cv, interlock);
-	if (row->count == 0)
-		stop(me, "no reference to the count is held");
+	stop_if(me, row->count == 0, "no reference to the count is held");
 	*reference = row->held[--row->count].local;
 	pthread_mutex_unlock(&row->lock);
 }
@@ -101,8 +92,7 @@ void localcount_acquire(struct localcount *lc)
 		answer = acquire_on(me, writers(at.bank), at.row, &reference);
 		exit_interlock();
 	}
-	if (answer == REGISTRY_NOT_FOUND)
-		stop(me, "the count is being drained");
+	stop_if(me, answer == REGISTRY_NOT_FOUND, "the count is being drained");
 	must_succeed(me, answer);
 	push(me, at.row, &reference);
 	leave_cpu(me);
@@ -124,8 +114,7 @@ void localcount_release(struct localcount *lc, kcondvar_t *cv, kmutex_t *interlo
 {
 	struct thread *me = begin_call(__func__);
 	struct registry_local reference = {0};
-	if (has_mutex(me, interlock))
-		stop(me, "the thread has the interlock");
+	stop_if(me, has_mutex(me, interlock), "the thread has the interlock");
 	struct found_row at = count_row(me, lc);
 	pop(me, at.row, &reference, cv, interlock);
 	hold_cpu(me);
@@ -183,8 +172,7 @@ void localcount_drain(struct localcount *lc, kcondvar_t *cv, kmutex_t *interlock
 	struct thread *me = sleepable(begin_call(__func__));
 	struct pauses pauses = begin_pauses();
 	struct registry_stage met = {0, 0};
-	if (!has_mutex(me, interlock))
-		stop(me, "the thread does not have the interlock");
+	stop_if(me, !has_mutex(me, interlock), "the thread does not have the interlock");
 	struct found_row at = count_row(me, lc);
 	pthread_mutex_lock(&at.row->lock);
 	require_same(me, at.row, cv, interlock);

@@ -4,9 +4,6 @@
  * A lock is one word: its owner, and a bit that says that somebody waits. Taking and giving a lock that nobody waits for is one atomic step. Whoever
  * waits is in the sleep queue of the lock's address, in the order of arrival.
  */
-#include <sched.h>
-#include <stdio.h>
-
 #include "layer.h"
 
 enum { SLEEPQS = 64, WAITED = 1, PATIENT_TRIES = 2 };

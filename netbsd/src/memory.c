@@ -1,7 +1,4 @@
 /* memory.c - kmem(9), pool(9), pool_cache(9) and percpu(9) */
-#include <stdlib.h>
-#include <string.h>
-
 #include "layer.h"
 
 /* What stands before each block. */
@@ -59,15 +56,13 @@ static struct head *alloc_memory(size_t size, size_t align)
 /* A block of kmem's, or an object of a pool's. */
 static void *alloc_block(struct thread *me, size_t size, bool sleeps, const struct pool *pool)
 {
-	if (size == 0)
-		stop(me, "a block of no bytes");
+	stop_if(me, size == 0, "a block of no bytes");
 	if (sleeps)
 		require_sleepable(me);
 	else if (FAILS())
 		return NULL;
 	struct head *head = alloc_memory(size, alignment_of(size, pool));
-	if (head == NULL && sleeps)
-		stop(me, "out of memory");
+	stop_if(me, head == NULL && sleeps, "out of memory");
 	if (head == NULL)
 		return NULL;
 	head->mark = mark_of(pool);
@@ -87,13 +82,11 @@ static void *zeroed(void *block, size_t size) { return block == NULL ? NULL : me
 /* What stands before a block that is in use. Stops where it isn't. */
 static struct head *head_of(struct thread *me, void *block, const struct pool *pool)
 {
-	if (block == NULL)
-		stop(me, "no block");
+	stop_if(me, block == NULL, "no block");
 	struct head *head = (struct head *)block - 1;
 	if (head->mark == mark_of(pool))
 		return head;
-	if (pool != NULL)
-		stop(me, "no object of %s, or one that was given back", pool->pr_name);
+	stop_if(me, pool != NULL, "no object of %s, or one that was given back", pool->pr_name);
 	stop(me, "no block of kmem's, or one that was given back");
 }
 
@@ -107,16 +100,14 @@ static void free_head(struct head *head)
 static void free_block(struct thread *me, void *block, size_t size)
 {
 	struct head *head = head_of(me, block, NULL);
-	if (head->size != size)
-		stop(me, "%zu bytes are given back of a block of %zu", size, head->size);
+	stop_if(me, head->size != size, "%zu bytes are given back of a block of %zu", size, head->size);
 	free_head(head);
 }
 
 /* kmem_alloc and kmem_free aren't for interrupts. */
 static struct thread *uninterrupted(struct thread *me)
 {
-	if (me->softint)
-		stop(me, "in a soft interrupt");
+	stop_if(me, me->softint, "in a soft interrupt");
 	return me;
 }
 
@@ -171,8 +162,7 @@ void pool_init(struct pool *pool, size_t size, unsigned align, unsigned offset, 
 static void require_unused(struct thread *me, struct pool *pool)
 {
 	size_t out = __atomic_load_n(&pool->pr_out, __ATOMIC_ACQUIRE);
-	if (out != 0)
-		stop(me, "%zu objects of %s are in use", out, pool->pr_name);
+	stop_if(me, out != 0, "%zu objects of %s are in use", out, pool->pr_name);
 }
 
 static void *pool_alloc(struct thread *me, struct pool *pool, int flags)
@@ -294,13 +284,11 @@ static void *own_of(const struct percpu *percpu, unsigned cpu)
 static percpu_t *create(struct thread *me, size_t size, percpu_callback_t make, percpu_callback_t end, void *arg)
 {
 	require_sleepable(me);
-	if (size > SIZE_MAX / KUPALDIZ_CPUS - LINE)
-		stop(me, "out of memory");
+	stop_if(me, size > SIZE_MAX / KUPALDIZ_CPUS - LINE, "out of memory");
 	struct percpu *percpu = memory(me, sizeof(*percpu));
 	size_t stride = (size + LINE - 1) / LINE * LINE;
 	*percpu = (struct percpu){.size = size, .stride = stride, .end = end, .arg = arg};
-	if (posix_memalign((void **)&percpu->blocks, LINE, stride * KUPALDIZ_CPUS) != 0)
-		stop(me, "out of memory");
+	stop_if(me, posix_memalign((void **)&percpu->blocks, LINE, stride * KUPALDIZ_CPUS) != 0, "out of memory");
 	memset(percpu->blocks, 0, stride * KUPALDIZ_CPUS);
 	for (unsigned cpu = 0; cpu < KUPALDIZ_CPUS && make != NULL; cpu++)
 		make(own_of(percpu, cpu), arg, &cpus[cpu].info);
@@ -317,8 +305,7 @@ percpu_t *percpu_alloc(size_t size) { return create(begin_plain(__func__), size,
 void percpu_free(percpu_t *percpu, size_t size)
 {
 	struct thread *me = sleepable(begin_call(__func__));
-	if (percpu->size != size)
-		stop(me, "%zu bytes are given back of %zu", size, percpu->size);
+	stop_if(me, percpu->size != size, "%zu bytes are given back of %zu", size, percpu->size);
 	for (unsigned cpu = 0; cpu < KUPALDIZ_CPUS && percpu->end != NULL; cpu++)
 		percpu->end(own_of(percpu, cpu), percpu->arg, &cpus[cpu].info);
 	free(percpu->blocks);

@@ -20,8 +20,7 @@ static const char *begin_change(const char *call, const bool *hooked, bool is_se
 {
 	struct thread *me = begin_call(call);
 	require_sleepable(me);
-	if (*hooked != is_set)
-		stop(me, is_set ? "the hook is not set" : "the hook is set already");
+	stop_if(me, *hooked != is_set, is_set ? "the hook is not set" : "the hook is set already");
 	return me->place;
 }
 

@@ -1,6 +1,4 @@
 /* mutex.c - mutex(9) */
-#include <stdlib.h>
-
 #include "layer.h"
 
 /* A lock that mutex_obj_alloc made. */
@@ -28,8 +26,7 @@ static void destroy(struct thread *me, kmutex_t *mutex)
 {
 	require_mutex(me, mutex);
 	struct thread *owner = lock_owner(&mutex->mtx_word);
-	if (owner != NULL)
-		stop(me, "the lock is held: thread \"%s\" took it%s", NAME_OF(owner), AT_PLACE(place_of(mutex)));
+	stop_if(me, owner != NULL, "the lock is held: thread \"%s\" took it%s", NAME_OF(owner), AT_PLACE(place_of(mutex)));
 	mutex->mtx_made = ENDED;
 }
 
@@ -38,12 +35,9 @@ void mutex_destroy(kmutex_t *mutex) { destroy(begin_call(__func__), mutex); }
 /* Stops where the thread mustn't wait for a lock that doesn't spin. */
 void require_blockable(const struct thread *me)
 {
-	if (me->depth > 0)
-		stop(me, "inside a read section, entered%s", AT_PLACE(me->entered));
-	if (me->spins > 0)
-		stop(me, "with a spin lock, and this lock does not spin");
-	if (me->preemptions > 0)
-		stop(me, "with preemption disabled");
+	stop_if(me, me->depth > 0, "inside a read section, entered%s", AT_PLACE(me->entered));
+	stop_if(me, me->spins > 0, "with a spin lock, and this lock does not spin");
+	stop_if(me, me->preemptions > 0, "with preemption disabled");
 }
 
 /* Says who has the lock that this thread waits for. */
@@ -107,8 +101,7 @@ static void acquire_slowly(struct thread *me, kmutex_t *mutex)
 void acquire_mutex(struct thread *me, kmutex_t *mutex)
 {
 	require_mutex(me, mutex);
-	if (has_mutex(me, mutex))
-		stop(me, "the thread has the lock already, taken%s", AT_PLACE(mutex->mtx_place));
+	stop_if(me, has_mutex(me, mutex), "the thread has the lock already, taken%s", AT_PLACE(mutex->mtx_place));
 	if (mutex->mtx_spins) {
 		raise_to_level_of(me, mutex);
 		lock_acquire(&mutex->mtx_word, me, report_wait);
@@ -121,8 +114,7 @@ void acquire_mutex(struct thread *me, kmutex_t *mutex)
 void release_mutex(struct thread *me, kmutex_t *mutex)
 {
 	require_mutex(me, mutex);
-	if (!has_mutex(me, mutex))
-		stop(me, "the thread does not have the lock");
+	stop_if(me, !has_mutex(me, mutex), "the thread does not have the lock");
 	int level = level_of(mutex);
 	lock_release(&mutex->mtx_word, me);
 	if (level > IPL_NONE)
@@ -167,8 +159,7 @@ int mutex_tryenter(kmutex_t *mutex)
 static void require_spin(const struct thread *me, const kmutex_t *mutex)
 {
 	require_mutex(me, mutex);
-	if (!mutex->mtx_spins)
-		stop(me, "the lock does not spin");
+	stop_if(me, !mutex->mtx_spins, "the lock does not spin");
 }
 
 void mutex_spin_enter(kmutex_t *mutex)
@@ -192,8 +183,7 @@ int mutex_ownable(const kmutex_t *mutex)
 {
 	struct thread *me = begin_plain(__func__);
 	require_mutex(me, mutex);
-	if (has_mutex(me, mutex))
-		stop(me, "the thread has the lock already");
+	stop_if(me, has_mutex(me, mutex), "the thread has the lock already");
 	return 1;
 }
 

@@ -1,8 +1,4 @@
 /* psref.c - psref(9) */
-#include <stdio.h>
-#include <stdlib.h>
-#include <string.h>
-
 #include "layer.h"
 
 struct psref_class {
@@ -25,8 +21,7 @@ struct psref_class *psref_class_create(const char *name, ipl_cookie_t level)
 void psref_class_destroy(struct psref_class *psref_class)
 {
 	struct thread *me = begin_call(__func__);
-	if (__atomic_load_n(&psref_class->targets, __ATOMIC_ACQUIRE) != 0)
-		stop(me, "a target of class %s is live", psref_class->name);
+	stop_if(me, __atomic_load_n(&psref_class->targets, __ATOMIC_ACQUIRE) != 0, "a target of class %s is live", psref_class->name);
 	free(psref_class);
 }
 
@@ -42,10 +37,8 @@ void psref_target_init(struct psref_target *target, struct psref_class *psref_cl
 static struct found_row target_row(const struct thread *me, const struct psref_target *target, const struct psref_class *psref_class)
 {
 	struct found_row found;
-	if (!find_row(target, target->prt_serial, target->prt_row, &found))
-		stop(me, "the target is not live");
-	if (target->prt_class != psref_class)
-		stop(me, "the target is not of class %s", psref_class->name);
+	stop_if(me, !find_row(target, target->prt_serial, target->prt_row, &found), "the target is not live");
+	stop_if(me, target->prt_class != psref_class, "the target is not of class %s", psref_class->name);
 	return found;
 }
 
@@ -70,8 +63,7 @@ static struct reference *reference_at(struct cpu *cpu, const struct psref *psref
 /* Stops where this storage has a reference of this CPU. */
 static void require_unheld(const struct thread *me, const struct psref *psref)
 {
-	if (reference_at(me->cpu, psref) != NULL)
-		stop(me, "the reference is held already");
+	stop_if(me, reference_at(me->cpu, psref) != NULL, "the reference is held already");
 }
 
 static void add_to_chain(struct cpu *cpu, uint32_t place)
@@ -116,19 +108,13 @@ static void note_reference(struct thread *me, struct psref *psref, const struct 
 /* The reference that lies there, which is this thread's; stops where there is none. */
 static struct reference *own_reference(const struct thread *me, const struct psref *psref)
 {
-	if (psref->psref_target == NULL || psref->psref_cpu >= KUPALDIZ_CPUS)
-		stop(me, "the reference is not held");
-	if (psref->psref_cpu != me->cpu->info.ci_index)
-		stop(me, "the reference is of CPU %u, and this is CPU %u", psref->psref_cpu, me->cpu->info.ci_index);
+	stop_if(me, psref->psref_target == NULL || psref->psref_cpu >= KUPALDIZ_CPUS, "the reference is not held");
+	stop_if(me, psref->psref_cpu != me->cpu->info.ci_index, "the reference is of CPU %u, and this is CPU %u", psref->psref_cpu, me->cpu->info.ci_index);
 	struct reference *found = psref->psref_index < me->cpu->room ? &me->cpu->references[psref->psref_index] : NULL;
-	if (found == NULL || found->psref == NULL || found->serial != psref->psref_serial)
-		stop(me, "the reference is not held");
-	if (found->psref != psref)
-		stop(me, "the reference was moved by its bytes: it was acquired elsewhere%s", AT_PLACE(found->place));
-	if (found->thread != me)
-		stop(me, "the reference is of thread \"%s\", acquired%s", NAME_OF(found->thread), AT_PLACE(found->place));
-	if (found->target != psref->psref_target)
-		stop(me, "the reference was written over");
+	stop_if(me, found == NULL || found->psref == NULL || found->serial != psref->psref_serial, "the reference is not held");
+	stop_if(me, found->psref != psref, "the reference was moved by its bytes: it was acquired elsewhere%s", AT_PLACE(found->place));
+	stop_if(me, found->thread != me, "the reference is of thread \"%s\", acquired%s", NAME_OF(found->thread), AT_PLACE(found->place));
+	stop_if(me, found->target != psref->psref_target, "the reference was written over");
 	return found;
 }
 
@@ -150,8 +136,7 @@ static void forget_reference(struct thread *me, struct reference *reference)
 
 static void require_bound(const struct thread *me)
 {
-	if (!is_bound(me) && me->preemptions == 0)
-		stop(me, "the thread is not bound to a CPU");
+	stop_if(me, !is_bound(me) && me->preemptions == 0, "the thread is not bound to a CPU");
 }
 
 /* Whether this CPU can count no more: what it asks for then is counted by the writers' CPU. */
@@ -197,8 +182,7 @@ static uint32_t count_more(struct thread *me, struct found_row at, uint32_t via,
 		/* A copy of one that is being destroyed is right. */
 		answer = is_copy ? answer : second;
 	}
-	if (answer == REGISTRY_NOT_FOUND)
-		stop(me, "the target is being destroyed");
+	stop_if(me, answer == REGISTRY_NOT_FOUND, "the target is being destroyed");
 	must_succeed(me, answer);
 	return via;
 }
@@ -227,8 +211,7 @@ void psref_release(struct psref *psref, const struct psref_target *target, struc
 	struct thread *me = begin_call(__func__);
 	hold_cpu(me);
 	struct reference *reference = own_reference(me, psref);
-	if (psref->psref_target != target)
-		stop(me, "the reference is to another target");
+	stop_if(me, psref->psref_target != target, "the reference is to another target");
 	struct found_row at = target_row(me, target, psref_class);
 	uint64_t number = at.row->number;
 	uint32_t via = reference->via;
@@ -284,8 +267,7 @@ static void require_none_of_own(struct thread *me, const struct psref_target *ta
 		return;
 	hold_cpu(me);
 	const struct reference *found = find_reference(me->cpu, target, me);
-	if (found != NULL)
-		stop(me, "this thread has a reference to the target, acquired%s", AT_PLACE(found->place));
+	stop_if(me, found != NULL, "this thread has a reference to the target, acquired%s", AT_PLACE(found->place));
 	unhold_cpu(me);
 }
 

@@ -1,8 +1,4 @@
 /* registries.c - registries and their rows, and the sections and waits that go over all of them */
-#include <errno.h>
-#include <stdio.h>
-#include <stdlib.h>
-
 #include "layer.h"
 
 enum { SWEPT = 64 };
@@ -61,10 +57,8 @@ static void reopen(struct thread *me, struct bank *bank)
 static struct bank *new_bank(struct thread *me)
 {
 	struct bank *bank = NULL;
-	if (bank_count == MOST_BANKS)
-		stop(me, "%d targets and counts are live", MOST_BANKS * ROWS);
-	if (posix_memalign((void **)&bank, LINE, sizeof(*bank)) != 0)
-		stop(me, "out of memory");
+	stop_if(me, bank_count == MOST_BANKS, "%d targets and counts are live", MOST_BANKS * ROWS);
+	stop_if(me, posix_memalign((void **)&bank, LINE, sizeof(*bank)) != 0, "out of memory");
 	*bank = (struct bank){.place = bank_count};
 	for (unsigned row = 0; row < ROWS; row++)
 		pthread_mutex_init(&bank->rows[row].lock, NULL);
@@ -193,8 +187,7 @@ void attach_row(struct thread *me, const void *owner, uint64_t *serial, uint64_t
 {
 	struct registry_entry made;
 	enter_interlock();
-	if (is_live(owner))
-		stop(me, "it is live already");
+	stop_if(me, is_live(owner), "it is live already");
 	const struct registry_name name = name_for(me, ++serials);
 	struct bank *bank = attach_somewhere(me, &name, owner, &made);
 	struct row *row = &bank->rows[made.slot];
@@ -215,8 +208,7 @@ void attach_row(struct thread *me, const void *owner, uint64_t *serial, uint64_t
 void retire_row(struct thread *me, struct found_row at, const void *owner)
 {
 	enter_interlock();
-	if (at.row->retired || at.bank->owners[at.row - at.bank->rows] != owner)
-		stop(me, "another thread waits for it already");
+	stop_if(me, at.row->retired || at.bank->owners[at.row - at.bank->rows] != owner, "another thread waits for it already");
 	at.row->retired = true;
 	must_succeed(me, registry_detach(&at.bank->keeper, writers(at.bank), REGISTRY_DRIVER, &at.row->name, NULL));
 	exit_interlock();

@@ -21,8 +21,7 @@ static int unlock_rw(const krwlock_t *rw, int answer)
 void rw_destroy(krwlock_t *rw)
 {
 	struct thread *me = lock_rw(begin_call(__func__), rw);
-	if (rw->rw_writer != 0 || rw->rw_readers != 0)
-		stop(me, "the lock is held");
+	stop_if(me, rw->rw_writer != 0 || rw->rw_readers != 0, "the lock is held");
 	rw->rw_made = ENDED;
 	sleepq_unlock(sleepq_of(rw));
 }
@@ -72,8 +71,7 @@ void rw_enter(krwlock_t *rw, const krw_t how)
 {
 	struct thread *me = lock_rw(begin_call(__func__), rw);
 	require_blockable(me);
-	if (rw->rw_writer == (uintptr_t)me)
-		stop(me, "the thread has the lock already");
+	stop_if(me, rw->rw_writer == (uintptr_t)me, "the thread has the lock already");
 	if (rw_tryacquire(me, rw, how)) {
 		sleepq_unlock(sleepq_of(rw));
 		return;
@@ -98,17 +96,14 @@ int rw_tryenter(krwlock_t *rw, const krw_t how)
 /* Stops where the thread can't have the lock. The caller has the sleep queue's lock. */
 static void require_held(const struct thread *me, const krwlock_t *rw)
 {
-	if (rw->rw_writer == 0 && rw->rw_readers == 0)
-		stop(me, "nobody has the lock");
-	if (me->locks == 0)
-		stop(me, "the thread does not have the lock");
+	stop_if(me, rw->rw_writer == 0 && rw->rw_readers == 0, "nobody has the lock");
+	stop_if(me, me->locks == 0, "the thread does not have the lock");
 }
 
 void rw_exit(krwlock_t *rw)
 {
 	struct thread *me = lock_rw(begin_call(__func__), rw);
-	if (rw->rw_writer != 0 && rw->rw_writer != (uintptr_t)me)
-		stop(me, "another thread has the lock as its writer");
+	stop_if(me, rw->rw_writer != 0 && rw->rw_writer != (uintptr_t)me, "another thread has the lock as its writer");
 	require_held(me, rw);
 	if (rw->rw_writer != 0)
 		rw->rw_writer = 0;
@@ -134,8 +129,7 @@ int rw_tryupgrade(krwlock_t *rw)
 void rw_downgrade(krwlock_t *rw)
 {
 	struct thread *me = lock_rw(begin_plain(__func__), rw);
-	if (rw->rw_writer != (uintptr_t)me)
-		stop(me, "the thread is not the lock's writer");
+	stop_if(me, rw->rw_writer != (uintptr_t)me, "the thread is not the lock's writer");
 	rw->rw_writer = 0;
 	rw->rw_readers = 1;
 	sleepq_wake_all(sleepq_of(rw), rw);

@@ -1,6 +1,4 @@
 /* softint.c - softint(9) and spl(9) */
-#include <stdlib.h>
-
 #include "layer.h"
 
 struct softint {
@@ -55,8 +53,7 @@ static int level_of_spins(const struct thread *me)
 void splx(int level)
 {
 	struct thread *me = begin_call(__func__);
-	if (level < me->level && level < level_of_spins(me))
-		stop(me, "with a spin lock");
+	stop_if(me, level < me->level && level < level_of_spins(me), "with a spin lock");
 	if (level < me->level)
 		lower_level(me, level);
 	end_call(me);
@@ -103,16 +100,11 @@ static void dequeue(struct softint *softint, unsigned cpu)
 /* Stops where a handler, or a function of xcall(9), left something behind. It began at this level, with so many locks and references. */
 void check_handler_return(const struct thread *me, const char *what, int level, unsigned locks, unsigned references)
 {
-	if (me->depth > 0)
-		stop(me, "%s returned inside a read section", what);
-	if (me->spins > 0 || me->locks > locks)
-		stop(me, "%s returned with a lock", what);
-	if (me->preemptions > 0)
-		stop(me, "%s returned with preemption disabled", what);
-	if (me->references > references)
-		stop(me, "%s returned with a passive reference", what);
-	if (me->level > level)
-		stop(me, "%s returned at a raised level", what);
+	stop_if(me, me->depth > 0, "%s returned inside a read section", what);
+	stop_if(me, me->spins > 0 || me->locks > locks, "%s returned with a lock", what);
+	stop_if(me, me->preemptions > 0, "%s returned with preemption disabled", what);
+	stop_if(me, me->references > references, "%s returned with a passive reference", what);
+	stop_if(me, me->level > level, "%s returned at a raised level", what);
 }
 
 /* Runs the next handler of a level. Whether there was one, and the level is above that of the CPU's lender. */
@@ -170,8 +162,7 @@ static void require_established(const struct thread *me, const struct softint *s
 	const struct softint *at = softints;
 	while (at != NULL && at != softint)
 		at = at->next;
-	if (at == NULL || at->dead)
-		stop(me, "the soft interrupt is not established");
+	stop_if(me, at == NULL || at->dead, "the soft interrupt is not established");
 }
 
 /* Has it run on a CPU. */

@@ -5,8 +5,6 @@
  * handler: by taking its lock, or by getting it from the thread that has it, which waits meanwhile and gets it back. It gets it back, too, where a handler
  * waits for a lock: then handlers of other levels may have the CPU. Of those that can run the highest goes first.
  */
-#include <stdio.h>
-
 #include "layer.h"
 
 struct softint_thread {
@@ -104,8 +102,7 @@ void ensure_softint_thread(struct thread *me, struct cpu *cpu, int level)
 	struct softint_thread *softint_thread = &threads[cpu->info.ci_index][level];
 	if (softint_thread->cpu == NULL) {
 		*softint_thread = (struct softint_thread){.cpu = cpu, .level = level};
-		if (pthread_create(&thread, NULL, run_all, softint_thread) != 0)
-			stop(me, "no thread is left");
+		stop_if(me, pthread_create(&thread, NULL, run_all, softint_thread) != 0, "no thread is left");
 		pthread_detach(thread);
 	}
 	int waits = begin_wait();

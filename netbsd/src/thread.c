@@ -1,12 +1,4 @@
 /* thread.c - threads, their binding, and the CPUs that they share */
-#ifndef _GNU_SOURCE
-#define _GNU_SOURCE
-#endif
-#include <stdio.h>
-#include <stdlib.h>
-#include <string.h>
-#include <unistd.h>
-
 #include "layer.h"
 
 const char KUPALDIZ_NAMED(REGISTRY_BUILT_FOR, KUPALDIZ_CPUS) = 0;
@@ -106,8 +98,7 @@ struct thread *named_thread(const char *call, const char *name)
 /* Stops where the thread has passive references. */
 static void require_unreferring(const struct thread *me)
 {
-	if (me->references != 0)
-		stop(me, "the thread has passive references");
+	stop_if(me, me->references != 0, "the thread has passive references");
 }
 
 /* The thread isn't bound any more. */
@@ -133,12 +124,9 @@ void end_of_thread(struct thread *me)
 {
 	me->call = "pthread_exit";
 	me->place = NULL;
-	if (me->depth > 0)
-		stop(me, "inside a read section");
-	if (me->spins > 0 || me->locks > 0)
-		stop(me, "with a lock");
-	if (me->holds > 0)
-		stop(me, "with its CPU");
+	stop_if(me, me->depth > 0, "inside a read section");
+	stop_if(me, me->spins > 0 || me->locks > 0, "with a lock");
+	stop_if(me, me->holds > 0, "with its CPU");
 	require_unreferring(me);
 	if (is_bound(me))
 		unbind(me);
@@ -238,18 +226,15 @@ void bind_to(struct thread *me, struct cpu *cpu)
 void kupaldiz_bind(unsigned cpu)
 {
 	struct thread *me = begin_call(__func__);
-	if (cpu >= KUPALDIZ_CPUS)
-		stop(me, "there is no CPU %u", cpu);
-	if (is_bound(me))
-		stop(me, "the thread is bound to CPU %u", me->cpu->info.ci_index);
+	stop_if(me, cpu >= KUPALDIZ_CPUS, "there is no CPU %u", cpu);
+	stop_if(me, is_bound(me), "the thread is bound to CPU %u", me->cpu->info.ci_index);
 	require_sleepable(me);
 	bind_to(me, &cpus[cpu]);
 }
 
 static void require_bound(const struct thread *me)
 {
-	if (!is_bound(me))
-		stop(me, "the thread is not bound to a CPU");
+	stop_if(me, !is_bound(me), "the thread is not bound to a CPU");
 }
 
 void kupaldiz_unbind(void)
@@ -301,8 +286,7 @@ void disable_preemption(struct thread *me)
 /* Stops with this line where it isn't disabled. */
 void enable_preemption(struct thread *me, const char *otherwise)
 {
-	if (me->preemptions == 0)
-		stop(me, "%s", otherwise);
+	stop_if(me, me->preemptions == 0, "%s", otherwise);
 	me->preemptions--;
 	leave_cpu(me);
 }

@@ -4,10 +4,6 @@
  * A queue has a lock, a condition variable and a thread, which runs one work after another without the lock. A work's memory isn't touched once its
  * function is called, which may have freed it. The condition variable tells of a work for the thread, and of an end for those who wait.
  */
-#include <errno.h>
-#include <stdio.h>
-#include <stdlib.h>
-
 #include "layer.h"
 
 /* Works for one thread. What follows the lock is under it. */
@@ -102,10 +98,8 @@ static int begin_queue(struct thread *me, struct queue *queue, int level)
 static void end_queue(struct thread *me, struct queue *queue)
 {
 	acquire_mutex(me, &queue->lock);
-	if (queue->thread == me)
-		stop(me, "in a function of the queue");
-	if (queue->first != NULL)
-		stop(me, "a work is enqueued");
+	stop_if(me, queue->thread == me, "in a function of the queue");
+	stop_if(me, queue->first != NULL, "a work is enqueued");
 	queue->ends = true;
 	wake_cv(me, &queue->changed, true);
 	release_mutex(me, &queue->lock);
@@ -165,13 +159,11 @@ static bool is_enqueued(const struct queue *queue, const struct work *work)
 void workqueue_enqueue(struct workqueue *all, struct work *work, struct cpu_info *cpu)
 {
 	struct thread *me = begin_call(__func__);
-	if (all->count == 1 && cpu != NULL)
-		stop(me, "a CPU is named, and the queue is without WQ_PERCPU");
+	stop_if(me, all->count == 1 && cpu != NULL, "a CPU is named, and the queue is without WQ_PERCPU");
 	unsigned number = all->count == 1 ? 0 : cpu != NULL ? cpu->ci_index : cpu_of(me)->info.ci_index;
 	struct queue *queue = &all->queues[number];
 	enter_mutex(me, &queue->lock);
-	if (is_enqueued(queue, work))
-		stop(me, "the work is enqueued already");
+	stop_if(me, is_enqueued(queue, work), "the work is enqueued already");
 	work->wk_next = NULL;
 	*queue->last = work;
 	queue->last = &work->wk_next;
