@@ -11,7 +11,6 @@ void at_call(const char *call)
 	point(call, NULL, NULL, NULL);
 }
 
-/* A point of a call with a thing that lies in memory. */
 void at_live(const char *call, const void *thing, size_t size)
 {
 	at_call(call);
@@ -33,7 +32,6 @@ void at_cpu(const char *call)
 
 /* ---- mutex(9). ---- */
 
-/* Whether the thread has its CPU, as a soft interrupt has, and gives it back where it waits for the mutex. */
 static bool steps_off(const struct routine *me, const kmutex_t *mutex)
 {
 	return me->self->holds > 0 && !mutex->mtx_spins;

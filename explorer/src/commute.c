@@ -19,7 +19,6 @@
  */
 #include "inside.h"
 
-/* Whether two accesses are of the same thing, and one of them writes it. */
 static bool clash(const struct access *one, const struct access *other)
 {
 	if (one->kind != other->kind || ((one->how | other->how) & WRITES) == 0)
@@ -92,7 +91,6 @@ static int step_before(unsigned at)
 
 /* ---- Races. ---- */
 
-/* Whether a step of those listed comes before this one. */
 static bool has_earlier(const unsigned *list, unsigned count, unsigned at)
 {
 	for (unsigned place = 0; place < count; place++)
@@ -180,16 +178,11 @@ static unsigned order_step(unsigned at, unsigned upto, unsigned *races)
 }
 
 /* Sets a step among the first `upto`, and adds the backtrack points that it asks for. */
-static void find_races(unsigned at, unsigned upto)
+void find_races(unsigned at, unsigned upto)
 {
 	unsigned *races = scratch->races, count = order_step(at, upto, races);
 	for (unsigned place = 0; place < count; place++)
 		add_backtrack_point(races[place], at);
-}
-
-void find_races_of_step(unsigned at)
-{
-	find_races(at, at);
 }
 
 /* The same of the step that a thread which is disabled after the first `upto` would have made, as far as its guard says: it has these accesses. */

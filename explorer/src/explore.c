@@ -27,13 +27,13 @@ void refuse(const char *format, ...)
 	_exit(2);
 }
 
-void fail(const char *format, ...)
+void end_run(enum end end, const char *format, ...)
 {
 	va_list words;
 	va_start(words, format);
 	vsnprintf(search->found.line, sizeof(search->found.line), format, words);
 	va_end(words);
-	leave_run(FAILED);
+	leave_run(end);
 }
 
 /* ---- One run. ---- */
@@ -72,10 +72,9 @@ static void run_setup(void *arg)
 static void keep_names(void)
 {
 	search->ended = 0;
-	for (unsigned number = 0; number < run.count; number++) {
-		const struct routine *at = &run.routines[number];
-		snprintf(search->names[number], sizeof(search->names[number]), "%s", name_of_routine(at));
-		search->ended |= (uint32_t)at->ended << number;
+	for (const struct routine *at = run.routines; at < &run.routines[run.count]; at++) {
+		snprintf(search->names[at->number], sizeof(search->names[0]), "%s", name_of_routine(at));
+		search->ended |= (uint32_t)at->ended << at->number;
 	}
 	snprintf(search->names[CLOCK], sizeof(search->names[0]), "clock");
 }
@@ -83,19 +82,16 @@ static void keep_names(void)
 static void keep_outcome(void)
 {
 	struct bench_found *found = &search->found;
-	for (unsigned at = 0; at < found->outcomes; at++) {
-		if (strcmp(found->outcome[at].text, run.outcome) == 0) {
-			found->outcome[at].count++;
-			return;
-		}
-	}
-	if (found->outcomes == BENCH_OUTCOMES) {
+	struct bench_outcome *at = found->outcome;
+	while (at < &found->outcome[found->outcomes] && strcmp(at->text, run.outcome) != 0)
+		at++;
+	if (at == &found->outcome[BENCH_OUTCOMES]) {
 		found->others++;
 		return;
 	}
-	struct bench_outcome *made = &found->outcome[found->outcomes++];
-	memcpy(made->text, run.outcome, sizeof(made->text));
-	made->count = 1;
+	found->outcomes += at == &found->outcome[found->outcomes];
+	memcpy(at->text, run.outcome, sizeof(at->text));
+	at->count++;
 }
 
 static void run_here(void)
@@ -154,7 +150,6 @@ static void run_once(void)
 		run_here();
 }
 
-/* Whether the last one was wrong. */
 static bool is_wrong(void)
 {
 	return search->end == FAILED || search->end == UNFIT;
@@ -190,7 +185,6 @@ static void begin_search(enum mode mode, uint64_t limit, unsigned bound)
 	search->prefix = search->fresh = 0;
 }
 
-/* Runs one schedule after another. Whether all were run and none was wrong. */
 static bool run_all(void)
 {
 	for (; search->limit > 0; search->limit--) {
@@ -295,7 +289,6 @@ static void search_in_child(void)
 	search->over = true;
 }
 
-/* Does something in a child. How its last run ended. */
 static enum end in_child(void (*body)(void), bool is_silent)
 {
 	search_body = body;

@@ -7,7 +7,6 @@
  */
 #include "inside.h"
 
-/* Begins the next plan. Whether there is one. */
 bool next_failure(void)
 {
 	if (search->plan + 1 == search->plan_count)
@@ -30,7 +29,6 @@ static bool is_planned(struct failpoint failpoint)
 	return bsearch(&failpoint, plan->of, plan->count, sizeof(failpoint), compare) != NULL;
 }
 
-/* Adds the plan that has this failpoint, too, unless it is there. */
 static void add_plan(struct failpoint failpoint)
 {
 	struct plan more = search->plans[search->plan];
@@ -56,7 +54,6 @@ static bool fails_here(void)
 	return false;
 }
 
-/* Tells of a failpoint that was taken, the call that the thread is in. */
 static void note_failure(const char *how)
 {
 	size_t length = strlen(search->failed);
@@ -121,7 +118,6 @@ static int read_failpoint(const char *text, struct failpoint *failpoint)
 	return length;
 }
 
-/* Plans what a text says. Whether it is well-formed. */
 bool read_failures(const char *text)
 {
 	struct plan *plan = &search->plans[search->plan = 0];

@@ -27,7 +27,6 @@ static const char *call_of(const struct thread *self)
 	return self == NULL || self->call == NULL ? "setup" : self->call;
 }
 
-/* Room in the part of the thread that runs. */
 static unsigned char *reserve_room(unsigned number, size_t size, size_t align)
 {
 	size_t begin = (used[number] + align - 1) / align * align;
@@ -123,7 +122,6 @@ static bool is_filled(const unsigned char *at, size_t size, unsigned char byte)
 	return true;
 }
 
-/* Stops where something was written behind a block, or into one that was given back. */
 static void check_block(const struct block *block)
 {
 	if (!is_filled(block->at + block->size, FENCE, BEHIND))
@@ -180,13 +178,11 @@ void *bench_realloc(void *address, size_t size)
 	return made;
 }
 
-/* Stops where more is left than may be, or something was written where nothing may. */
 void check_heap(void)
 {
 	unsigned left = 0;
-	const struct block *first = NULL, *rows = rows_of(BLOCKS);
-	for (size_t place = 0; place < run.rows[BLOCKS]; place++) {
-		const struct block *block = &rows[place];
+	const struct block *first = NULL, *block = rows_of(BLOCKS);
+	for (size_t count = run.rows[BLOCKS]; count > 0; count--, block++) {
 		check_block(block);
 		if (!block->live || !block->judged)
 			continue;

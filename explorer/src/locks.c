@@ -24,15 +24,12 @@ static int64_t time_of(const struct timespec *deadline)
 	return (int64_t)deadline->tv_sec * 1000000000 + deadline->tv_nsec;
 }
 
-/* When the next of those that wait for a time goes on; NEVER where none does. */
 int64_t next_time(void)
 {
 	int64_t next = NEVER;
-	for (unsigned number = 0; number < run.count; number++) {
-		const struct routine *at = &run.routines[number];
+	for (const struct routine *at = run.routines; at < &run.routines[run.count]; at++)
 		if (!at->ended && at->deadline < next && at->deadline > run.time)
 			next = at->deadline;
-	}
 	return next;
 }
 
@@ -92,7 +89,6 @@ void lock_release(uintptr_t *word, struct thread *me)
 
 /* ---- What threads wait in. ---- */
 
-/* There are no queues: each thread has what it waits for. */
 struct sleepq *sleepq_of(const void *address)
 {
 	(void)address;
@@ -109,7 +105,6 @@ void sleepq_unlock(struct sleepq *sleepq)
 	(void)sleepq;
 }
 
-/* Whether it was woken, or its time is over, and the lock is free that it takes then. */
 bool was_woken(const struct routine *me)
 {
 	if (!me->woken && !is_late(me) && me->may_end == IN_TIME)
@@ -135,7 +130,6 @@ static void leave_queue(struct routine *me, const void *of)
 		touch(ON_CV, of, 0, WRITES);
 }
 
-/* Waits to be woken for something, until a time at most. */
 static bool wait_for_wake(const void *of, int64_t deadline)
 {
 	struct routine *me = run.current;
@@ -160,15 +154,12 @@ bool sleepq_wait(struct sleepq *sleepq, const void *of, struct thread *me, const
 	return wait_for_wake(of, time_of(deadline));
 }
 
-/* The thread that waits the longest for something and wasn't woken; NULL where none does. */
 static struct routine *first_for(const void *of)
 {
 	struct routine *first = NULL;
-	for (unsigned number = 0; number < run.count; number++) {
-		struct routine *at = &run.routines[number];
+	for (struct routine *at = run.routines; at < &run.routines[run.count]; at++)
 		if (at->queue == of && !at->woken && (first == NULL || at->arrived < first->arrived))
 			first = at;
-	}
 	return first;
 }
 
@@ -217,8 +208,7 @@ bool has_ended_section(const struct routine *me)
 
 uint64_t *releases_of(const void *target)
 {
-	struct thing *row = row_for(THINGS, (uintptr_t)target);
-	return &row->releases;
+	return &((struct thing *)row_for(THINGS, (uintptr_t)target))->releases;
 }
 
 bool was_released(const struct routine *me)

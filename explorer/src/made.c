@@ -14,7 +14,6 @@ void track_ended(const void *lock)
 		row->made = NULL;
 }
 
-/* Stops where a lock lies in memory that is given back. */
 void check_none_made(const char *call, const void *from, size_t size)
 {
 	const struct thing *rows = rows_of(THINGS);
@@ -51,7 +50,6 @@ void track_wake(const char *call, const char *place, const void *cv, bool waited
 	row->missed_at = place;
 }
 
-/* The last wake-up, where nobody waited for it; else NULL. */
 const struct thing *lost_wakeup_at(const void *cv)
 {
 	const struct thing *row = row_with(THINGS, (uintptr_t)cv);

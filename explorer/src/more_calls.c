@@ -5,7 +5,6 @@
 
 LAYER(void, percpu_foreach, (percpu_t *percpu, percpu_callback_t look, void *arg));
 
-/* A call that gives memory back. */
 static void at_block(const char *call, const void *block, size_t size)
 {
 	at_call(call);
@@ -56,7 +55,6 @@ WRAPPED(void *, percpu_getref, (percpu_t *percpu), (percpu), at_cpu(__func__); c
 WRAPPED(void, percpu_putref, (percpu_t *percpu), (percpu), at_thing(__func__, ON_TARGET, percpu, 1, 0))
 WRAPPED(void, percpu_free, (percpu_t *percpu, size_t size), (percpu, size), at_thing(__func__, ON_TARGET, percpu, 1, WRITES))
 
-/* What percpu_foreach has each part looked at by. */
 struct look {
 	const percpu_t *percpu;
 	percpu_callback_t look;

@@ -58,7 +58,6 @@ __attribute__((format(printf, 5, 6))) static void text_at(FILE *to, double x, do
 	fputs("</text>", to);
 }
 
-/* The address of what a step touches of a kind. */
 static uintptr_t object_of(const struct step *step, unsigned kind)
 {
 	for (uint32_t at = 0; at < step->set.count; at++)
@@ -67,7 +66,6 @@ static uintptr_t object_of(const struct step *step, unsigned kind)
 	return 0;
 }
 
-/* The row of a thread among those that have a step. */
 static unsigned row_of(unsigned thread)
 {
 	uint32_t seen = 0;
@@ -76,7 +74,6 @@ static unsigned row_of(unsigned thread)
 	return (unsigned)__builtin_popcount(seen & ((UINT32_C(1) << thread) - 1));
 }
 
-/* The step that ends what this one begins; the end of the picture where none does. */
 static unsigned end_of(unsigned from, const struct pair *pair)
 {
 	const struct step *first = &search->steps[from];

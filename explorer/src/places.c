@@ -4,7 +4,6 @@
 
 #include "inside.h"
 
-/* The file that an instruction lies in. Where it lies in that. */
 static unsigned long find_origin(const void *pc, char *file, size_t room)
 {
 	Dl_info info;

@@ -46,7 +46,6 @@ static void record(const struct routine *me, struct plain now)
 	*row = now;
 }
 
-/* The bits of the bytes of a grain that lie between two addresses. */
 static uint8_t bytes_of(uintptr_t grain, uintptr_t from, uintptr_t to)
 {
 	unsigned first = from > grain ? (unsigned)(from - grain) : 0, after = to < grain + GRAIN ? (unsigned)(to - grain) : GRAIN;

@@ -106,7 +106,6 @@ static void come_to_stack(void *fake, const void **bottom, size_t *size)
 		__sanitizer_finish_switch_fiber(fake, bottom, size);
 }
 
-/* The thread's words of the layer are those of `to` from now on. */
 static void exchange(struct routine *from, struct routine *to)
 {
 	if (from != NULL) {
@@ -118,7 +117,6 @@ static void exchange(struct routine *from, struct routine *to)
 	kupaldiz_places = to == NULL ? (struct places){0} : to->places;
 }
 
-/* Goes on with another thread, and returns when this one is gone on with. */
 void switch_to(struct routine *to)
 {
 	struct routine *from = run.current;
@@ -179,11 +177,9 @@ struct routine *make_routine(const char *name, void (*body)(void *), void *arg, 
 	return made;
 }
 
-/* Each new thread runs up to its first point. */
 void start_routines(void)
 {
-	for (unsigned number = 0; number < run.count; number++) {
-		struct routine *at = &run.routines[number];
+	for (struct routine *at = run.routines; at < &run.routines[run.count]; at++) {
 		if (at->begun)
 			continue;
 		struct routine *before = starter;
@@ -214,7 +210,6 @@ void end_routine(void)
 	_exit(2);
 }
 
-/* Runs the first thread, with all that comes of it, until the run is left. */
 void run_main(void (*body)(void *))
 {
 	struct routine *first = make_routine("setup", body, NULL, false);

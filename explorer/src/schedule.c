@@ -78,20 +78,16 @@ bool is_enabled(const struct routine *routine)
 	return has_its_cpu(routine) && (routine->guard == NULL || routine->guard(routine));
 }
 
-/* Whether time may go on although a thread can. */
 static bool clock_may_jump(void)
 {
 	return run.ticks < options.ticks && next_time() != NEVER && run.phase == RUNNING;
 }
 
-/* Whether all threads have ended, and no soft interrupt waits. */
 bool all_have_ended(const struct routine *routine)
 {
-	for (unsigned number = 0; number < run.count; number++) {
-		const struct routine *other = &run.routines[number];
+	for (const struct routine *other = run.routines; other < &run.routines[run.count]; other++)
 		if (other != routine && (other->daemon ? is_enabled(other) : !other->ended))
 			return false;
-	}
 	return true;
 }
 
@@ -148,7 +144,6 @@ static unsigned highest_priority(uint32_t mask)
 	return best;
 }
 
-/* By random priorities, which fall at some points. */
 static unsigned choose_random(uint32_t enabled)
 {
 	unsigned best = highest_priority(enabled);
@@ -189,13 +184,12 @@ static void find_races_of_all_disabled(unsigned upto)
 {
 	if (!clock_may_jump() && run.ticks < options.ticks)
 		find_races_of_disabled(CLOCK, &ticking, upto);
-	for (unsigned number = 0; number < run.count; number++) {
-		const struct routine *routine = &run.routines[number];
+	for (const struct routine *routine = run.routines; routine < &run.routines[run.count]; routine++) {
 		if (routine->guard != can_begin || is_enabled(routine))
 			continue;
 		uint16_t cpu = (uint16_t)routine->self->cpu->info.ci_index;
 		const struct set queue = {.count = 1, .of = {{.size = 1, .kind = ON_PENDING, .cpu = cpu, .how = WRITES}}};
-		find_races_of_disabled(number, &queue, upto);
+		find_races_of_disabled(routine->number, &queue, upto);
 	}
 }
 
@@ -203,7 +197,7 @@ void find_races_at_end(void)
 {
 	if (search->mode != REDUCED)
 		return;
-	find_races_of_step(run.step - 1);
+	find_races(run.step - 1, run.step - 1);
 	find_races_of_all_disabled(run.finish + 1);
 }
 
@@ -239,16 +233,11 @@ static unsigned choose_new(struct step *step, const struct step *before)
 
 static void check_replayed(const struct step *step, uint32_t enabled)
 {
-	if ((enabled & bit(step->chosen)) == 0) {
-		snprintf(search->found.line, sizeof(search->found.line), "the schedule doesn't fit: at point %u thread \"%s\" can't go on", run.step,
-		    step->chosen < run.count && run.routines[step->chosen].name != NULL ? run.routines[step->chosen].name : "?");
-		leave_run(UNFIT);
-	}
-	if (search->mode != REPLAYED && enabled != step->enabled) {
-		snprintf(search->found.line, sizeof(search->found.line),
-		    "two runs by one schedule differ at point %u: the code depends on something outside of it", run.step);
-		leave_run(UNFIT);
-	}
+	const char *name = step->chosen < run.count ? run.routines[step->chosen].name : NULL;
+	if ((enabled & bit(step->chosen)) == 0)
+		end_run(UNFIT, "the schedule doesn't fit: at point %u thread \"%s\" can't go on", run.step, name == NULL ? "?" : name);
+	if (search->mode != REPLAYED && enabled != step->enabled)
+		end_run(UNFIT, "two runs by one schedule differ at point %u: the code depends on something outside of it", run.step);
 }
 
 static unsigned begin_step(uint32_t enabled)
@@ -291,7 +280,7 @@ static void name_step(struct step *step, const struct routine *routine)
 static void end_step(void)
 {
 	if (run.step > search->fresh && search->mode == REDUCED)
-		find_races_of_step(run.step - 1);
+		find_races(run.step - 1, run.step - 1);
 	fail_if(run.step == POINTS, "the run doesn't end: it has come to %d points", POINTS);
 }
 

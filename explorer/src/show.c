@@ -1,7 +1,6 @@
 /* show.c - what was found, as lines; a schedule as a short text */
 #include "inside.h"
 
-/* How many points a thread goes on from a step. */
 static unsigned turns_from(unsigned from)
 {
 	unsigned at = from;
@@ -23,7 +22,6 @@ void write_schedule(char *text, size_t room)
 	text[length] = '\0';
 }
 
-/* A file's name without its folders. */
 const char *short_place(const char *place)
 {
 	const char *slash = place == NULL ? NULL : strrchr(place, '/');
@@ -91,8 +89,7 @@ static void show_unseen(FILE *to)
 
 static void show_outcomes(FILE *to, const struct bench_found *found)
 {
-	for (unsigned at = 0; at < found->outcomes; at++) {
-		const struct bench_outcome *outcome = &found->outcome[at];
+	for (const struct bench_outcome *outcome = found->outcome; outcome < &found->outcome[found->outcomes]; outcome++) {
 		if (outcome->text[0] != '\0')
 			fprintf(to, "%s: outcome %s: %llu\n", options.name, outcome->text, (unsigned long long)outcome->count);
 		else if (found->outcomes > 1)

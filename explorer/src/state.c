@@ -44,7 +44,6 @@ static void add_part(uintptr_t from, uintptr_t to)
 	parts[count++] = (struct part){.at = (char *)from, .kept = map_pages(to - from, MAP_PRIVATE), .size = to - from};
 }
 
-/* Whether an address lies in one of an object's parts. */
 static bool has_address(const struct dl_phdr_info *object, uintptr_t address)
 {
 	for (unsigned at = 0; at < object->dlpi_phnum; at++) {
@@ -56,7 +55,6 @@ static bool has_address(const struct dl_phdr_info *object, uintptr_t address)
 	return false;
 }
 
-/* Adds the writable parts of an object. */
 static void add_object(const struct dl_phdr_info *object)
 {
 	for (unsigned at = 0; at < object->dlpi_phnum; at++) {

@@ -14,7 +14,6 @@ static const struct routine *routine_of(const struct thread *thread)
 	return NULL;
 }
 
-/* The thread that has a reference of a CPU's to a target. */
 static const struct routine *holder_on(unsigned cpu, const void *target)
 {
 	const struct cpu *at = &cpus[cpu];
@@ -24,7 +23,6 @@ static const struct routine *holder_on(unsigned cpu, const void *target)
 	return NULL;
 }
 
-/* The thread of soft interrupts that has begun a handler and waits. */
 static const struct routine *stuck_softint(void)
 {
 	for (unsigned number = 0; number < run.count; number++)
@@ -56,7 +54,7 @@ static const struct routine *append_cause(char *text, const struct routine *me)
 	}
 	if (me->guard == is_xcall_complete) {
 		append(text, "the call");
-		return xcaller();
+		return xcaller;
 	}
 	if (me->guard == has_ended) {
 		append(text, "its end");
@@ -78,7 +76,6 @@ static const struct routine *append_cause(char *text, const struct routine *me)
 	return word == NULL ? NULL : routine_of(lock_owner(word));
 }
 
-/* Where a thread waits, and who it waits for. */
 static const struct routine *report_wait(const struct routine *me, char *text)
 {
 	append(text, "thread \"%s\" waits in %s%s for ", name_of_routine(me), me->call, AT_PLACE(me->place));
@@ -88,7 +85,6 @@ static const struct routine *report_wait(const struct routine *me, char *text)
 	return on;
 }
 
-/* The first thread that isn't the layer's and hasn't ended. */
 static const struct routine *first_stuck(void)
 {
 	for (unsigned number = 1; number < run.count; number++)

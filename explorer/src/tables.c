@@ -38,7 +38,6 @@ static void extend(enum table table)
 	scratch->tables[table].room = room;
 }
 
-/* One row more, of zeros. */
 void *new_row(enum table table)
 {
 	if (run.rows[table] == scratch->tables[table].room)
@@ -49,7 +48,6 @@ void *new_row(enum table table)
 
 /* ---- Rows by a key: each begins with a struct keyed. ---- */
 
-/* The list of a key and of others: its first row. */
 static uint32_t *list_of(enum table table, uintptr_t key)
 {
 	if (run.rows[table] == 0)
@@ -57,7 +55,6 @@ static uint32_t *list_of(enum table table, uintptr_t key)
 	return &scratch->lists[table][(key * 0x9e3779b97f4a7c15u >> 32) % LISTS];
 }
 
-/* The first row with a key from one on, counted from 1; NULL where there is none. */
 static void *find_from(enum table table, uint32_t row, uintptr_t key)
 {
 	for (; row != 0;) {
@@ -89,7 +86,6 @@ void *add_row(enum table table, uintptr_t key)
 	return row;
 }
 
-/* The row with a key, which is made where there is none. */
 void *row_for(enum table table, uintptr_t key)
 {
 	void *row = row_with(table, key);

@@ -163,7 +163,6 @@ unsigned unseen_count;
 /* The sanitizer's own library has it, and this one hasn't. */
 void *__tsan_create_fiber(unsigned flags) __attribute__((weak));
 
-/* Stops where that library has the compiler's calls. */
 void check_own_calls(void)
 {
 	refuse_if(__tsan_create_fiber != NULL, "the program is linked with -fsanitize=thread: compile with it, and link without it");

@@ -6,7 +6,6 @@
  */
 #include "inside.h"
 
-/* What was left at a thing. */
 static uint32_t *clock_at(enum kind kind, const volatile void *address, unsigned cpu)
 {
 	uintptr_t of = ((uintptr_t)address * 31 + (uintptr_t)kind) * (UINT8_MAX + 1) + cpu % (UINT8_MAX + 1);

@@ -20,7 +20,7 @@ struct xcall {
 
 static struct xcall *first, **last = &first;
 static uint64_t asked, made;
-static struct routine *caller;
+struct routine *xcaller;	/* its thread */
 
 static bool has_xcall(const struct routine *me)
 {
@@ -31,11 +31,6 @@ static bool has_xcall(const struct routine *me)
 bool is_xcall_complete(const struct routine *me)
 {
 	return made >= me->noted;
-}
-
-const struct routine *xcaller(void)
-{
-	return caller;
 }
 
 static void make_call(const struct xcall *xcall)
@@ -68,12 +63,11 @@ static void make_calls(void *arg)
 	}
 }
 
-/* Asks for a call. What xc_wait takes. */
 static uint64_t enqueue_xcall(const struct xcall *asked_for)
 {
 	struct xcall *xcall = bench_allocate(sizeof(*xcall), 16, false);
-	if (caller == NULL)
-		caller = make_routine("xcall", make_calls, NULL, true);
+	if (xcaller == NULL)
+		xcaller = make_routine("xcall", make_calls, NULL, true);
 	start_routines();
 	*xcall = *asked_for;
 	*last = xcall;

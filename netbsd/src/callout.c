@@ -7,7 +7,7 @@
 
 enum { PENDING = 1, FIRED = 2, INVOKING = 4, TOLD = 8 };
 
-/* Of all that follows, and of the words of each callout. */
+/* Of all that follows, and of the words of each callout. Static functions that don't take it are called with it. */
 static pthread_mutex_t lock = PTHREAD_MUTEX_INITIALIZER;
 static pthread_cond_t changed;	/* by the clock that nobody sets */
 static callout_t *callouts;	/* that are pending */
@@ -17,7 +17,6 @@ static struct thread *runners[KUPALDIZ_CPUS];
 static void *softint;
 static pthread_once_t begun = PTHREAD_ONCE_INIT;
 
-/* Takes it out of the list. The caller has the lock. */
 static void unlink_callout(callout_t *callout)
 {
 	callout_t **at = &callouts;
@@ -29,7 +28,7 @@ static void unlink_callout(callout_t *callout)
 }
 
 /* The callout whose time came first, among those due on a CPU; of several the one that was set first, which is behind the others in the list. NULL where
- * none is due. The caller has the lock. */
+ * none is due. */
 static callout_t *due_on(unsigned cpu)
 {
 	int64_t time = now();
@@ -40,7 +39,7 @@ static callout_t *due_on(unsigned cpu)
 	return first;
 }
 
-/* It isn't pending any more. Whether it had expired. The caller has the lock. */
+/* It isn't pending any more. Whether it had expired. */
 static bool cancel(callout_t *callout)
 {
 	bool expired = (callout->c_state & FIRED) != 0;
@@ -80,7 +79,6 @@ static void run_due(void *arg)
 	pthread_mutex_unlock(&lock);
 }
 
-/* Tells the CPUs of those that are due, once each. When the next one is. The caller has the lock. */
 static int64_t raise_due_softints(struct thread *me)
 {
 	int64_t next = INT64_MAX, time = now();
@@ -112,7 +110,6 @@ static _Noreturn void *run_clock(void *arg)
 	}
 }
 
-/* The soft interrupt and the clock's thread, at the first callout. */
 static void start_clock(void)
 {
 	pthread_t thread;
@@ -123,7 +120,6 @@ static void start_clock(void)
 	pthread_detach(thread);
 }
 
-/* A call of a callout begins: it takes the lock. */
 static struct thread *lock_callout(struct thread *me, const callout_t *callout)
 {
 	require_made(me, callout->c_made, A_CALLOUT, "the callout");
@@ -131,7 +127,6 @@ static struct thread *lock_callout(struct thread *me, const callout_t *callout)
 	return me;
 }
 
-/* Gives the lock back where a call returns this. */
 static bool unlock_with(bool answer)
 {
 	pthread_mutex_unlock(&lock);
@@ -146,7 +141,7 @@ void callout_init(callout_t *callout, unsigned flags)
 	*callout = (callout_t){.c_made = A_CALLOUT};
 }
 
-/* The first CPU that runs it on another thread than this one; KUPALDIZ_CPUS where none does. The caller has the lock. */
+/* The first CPU that runs it on another thread than this one; KUPALDIZ_CPUS where none does. */
 static unsigned running_cpu(const struct thread *me, const callout_t *callout)
 {
 	unsigned cpu = 0;
@@ -172,7 +167,6 @@ void callout_setfunc(callout_t *callout, void (*body)(void *), void *arg)
 	pthread_mutex_unlock(&lock);
 }
 
-/* Lets it wait for its time. The caller has the lock. */
 static void make_pending(struct thread *me, callout_t *callout, int ticks)
 {
 	stop_if(me, callout->c_body == NULL, "the callout has no function");
@@ -207,7 +201,7 @@ bool callout_stop(callout_t *callout)
 	return unlock_with(cancel(callout));
 }
 
-/* What a callout sets ends with its body, wherever that runs now. The caller has the lock. */
+/* What a callout sets ends with its body, wherever that runs now. */
 static void note_halt(const callout_t *callout)
 {
 	for (unsigned cpu = 0; cpu < KUPALDIZ_CPUS; cpu++)
@@ -215,7 +209,7 @@ static void note_halt(const callout_t *callout)
 			halted[cpu] = true;
 }
 
-/* Waits until it doesn't run, and says after a while that it waits. The caller has the lock. */
+/* Waits until it doesn't run, and says after a while that it waits. */
 static void await_end(struct thread *me, const callout_t *callout)
 {
 	const struct timespec tells = patience();
@@ -251,7 +245,6 @@ bool callout_halt(callout_t *callout, void *interlock)
 	return expired;
 }
 
-/* Whether one of these holds of it. */
 static bool has_state(const char *call, callout_t *callout, uint32_t states)
 {
 	lock_callout(begin_plain(call), callout);

@@ -74,7 +74,6 @@ int kpause(const char *name, bool interruptible, int ticks, kmutex_t *mutex)
 
 /* ---- kthread(9) ---- */
 
-/* A thread that kthread_create has made. */
 struct kthread {
 	pthread_t id;
 	struct thread *thread;
@@ -91,7 +90,6 @@ static pthread_mutex_t kthreads_lock = PTHREAD_MUTEX_INITIALIZER;
 static pthread_cond_t kthread_begun = PTHREAD_COND_INITIALIZER;
 static struct kthread *kthreads;	/* those that are joined at their end */
 
-/* Runs what it was made for, which ends by kthread_exit. */
 static void *run_kthread(void *of)
 {
 	struct kthread *kthread = of;
@@ -164,7 +162,6 @@ void kthread_exit(int code)
 	pthread_exit(NULL);
 }
 
-/* Waits for the end of a thread of the layer's, and says after a while that it waits. */
 void await_thread(struct thread *me, pthread_t id, const struct thread *thread)
 {
 	struct pauses pauses = begin_pauses();
@@ -178,15 +175,13 @@ void await_thread(struct thread *me, pthread_t id, const struct thread *thread)
 int kthread_join(lwp_t *thread)
 {
 	struct thread *me = sleepable(begin_call(__func__));
-	struct kthread *found = NULL;
+	struct kthread **at = &kthreads;
 	pthread_mutex_lock(&kthreads_lock);
-	for (struct kthread **at = &kthreads; *at != NULL; at = &(*at)->next) {
-		if (&(*at)->thread->lwp == thread) {
-			found = *at;
-			*at = found->next;
-			break;
-		}
-	}
+	while (*at != NULL && &(*at)->thread->lwp != thread)
+		at = &(*at)->next;
+	struct kthread *found = *at;
+	if (found != NULL)
+		*at = found->next;
 	pthread_mutex_unlock(&kthreads_lock);
 	stop_if(me, found == NULL, "no thread that was made with KTHREAD_MUSTJOIN");
 	await_thread(me, found->id, found->thread);
@@ -197,7 +192,6 @@ int kthread_join(lwp_t *thread)
 
 /* ---- copy_user(9) ---- */
 
-/* Whether an address may be the user's. */
 static bool is_mapped(const void *user) { return (uintptr_t)user >= 4096; }
 
 static int copy_user(struct thread *me, const void *from, void *to, const void *user, size_t length)

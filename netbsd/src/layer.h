@@ -308,11 +308,6 @@ static inline int begin_wait(void)
 
 static inline void end_wait(int before) { pthread_setcancelstate(before, NULL); }
 
-/* ---- kernel.c, for other calls. ---- */
-
-void await_thread(struct thread *me, pthread_t id, const struct thread *thread);
-int64_t now(void);
-
 /* ---- softint.c, and the threads of soft interrupts in softint_thread.c ---- */
 
 extern pthread_mutex_t pending_list;
@@ -367,7 +362,6 @@ void require_sleepable(const struct thread *me);
 void *grow_row(const struct thread *me, void *row, size_t size);
 void *memory(const struct thread *me, size_t size);
 
-/* Where a call begins that may sleep. */
 static inline struct thread *sleepable(struct thread *me)
 {
 	require_sleepable(me);
@@ -437,13 +431,11 @@ void sweep_banks(struct thread *me);
 const void *live_owner(size_t *held);
 void close_banks(struct thread *me);
 
-/* ---- pserialize.c ---- */
+/* ---- Waits: lock.c, pserialize.c and psref.c. ---- */
 
 struct pserialize {
 	unsigned performing;	/* an atomic */
 };
-
-/* ---- lock.c: the pauses of waits. ---- */
 
 /* A wait's pauses: how long the next one is, and when it says what it waits for. */
 struct pauses {
@@ -454,11 +446,10 @@ struct pauses {
 struct pauses begin_pauses(void);
 bool pause_longer(struct pauses *pauses, const struct registry_stage *met);
 bool pauses_are_over(struct pauses *pauses);
-
 void report_section_wait(struct thread *me, uint64_t cpu);
 void report_reference_wait(struct thread *me, uint64_t cpu, const struct psref_target *target);
 
-/* ---- mutex.c and condvar.c, for other calls. ---- */
+/* ---- mutex.c, condvar.c and kernel.c, for other calls. ---- */
 
 void acquire_mutex(struct thread *me, kmutex_t *mutex);
 void enter_mutex(struct thread *me, kmutex_t *mutex);
@@ -468,6 +459,8 @@ void require_mutex(const struct thread *me, const kmutex_t *mutex);
 void require_blockable(const struct thread *me);
 bool wait_for(struct thread *me, kcondvar_t *cv, kmutex_t *mutex, int64_t nanoseconds);
 void wake_cv(struct thread *me, kcondvar_t *cv, bool all);
+void await_thread(struct thread *me, pthread_t id, const struct thread *thread);
+int64_t now(void);
 
 /* What each made thing has in its word, so that one that never was made, or has been ended, is told. */
 enum { A_MUTEX = 0x4d757478, A_CV = 0x436f6e64, A_RW = 0x52774c6b, A_CALLOUT = 0x43616c6c, ENDED = 0x456e6465 };

@@ -16,7 +16,6 @@ void localcount_fini(struct localcount *lc)
 	lc->lc_row = FINISHED;
 }
 
-/* The row of a live count. */
 static struct found_row count_row(const struct thread *me, const struct localcount *lc)
 {
 	struct found_row found;
@@ -35,7 +34,6 @@ static void require_same(struct thread *me, struct row *row, const kcondvar_t *c
 
 /* ---- The stack of references. ---- */
 
-/* How many references of a row's are held, and where the last one was acquired. */
 static size_t held_count(struct row *row, const char **place)
 {
 	pthread_mutex_lock(&row->lock);
@@ -45,7 +43,6 @@ static size_t held_count(struct row *row, const char **place)
 	return count;
 }
 
-/* Lays a reference on the row's stack. Its handle is moved there. */
 static void push(struct thread *me, struct row *row, const struct registry_local *reference)
 {
 	pthread_mutex_lock(&row->lock);
@@ -57,7 +54,6 @@ static void push(struct thread *me, struct row *row, const struct registry_local
 	pthread_mutex_unlock(&row->lock);
 }
 
-/* Takes a reference from the row's stack. */
 static void pop(struct thread *me, struct row *row, struct registry_local *reference, const kcondvar_t *cv, const kmutex_t *interlock)
 {
 	pthread_mutex_lock(&row->lock);
@@ -130,7 +126,6 @@ void localcount_release(struct localcount *lc, kcondvar_t *cv, kmutex_t *interlo
 
 /* ---- Draining. ---- */
 
-/* Says what a drain waits for. */
 static void report_wait(struct thread *me, struct row *row, const struct registry_stage *met)
 {
 	if (met->stage == REGISTRY_GRACE) {

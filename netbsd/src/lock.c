@@ -47,12 +47,20 @@ struct timespec time_after(int64_t nanoseconds)
 
 static void leave_queue(struct sleepq *sleepq, struct thread *me)
 {
-	for (struct thread **at = &sleepq->first; *at != NULL; at = &(*at)->next) {
-		if (*at == me) {
-			*at = me->next;
-			return;
-		}
-	}
+	struct thread **at = &sleepq->first;
+	while (*at != NULL && *at != me)
+		at = &(*at)->next;
+	if (*at != NULL)
+		*at = me->next;
+}
+
+/* The first that waits for something; NULL where nobody does. */
+static struct thread *first_for(struct sleepq *sleepq, const void *of)
+{
+	struct thread *at = sleepq->first;
+	while (at != NULL && at->waits_for != of)
+		at = at->next;
+	return at;
 }
 
 /* Waits, with the sleep queue's lock, until it is woken or the time is over: whether it was woken. The caller isn't cancelled meanwhile. */
@@ -78,34 +86,21 @@ bool sleepq_wait(struct sleepq *sleepq, const void *of, struct thread *me, const
 	return me->woken;
 }
 
-/* Wakes the first that waits for something. Whether there was one. */
 bool sleepq_wake(struct sleepq *sleepq, const void *of)
 {
-	for (struct thread **at = &sleepq->first; *at != NULL; at = &(*at)->next) {
-		struct thread *found = *at;
-		if (found->waits_for == of) {
-			*at = found->next;
-			found->woken = true;
-			pthread_cond_signal(&found->cond);
-			return true;
-		}
-	}
-	return false;
+	struct thread *found = first_for(sleepq, of);
+	if (found == NULL)
+		return false;
+	leave_queue(sleepq, found);
+	found->woken = true;
+	pthread_cond_signal(&found->cond);
+	return true;
 }
 
 void sleepq_wake_all(struct sleepq *sleepq, const void *of)
 {
 	while (sleepq_wake(sleepq, of))
 		;
-}
-
-/* The first that waits for something; NULL where nobody does. */
-static struct thread *first_for(struct sleepq *sleepq, const void *of)
-{
-	struct thread *at = sleepq->first;
-	while (at != NULL && at->waits_for != of)
-		at = at->next;
-	return at;
 }
 
 bool sleepq_has_waiter(struct sleepq *sleepq, const void *of) { return first_for(sleepq, of) != NULL; }
@@ -193,7 +188,6 @@ void lock_release(uintptr_t *word, struct thread *me)
 	sleepq_unlock(sleepq);
 }
 
-/* Makes another thread the owner. That one waits for it by lock_acquire, or will. */
 void lock_hand_over(uintptr_t *word, struct thread *to)
 {
 	struct sleepq *sleepq = &lock_sleepqs[place_of(word)];

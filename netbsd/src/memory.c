@@ -39,7 +39,6 @@ static size_t alignment_of(size_t size, const struct pool *pool)
 	return align == 0 && size % LINE == 0 ? LINE : align < _Alignof(max_align_t) ? _Alignof(max_align_t) : align;
 }
 
-/* Memory for a block behind its head; NULL where there is none. */
 static struct head *alloc_memory(size_t size, size_t align)
 {
 	size_t before = align > sizeof(struct head) ? align : sizeof(struct head);
@@ -53,7 +52,6 @@ static struct head *alloc_memory(size_t size, size_t align)
 	return head;
 }
 
-/* A block of kmem's, or an object of a pool's. */
 static void *alloc_block(struct thread *me, size_t size, bool sleeps, const struct pool *pool)
 {
 	stop_if(me, size == 0, "a block of no bytes");
@@ -69,7 +67,6 @@ static void *alloc_block(struct thread *me, size_t size, bool sleeps, const stru
 	return head + 1;
 }
 
-/* A block of kmem's own, for a call with these flags. */
 static void *kmem_block(struct thread *me, size_t size, km_flag_t flags)
 {
 	if ((flags & (KM_SLEEP | KM_NOSLEEP)) == 0 || (flags & (KM_SLEEP | KM_NOSLEEP)) == (KM_SLEEP | KM_NOSLEEP))
@@ -79,7 +76,6 @@ static void *kmem_block(struct thread *me, size_t size, km_flag_t flags)
 
 static void *zeroed(void *block, size_t size) { return block == NULL ? NULL : memset(block, 0, size); }
 
-/* What stands before a block that is in use. Stops where it isn't. */
 static struct head *head_of(struct thread *me, void *block, const struct pool *pool)
 {
 	stop_if(me, block == NULL, "no block");
@@ -205,7 +201,6 @@ static bool may_be_read(const struct pool_cache *cache)
 	return (cache->pool.pr_flags & PR_PSERIALIZE) != 0;
 }
 
-/* A constructed object that nobody uses; NULL where there is none. */
 static struct head *pop_constructed(pool_cache_t cache)
 {
 	pthread_mutex_lock(&cache->lock);
@@ -236,7 +231,6 @@ void pool_cache_destroy(pool_cache_t cache)
 	free(cache);
 }
 
-/* A new object, which is constructed. */
 static void *construct(struct thread *me, pool_cache_t cache, int flags)
 {
 	void *object = pool_alloc(me, &cache->pool, flags);
@@ -331,7 +325,6 @@ void percpu_foreach(percpu_t *percpu, percpu_callback_t look, void *arg)
 		look(own_of(percpu, cpu), arg, &cpus[cpu].info);
 }
 
-/* What percpu_foreach_xcall has each CPU do. */
 struct visit {
 	percpu_t *percpu;
 	percpu_callback_t look;

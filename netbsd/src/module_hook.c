@@ -7,7 +7,6 @@
 
 #include "../include/sys/atomic.h"
 
-/* The lock and the condition variable of all drains. */
 static kmutex_t lock = {.mtx_made = A_MUTEX, .mtx_level = IPL_NONE};
 static kcondvar_t drained = {.cv_name = "mod_hook", .cv_made = A_CV};
 static struct pserialize psz;

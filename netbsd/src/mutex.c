@@ -40,7 +40,6 @@ void require_blockable(const struct thread *me)
 	stop_if(me, me->preemptions > 0, "with preemption disabled");
 }
 
-/* Says who has the lock that this thread waits for. */
 static void report_wait(struct thread *me, const uintptr_t *word)
 {
 	struct thread *owner = lock_owner(word);
@@ -67,7 +66,6 @@ static int level_of(const kmutex_t *mutex)
 	return mutex->mtx_level < IPL_HIGH ? mutex->mtx_level : IPL_HIGH;
 }
 
-/* Raises the CPU's level to that of a spin lock, which this thread takes then. */
 static void raise_to_level_of(struct thread *me, const kmutex_t *mutex)
 {
 	int before = raise_level(me, level_of(mutex));
@@ -76,7 +74,6 @@ static void raise_to_level_of(struct thread *me, const kmutex_t *mutex)
 		me->level_before = before;
 }
 
-/* The level before, once the last spin lock is given back. */
 static void restore_level(struct thread *me, int level)
 {
 	me->spins_at[level]--;

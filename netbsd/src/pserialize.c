@@ -53,7 +53,6 @@ void pserialize_perform(pserialize_t psz)
 bool pserialize_in_read_section(void) { return begin_plain(__func__)->depth > 0; }
 bool pserialize_not_in_read_section(void) { return begin_plain(__func__)->depth == 0; }
 
-/* Says of a CPU whose section lasts which thread is inside, and since where. */
 void report_section_wait(struct thread *me, uint64_t cpu)
 {
 	struct thread *owner = cpu < KUPALDIZ_CPUS ? lock_owner(&cpus[cpu].hold) : NULL;

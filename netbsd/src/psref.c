@@ -33,7 +33,6 @@ void psref_target_init(struct psref_target *target, struct psref_class *psref_cl
 	__atomic_fetch_add(&psref_class->targets, 1, __ATOMIC_ACQ_REL);
 }
 
-/* The row of a live target of a class. */
 static struct found_row target_row(const struct thread *me, const struct psref_target *target, const struct psref_class *psref_class)
 {
 	struct found_row found;
@@ -60,7 +59,6 @@ static struct reference *reference_at(struct cpu *cpu, const struct psref *psref
 	return place == NOTHING ? NULL : &cpu->references[place];
 }
 
-/* Stops where this storage has a reference of this CPU. */
 static void require_unheld(const struct thread *me, const struct psref *psref)
 {
 	stop_if(me, reference_at(me->cpu, psref) != NULL, "the reference is held already");
@@ -73,7 +71,6 @@ static void add_to_chain(struct cpu *cpu, uint32_t place)
 	*chain = place;
 }
 
-/* Makes room for twice as many references, with as many chains. No place is free. */
 static void extend(struct thread *me)
 {
 	struct cpu *cpu = me->cpu;
@@ -105,7 +102,6 @@ static void note_reference(struct thread *me, struct psref *psref, const struct 
 	me->references++;
 }
 
-/* The reference that lies there, which is this thread's; stops where there is none. */
 static struct reference *own_reference(const struct thread *me, const struct psref *psref)
 {
 	stop_if(me, psref->psref_target == NULL || psref->psref_cpu >= KUPALDIZ_CPUS, "the reference is not held");
@@ -118,7 +114,6 @@ static struct reference *own_reference(const struct thread *me, const struct psr
 	return found;
 }
 
-/* The place of a reference is free again. */
 static void forget_reference(struct thread *me, struct reference *reference)
 {
 	struct cpu *cpu = me->cpu;
@@ -187,14 +182,6 @@ static uint32_t count_more(struct thread *me, struct found_row at, uint32_t via,
 	return via;
 }
 
-static void release(struct thread *me, struct found_row at, uint64_t number, uint32_t via)
-{
-	COMES_BEFORE(&at.row->gone);
-	uint32_t answer = registry_release(begin_count(me, at, via), number);
-	end_count(via);
-	must_succeed(me, answer);
-}
-
 void psref_acquire(struct psref *psref, const struct psref_target *target, struct psref_class *psref_class)
 {
 	struct thread *me = begin_call(__func__);
@@ -218,7 +205,10 @@ void psref_release(struct psref *psref, const struct psref_target *target, struc
 	/* Once it is released its target may be gone, and this row another's. */
 	psref->psref_target = NULL;
 	forget_reference(me, reference);
-	release(me, at, number, via);
+	COMES_BEFORE(&at.row->gone);
+	uint32_t answer = registry_release(begin_count(me, at, via), number);
+	end_count(via);
+	must_succeed(me, answer);
 	leave_cpu(me);
 }
 
@@ -271,7 +261,6 @@ static void require_none_of_own(struct thread *me, const struct psref_target *ta
 	unhold_cpu(me);
 }
 
-/* Says what the end of a target waits for. */
 static void report_stage(struct thread *me, const struct registry_stage *met, const struct psref_target *target)
 {
 	if (met->stage == REGISTRY_GRACE)
@@ -320,7 +309,6 @@ static bool describe(const struct cpu *cpu, const struct psref_target *target, c
 	return true;
 }
 
-/* Takes a CPU for a look at it, if it is free before long. */
 static bool try_hold_cpu(struct thread *me, struct cpu *cpu)
 {
 	const struct timespec moment = {0, 1000000};

@@ -1,8 +1,6 @@
 /* registries.c - registries and their rows, and the sections and waits that go over all of them */
 #include "layer.h"
 
-enum { SWEPT = 64 };
-
 static pthread_mutex_t interlock = PTHREAD_MUTEX_INITIALIZER;
 static struct bank *banks[MOST_BANKS];	/* atomics; each is stored once, under the interlock */
 static unsigned bank_count;		/* an atomic, stored under the interlock */
@@ -13,7 +11,6 @@ static uint64_t serials;
 void enter_interlock(void) { pthread_mutex_lock(&interlock); }
 void exit_interlock(void) { pthread_mutex_unlock(&interlock); }
 
-/* The handle of a CPU in a bank. The thread has that CPU. */
 static struct registry_cpu *handle(struct bank *bank, unsigned cpu)
 {
 	USED_BY_CALL(&bank->cpus[cpu].cpu);
@@ -25,7 +22,6 @@ struct registry_cpu *handle_of(struct thread *me, struct bank *bank) { return ha
 
 /* ---- Opening. ---- */
 
-/* Opens the registry of a bank. */
 static void open_registry(struct thread *me, struct bank *bank)
 {
 	const struct registry_settings settings = {
@@ -44,7 +40,6 @@ static void retire_bank(struct bank *bank)
 	bank->used_up = true;
 }
 
-/* Opens it anew: nothing of it is in use. */
 static void reopen(struct thread *me, struct bank *bank)
 {
 	for (unsigned cpu = 0; cpu < ALL_CPUS; cpu++)
@@ -100,37 +95,33 @@ void open_banks(struct thread *me)
 	exit_interlock();
 }
 
-/* Some banks that are in no use any more. No other sweep finds them. How many. */
-static unsigned find_spent(struct bank *found[SWEPT])
+/* A bank that is in no use any more; NULL where there is none. No other sweep finds it. */
+static struct bank *find_spent(void)
 {
-	unsigned count = 0;
+	struct bank *found = NULL;
 	enter_interlock();
-	for (unsigned place = 0; place < bank_count && used_up > 0 && count < SWEPT; place++) {
-		if (is_spent(banks[place])) {
-			banks[place]->swept = true;
-			found[count++] = banks[place];
-		}
-	}
+	for (unsigned place = 0; place < bank_count && used_up > 0 && found == NULL; place++)
+		if (is_spent(banks[place]))
+			found = banks[place];
+	if (found != NULL)
+		found->swept = true;
 	exit_interlock();
-	return count;
+	return found;
 }
 
 /*
- * Opens some of those anew. Nobody uses them until then, but a call on some CPU may still be about to return from one: each CPU is visited before. One sweep
+ * Opens those anew. Nobody uses them until then, but a call on some CPU may still be about to return from one: each CPU is visited before. One sweep
  * alone has a bank. If two had it, the first could open it, and others use it up again: the second would have visited the CPUs before those calls.
  * The thread may sleep.
  */
 void sweep_banks(struct thread *me)
 {
-	struct bank *found[SWEPT];
-	unsigned count = find_spent(found);
-	if (count == 0)
-		return;
-	visit_cpus(me);
-	enter_interlock();
-	for (unsigned place = 0; place < count; place++)
-		reopen(me, found[place]);
-	exit_interlock();
+	for (struct bank *found; (found = find_spent()) != NULL;) {
+		visit_cpus(me);
+		enter_interlock();
+		reopen(me, found);
+		exit_interlock();
+	}
 }
 
 /* ---- Rows. ---- */
@@ -182,7 +173,6 @@ static struct bank *attach_somewhere(struct thread *me, const struct registry_na
 	}
 }
 
-/* Attaches an entry for an owner, whose serial and place are written to it. */
 void attach_row(struct thread *me, const void *owner, uint64_t *serial, uint64_t *place)
 {
 	struct registry_entry made;
@@ -204,7 +194,6 @@ void attach_row(struct thread *me, const void *owner, uint64_t *serial, uint64_t
 	exit_interlock();
 }
 
-/* Detaches the entry of an owner's row, once. */
 void retire_row(struct thread *me, struct found_row at, const void *owner)
 {
 	enter_interlock();
@@ -245,7 +234,6 @@ static void move_sections(struct thread *me)
 	exit_interlock();
 }
 
-/* Enters a section of this thread's CPU. The thread has the CPU. */
 void enter_section(struct thread *me)
 {
 	uint32_t answer;
@@ -264,40 +252,17 @@ void exit_section(struct thread *me)
 
 /* ---- Waits. ---- */
 
-/* A wait for the sections of one bank. */
-struct bank_wait {
-	struct bank *bank;
-	struct registry_wait wait;
-};
-
-/* Begins a wait in a bank. The caller has the interlock. */
-static void begin_bank_wait(struct thread *me, struct bank *bank, struct bank_wait *wait)
-{
-	bank->waits++;
-	wait->bank = bank;
-	must_succeed(me, registry_perform_begin(&bank->keeper, writers(bank), &wait->wait));
-}
-
-/* One turn of a wait: whether all sections that were open as it began have ended. */
-static bool poll_bank_wait(struct thread *me, struct bank_wait *wait, uint64_t *waited)
+/* One turn of a wait in a bank: whether all sections that were open as it began have ended. */
+static bool poll_wait(struct thread *me, struct bank *bank, struct registry_wait *wait, uint64_t *waited)
 {
 	enter_interlock();
-	uint32_t answer = registry_perform_turn(&wait->bank->keeper, writers(wait->bank), &wait->wait, waited);
+	uint32_t answer = registry_perform_turn(&bank->keeper, writers(bank), wait, waited);
 	if (answer != REGISTRY_WAITING) {
 		must_succeed(me, answer);
-		wait->bank->waits--;
+		bank->waits--;
 	}
 	exit_interlock();
 	return answer == REGISTRY_DONE;
-}
-
-/* Waits until those sections have ended. */
-static void end_bank_wait(struct thread *me, struct bank_wait *wait, struct pauses *pauses)
-{
-	struct registry_stage met = {REGISTRY_GRACE, 0};
-	while (!poll_bank_wait(me, wait, &met.what))
-		if (pause_longer(pauses, &met))
-			report_section_wait(me, met.what);
 }
 
 /*
@@ -306,19 +271,23 @@ static void end_bank_wait(struct thread *me, struct bank_wait *wait, struct paus
  */
 static void perform_from(struct thread *me, unsigned place, struct pauses *pauses)
 {
-	struct bank_wait wait;
+	struct registry_stage met = {REGISTRY_GRACE, 0};
+	struct registry_wait wait;
 	while (place < bank_count && banks[place]->hosts == 0)
 		place++;
 	if (place == bank_count) {
 		exit_interlock();
 		return;
 	}
-	begin_bank_wait(me, banks[place], &wait);
+	struct bank *bank = banks[place];
+	bank->waits++;
+	must_succeed(me, registry_perform_begin(&bank->keeper, writers(bank), &wait));
 	perform_from(me, place + 1, pauses);
-	end_bank_wait(me, &wait, pauses);
+	while (!poll_wait(me, bank, &wait, &met.what))
+		if (pause_longer(pauses, &met))
+			report_section_wait(me, met.what);
 }
 
-/* Waits until each section that is open on any CPU has ended. */
 void perform_all(struct thread *me)
 {
 	struct pauses pauses = begin_pauses();
@@ -344,7 +313,6 @@ const void *live_owner(size_t *held)
 	return NULL;
 }
 
-/* Closes a CPU's handle, also if the CPU was left in a section. */
 static void close_cpu(struct thread *me, struct registry_cpu *cpu)
 {
 	while (registry_exit(cpu) == REGISTRY_DONE)
@@ -352,16 +320,11 @@ static void close_cpu(struct thread *me, struct registry_cpu *cpu)
 	must_succeed(me, registry_close_cpu(cpu));
 }
 
-static void forget_held(struct thread *me, struct row *row)
-{
-	for (size_t place = 0; place < row->count; place++)
-		must_succeed(me, registry_local_forget(&row->held[place].local));
-}
-
 static void close_bank(struct thread *me, struct bank *bank)
 {
-	for (unsigned slot = 0; slot < ROWS; slot++)
-		forget_held(me, &bank->rows[slot]);
+	for (struct row *row = bank->rows; row < &bank->rows[ROWS]; row++)
+		for (size_t place = 0; place < row->count; place++)
+			must_succeed(me, registry_local_forget(&row->held[place].local));
 	for (unsigned cpu = 0; cpu < ALL_CPUS; cpu++)
 		close_cpu(me, &bank->cpus[cpu].cpu);
 	must_succeed(me, registry_close_keeper(&bank->keeper));

@@ -36,10 +36,8 @@ void report(const struct thread *me, const char *format, ...)
 	va_end(words);
 }
 
-/* When a wait says what it waits for: so long from now on. */
 struct timespec patience(void) { return time_after(KUPALDIZ_PATIENCE * INT64_C(1000000)); }
 
-/* Stops where the registry refuses, as at a limit. */
 void must_succeed(const struct thread *me, uint32_t answer)
 {
 	char text[128];
@@ -78,14 +76,12 @@ const char *at_place(const char *place, char *text, size_t room)
 	return text;
 }
 
-/* Stops where a thing was destroyed, or never made: its word isn't the wanted one. */
 void require_made(const struct thread *me, uint32_t made, uint32_t wanted, const char *what)
 {
 	stop_if(me, made == ENDED, "%s was destroyed", what);
 	stop_if(me, made != wanted, "%s was never initialised", what);
 }
 
-/* Stops where the thread mustn't sleep. */
 void require_sleepable(const struct thread *me)
 {
 	stop_if(me, me->depth > 0, "inside a read section, entered%s", AT_PLACE(me->entered));
@@ -95,7 +91,6 @@ void require_sleepable(const struct thread *me)
 	stop_if(me, me->holds > 0, "with preemption disabled");
 }
 
-/* Memory for a row that this one goes on with. */
 void *grow_row(const struct thread *me, void *row, size_t size)
 {
 	row = realloc(row, size);
@@ -103,7 +98,6 @@ void *grow_row(const struct thread *me, void *row, size_t size)
 	return row;
 }
 
-/* Memory of zeros. */
 void *memory(const struct thread *me, size_t size)
 {
 	void *block = calloc(1, size);

@@ -1,9 +1,8 @@
-/* rwlock.c - rwlock(9): its words are read and written under the lock of the sleep queue in which its threads wait */
+/* rwlock.c - rwlock(9): its words are read and written under the lock of the sleep queue in which its threads wait, which most functions are called with */
 #include "layer.h"
 
 void rw_init(krwlock_t *rw) { *rw = (krwlock_t){.rw_made = A_RW}; }
 
-/* A call of a lock begins: it takes the sleep queue's lock. */
 static struct thread *lock_rw(struct thread *me, const krwlock_t *rw)
 {
 	require_made(me, rw->rw_made, A_RW, "the lock");
@@ -11,7 +10,6 @@ static struct thread *lock_rw(struct thread *me, const krwlock_t *rw)
 	return me;
 }
 
-/* Gives that lock back where a call returns this. */
 static int unlock_rw(const krwlock_t *rw, int answer)
 {
 	sleepq_unlock(sleepq_of(rw));
@@ -40,7 +38,6 @@ static bool rw_tryacquire(struct thread *me, krwlock_t *rw, krw_t how)
 	return true;
 }
 
-/* Says who has the lock. Whether anybody has it. The caller has the sleep queue's lock. */
 static bool report_wait(struct thread *me, const krwlock_t *rw)
 {
 	if (rw->rw_writer == 0 && rw->rw_readers == 0)
@@ -52,7 +49,6 @@ static bool report_wait(struct thread *me, const krwlock_t *rw)
 	return true;
 }
 
-/* Waits until it has the lock. The caller has the sleep queue's lock. */
 static void rw_acquire(struct thread *me, krwlock_t *rw, krw_t how)
 {
 	struct timespec tells = patience();
@@ -93,7 +89,7 @@ int rw_tryenter(krwlock_t *rw, const krw_t how)
 	return unlock_rw(rw, rw_tryacquire(me, rw, how));
 }
 
-/* Stops where the thread can't have the lock. The caller has the sleep queue's lock. */
+/* Stops where the thread can't have the lock. */
 static void require_held(const struct thread *me, const krwlock_t *rw)
 {
 	stop_if(me, rw->rw_writer == 0 && rw->rw_readers == 0, "nobody has the lock");

@@ -11,7 +11,7 @@ struct softint {
 	struct softint *behind[KUPALDIZ_CPUS];	/* the next one in the queue */
 };
 
-/* The lock of all that follows. Each CPU's `pending` is written under it, too. */
+/* The lock of all that follows. Each CPU's `pending` is written under it, too. Static functions that don't take it are called with it. */
 pthread_mutex_t pending_list = PTHREAD_MUTEX_INITIALIZER;
 pthread_cond_t pending_changed = PTHREAD_COND_INITIALIZER;
 static struct softint *softints;
@@ -30,7 +30,6 @@ int raise_level(struct thread *me, int level)
 	return before;
 }
 
-/* The CPU's level is this one again. */
 void lower_level(struct thread *me, int level)
 {
 	int before = me->level;
@@ -41,7 +40,6 @@ void lower_level(struct thread *me, int level)
 
 int kupaldiz_splraise(int level) { return raise_level(begin_call("splraise"), level); }
 
-/* The highest level of the spin locks that the thread has. */
 static int level_of_spins(const struct thread *me)
 {
 	int level = IPL_HIGH;
@@ -72,7 +70,6 @@ void note_pending(struct cpu *cpu)
 	__atomic_store_n(&cpu->pending, (pending & ~cpu->blocked) | cpu->goes_on, __ATOMIC_RELEASE);
 }
 
-/* Puts one at the end of its queue, unless it waits there. The caller has the list. */
 static void enqueue(struct softint *softint, unsigned cpu)
 {
 	struct softint **at = &queues[cpu][softint->level];
@@ -85,7 +82,6 @@ static void enqueue(struct softint *softint, unsigned cpu)
 	softint->pending[cpu] = true;
 }
 
-/* Takes one out of its queue, if it waits there. The caller has the list. */
 static void dequeue(struct softint *softint, unsigned cpu)
 {
 	struct softint **at = &queues[cpu][softint->level];
@@ -134,7 +130,6 @@ bool run_softint(struct thread *me, int level)
 
 /* ---- softint(9). ---- */
 
-/* The same as softint_establish, wherever the thread is. */
 void *make_softint(unsigned flags, void (*handler)(void *), void *arg)
 {
 	struct softint *made = calloc(1, sizeof(*made));
@@ -156,7 +151,6 @@ void *softint_establish(unsigned flags, void (*handler)(void *), void *arg)
 	return FAILS() ? NULL : make_softint(flags, handler, arg);
 }
 
-/* Stops where it isn't established. The caller has the list. */
 static void require_established(const struct thread *me, const struct softint *softint)
 {
 	const struct softint *at = softints;
@@ -165,7 +159,6 @@ static void require_established(const struct thread *me, const struct softint *s
 	stop_if(me, at == NULL || at->dead, "the soft interrupt is not established");
 }
 
-/* Has it run on a CPU. */
 void schedule_on(struct thread *me, void *cookie, struct cpu *cpu)
 {
 	struct softint *softint = cookie;
@@ -188,7 +181,6 @@ void softint_schedule(void *cookie)
 	leave_cpu(me);
 }
 
-/* Waits until no handler of it runs, and says after a while that it waits. The caller has the list. */
 static void await_handlers(struct thread *me, struct softint *softint)
 {
 	struct pauses pauses = begin_pauses();

@@ -15,7 +15,6 @@ struct softint_thread {
 
 static struct softint_thread threads[KUPALDIZ_CPUS][LEVELS];
 
-/* The highest level that waits on a CPU; IPL_NONE where none does. */
 static int highest(const struct cpu *cpu)
 {
 	uint32_t pending = __atomic_load_n(&cpu->pending, __ATOMIC_ACQUIRE);
@@ -46,7 +45,6 @@ static void note_waits(struct thread *me, bool is_blocked, bool goes_on)
 	pthread_mutex_unlock(&pending_list);
 }
 
-/* The threads look again at what waits, and at who has their CPU. */
 static void wake_threads(void)
 {
 	pthread_mutex_lock(&pending_list);
@@ -95,7 +93,6 @@ static _Noreturn void *run_all(void *of)
 	}
 }
 
-/* The thread of a CPU's level, which is begun where it isn't. The caller has the list. */
 void ensure_softint_thread(struct thread *me, struct cpu *cpu, int level)
 {
 	pthread_t thread;

@@ -50,7 +50,6 @@ static void open_layer(void)
 	open_banks(&nobody);
 }
 
-/* A condition variable whose waits end by the clock that nobody sets. */
 void init_cond(pthread_cond_t *cond)
 {
 	pthread_condattr_t monotonic;
@@ -60,7 +59,6 @@ void init_cond(pthread_cond_t *cond)
 	pthread_condattr_destroy(&monotonic);
 }
 
-/* Memory for a thread: that of one which has ended, or new one. */
 static struct thread *thread_memory(void)
 {
 	pthread_mutex_lock(&free_lock);
@@ -95,13 +93,11 @@ struct thread *named_thread(const char *call, const char *name)
 	return me;
 }
 
-/* Stops where the thread has passive references. */
 static void require_unreferring(const struct thread *me)
 {
 	stop_if(me, me->references != 0, "the thread has passive references");
 }
 
-/* The thread isn't bound any more. */
 static void unbind(struct thread *me)
 {
 	require_unreferring(me);
@@ -137,7 +133,6 @@ void end_of_thread(struct thread *me)
 
 /* ---- Having a CPU. ---- */
 
-/* The thread runs on this CPU from now on. */
 void move_to(struct thread *me, struct cpu *cpu)
 {
 	me->cpu = cpu;
@@ -166,7 +161,6 @@ static void acquire_any_cpu(struct thread *me)
 	lock_acquire(&me->cpu->hold, me, report_cpu_wait);
 }
 
-/* Has the CPU, for one reason more. */
 void hold_cpu(struct thread *me)
 {
 	if (me->holds++ > 0)
@@ -177,7 +171,6 @@ void hold_cpu(struct thread *me)
 		acquire_any_cpu(me);
 }
 
-/* Has it for one reason less. */
 void unhold_cpu(struct thread *me)
 {
 	if (--me->holds == 0)
@@ -193,7 +186,6 @@ void visit_cpus(struct thread *me)
 	}
 }
 
-/* Says who has the CPU that this thread waits for. */
 void report_cpu_wait(struct thread *me, const uintptr_t *word)
 {
 	const struct cpu *cpu = (const struct cpu *)(const void *)((const char *)word - offsetof(struct cpu, hold));
@@ -215,7 +207,6 @@ struct cpu_info *kupaldiz_cpu(unsigned cpu)
 	return cpu < KUPALDIZ_CPUS ? &cpus[cpu].info : NULL;
 }
 
-/* Binds the thread to a CPU. */
 void bind_to(struct thread *me, struct cpu *cpu)
 {
 	move_to(me, cpu);

@@ -6,7 +6,7 @@
  */
 #include "layer.h"
 
-/* Works for one thread. What follows the lock is under it. */
+/* Works for one thread. What follows the lock is under it. Static functions that don't take it are called with it. */
 struct queue {
 	kmutex_t lock;
 	kcondvar_t changed;
@@ -29,7 +29,6 @@ struct workqueue {
 
 /* ---- The thread of a queue. ---- */
 
-/* Takes the first work out of the queue. The caller has the lock. */
 static struct work *dequeue(struct queue *queue)
 {
 	struct work *work = queue->first;
@@ -40,7 +39,7 @@ static struct work *dequeue(struct queue *queue)
 	return work;
 }
 
-/* Does the first work. The caller has the lock, which is free meanwhile. */
+/* Does the first work. The lock is free meanwhile. */
 static void run_first_work(struct thread *me, struct queue *queue)
 {
 	struct work *work = dequeue(queue);
@@ -78,7 +77,6 @@ static void *run_queue(void *of)
 
 /* ---- Making and ending queues. ---- */
 
-/* Makes a queue and its thread, and waits until that has begun. 0 or an errno. */
 static int begin_queue(struct thread *me, struct queue *queue, int level)
 {
 	mutex_init(&queue->lock, MUTEX_DEFAULT, level);
@@ -94,7 +92,6 @@ static int begin_queue(struct thread *me, struct queue *queue, int level)
 	return 0;
 }
 
-/* Ends a queue and its thread. */
 static void end_queue(struct thread *me, struct queue *queue)
 {
 	acquire_mutex(me, &queue->lock);
@@ -147,7 +144,6 @@ void workqueue_destroy(struct workqueue *all)
 
 /* ---- Works. ---- */
 
-/* Whether a work waits in a queue. The caller has the lock. */
 static bool is_enqueued(const struct queue *queue, const struct work *work)
 {
 	const struct work *at = queue->first;
