@@ -4,10 +4,7 @@
  *
  * The last line counts the cases.
  */
-#include <errno.h>
 #include <limits.h>
-#include <sys/kernel.h>
-#include <sys/proc.h>
 
 #include "finds.h"
 

@@ -1,9 +1,7 @@
 /*
  * counts - small programs have as many schedules as combinatorics says, and what is found says what was left out
  */
-#include <sys/atomic.h>
-#include <sys/systm.h>
-
+#include "../../netbsd/tests/pages.h"
 #include "cases.h"
 
 /* ---- Each order is tried once, of threads that touch nothing one alone; some outcomes have no room, and some runs have none. ---- */

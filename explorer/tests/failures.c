@@ -4,12 +4,6 @@
  *
  * The last line counts the cases.
  */
-#include <errno.h>
-#include <sys/module_hook.h>
-#include <sys/percpu.h>
-#include <sys/pool.h>
-#include <sys/workqueue.h>
-
 #include "finds.h"
 
 static kmutex_t lock;

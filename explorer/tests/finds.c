@@ -4,10 +4,6 @@
  *     finds            the last line counts the cases
  *     finds PICTURE    writes the picture of the first one, explorer/deadlock.svg, which has the numbers of its lines
  */
-#include <sys/localcount.h>
-#include <sys/psref.h>
-#include <sys/rwlock.h>
-#include <sys/xcall.h>
 #include <xmmintrin.h>
 
 #include "finds.h"

@@ -3,17 +3,9 @@
 #define BENCH_FINDS_H
 
 #include <fnmatch.h>
-#include <sys/atomic.h>
-#include <sys/callout.h>
-#include <sys/condvar.h>
-#include <sys/intr.h>
-#include <sys/kmem.h>
-#include <sys/kthread.h>
-#include <sys/mutex.h>
-#include <sys/pserialize.h>
-#include <sys/systm.h>
 
 #include "../../netbsd/tests/child.h"
+#include "../../netbsd/tests/pages.h"
 #include "cases.h"
 
 struct find {

@@ -3,15 +3,11 @@
  *
  * The last line counts the cases.
  */
-#include <string.h>
-#include <sys/atomic.h>
-#include <sys/kmem.h>
-#include <sys/mutex.h>
-
 #include "../bench.h"
 #include "../../c/examples/expect.h"
 #include "../../netbsd/tests/bodies.h"
 #include "../../netbsd/tests/child.h"
+#include "../../netbsd/tests/pages.h"
 
 static kmutex_t one, two;
 static unsigned word, other;

@@ -4,8 +4,6 @@
  *
  * The linker leads what the layer asks the C library for here (--wrap). Each case runs in a child. The last line counts the cases.
  */
-#include <sys/workqueue.h>
-
 #include "stops.h"
 #include "wraps.h"
 
