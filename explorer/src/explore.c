@@ -130,9 +130,13 @@ static int status_of(void (*body)(void))
 	return status;
 }
 
-/* Executes one in a process of its own, and ends as that one does where it crashes. */
-static void run_apart(void)
+/* Executes one, in a process of its own where the program needs that, and ends as that one does where it crashes. */
+static void run_once(void)
 {
+	if (!search->apart) {
+		run_here();
+		return;
+	}
 	int status = status_of(run_here);
 	if (WIFSIGNALED(status)) {
 		signal(WTERMSIG(status), SIG_DFL);
@@ -140,14 +144,6 @@ static void run_apart(void)
 	}
 	if (status != 0)
 		_exit(WIFEXITED(status) ? WEXITSTATUS(status) : 1);
-}
-
-static void run_once(void)
-{
-	if (search->apart)
-		run_apart();
-	else
-		run_here();
 }
 
 static bool is_wrong(void)
@@ -217,27 +213,17 @@ static uint64_t random_number(void)
 	return search->seed = at;
 }
 
-/* Those that fall do so below all that were drawn. */
-static void draw_priorities(void)
-{
-	search->lowest = POINTS + 16;
-	for (unsigned at = 0; at < THREADS; at++)
-		search->priorities[at] = search->lowest + (unsigned)(random_number() >> 33 & 0xffffff);
-}
-
-static void draw_changes(unsigned length)
-{
-	for (unsigned at = 0; at < sizeof(search->changes) / sizeof(search->changes[0]); at++)
-		search->changes[at] = (unsigned)(random_number() % (length + 1));
-}
-
+/* Priorities that fall do so below all that were drawn. */
 static void run_random(void)
 {
 	unsigned length = search->length;
 	begin_search(RANDOM, options.random, 0);
 	for (uint64_t count = 0; count < options.random && !is_wrong(); count++) {
-		draw_priorities();
-		draw_changes(length);
+		search->lowest = POINTS + 16;
+		for (unsigned at = 0; at < THREADS; at++)
+			search->priorities[at] = search->lowest + (unsigned)(random_number() >> 33 & 0xffffff);
+		for (unsigned at = 0; at < sizeof(search->changes) / sizeof(search->changes[0]); at++)
+			search->changes[at] = (unsigned)(random_number() % (length + 1));
 		run_once();
 		length = search->length > length ? search->length : length;
 		search->found.random++;

@@ -23,12 +23,6 @@ static int compare(const void *one, const void *other)
 	return a->thread != b->thread ? a->thread - b->thread : a->number - b->number;
 }
 
-static bool is_planned(struct failpoint failpoint)
-{
-	const struct plan *plan = &search->plans[search->plan];
-	return bsearch(&failpoint, plan->of, plan->count, sizeof(failpoint), compare) != NULL;
-}
-
 static void add_plan(struct failpoint failpoint)
 {
 	struct plan more = search->plans[search->plan];
@@ -48,7 +42,8 @@ static void add_plan(struct failpoint failpoint)
 static bool fails_here(void)
 {
 	const struct failpoint failpoint = {(uint16_t)run.current->number, run.current->failpoints++};
-	if (is_planned(failpoint))
+	const struct plan *plan = &search->plans[search->plan];
+	if (bsearch(&failpoint, plan->of, plan->count, sizeof(failpoint), compare) != NULL)
 		return true;
 	add_plan(failpoint);
 	return false;

@@ -61,21 +61,16 @@ bool is_free(const struct routine *me)
 	return *word == 0 || *word == (uintptr_t)me->self;
 }
 
-/* Waits until it is free. Whoever waits for its own CPU doesn't have it, although it has begun to. */
-static void await_lock(uintptr_t *word, const struct thread *me)
-{
-	bool off = run.current->off;
-	if (me->cpu != NULL && word == &me->cpu->hold)
-		run.current->off = true;
-	wait_here(is_free, word);
-	run.current->off = off;
-}
-
+/* Whoever waits for its own CPU doesn't have it, although it has begun to. */
 void lock_acquire(uintptr_t *word, struct thread *me, report_fn *reporter)
 {
+	bool off = run.current->off;
 	(void)reporter;
-	if (run.current->visits || *word != 0)
-		await_lock(word, me);
+	if (run.current->visits || *word != 0) {
+		run.current->off |= me->cpu != NULL && word == &me->cpu->hold;
+		wait_here(is_free, word);
+		run.current->off = off;
+	}
 	touch(ON_LOCK, word, 0, WRITES | ACQUIRES);
 	*word = (uintptr_t)me;
 }
@@ -290,23 +285,17 @@ uint32_t bench_perform_begin(struct registry_keeper *keeper, struct registry_cpu
 	return registry_perform_begin(keeper, cpu, wait);
 }
 
-/* Each section that was open as the wait began has ended before this, whichever it was that the last turn met. */
-static void acquire_ended(const struct routine *me)
+uint32_t bench_perform_turn(struct registry_keeper *keeper, struct registry_cpu *cpu, struct registry_wait *wait, uint64_t *waited)
 {
-	for (unsigned number = 0; number < KUPALDIZ_CPUS; number++) {
-		uint64_t section = me->sections[number];
+	uint32_t answer = registry_perform_turn(keeper, cpu, wait, waited);
+	/* Each section that was open as the wait began has ended before this, whichever it was that the last turn met. */
+	for (unsigned number = 0; number < KUPALDIZ_CPUS && answer == REGISTRY_DONE; number++) {
+		uint64_t section = run.current->sections[number];
 		if (section == 0 || run.ends[number] < section)
 			continue;
 		touch(ON_END, (const void *)(uintptr_t)section, number, ORDERS);
 		acquire_clock(ON_END, (const void *)(uintptr_t)section, number);
 	}
-}
-
-uint32_t bench_perform_turn(struct registry_keeper *keeper, struct registry_cpu *cpu, struct registry_wait *wait, uint64_t *waited)
-{
-	uint32_t answer = registry_perform_turn(keeper, cpu, wait, waited);
-	if (answer == REGISTRY_DONE)
-		acquire_ended(run.current);
 	return answer;
 }
 

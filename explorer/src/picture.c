@@ -117,12 +117,6 @@ static void draw_wait(FILE *to, unsigned at)
 		draw_bar(to, at, next, "wait", 0);
 }
 
-static void draw_each(FILE *to, void (*draw_step)(FILE *, unsigned))
-{
-	for (unsigned at = 0; at < search->length; at++)
-		draw_step(to, at);
-}
-
 static void draw_rows(FILE *to)
 {
 	uint32_t seen = 0;
@@ -219,8 +213,10 @@ bool draw(const char *name, const struct bench_found *found)
 	text_at(to, 14, 24, "title", "%s", options.name);
 	draw_legend(to);
 	draw_rows(to);
-	draw_each(to, draw_wait);
-	draw_each(to, draw_pairs);
+	for (unsigned at = 0; at < search->length; at++)
+		draw_wait(to, at);
+	for (unsigned at = 0; at < search->length; at++)
+		draw_pairs(to, at);
 	draw_steps(to);
 	draw_fault(to);
 	write_lines(to, list_steps(to, list) + 6, found->line);

@@ -65,15 +65,6 @@ void use_memory(const volatile void *address, size_t size, const struct use *use
 }
 
 /* With `racy` it is a point, which touches the memory. */
-static void access_racily(struct routine *me, const volatile void *address, size_t size, const struct use *use)
-{
-	me->pc = use->pc;
-	point(use->writes ? "plain write" : "plain read", NULL, NULL, NULL);
-	me->pc = NULL;
-	check_usable(me, address, size, use);
-	touch_memory(address, size, use->writes ? WRITES : 0);
-}
-
 void access_plainly(const volatile void *address, size_t size, bool writes, const void *pc)
 {
 	struct routine *me = run.current;
@@ -81,9 +72,12 @@ void access_plainly(const volatile void *address, size_t size, bool writes, cons
 	if (me == NULL || size == 0 || is_on_stack(me, address))
 		return;
 	if (options.racy) {
-		access_racily(me, address, size, &use);
-		return;
+		me->pc = pc;
+		point(writes ? "plain write" : "plain read", NULL, NULL, NULL);
+		me->pc = NULL;
 	}
 	check_usable(me, address, size, &use);
+	if (options.racy)
+		touch_memory(address, size, writes ? WRITES : 0);
 	use_memory(address, size, &use);
 }

@@ -64,18 +64,14 @@ void make_barrier(void)
 
 /* ---- Who can go on. ---- */
 
-/* A thread that has its CPU can't while a soft interrupt has it. */
-static bool has_its_cpu(const struct routine *routine)
-{
-	const struct thread *self = routine->self;
-	return self == NULL || self->holds == 0 || routine->off || lock_owner(&self->cpu->hold) == self;
-}
-
+/* A thread that has its CPU isn't while a soft interrupt has it. */
 bool is_enabled(const struct routine *routine)
 {
+	const struct thread *self = routine->self;
 	if (!routine->made || routine->ended || (run.phase == SETTING_UP && routine->number != 0))
 		return false;
-	return has_its_cpu(routine) && (routine->guard == NULL || routine->guard(routine));
+	bool has_cpu = self == NULL || self->holds == 0 || routine->off || lock_owner(&self->cpu->hold) == self;
+	return has_cpu && (routine->guard == NULL || routine->guard(routine));
 }
 
 static bool clock_may_jump(void)
@@ -277,13 +273,6 @@ static void name_step(struct step *step, const struct routine *routine)
 	step->cpu = routine == NULL || routine->self == NULL || routine->self->cpu == NULL ? NOBODY : (uint8_t)routine->self->cpu->info.ci_index;
 }
 
-static void end_step(void)
-{
-	if (run.step > search->fresh && search->mode == REDUCED)
-		find_races(run.step - 1, run.step - 1);
-	fail_if(run.step == POINTS, "the run doesn't end: it has come to %d points", POINTS);
-}
-
 /* Lets time go on to the next deadline. Once the clock may not hurry any more it waits until no thread is enabled, and so changes places with none. */
 static void tick(uint32_t enabled)
 {
@@ -300,7 +289,9 @@ static void choose(void)
 	uint32_t enabled;
 	unsigned chosen;
 	do {
-		end_step();
+		if (run.step > search->fresh && search->mode == REDUCED)
+			find_races(run.step - 1, run.step - 1);
+		fail_if(run.step == POINTS, "the run doesn't end: it has come to %d points", POINTS);
 		enabled = enabled_now();
 		if (enabled == 0)
 			report_stuck();

@@ -1,21 +1,14 @@
 /* show.c - what was found, as lines; a schedule as a short text */
 #include "inside.h"
 
-static unsigned turns_from(unsigned from)
-{
-	unsigned at = from;
-	while (at < search->length && search->steps[at].chosen == search->steps[from].chosen)
-		at++;
-	return at - from;
-}
-
 /* A letter for each thread, a dot for the clock, and how many points it goes on where that isn't 1. */
 void write_schedule(char *text, size_t room)
 {
 	size_t length = 0;
 	for (unsigned at = 0, turns; at < search->length && length + 8 < room; at += turns) {
 		unsigned thread = search->steps[at].chosen;
-		turns = turns_from(at);
+		for (turns = 1; at + turns < search->length && search->steps[at + turns].chosen == thread; turns++)
+			;
 		char letter = thread == CLOCK ? '.' : (char)('a' + thread);
 		length += (size_t)snprintf(text + length, room - length, turns == 1 ? "%c" : "%c%u", letter, turns);
 	}

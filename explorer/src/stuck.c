@@ -76,15 +76,6 @@ static const struct routine *append_cause(char *text, const struct routine *me)
 	return word == NULL ? NULL : routine_of(lock_owner(word));
 }
 
-static const struct routine *report_wait(const struct routine *me, char *text)
-{
-	append(text, "thread \"%s\" waits in %s%s for ", name_of_routine(me), me->call, AT_PLACE(me->place));
-	const struct routine *on = append_cause(text, me);
-	if (on != NULL && on != me)
-		append(text, " of thread \"%s\"", name_of_routine(on));
-	return on;
-}
-
 static const struct routine *first_stuck(void)
 {
 	for (unsigned number = 1; number < run.count; number++)
@@ -104,7 +95,11 @@ void report_stuck(void)
 		told |= UINT32_C(1) << at->number;
 		if (text[0] != '\0')
 			append(text, "; ");
-		at = report_wait(at, text);
+		append(text, "thread \"%s\" waits in %s%s for ", name_of_routine(at), at->call, AT_PLACE(at->place));
+		const struct routine *on = append_cause(text, at);
+		if (on != NULL && on != at)
+			append(text, " of thread \"%s\"", name_of_routine(on));
+		at = on;
 	}
 	fail("%s: %s", at == NULL ? "nobody can go on" : "deadlock", text);
 }

@@ -33,17 +33,6 @@ bool is_xcall_complete(const struct routine *me)
 	return made >= me->noted;
 }
 
-static void make_call(const struct xcall *xcall)
-{
-	/* xc_broadcast takes a place, and xc_unicast none. */
-	if (xcall->cpu == NULL) {
-		kupaldiz_at(xcall->place);
-		layer_xc_broadcast(xcall->flags, xcall->body, xcall->arg_a, xcall->arg_b);
-	} else {
-		layer_xc_unicast(xcall->flags, xcall->body, xcall->arg_a, xcall->arg_b, xcall->cpu);
-	}
-}
-
 static void make_calls(void *arg)
 {
 	(void)arg;
@@ -56,7 +45,13 @@ static void make_calls(void *arg)
 		if (first == NULL)
 			last = &first;
 		run.current->visits = true;
-		make_call(xcall);
+		/* xc_broadcast takes a place, and xc_unicast none. */
+		if (xcall->cpu == NULL) {
+			kupaldiz_at(xcall->place);
+			layer_xc_broadcast(xcall->flags, xcall->body, xcall->arg_a, xcall->arg_b);
+		} else {
+			layer_xc_unicast(xcall->flags, xcall->body, xcall->arg_a, xcall->arg_b, xcall->cpu);
+		}
 		run.current->visits = false;
 		made++;
 		touch(ON_XCALL, NULL, 0, WRITES | RELEASES);

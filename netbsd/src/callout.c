@@ -201,15 +201,7 @@ bool callout_stop(callout_t *callout)
 	return unlock_with(cancel(callout));
 }
 
-/* What a callout sets ends with its body, wherever that runs now. */
-static void note_halt(const callout_t *callout)
-{
-	for (unsigned cpu = 0; cpu < KUPALDIZ_CPUS; cpu++)
-		if (running[cpu] == callout)
-			halted[cpu] = true;
-}
-
-/* Waits until it doesn't run, and says after a while that it waits. */
+/* Waits until it doesn't run, and says after a while that it waits. What it sets ends with its body, wherever that runs now. */
 static void await_end(struct thread *me, const callout_t *callout)
 {
 	const struct timespec tells = patience();
@@ -217,7 +209,8 @@ static void await_end(struct thread *me, const callout_t *callout)
 	int waits = begin_wait();
 	unsigned cpu;
 	while ((cpu = running_cpu(me, callout)) < KUPALDIZ_CPUS) {
-		note_halt(callout);
+		for (unsigned at = 0; at < KUPALDIZ_CPUS; at++)
+			halted[at] |= running[at] == callout;
 		if (told)
 			pthread_cond_wait(&changed, &lock);
 		else if (pthread_cond_timedwait(&changed, &lock, &tells) != 0 && (told = true))

@@ -154,14 +154,6 @@ static bool wait_once(struct thread *me, const struct registry_stage *met, kcond
 	return over;
 }
 
-/* The kernel gives the interlock up while it visits each CPU, also where nobody has a reference. */
-static void let_others_in(struct thread *me, kmutex_t *interlock)
-{
-	release_mutex(me, interlock);
-	sched_yield();
-	acquire_mutex(me, interlock);
-}
-
 void localcount_drain(struct localcount *lc, kcondvar_t *cv, kmutex_t *interlock)
 {
 	struct thread *me = sleepable(begin_call(__func__));
@@ -174,7 +166,10 @@ void localcount_drain(struct localcount *lc, kcondvar_t *cv, kmutex_t *interlock
 	pthread_mutex_unlock(&at.row->lock);
 	int waits = begin_wait();
 	retire_row(me, at, lc);
-	let_others_in(me, interlock);
+	/* The kernel gives the interlock up while it visits each CPU, also where nobody has a reference. */
+	release_mutex(me, interlock);
+	sched_yield();
+	acquire_mutex(me, interlock);
 	while (!try_free_row(me, at, &met))
 		if (wait_once(me, &met, cv, interlock, &pauses))
 			report_wait(me, at.row, &met);

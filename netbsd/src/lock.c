@@ -200,16 +200,11 @@ void lock_hand_over(uintptr_t *word, struct thread *to)
 
 struct pauses begin_pauses(void) { return (struct pauses){0, patience()}; }
 
-static bool is_past(const struct timespec *time)
-{
-	struct timespec now = time_after(0);
-	return now.tv_sec > time->tv_sec || (now.tv_sec == time->tv_sec && now.tv_nsec >= time->tv_nsec);
-}
-
 /* Whether it is time to say what the wait waits for: once. */
 bool pauses_are_over(struct pauses *pauses)
 {
-	if (pauses->tells.tv_sec == 0 || !is_past(&pauses->tells))
+	struct timespec now = time_after(0), tells = pauses->tells;
+	if (tells.tv_sec == 0 || now.tv_sec < tells.tv_sec || (now.tv_sec == tells.tv_sec && now.tv_nsec < tells.tv_nsec))
 		return false;
 	pauses->tells.tv_sec = 0;
 	return true;

@@ -134,12 +134,6 @@ static void require_bound(const struct thread *me)
 	stop_if(me, !is_bound(me) && me->preemptions == 0, "the thread is not bound to a CPU");
 }
 
-/* Whether this CPU can count no more: what it asks for then is counted by the writers' CPU. */
-static bool is_full(uint32_t answer)
-{
-	return answer == REGISTRY_SECTIONS_SPENT || answer == REGISTRY_PASSIVE_FULL;
-}
-
 /* A call with the registry's CPU that counts: this thread's, or the writers', under the interlock. */
 static struct registry_cpu *begin_count(struct thread *me, struct found_row at, uint32_t via)
 {
@@ -170,7 +164,8 @@ static uint32_t count_one(struct thread *me, struct found_row at, uint32_t via, 
 static uint32_t count_more(struct thread *me, struct found_row at, uint32_t via, bool is_copy)
 {
 	uint32_t other = via == WRITERS ? me->cpu->info.ci_index : WRITERS, answer = count_one(me, at, via, is_copy);
-	if (is_full(answer)) {
+	/* This CPU can count no more. */
+	if (answer == REGISTRY_SECTIONS_SPENT || answer == REGISTRY_PASSIVE_FULL) {
 		uint32_t second = count_one(me, at, other, is_copy);
 		if (second == REGISTRY_DONE)
 			return other;
@@ -261,14 +256,6 @@ static void require_none_of_own(struct thread *me, const struct psref_target *ta
 	unhold_cpu(me);
 }
 
-static void report_stage(struct thread *me, const struct registry_stage *met, const struct psref_target *target)
-{
-	if (met->stage == REGISTRY_GRACE)
-		report_section_wait(me, met->what);
-	else
-		report_reference_wait(me, met->what, target);
-}
-
 void psref_target_destroy(struct psref_target *target, struct psref_class *psref_class)
 {
 	struct thread *me = sleepable(begin_call(__func__));
@@ -278,9 +265,14 @@ void psref_target_destroy(struct psref_target *target, struct psref_class *psref
 	require_none_of_own(me, target);
 	int waits = begin_wait();
 	retire_row(me, at, target);
-	while (!try_free_row(me, at, &met))
-		if (pause_longer(&pauses, &met))
-			report_stage(me, &met, target);
+	while (!try_free_row(me, at, &met)) {
+		if (!pause_longer(&pauses, &met))
+			continue;
+		if (met.stage == REGISTRY_GRACE)
+			report_section_wait(me, met.what);
+		else
+			report_reference_wait(me, met.what, target);
+	}
 	/* A section may have released the last reference and still follow the links of what the target lies in. */
 	perform_all(me);
 	target->prt_class = NULL;

@@ -40,13 +40,11 @@ static void retire_bank(struct bank *bank)
 	bank->used_up = true;
 }
 
-static void reopen(struct thread *me, struct bank *bank)
+static void close_registry(struct thread *me, struct bank *bank)
 {
 	for (unsigned cpu = 0; cpu < ALL_CPUS; cpu++)
 		must_succeed(me, registry_close_cpu(&bank->cpus[cpu].cpu));
 	must_succeed(me, registry_close_keeper(&bank->keeper));
-	used_up--;
-	open_registry(me, bank);
 }
 
 static struct bank *new_bank(struct thread *me)
@@ -61,12 +59,6 @@ static struct bank *new_bank(struct thread *me)
 	__atomic_store_n(&banks[bank_count], bank, __ATOMIC_RELEASE);
 	__atomic_store_n(&bank_count, bank_count + 1, __ATOMIC_RELEASE);
 	return bank;
-}
-
-/* Whether a bank that is used up is in no use any more, and no sweep has it. */
-static bool is_spent(const struct bank *bank)
-{
-	return bank->used_up && !bank->swept && bank->live == 0 && bank->hosts == 0 && bank->waits == 0;
 }
 
 /* A bank with a free slot: one that there is, or a new one. The caller has the interlock. */
@@ -95,14 +87,16 @@ void open_banks(struct thread *me)
 	exit_interlock();
 }
 
-/* A bank that is in no use any more; NULL where there is none. No other sweep finds it. */
+/* A bank that is used up and in no use any more; NULL where there is none. No other sweep finds it. */
 static struct bank *find_spent(void)
 {
 	struct bank *found = NULL;
 	enter_interlock();
-	for (unsigned place = 0; place < bank_count && used_up > 0 && found == NULL; place++)
-		if (is_spent(banks[place]))
-			found = banks[place];
+	for (unsigned place = 0; place < bank_count && used_up > 0 && found == NULL; place++) {
+		struct bank *bank = banks[place];
+		if (bank->used_up && !bank->swept && bank->live == 0 && bank->hosts == 0 && bank->waits == 0)
+			found = bank;
+	}
 	if (found != NULL)
 		found->swept = true;
 	exit_interlock();
@@ -119,7 +113,9 @@ void sweep_banks(struct thread *me)
 	for (struct bank *found; (found = find_spent()) != NULL;) {
 		visit_cpus(me);
 		enter_interlock();
-		reopen(me, found);
+		close_registry(me, found);
+		used_up--;
+		open_registry(me, found);
 		exit_interlock();
 	}
 }
@@ -313,21 +309,16 @@ const void *live_owner(size_t *held)
 	return NULL;
 }
 
-static void close_cpu(struct thread *me, struct registry_cpu *cpu)
-{
-	while (registry_exit(cpu) == REGISTRY_DONE)
-		;
-	must_succeed(me, registry_close_cpu(cpu));
-}
-
+/* A CPU may have been left in a section. */
 static void close_bank(struct thread *me, struct bank *bank)
 {
 	for (struct row *row = bank->rows; row < &bank->rows[ROWS]; row++)
 		for (size_t place = 0; place < row->count; place++)
 			must_succeed(me, registry_local_forget(&row->held[place].local));
 	for (unsigned cpu = 0; cpu < ALL_CPUS; cpu++)
-		close_cpu(me, &bank->cpus[cpu].cpu);
-	must_succeed(me, registry_close_keeper(&bank->keeper));
+		while (registry_exit(&bank->cpus[cpu].cpu) == REGISTRY_DONE)
+			;
+	close_registry(me, bank);
 }
 
 /* Closes each registry. No thread goes on in a call, and none calls the layer again. */

@@ -40,18 +40,13 @@ void lower_level(struct thread *me, int level)
 
 int kupaldiz_splraise(int level) { return raise_level(begin_call("splraise"), level); }
 
-static int level_of_spins(const struct thread *me)
-{
-	int level = IPL_HIGH;
-	while (level > IPL_NONE && me->spins_at[level] == 0)
-		level--;
-	return level;
-}
-
 void splx(int level)
 {
 	struct thread *me = begin_call(__func__);
-	stop_if(me, level < me->level && level < level_of_spins(me), "with a spin lock");
+	int of_spins = IPL_HIGH;
+	while (of_spins > IPL_NONE && me->spins_at[of_spins] == 0)
+		of_spins--;
+	stop_if(me, level < me->level && level < of_spins, "with a spin lock");
 	if (level < me->level)
 		lower_level(me, level);
 	end_call(me);
@@ -181,17 +176,6 @@ void softint_schedule(void *cookie)
 	leave_cpu(me);
 }
 
-static void await_handlers(struct thread *me, struct softint *softint)
-{
-	struct pauses pauses = begin_pauses();
-	while (softint->running > 0) {
-		pthread_mutex_unlock(&pending_list);
-		if (pause_longer(&pauses, NULL))
-			report(me, "waits for its handler");
-		pthread_mutex_lock(&pending_list);
-	}
-}
-
 void softint_disestablish(void *cookie)
 {
 	struct thread *me = sleepable(begin_call(__func__));
@@ -204,7 +188,13 @@ void softint_disestablish(void *cookie)
 		dequeue(softint, cpu);
 		note_pending(&cpus[cpu]);
 	}
-	await_handlers(me, softint);
+	struct pauses pauses = begin_pauses();
+	while (softint->running > 0) {
+		pthread_mutex_unlock(&pending_list);
+		if (pause_longer(&pauses, NULL))
+			report(me, "waits for its handler");
+		pthread_mutex_lock(&pending_list);
+	}
 	while (*at != softint)
 		at = &(*at)->next;
 	*at = softint->next;

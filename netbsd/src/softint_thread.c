@@ -52,15 +52,6 @@ static void wake_threads(void)
 	pthread_mutex_unlock(&pending_list);
 }
 
-/* Waits for a soft interrupt of this level, above which none waits, or until the CPU is lent. */
-static void await_turn(const struct softint_thread *of)
-{
-	pthread_mutex_lock(&pending_list);
-	while (highest(of->cpu) != of->level && lock_owner(&of->cpu->hold) != of->thread)
-		pthread_cond_wait(&pending_changed, &pending_list);
-	pthread_mutex_unlock(&pending_list);
-}
-
 /* Runs the handlers of a level, until one of a higher level waits. The thread has the CPU. */
 static void run_level(struct thread *me, int level)
 {
@@ -87,7 +78,11 @@ static _Noreturn void *run_all(void *of)
 	pthread_cond_broadcast(&pending_changed);
 	pthread_mutex_unlock(&pending_list);
 	for (;;) {
-		await_turn(softint_thread);
+		/* A soft interrupt of this level waits, above which none does, or the CPU is lent. */
+		pthread_mutex_lock(&pending_list);
+		while (highest(me->cpu) != softint_thread->level && lock_owner(&me->cpu->hold) != me)
+			pthread_cond_wait(&pending_changed, &pending_list);
+		pthread_mutex_unlock(&pending_list);
 		lock_acquire(&me->cpu->hold, me, NULL);
 		run_level(me, softint_thread->level);
 	}

@@ -29,20 +29,14 @@ struct workqueue {
 
 /* ---- The thread of a queue. ---- */
 
-static struct work *dequeue(struct queue *queue)
+/* Does the first work. The lock is free meanwhile. */
+static void run_first_work(struct thread *me, struct queue *queue)
 {
 	struct work *work = queue->first;
 	queue->first = work->wk_next;
 	if (queue->first == NULL)
 		queue->last = &queue->first;
 	DEQUEUED(work);
-	return work;
-}
-
-/* Does the first work. The lock is free meanwhile. */
-static void run_first_work(struct thread *me, struct queue *queue)
-{
-	struct work *work = dequeue(queue);
 	queue->current = work;
 	release_mutex(me, &queue->lock);
 	queue->all->body(work, queue->all->arg);
@@ -168,18 +162,13 @@ void workqueue_enqueue(struct workqueue *all, struct work *work, struct cpu_info
 	end_call(me);
 }
 
-/* Waits until a work is neither in a queue nor being done by another thread than this one. */
-static void await_work(struct thread *me, struct queue *queue, const struct work *work)
-{
-	acquire_mutex(me, &queue->lock);
-	while (queue->thread != me && (is_enqueued(queue, work) || queue->current == work))
-		wait_for(me, &queue->changed, &queue->lock, -1);
-	release_mutex(me, &queue->lock);
-}
-
 void workqueue_wait(struct workqueue *all, struct work *work)
 {
 	struct thread *me = sleepable(begin_call(__func__));
-	for (unsigned at = 0; at < all->count; at++)
-		await_work(me, &all->queues[at], work);
+	for (struct queue *queue = all->queues; queue < &all->queues[all->count]; queue++) {
+		acquire_mutex(me, &queue->lock);
+		while (queue->thread != me && (is_enqueued(queue, work) || queue->current == work))
+			wait_for(me, &queue->changed, &queue->lock, -1);
+		release_mutex(me, &queue->lock);
+	}
 }
