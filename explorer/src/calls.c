@@ -1,8 +1,6 @@
 /*
- * calls.c - the layer's calls for locks, sections and references, each with its point
- *
- * A call announces where it is and what must hold before it can go on, says what it touches, and then is the layer's
- * own. Calls that only look at what is the thread's have no point.
+ * calls.c - the layer's calls for locks, sections and references: each announces where it is and what must hold before it can go on, says what it touches,
+ * and then is the layer's own. Calls that only look at what is the thread's have no point.
  */
 #include "inside.h"
 

@@ -72,8 +72,6 @@ bool are_dependent(const struct set *one, const struct set *other)
 	return relation_of(one, other) != COMMUTE;
 }
 
-/* ---- The order of the steps of a run. ---- */
-
 static bool comes_after(const uint32_t *clock, unsigned at)
 {
 	return clock[search->steps[at].chosen] >= at + 1;
@@ -88,8 +86,6 @@ static int step_before(unsigned at)
 			return before;
 	return run.routines[thread].made ? run.routines[thread].made_at : -1;
 }
-
-/* ---- Races. ---- */
 
 static bool has_earlier(const unsigned *list, unsigned count, unsigned at)
 {

@@ -230,8 +230,6 @@ static void run_random(void)
 	}
 }
 
-/* ---- In the child. ---- */
-
 static bool search_orders(void)
 {
 	begin_search(options.whole ? BOUNDED : REDUCED, options.schedules, UINT_MAX);
@@ -293,8 +291,6 @@ static enum end in_child(void (*body)(void), bool is_silent)
 	search->runs++;
 	return FAILED;
 }
-
-/* ---- In the parent. ---- */
 
 static void keep_schedule(struct bench_found *found)
 {
@@ -437,8 +433,6 @@ int bench_explore(void (*setup)(void), const struct bench_options *given)
 		*options.found = *found;
 	return found->first != 0;
 }
-
-/* ---- What a test calls. ---- */
 
 void bench_thread(const char *name, void (*body)(void *), void *arg)
 {

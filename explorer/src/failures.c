@@ -1,9 +1,8 @@
 /*
- * failures.c - calls that fail although memory is left, and waits that end although nobody ended them
+ * failures.c - calls that fail although memory is left, and waits that end although nobody ended them: failpoints, by the thread and its number there
  *
- * A failpoint is such a call or wait, by its thread and its number among that thread's failpoints. A plan is a few failpoints. In each of its runs exactly
- * these fail. The first plan is empty. A failpoint that is met and isn't in the plan makes a further plan, with that one too, unless it has too many. So each
- * failpoint that some schedule meets fails in all schedules that meet it.
+ * In each run of a plan exactly its failpoints fail. The first plan is empty. One that is met and isn't in the plan makes a further plan, with that one too,
+ * unless it has too many. So each failpoint that some schedule meets fails in all schedules that meet it.
  */
 #include "inside.h"
 
@@ -14,8 +13,6 @@ bool next_failure(void)
 	search->found.failures = ++search->plan;
 	return true;
 }
-
-/* ---- Chances. ---- */
 
 static int compare(const void *one, const void *other)
 {
@@ -63,8 +60,6 @@ bool bench_fails(void)
 	note_failure("fails");
 	return true;
 }
-
-/* ---- Waits that end early. ---- */
 
 void bench_may_end_early(bool signals)
 {

@@ -1,8 +1,6 @@
 /*
- * heap.c - the memory of a run
- *
- * Each thread takes memory from a part of its own, so that an address doesn't depend on the order of the threads. Nothing is used again in a run. What is given
- * back is filled, and looked at again at the end. Behind each block lies a fence.
+ * heap.c - the memory of a run: each thread takes it from a part of its own, so that an address doesn't depend on the order of the threads. Nothing is used
+ * again in a run. What is given back is filled, and looked at again at the end. Behind each block lies a fence.
  */
 #include <sys/mman.h>
 

@@ -1,11 +1,8 @@
 /*
- * locks.c - lock.c and the C library's threads, as the explorer has them
- *
- * A thread that waits names what it waits for; the scheduler asks that before it goes on with the thread. Nothing looks again and again.
+ * locks.c - lock.c and the C library's threads, as the explorer has them: a thread that waits names what it waits for, which the scheduler asks before it
+ * goes on with the thread
  */
 #include "inside.h"
-
-/* ---- Time. ---- */
 
 enum { DAY = 86400 };
 
@@ -81,8 +78,6 @@ void lock_release(uintptr_t *word, struct thread *me)
 	touch(ON_LOCK, word, 0, WRITES | RELEASES);
 	*word = 0;
 }
-
-/* ---- What threads wait in. ---- */
 
 struct sleepq *sleepq_of(const void *address)
 {

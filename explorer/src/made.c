@@ -41,8 +41,6 @@ WRAPPED(void, mutex_init, (kmutex_t *mutex, kmutex_type_t type, int level), (mut
 WRAPPED(void, cv_init, (kcondvar_t *cv, const char *name), (cv, name), track_made(__func__, cv))
 WRAPPED(void, rw_init, (krwlock_t *rw), (rw), track_made(__func__, rw))
 
-/* ---- Wake-ups. ---- */
-
 void track_wake(const char *call, const char *place, const void *cv, bool waited)
 {
 	struct thing *row = row_for(THINGS, (uintptr_t)cv);

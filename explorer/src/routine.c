@@ -57,8 +57,6 @@ bool is_on_stack(const struct routine *routine, const volatile void *at)
 	return (uintptr_t)at - (uintptr_t)stack_of(routine->number) < STACK;
 }
 
-/* ---- Switching. ---- */
-
 /* Leaves one stack, with what a call keeps: six registers, MXCSR and the control word of the x87. Goes on where another one was left. */
 void bench_switch(void **left, void *to);
 __asm__(".text\n"
@@ -138,8 +136,6 @@ void leave_run(enum end end)
 	bench_switch(&left, home);
 	_exit(2);
 }
-
-/* ---- The life of a thread. ---- */
 
 /* What has a name already is the test's. */
 static void begin_routine(void)

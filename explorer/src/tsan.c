@@ -1,7 +1,6 @@
 /*
- * tsan.c - the calls that gcc and clang make of loads and stores with -fsanitize=thread; the sanitizer's own library isn't linked
- *
- * Each plain access is told before it is made. An atomic access of the layer's headers has had its point; any other one gets it here.
+ * tsan.c - the calls that gcc and clang make of loads and stores with -fsanitize=thread, before each; the sanitizer's own library isn't linked. An atomic
+ * access of the layer's headers has had its point; any other one gets it here.
  */
 #include "inside.h"
 
@@ -24,8 +23,6 @@ void __tsan_func_entry(const void *caller)
 void __tsan_func_exit(void)
 {
 }
-
-/* ---- Plain accesses. ---- */
 
 #define ACCESS(name, size, writes) \
 	void __tsan_##name(void *at) \
@@ -76,8 +73,6 @@ void *__tsan_memset(void *to, int byte, size_t size)
 	access_plainly(to, size, true, PC);
 	return memset(to, byte, size);
 }
-
-/* ---- Atomic accesses. ---- */
 
 /* What an order of the language asks for: the point's words. */
 static unsigned order_of(int order)

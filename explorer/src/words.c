@@ -1,8 +1,6 @@
 /*
- * words.c - atomic accesses and barriers, and which step comes after which
- *
- * Each thread has a vector clock: what of the others' comes before it. Whoever gives something leaves its clock there, and whoever takes it joins that
- * with its own. Two accesses are ordered where the later thread's clock has the earlier one's.
+ * words.c - atomic accesses and barriers, and which step comes after which, by vector clocks: whoever gives something leaves its thread's clock there, and
+ * whoever takes it joins that with its own
  */
 #include "inside.h"
 
@@ -44,8 +42,6 @@ void inherit_clock(struct routine *made)
 	}
 	made->clock[made->number] = 1;
 }
-
-/* ---- The points. ---- */
 
 void kupaldiz_from(const char *place)
 {

@@ -1,8 +1,4 @@
-/*
- * xcalls.c - xcall(9) is asynchronous: a thread of the explorer's own goes to the CPUs, while the caller goes on until its xc_wait
- *
- * The thread makes one call after another, each by the layer's own xc_broadcast or xc_unicast.
- */
+/* xcalls.c - xcall(9) is asynchronous: a thread of the explorer's own goes to the CPUs, by the layer's own calls, while the caller goes on until its xc_wait */
 #include "inside.h"
 
 LAYER(uint64_t, xc_broadcast, (unsigned flags, xcfunc_t body, void *arg_a, void *arg_b));

@@ -1,9 +1,4 @@
-/*
- * callouts - callout(9) by the explorer's clock, in every order: when and where each callout runs, and what a halt waits
- * for and ends
- *
- * The last line counts the cases.
- */
+/* callouts - callout(9) by the explorer's clock, in every order: when and where each callout runs, and what a halt waits for and ends */
 #include <limits.h>
 
 #include "finds.h"
@@ -64,8 +59,6 @@ UNSEEN static void await_run(const struct timer *timer, unsigned runs, int from,
 	KASSERT(timer->runs == runs && timer->ran_at - from >= ticks);
 	late |= timer->ran_at - until > ticks;
 }
-
-/* ---- Times. ---- */
 
 /* Below one tick is one tick. */
 BODY(set_each)
@@ -153,8 +146,6 @@ UNSEEN BODY(keep_cpu)
 		KASSERT(timers[at].runs == 1 && timers[at].cpu == 2 && (!at_once || timers[at].after == each[at].after));
 	kupaldiz_unbind();
 }
-
-/* ---- Halts. ---- */
 
 /* The first call may be made anywhere. So may a halt that doesn't have to wait, and it keeps its lock. */
 BODY(use_inside)
@@ -254,8 +245,6 @@ BODY(set_meanwhile)
 	callout_reset(&timers[0].callout, 100, note_run, &timers[0]);
 	note_set();
 }
-
-/* ---- All of them. ---- */
 
 static void make_things(void) { mutex_init(&lock, MUTEX_DEFAULT, IPL_SOFTCLOCK); }
 static void end_lock(void) { mutex_destroy(&lock); }

@@ -1,8 +1,4 @@
-/*
- * drivers - the seven drivers of netbsd/examples, right as they are: no schedule of their threads breaks anything; nor do real threads, with threads.c
- *
- *     drivers [CASE [SCHEDULE]]
- */
+/* drivers [CASE [SCHEDULE]] - the seven drivers of netbsd/examples: no schedule of their threads breaks anything; nor do real threads, with threads.c */
 #include <errno.h>
 #include <sys/atomic.h>
 #include <sys/module.h>
@@ -181,8 +177,6 @@ static void begin_unload(void)
 	if (error == 0)
 		bench_thread("unload", unload, NULL);
 }
-
-/* ---- All of them. ---- */
 
 const struct driver_case driver_cases[] = {
 	{"bridge", make_bridge, bridge_fini, {{"broadcast", broadcast}, {"delete", delete_member, &first}}},

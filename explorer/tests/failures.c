@@ -1,9 +1,4 @@
-/*
- * failures - calls that fail, waits that end early, and works, hooks, soft interrupts and the parts of CPUs: what the bench finds by them, and that it
- * tries each
- *
- * The last line counts the cases.
- */
+/* failures - calls that fail, waits that end early, works, hooks, soft interrupts and the parts of CPUs: what the bench finds, and that it tries each */
 #include "finds.h"
 
 static kmutex_t lock;
@@ -14,8 +9,6 @@ static unsigned count;
 static void make_things(void) { mutex_init(&lock, MUTEX_DEFAULT, IPL_NONE); cv_init(&cv, "cv"); }
 static void end_lock(void) { cv_destroy(&cv); mutex_destroy(&lock); }
 HANDLER(nothing, (void)0)
-
-/* ---- Calls that fail. ---- */
 
 BODY(use_object)
 {
@@ -62,8 +55,6 @@ BODY(use_two_blocks)
 	if (two != NULL)
 		kmem_free(two, 8);
 }
-
-/* ---- Waits that end early. ---- */
 
 BODY(wait_once)
 {

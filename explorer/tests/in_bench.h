@@ -16,8 +16,6 @@
 #include "../bench.h"
 #include "../../c/examples/expect.h"
 
-/* ---- Threads. ---- */
-
 enum { MOST_STARTED = 8 };
 
 static struct started {
@@ -53,8 +51,6 @@ static inline void end_thread(pthread_t thread)
 }
 
 #include "../../netbsd/tests/cases.h"
-
-/* ---- Cases. ---- */
 
 static void (*begin_case)(void);
 static void (*body_of_case)(void);

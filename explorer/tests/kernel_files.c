@@ -1,8 +1,4 @@
-/*
- * kernel_files - the files of netbsd/examples/kernel, in the idiom of the kernel's own: no schedule of their threads breaks them, nor does a failure
- *
- *     kernel_files [CASE [SCHEDULE]]
- */
+/* kernel_files [CASE [SCHEDULE]] - the files of netbsd/examples/kernel: no schedule of their threads breaks them, nor does a failure */
 #include "../../netbsd/examples/kernel/if.c"
 #include "../../netbsd/examples/kernel/if_bridge.c"
 #include "../../netbsd/examples/kernel/key.c"

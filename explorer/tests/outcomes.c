@@ -125,12 +125,6 @@ UNSEEN static void end_softint(unsigned thread, bool frees)
 	own_softints[thread] = NULL;
 }
 
-UNSEEN static void schedule_own(unsigned thread)
-{
-	if (own_softints[thread] != NULL)
-		softint_schedule(own_softints[thread]);
-}
-
 /* Acquires a local reference where the count isn't drained, and looks at a word while it has it. */
 static void count_in(unsigned thread)
 {
@@ -181,13 +175,6 @@ static void use_target(unsigned thread)
 	curlwp_bindx(bound);
 }
 
-static void end_target(void)
-{
-	atomic_store_release(&gone, true);
-	pserialize_perform(psz);
-	psref_target_destroy(&target, things);
-}
-
 HANDLER(store_and_exit, atomic_store_relaxed(&words[1], 24); *(unsigned *)arg = cpu_number() + 1; kthread_exit(0))
 
 /* Has a thread that it makes store a word, looks at another word meanwhile, and waits for its end. */
@@ -232,12 +219,6 @@ static void store_value(void *value, void *other)
 {
 	(void)other;
 	atomic_store_relaxed(&words[0], *(const unsigned *)value);
-}
-
-/* Has a CPU store a word. */
-static void call_cpu(unsigned value)
-{
-	xc_wait(xc_unicast(0, store_value, &value, NULL, kupaldiz_cpu(0)));
 }
 
 static void look_at(void *own, void *arg, struct cpu_info *cpu)
@@ -305,7 +286,7 @@ UNSEEN static void execute(unsigned thread, char letter, unsigned value)
 	case 'r': case 'W': rw_enter(&rw, letter == 'r' ? RW_READER : RW_WRITER); has_rw[thread] = true; break;
 	case '|': if (has_rw[thread]) rw_exit(&rw); break;
 	case 'g': use_target(thread); break;
-	case 'D': end_target(); break;
+	case 'D': atomic_store_release(&gone, true); pserialize_perform(psz); psref_target_destroy(&target, things); break;
 	case 'h': case 'I': break;
 	case 'i': softint_schedule(softints[STORES].cookie); break;
 	case 'o': callout_reset(&callout, 1, ring, NULL); break;
@@ -318,7 +299,7 @@ UNSEEN static void execute(unsigned thread, char letter, unsigned value)
 	case 'v': observe(thread, (unsigned)getticks()); break;
 	case 'T': wait_for_a_tick(thread); break;
 	case 'S': cv_signal(&cv); break;
-	case 'j': schedule_own(thread); break;
+	case 'j': if (own_softints[thread] != NULL) softint_schedule(own_softints[thread]); break;
 	case 'e': end_softint(thread, false); break;
 	case 'f': end_softint(thread, true); break;
 	case 'l': (void)splnet(); break;
@@ -363,7 +344,7 @@ UNSEEN static void execute(unsigned thread, char letter, unsigned value)
 	case '%': localcount_release(&local, &cv, &locks[1]); break;
 	case '&': bind_anywhere(thread); break;
 	case '=': kupaldiz_unbind(); break;
-	case '~': call_cpu(value); break;
+	case '~': xc_wait(xc_unicast(0, store_value, &value, NULL, kupaldiz_cpu(0))); break;
 	case '?': pool_put(&pool, pooled); break;
 	case '*': pool_destroy(&pool); break;
 	case '/': use_cache(thread); break;
@@ -649,14 +630,6 @@ static time_t now(void)
 	return time.tv_sec;
 }
 
-static void print_counts(void)
-{
-	if (seconds > 0)
-		printf("in %u seconds ", seconds);
-	printf("%u programs have the same outcomes by %llu schedules as by %llu; %u of them a fault; of %u others a part was compared; %u were too long\n",
-	    compared, reduceds, wholes, faults, begun, skipped);
-}
-
 int main(int count_of_words, char **given)
 {
 	const char *how = count_of_words == 4 ? given[1] : "";
@@ -676,6 +649,9 @@ int main(int count_of_words, char **given)
 	if (prints || reduced_alone)
 		return 0;
 	EXPECT(2 * faults < compared);
-	print_counts();
+	if (seconds > 0)
+		printf("in %u seconds ", seconds);
+	printf("%u programs have the same outcomes by %llu schedules as by %llu; %u of them a fault; of %u others a part was compared; %u were too long\n",
+	    compared, reduceds, wholes, faults, begun, skipped);
 	return 0;
 }

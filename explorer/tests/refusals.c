@@ -1,8 +1,4 @@
-/*
- * refusals - what the bench refuses: each ends its process with status 2, after one line
- *
- * The last line counts the cases.
- */
+/* refusals - what the bench refuses: each ends its process with status 2, after one line */
 #include "../bench.h"
 #include "../../c/examples/expect.h"
 #include "../../netbsd/tests/bodies.h"
@@ -12,8 +8,6 @@
 static kmutex_t one, two;
 static unsigned word, other;
 
-/* ---- What is called outside of bench_explore. ---- */
-
 HANDLER(one_two, mutex_enter(&one); mutex_enter(&two); mutex_exit(&two); mutex_exit(&one))
 HANDLER(two_one, mutex_enter(&two); mutex_enter(&one); mutex_exit(&one); mutex_exit(&two))
 
@@ -22,8 +16,6 @@ static void thread_outside(void) { bench_thread("lost", one_two, NULL); }
 static void atomic_outside(void) { atomic_inc_uint(&word); }
 static void outcome_outside(void) { bench_outcome("%u", word); }
 static void no_setup(void) { bench_explore(NULL, NULL); }
-
-/* ---- Setups. ---- */
 
 static void two_orders(void)
 {

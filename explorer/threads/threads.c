@@ -98,20 +98,15 @@ static void *run_thread(void *of)
 	return NULL;
 }
 
-static void start_all(void)
-{
-	for (unsigned at = 0; at < thread_count; at++)
-		if (pthread_create(&threads[at].thread, NULL, run_thread, &threads[at]) != 0)
-			_exit(3);
-}
-
 /* What a run does in its process. */
 static void run(void (*setup)(void), const struct bench_options *options)
 {
 	alarm(5);
 	setup();
 	pthread_barrier_init(&begin, NULL, thread_count);
-	start_all();
+	for (unsigned at = 0; at < thread_count; at++)
+		if (pthread_create(&threads[at].thread, NULL, run_thread, &threads[at]) != 0)
+			_exit(3);
 	for (unsigned at = 0; at < thread_count; at++)
 		pthread_join(threads[at].thread, NULL);
 	if (options->finish != NULL)

@@ -1,8 +1,4 @@
-/*
- * callout.c - callout(9)
- *
- * One thread waits for the next time, and then schedules a soft interrupt on the CPU of the callout. That runs what is due there.
- */
+/* callout.c - callout(9): one thread waits for the next time, and schedules a soft interrupt on the callout's CPU, which runs what is due there */
 #include "layer.h"
 
 enum { PENDING = 1, FIRED = 2, INVOKING = 4, TOLD = 8 };

@@ -1,8 +1,6 @@
 /* kernel.c - assertions, panic(9), kpause(9), kthread(9) and copy_user(9) */
 #include "layer.h"
 
-/* ---- Assertions. ---- */
-
 void panic(const char *format, ...)
 {
 	char text[256];
@@ -30,8 +28,6 @@ void kupaldiz_failed_with(const char *place, const char *text, const char *forma
 }
 
 void kupaldiz_assert_sleepable(void) { require_sleepable(begin_call("ASSERT_SLEEPABLE")); }
-
-/* ---- Time. ---- */
 
 /* The clock that nobody sets, in nanoseconds. */
 int64_t now(void)

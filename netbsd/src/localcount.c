@@ -32,8 +32,6 @@ static void require_same(struct thread *me, struct row *row, const kcondvar_t *c
 	row->cv = cv;
 }
 
-/* ---- The stack of references. ---- */
-
 static size_t held_count(struct row *row, const char **place)
 {
 	pthread_mutex_lock(&row->lock);
@@ -62,8 +60,6 @@ static void pop(struct thread *me, struct row *row, struct registry_local *refer
 	*reference = row->held[--row->count].local;
 	pthread_mutex_unlock(&row->lock);
 }
-
-/* ---- Acquiring and releasing. ---- */
 
 /* Acquires a reference on a CPU of the registry's, in a section of its own or in the one that is open. */
 static uint32_t acquire_on(struct thread *me, struct registry_cpu *handle, const struct row *row, struct registry_local *reference)
@@ -123,8 +119,6 @@ void localcount_release(struct localcount *lc, kcondvar_t *cv, kmutex_t *interlo
 		must_succeed(me, answer);
 	end_call(me);
 }
-
-/* ---- Draining. ---- */
 
 static void report_wait(struct thread *me, struct row *row, const struct registry_stage *met)
 {

@@ -1,8 +1,8 @@
 /*
  * lock.c - a lock that knows its owner, where threads wait, and the pauses of a wait
  *
- * A lock is one word: its owner, and a bit that says that somebody waits. Taking and giving a lock that nobody waits for is one atomic step. Whoever
- * waits is in the sleep queue of the lock's address, in the order of arrival.
+ * A lock is one word. Taking and giving one that nobody waits for is one atomic step. Whoever waits is in the sleep queue of the lock's address, in the order
+ * of arrival.
  */
 #include "layer.h"
 

@@ -127,8 +127,6 @@ static void forget_reference(struct thread *me, struct reference *reference)
 	me->references--;
 }
 
-/* ---- Acquiring and releasing. ---- */
-
 static void require_bound(const struct thread *me)
 {
 	stop_if(me, !is_bound(me) && me->preemptions == 0, "the thread is not bound to a CPU");
@@ -243,8 +241,6 @@ bool psref_held(const struct psref_target *target, struct psref_class *psref_cla
 	return held;
 }
 
-/* ---- The end of a target. ---- */
-
 /* Stops where this thread has a reference to the target: nobody else could release it. */
 static void require_none_of_own(struct thread *me, const struct psref_target *target)
 {
@@ -281,8 +277,6 @@ void psref_target_destroy(struct psref_target *target, struct psref_class *psref
 	sweep_banks(me);
 	end_wait(waits);
 }
-
-/* ---- Lines. ---- */
 
 /* What a CPU's table says of a target. Whether it says something. The caller has that CPU. */
 static bool describe(const struct cpu *cpu, const struct psref_target *target, char *text, size_t room)

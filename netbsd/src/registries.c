@@ -20,8 +20,6 @@ static struct registry_cpu *handle(struct bank *bank, unsigned cpu)
 struct registry_cpu *writers(struct bank *bank) { return handle(bank, WRITERS); }
 struct registry_cpu *handle_of(struct thread *me, struct bank *bank) { return handle(bank, me->cpu->info.ci_index); }
 
-/* ---- Opening. ---- */
-
 static void open_registry(struct thread *me, struct bank *bank)
 {
 	const struct registry_settings settings = {
@@ -120,8 +118,6 @@ void sweep_banks(struct thread *me)
 	}
 }
 
-/* ---- Rows. ---- */
-
 /* A name that no entry had before: a letter, and the digits of the serial. */
 static struct registry_name name_for(struct thread *me, uint64_t serial)
 {
@@ -217,8 +213,6 @@ bool try_free_row(struct thread *me, struct found_row at, struct registry_stage 
 	return answer == REGISTRY_DONE;
 }
 
-/* ---- Sections. ---- */
-
 /* Takes another bank for the sections of this thread's CPU, since those of the one before are used up. */
 static void move_sections(struct thread *me)
 {
@@ -245,8 +239,6 @@ void exit_section(struct thread *me)
 	COMES_BEFORE(&me->cpu->edge);
 	must_succeed(me, registry_exit(handle_of(me, me->cpu->bank)));
 }
-
-/* ---- Waits. ---- */
 
 /* One turn of a wait in a bank: whether all sections that were open as it began have ended. */
 static bool poll_wait(struct thread *me, struct bank *bank, struct registry_wait *wait, uint64_t *waited)

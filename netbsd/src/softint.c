@@ -17,8 +17,6 @@ pthread_cond_t pending_changed = PTHREAD_COND_INITIALIZER;
 static struct softint *softints;
 static struct softint *queues[KUPALDIZ_CPUS][LEVELS];	/* the first that waits, in the order in which they were scheduled */
 
-/* ---- Levels. ---- */
-
 /* The CPU's level is at least this one. The level before. */
 int raise_level(struct thread *me, int level)
 {
@@ -51,8 +49,6 @@ void splx(int level)
 		lower_level(me, level);
 	end_call(me);
 }
-
-/* ---- Handlers. ---- */
 
 /* Writes down which levels of a CPU have a soft interrupt that may run next: one that waits, unless another handler of the level waits for a lock; or such
  * a handler, once it has the lock. The caller has the list. */
@@ -122,8 +118,6 @@ bool run_softint(struct thread *me, int level)
 	pthread_mutex_unlock(&pending_list);
 	return true;
 }
-
-/* ---- softint(9). ---- */
 
 void *make_softint(unsigned flags, void (*handler)(void *), void *arg)
 {

@@ -131,8 +131,6 @@ void end_of_thread(struct thread *me)
 		reuse_thread(me);
 }
 
-/* ---- Having a CPU. ---- */
-
 void move_to(struct thread *me, struct cpu *cpu)
 {
 	me->cpu = cpu;
@@ -196,8 +194,6 @@ void report_cpu_wait(struct thread *me, const uintptr_t *word)
 	report(me, "waits for CPU %u, whose thread \"%s\" %s%s", cpu->info.ci_index, NAME_OF(owner),
 	    entered == NULL ? "keeps it" : "is inside a read section, entered", AT_PLACE(entered));
 }
-
-/* ---- The calls. ---- */
 
 struct lwp *kupaldiz_curlwp(void) { return &begin_plain("curlwp")->lwp; }
 

@@ -1,7 +1,5 @@
 /*
- * workqueue.c - workqueue(9)
- *
- * A queue has a lock, a condition variable and a thread, which runs one work after another without the lock. A work's memory isn't touched once its
+ * workqueue.c - workqueue(9): the thread of a queue runs one work after another without the queue's lock. A work's memory isn't touched once its
  * function is called, which may have freed it. The condition variable tells of a work for the thread, and of an end for those who wait.
  */
 #include "layer.h"
@@ -26,8 +24,6 @@ struct workqueue {
 	unsigned count;	/* of queues: one, or one for each CPU */
 	struct queue queues[];
 };
-
-/* ---- The thread of a queue. ---- */
 
 /* Does the first work. The lock is free meanwhile. */
 static void run_first_work(struct thread *me, struct queue *queue)
@@ -68,8 +64,6 @@ static void *run_queue(void *of)
 	release_mutex(me, &queue->lock);
 	return NULL;
 }
-
-/* ---- Making and ending queues. ---- */
 
 static int begin_queue(struct thread *me, struct queue *queue, int level)
 {
@@ -135,8 +129,6 @@ void workqueue_destroy(struct workqueue *all)
 	struct thread *me = sleepable(begin_call(__func__));
 	end_queues(me, all, all->count);
 }
-
-/* ---- Works. ---- */
 
 static bool is_enqueued(const struct queue *queue, const struct work *work)
 {

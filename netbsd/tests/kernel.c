@@ -1,8 +1,4 @@
-/*
- * kernel - the calls beside the three pages, as far as one thread and those that it makes see them
- *
- * It is compiled as a driver's file is. The bench runs it too: explorer/tests/named.c.
- */
+/* kernel - the calls beside the three pages. It is compiled as a driver's file is, and the bench runs it too: explorer/tests/named.c. */
 #include <sys/param.h>
 #include <sys/atomic.h>
 #include <sys/container_of.h>
@@ -51,15 +47,6 @@ static void test_levels(void)
 
 /* ---- mutex(9): which lock spins, by its type or by its level, and its CPU's level meanwhile. ---- */
 
-static void test_mutex(kmutex_type_t type, int level, int raised)
-{
-	mutex_init(&lock, type, level);
-	EXPECT(mutex_tryenter(&lock) == 1 && mutex_owned(&lock) && kpreempt_disabled() == (raised != IPL_NONE) && level_now() == raised);
-	mutex_exit(&lock);
-	EXPECT(!kpreempt_disabled());
-	mutex_destroy(&lock);
-}
-
 static void test_mutexes(void)
 {
 	static const struct {
@@ -69,8 +56,13 @@ static void test_mutexes(void)
 	    {MUTEX_DEFAULT, IPL_HIGH, IPL_HIGH}, {MUTEX_DRIVER, IPL_SOFTBIO, IPL_NONE}, {MUTEX_DRIVER, IPL_BIO, IPL_BIO},
 	    {MUTEX_ADAPTIVE, IPL_NONE, IPL_NONE}, {MUTEX_NODEBUG, IPL_SCHED, IPL_SCHED}, {MUTEX_SPIN, IPL_NONE, IPL_VM},
 	    {MUTEX_SPIN, IPL_SOFTNET, IPL_SOFTNET}};
-	for (unsigned at = 0; at < __arraycount(each); at++)
-		test_mutex(each[at].type, each[at].level, each[at].raised);
+	for (unsigned at = 0; at < __arraycount(each); at++) {
+		mutex_init(&lock, each[at].type, each[at].level);
+		EXPECT(mutex_tryenter(&lock) == 1 && mutex_owned(&lock) && kpreempt_disabled() == (each[at].raised != IPL_NONE) && level_now() == each[at].raised);
+		mutex_exit(&lock);
+		EXPECT(!kpreempt_disabled());
+		mutex_destroy(&lock);
+	}
 }
 
 /* ---- kmem(9), pool(9), pool_cache(9). ---- */

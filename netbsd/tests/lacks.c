@@ -1,8 +1,6 @@
 /*
  * lacks - memory, threads and keys that run out: a call that can say so does, and any other ends its process with its line. What was given back is
- * told, even if the heap uses it again.
- *
- * The linker leads what the layer asks the C library for here (--wrap). Each case runs in a child. The last line counts the cases.
+ * told, even if the heap uses it again. The linker leads what the layer asks the C library for here (--wrap).
  */
 #include "stops.h"
 #include "wraps.h"
@@ -111,8 +109,6 @@ static void require_no_threads(void)
 }
 STOPS("panic: threads were told to be out, at PLACE", require_no_threads(); panic("threads were told to be out"))
 
-/* ---- What was given back. ---- */
-
 STOPS("kmem_free: no block of kmem's, or one that was given back, at PLACE",
     void *block = kmem_alloc(32, KM_SLEEP); keeps = true; kmem_free(block, 32); kmem_free(block, 32))
 STOPS("pool_put: no object of thingpl, or one that was given back, at PLACE",
@@ -121,8 +117,6 @@ STOPS("pool_put: no object of thingpl, or one that was given back, at PLACE",
 STOPS("pool_cache_put: no object of thingpl, or one that was given back, at PLACE",
     pool_cache_t cache = pool_cache_init(24, 0, 0, 0, "thingpl", NULL, IPL_NONE, NULL, NULL, NULL); void *object = pool_cache_get(cache, PR_WAITOK);
     keeps = true; pool_cache_put(cache, object); pool_cache_put(cache, object))
-
-/* ---- Other misuses. ---- */
 
 STOPS("percpu_create: inside a read section, entered at PLACE", pserialize_read_enter(); percpu_create(8, NULL, NULL, NULL))
 /* More than all memory, by itself, and once it is there for each CPU. */

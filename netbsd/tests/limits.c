@@ -230,23 +230,19 @@ static void leave_all(void)
 		EXPECT(registry_enter(&cpus[0].bank->cpus[0].cpu) == REGISTRY_DONE);
 }
 
-/* The handles of a count's registry are empty, and so are those of its references. */
-static void require_closed(struct found_row at)
-{
-	EXPECT(registry_close_keeper(&at.bank->keeper) == REGISTRY_EMPTY_HANDLE);
-	for (unsigned cpu = 0; cpu < ALL_CPUS; cpu++)
-		EXPECT(registry_close_cpu(&at.bank->cpus[cpu].cpu) == REGISTRY_EMPTY_HANDLE);
-	for (unsigned place = 0; place < LEFT; place++)
-		EXPECT(registry_local_forget(&at.row->held[place].local) == REGISTRY_EMPTY_HANDLE);
-}
-
+/* The handles of each count's registry are empty then, and so are those of its references. */
 static void test_close(void)
 {
 	struct thread nobody = {.call = "closing"};
 	leave_all();
 	close_banks(&nobody);
-	for (unsigned i = 0; i < LIVE; i++)
-		require_closed(found[i]);
+	for (unsigned i = 0; i < LIVE; i++) {
+		EXPECT(registry_close_keeper(&found[i].bank->keeper) == REGISTRY_EMPTY_HANDLE);
+		for (unsigned cpu = 0; cpu < ALL_CPUS; cpu++)
+			EXPECT(registry_close_cpu(&found[i].bank->cpus[cpu].cpu) == REGISTRY_EMPTY_HANDLE);
+		for (unsigned place = 0; place < LEFT; place++)
+			EXPECT(registry_local_forget(&found[i].row->held[place].local) == REGISTRY_EMPTY_HANDLE);
+	}
 }
 
 int main(int argc, char **argv)

@@ -1,6 +1,4 @@
-/*
- * locks - the locks beside the three pages: what each guards, levels, conditions, and many that wait
- */
+/* locks - the locks beside the three pages: what each guards, levels, conditions, and many that wait */
 #include "test.h"
 #include "things.h"
 
@@ -19,8 +17,6 @@ static void run_all(void *(*body)(void *))
 	for (unsigned i = 0; i < THREADS; i++)
 		end_thread(threads[i]);
 }
-
-/* ---- Locks. ---- */
 
 static void *add_locked(void *arg)
 {
@@ -157,8 +153,6 @@ static void test_condvars(void)
 	EXPECT(!kpreempt_disabled());
 }
 
-/* ---- The queue of a condition variable. ---- */
-
 enum { WAITERS = 4, LONG = 20 };
 
 static kcondvar_t other_cv;
@@ -217,8 +211,6 @@ static void test_order(unsigned of, unsigned wanted)
 	for (unsigned i = 0; i < WAITERS; i++)
 		end_thread(threads[i]);
 }
-
-/* ---- Many that wait. ---- */
 
 /* More locks and condition variables than the layer has places to wait in: some share one. */
 enum { CROWD = 80 };

@@ -1,8 +1,4 @@
-/*
- * misuses - what the manual pages forbid and a call sees: each case ends its process with its line
- *
- * The explorer runs them, too, except those of misuses_of_threads.c. The last line counts the cases.
- */
+/* misuses - what the manual pages forbid and a call sees: each case ends its process with its line. The explorer runs them, too. */
 #include "stops.h"
 #include "things.h"
 
@@ -558,12 +554,6 @@ static void judge_call(void (*body)(void), const char *subject, const char *reas
 	judge_case(begin, &(const struct stop_case){body, line, false});
 }
 
-static void judge_sleeper(void)
-{
-	for (unsigned at = 0; at < sizeof(states) / sizeof(states[0]); at++)
-		judge_call(states[at].body, "", states[at].reason);
-}
-
 /* ---- Each call that is given a lock, a condition variable or a callout, with one that was never initialised, and with one that was destroyed. ---- */
 
 USES(A_LOCK, PLACED, mutex_destroy, (&no_lock))
@@ -613,18 +603,15 @@ static const struct kind {
 static void use_never_made(void) { make_locked(); made->body(); }
 static void use_destroyed(void) { kinds[made->what].destroy(); use_never_made(); }
 
-static void judge_user(void)
-{
-	judge_call(use_never_made, kinds[made->what].name, " was never initialised");
-	judge_call(use_destroyed, kinds[made->what].name, " was destroyed");
-}
-
 int main(void)
 {
 	snprintf(beyond, sizeof(beyond), "kupaldiz_bind: there is no CPU %d, at PLACE", KUPALDIZ_CPUS);
 	for (made = sleepers; made < &sleepers[sleepers_count]; made++)
-		judge_sleeper();
-	for (made = users; made < &users[users_count]; made++)
-		judge_user();
+		for (unsigned at = 0; at < sizeof(states) / sizeof(states[0]); at++)
+			judge_call(states[at].body, "", states[at].reason);
+	for (made = users; made < &users[users_count]; made++) {
+		judge_call(use_never_made, kinds[made->what].name, " was never initialised");
+		judge_call(use_destroyed, kinds[made->what].name, " was destroyed");
+	}
 	return run_cases(begin);
 }

@@ -1,11 +1,8 @@
 /*
  * model SEED STEPS - random programs of several threads against a model of pserialize(9), psref(9) and localcount(9)
  *
- * Threads look objects up, nest sections, acquire, copy and release passive references, acquire local references and hand them on, schedule soft
- * interrupts, and take objects out. The model counts beside the layer: which sections are open, and how many references of each kind an object has. It
- * says what must hold when a call returns. A CPU has one thread's section at a time. After a perform each section that was open has ended. After a destroy
- * or a drain no reference is held. What was copied is held, and what is reached is not freed. An object's words are plain memory, so that the thread sanitizer, too, judges the order
- * between the last use and the free.
+ * The model counts beside the layer which sections are open, and how many references of each kind an object has, and says what must hold when a call
+ * returns. An object's words are plain memory, so that the thread sanitizer, too, judges the order between the last use and the free.
  */
 #include "test.h"
 #include "things.h"
@@ -49,8 +46,6 @@ static unsigned below(struct actor *actor, unsigned bound)
 
 static void judge(const struct object *object) { EXPECT(object->state == LIVE && object->place < OBJECTS); }
 
-/* ---- Sections. ---- */
-
 static int enter(struct actor *actor)
 {
 	int s = pserialize_read_enter();
@@ -79,8 +74,6 @@ static struct object *meet(struct actor *actor)
 		judge(object);
 	return object;
 }
-
-/* ---- References. ---- */
 
 /* A place of the actor's that is free, or is not. MOST_HELD where there is none. */
 static unsigned find_place(struct actor *actor, bool taken)
@@ -207,8 +200,6 @@ BODY(interrupt)
 	atomic_fetch_add(&interrupts, 1);
 }
 
-/* ---- The writer. ---- */
-
 static struct object *new_object(unsigned place)
 {
 	struct object *object = calloc(1, sizeof(*object));
@@ -282,8 +273,6 @@ static void replace(struct actor *actor)
 	sweep(object);
 	end_object(actor, object);
 }
-
-/* ---- The program. ---- */
 
 static void step(struct actor *actor)
 {

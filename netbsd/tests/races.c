@@ -1,8 +1,6 @@
 /*
  * races - what orders the threads that have passive references, as the detector of races sees it: the CPU that two share, and the release that a destroy
- * waits for
- *
- * The threads wait for each other by steps that order nothing. Over a layer whose registries have four rows, forty changes and two thousand references.
+ * waits for. They wait for each other by steps that order nothing, over registries of four rows, forty changes and two thousand references.
  */
 #include "test.h"
 #include "things.h"

@@ -1,7 +1,4 @@
-/*
- * softints - soft interrupts run on the CPU that scheduled them: between two calls of the thread that has it, inside its section too, and at once
- * where nobody has it; levels keep them off; one that waits for a lock lets the thread go on; a thread offers its CPU at the end of each call
- */
+/* softints - where and when soft interrupts run: levels, locks that a handler waits for, and the calls at whose end a thread offers its CPU */
 #include "test.h"
 #include "things.h"
 

@@ -1,9 +1,6 @@
 /*
- * threads - what the layer keeps of threads, and the CPU that a thread gets: memory that is used again, and never by two at once; a thread of
- * kthread_create's until its join; destructors that still give something back, and cancellation; locks that go with their object, or are passed; the CPU that
- * is free, or has the fewest bound threads
- *
- * The linker leads pthread_mutex_unlock here (--wrap).
+ * threads - the memory and the CPU that a thread gets; its end: joins, destructors that still give something back, and cancellation; locks that go with
+ * their object, or are passed. The linker leads pthread_mutex_unlock here (--wrap).
  */
 #include "test.h"
 
@@ -11,8 +8,6 @@
 #include "things.h"
 
 #include "src/layer.h"
-
-/* ---- Memory of threads. ---- */
 
 /* A thread that has just begun ran nowhere, and isn't bound, though it has the memory of one that was. */
 static void *be_bound(void *kept)
@@ -73,8 +68,6 @@ static void test_end(void)
 	end_thread(thread);
 	EXPECT(is_over);
 }
-
-/* ---- Threads of kthread_create's. ---- */
 
 /* What such a thread is to itself. */
 static _Atomic(lwp_t *) itself;
@@ -255,8 +248,6 @@ static void test_cancelled(void (**wait)(void))
 	pserialize_read_exit(pserialize_read_enter());
 }
 
-/* ---- A lock that goes with its object. ---- */
-
 /* Whether a thread waits for the lock: its word says so. */
 static bool is_waited_for(const kmutex_t *mutex) { return (__atomic_load_n(&mutex->mtx_word, __ATOMIC_RELAXED) & 1) != 0; }
 
@@ -295,8 +286,6 @@ static void test_gone(int level)
 	EXPECT(s == IPL_NONE);
 	splx(s);
 }
-
-/* ---- A lock that is passed. ---- */
 
 enum { ATTEMPTS = 30, MOST_TURNS = 10 };
 
@@ -342,8 +331,6 @@ static void test_passed(void)
 	}
 	EXPECT(most >= 2);
 }
-
-/* ---- CPUs. ---- */
 
 /* A thread that has one CPU. */
 static struct keeper {

@@ -1,7 +1,4 @@
-/*
- * times - time by the system's clock: which tick it is, and that delays, pauses and waits for a condition variable last as long as they say, whatever second
- * begins meanwhile, and although signals come to the process
- */
+/* times - ticks, delays, pauses and waits last as long as they say by the system's clock, whatever second begins, and although signals come */
 #include <signal.h>
 
 #include "test.h"
