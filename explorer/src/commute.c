@@ -28,12 +28,9 @@ static bool clash(const struct access *one, const struct access *other)
 	return one->address == other->address && (one->cpu == other->cpu || one->cpu == ANY || other->cpu == ANY);
 }
 
-/*
- * How a step is to a later one: they commute; they never change places; it does nothing to the later one but enable it; or they conflict otherwise
- *
- * A step that enables another one is no race with it: a step ACQUIRES only what its thread waits for before it does anything, and so the two can't change
- * places. Who asks the thread of xcall(9) for a second call enables it anew, and changes nothing of the first.
- */
+/* How a step is to a later one: they commute; they never change places; it does nothing to the later one but enable it; or they conflict otherwise. A step
+ * that enables another one is no race with it: a step ACQUIRES only what its thread waits for before it does anything, and so the two can't change
+ * places. Who asks the thread of xcall(9) for a second call enables it anew, and changes nothing of the first. */
 enum relation { COMMUTE, ORDERED, ENABLES, CONFLICTS };
 
 static enum relation relation_of_accesses(const struct access *first, const struct access *second)
@@ -114,11 +111,7 @@ static uint32_t initials(unsigned earlier, unsigned later)
 	return found;
 }
 
-/*
- * Adds a backtrack point to the earlier step, unless a thread is planned there that leads to the later step without it
- *
- * One that is asleep there needs none: what begins with it was tried.
- */
+/* Plans a thread at the earlier step that leads to the later one without it, unless one is planned, or asleep there: what begins with that was tried. */
 static void add_backtrack_point(unsigned earlier, unsigned later)
 {
 	struct step *step = &search->steps[earlier];
@@ -139,12 +132,8 @@ static bool was_enabled(unsigned earlier, unsigned later, int before)
 	return (search->steps[earlier].enabled >> step->chosen & 1) != 0;
 }
 
-/*
- * Sets a step among the first `upto`. The races that it has, in a list: how many.
- *
- * `covered` has what comes before a race at which the step's thread was enabled: once the two have changed places, the search looks back further. A step
- * that was never made comes after no barrier.
- */
+/* Sets a step among the first `upto`. The races that it has, in a list: how many. `covered` has what comes before a race at which the step's thread was
+ * enabled: once the two have changed places, the search looks back further. A step that was never made comes after no barrier. */
 static unsigned order_step(unsigned at, unsigned upto, unsigned *races)
 {
 	struct step *step = &search->steps[at];

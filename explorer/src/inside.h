@@ -30,7 +30,7 @@ enum kind {
 	ON_XCALL,	/* the queue of calls of xcall(9) */
 	ON_BOUND,	/* how many threads are bound to a CPU */
 	ON_TIME,
-	ON_DEADLINE,	/* of a thread: the clock's next step depends on them all */
+	ON_DEADLINE,	/* of a thread, or with ANY of all: the clock's next step depends on them */
 	ON_WAKE		/* of a thread that waits */
 };
 
@@ -317,7 +317,6 @@ void point(const char *call, const char *place, guard_fn *guard, const void *of)
 void wait_here(guard_fn *guard, const void *of);
 void touch(enum kind kind, const volatile void *address, unsigned cpu, unsigned how);
 void touch_memory(const volatile void *address, size_t size, unsigned how);
-void touch_deadlines(unsigned thread, unsigned how);
 void make_barrier(void);
 void find_races_at_end(void);
 void start_routines(void);

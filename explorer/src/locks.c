@@ -105,7 +105,7 @@ bool was_woken(const struct routine *me)
 static void set_deadline(struct routine *me, int64_t deadline)
 {
 	if (deadline != me->deadline)
-		touch_deadlines(me->number, WRITES);
+		touch(ON_DEADLINE, NULL, me->number, WRITES);
 	me->deadline = deadline;
 }
 

@@ -49,12 +49,6 @@ void touch_memory(const volatile void *address, size_t size, unsigned how)
 	record_access((struct access){(uintptr_t)address, (uint32_t)size, 0, ON_MEMORY, (uint8_t)how});
 }
 
-/* A thread's deadline, or with ANY all of them. */
-void touch_deadlines(unsigned thread, unsigned how)
-{
-	touch(ON_DEADLINE, NULL, thread, how);
-}
-
 /* All that ran comes before the step, and all that will run after it. */
 void make_barrier(void)
 {
@@ -112,11 +106,8 @@ static unsigned next_after(unsigned number, uint32_t mask)
 	return lowest(above != 0 ? above : mask);
 }
 
-/*
- * Those of another step that sleep here, too: what they would do commutes with what was done
- *
- * The clock never sleeps: where no thread is enabled it doesn't hurry, which is another step. To let fewer threads sleep tries more, and leaves nothing out.
- */
+/* Those of another step that sleep here, too: what they would do commutes with what was done. The clock never sleeps: where no thread is enabled it doesn't
+ * hurry, which is another step. To let fewer threads sleep tries more, and leaves nothing out. */
 static void inherit_sleep_set(const struct step *before, struct step *step)
 {
 	uint32_t candidates = (before->sleeping | before->explored) & ~bit(before->chosen) & ~bit(CLOCK);
@@ -171,11 +162,8 @@ static void count_hurried(uint32_t enabled)
 
 static const struct set ticking = {.count = 2, .of = {{.size = 1, .kind = ON_TIME, .how = WRITES}, {.size = 1, .kind = ON_DEADLINE, .cpu = ANY}}};
 
-/*
- * The run ends after its first `upto` steps, well or cut short: what is disabled then of the clock and the soft interrupts may race with one of them
- *
- * A thread that waits for a lock, a wake-up or its CPU needs nothing here: it goes on in each run that isn't cut, and its step has its races there.
- */
+/* The run ends after its first `upto` steps, well or cut short: what is disabled then of the clock and the soft interrupts may race with one of them. A thread
+ * that waits for a lock, a wake-up or its CPU needs nothing here: it goes on in each run that isn't cut, and its step has its races there. */
 static void find_races_of_all_disabled(unsigned upto)
 {
 	if (!clock_may_jump() && run.ticks < options.ticks)
@@ -281,7 +269,7 @@ static void tick(uint32_t enabled)
 	run.ticks += enabled != bit(CLOCK);
 	run.time = next_time();
 	touch(ON_TIME, NULL, 0, WRITES);
-	touch_deadlines(ANY, 0);
+	touch(ON_DEADLINE, NULL, ANY, 0);
 }
 
 static void choose(void)

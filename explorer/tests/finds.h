@@ -70,7 +70,6 @@ static inline bool is_fault(const struct find *find, const struct bench_found *f
 	    (find->failures == 0 || !goes_wrong(find, (struct bench_options){.quiet = true}, find->failures - 1, &fewer));
 }
 
-/* Whether there are these outcomes and no others. */
 static inline bool has_outcomes(const struct find *find, const struct bench_found *found)
 {
 	unsigned wanted = 0;

@@ -67,7 +67,6 @@ static inline void make_case(void)
 	bench_thread(PROGRAM, run_body, NULL);
 }
 
-/* Whether the explorer says the case's line. */
 bool is_right(void (*begin)(void), const struct stop_case *the_case)
 {
 	struct bench_found found;

@@ -15,10 +15,8 @@
 
 enum { MOST = 4, LONGEST = 16 };
 
-/* The program. */
 static char texts[MOST][LONGEST];
 
-/* What its threads work on. */
 static unsigned words[2];	/* by atomic accesses */
 static unsigned plains[2];	/* by plain ones */
 static bool racy;		/* a data race is no fault, and what it decides is an outcome */
@@ -72,7 +70,6 @@ HANDLER(handle, atomic_store_relaxed(&words[1], 26))
 HANDLER(lock_and_store, atomic_store_relaxed(&words[0], 23); mutex_enter(&locks[0]); atomic_store_relaxed(&words[1], 22); mutex_exit(&locks[0]))
 HANDLER(ring, atomic_store_relaxed(&words[0], 25))
 
-/* Soft interrupts that any thread schedules. */
 enum { STORES, COUNTS, LOCKS, SOFTINTS };
 static struct {
 	const char *letters;
@@ -103,7 +100,6 @@ static void wait_for_flag(void)
 	mutex_exit(&locks[0]);
 }
 
-/* Waits for the flag for a tick at most. */
 static void wait_for_a_tick(unsigned thread)
 {
 	mutex_enter(&locks[0]);
@@ -264,7 +260,6 @@ UNSEEN static void use_cache(unsigned thread)
 	pool_cache_put(cache, object);
 }
 
-/* Does what a letter says. */
 UNSEEN static void execute(unsigned thread, char letter, unsigned value)
 {
 	switch (letter) {
@@ -496,7 +491,6 @@ static void show_program(const char *head)
 	printf("%s%s, ticks %u: %s | %s | %s | %s\n", head, racy ? ", racy" : "", ticks, texts[0], texts[1], texts[2], texts[3]);
 }
 
-/* Compares the two ways of the search for the program that is written. */
 static void compare(void)
 {
 	if (prints && uses(NOT_BESIDE))
@@ -552,7 +546,6 @@ static void make_text(char *text, unsigned parts)
 		add(text, pieces[pick(sizeof(pieces) / sizeof(pieces[0]))]);
 }
 
-/* About how many points a text has. */
 static unsigned points_of(const char *text)
 {
 	unsigned points = 0;

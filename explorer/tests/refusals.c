@@ -104,7 +104,6 @@ static void run_refused(void)
 		bench_explore(refused->setup, &refused->options);
 }
 
-/* Whether a process ends with status 2 after the line. */
 static bool is_refused(const struct refusal *refusal)
 {
 	char said[512];

@@ -23,8 +23,7 @@ static void unlink_callout(callout_t *callout)
 	callout->c_state &= ~(uint32_t)(PENDING | TOLD);
 }
 
-/* The callout whose time came first, among those due on a CPU; of several the one that was set first, which is behind the others in the list. NULL where
- * none is due. */
+/* The callout of a CPU whose time came first; of several the one that was set first, which is behind the others in the list. NULL where none is due. */
 static callout_t *due_on(unsigned cpu)
 {
 	int64_t time = now();
@@ -45,11 +44,7 @@ static bool cancel(callout_t *callout)
 	return expired;
 }
 
-/*
- * The soft interrupt: runs what is due on this CPU
- *
- * A callout isn't touched once its body runs, which may have freed it, unless somebody halts it: then what its body has set ends here.
- */
+/* A callout isn't touched once its body runs, which may have freed it, unless somebody halts it: then what its body has set ends here. */
 static void run_due(void *arg)
 {
 	unsigned cpu = cpu_number();

@@ -1,41 +1,35 @@
 /*
  * layer.h - what the parts of the layer share; no program includes it, except tests that look into the layer
  *
- * HOW THE PAGES ARE MAPPED
- *
  * A registry and its CPUs are a bank. All CPUs of a bank but the last are those of cpu.h, and the last is the writers'. Attaches, detaches and turns of waits
  * are made on that one, under the one lock `interlock`, which is also the keepers'. There is one bank at first. Further ones are opened where all slots
  * are taken; one whose changes are used up gets no new target, and is opened anew once it is empty.
  *
  * A thread has a CPU by taking the CPU's lock `hold`, for as long as it has a reason: a call, a section, a spin lock, a raised level. Whoever has
- * the CPU alone uses its handles, its table of references, and its place among the banks. So each handle is used by one call at a time.
+ * the CPU alone uses its handles, its table of references, and its place among the banks.
  *
- * A read section of pserialize(9) is a section of the thread's CPU in the bank that this CPU takes for its sections. Most often that is the first
- * bank; a CPU whose sections are used up there goes on in another one. pserialize_perform is a wait for all open sections of each such bank, begun and
- * turned on the writers' CPU. The caller's list isn't among the registry's words, so a full fence stands between its words and the section words:
- * after an enter, and before a wait. A reader whose enter the wait doesn't see thus sees what the writer stored before it. A CPU that goes
- * to another bank does so under the interlock: a wait that begins later sees it, and of one that began before, the reader sees all stores.
+ * A read section of pserialize(9) is a section of the thread's CPU in the bank that this CPU takes for its sections: most often the first; a CPU whose
+ * sections are used up there goes on in another one. pserialize_perform is a wait for all open sections of each such bank. The caller's list isn't among the
+ * registry's words, so a full fence stands between its words and the section words: after an enter, and before a wait. A reader whose enter the wait doesn't
+ * see thus sees what the writer stored before it. A CPU that goes to another bank does so under the interlock: a wait that begins later sees it, and of one
+ * that began before, the reader sees all stores.
  *
  * Each psref_target and each localcount is a driver of a bank, with a generated name that no other ever has, and the address of its owner as its
- * value. The slot that the registry gives it is also its row in the bank; the owner notes row and serial, and the row notes the owner. A call
- * is right in what it is given where both notes agree.
+ * value. Its slot is also its row in the bank; the owner notes row and serial, and the row notes the owner. A call is right in what it is given where both
+ * notes agree.
  *
- * psref_acquire is registry_get: it acquires the entry with its name, by an addition and a load, or in a section of its own. That is nested in the open
- * one if that is of the same bank.
- * What isn't found is being destroyed. That a reader who met a target in the caller's list finds its entry, too, lies in the
- * order of the atomic steps: the attach came before the list had the target. No contract says it, since the reader's CPU hasn't heard of the
- * attach. Each reference is noted in a table of its CPU: whose it is, where it lies, and where it was acquired.
+ * psref_acquire is registry_get: it acquires the entry with its name, by an addition and a load, or in a section of its own, nested in the open one if that
+ * is of the same bank. What isn't found is being destroyed. A reader who met a target in the caller's list finds its entry, too: the attach came before the
+ * list had the target. No contract says that, since the reader's CPU hasn't heard of the attach.
  *
- * localcount_acquire finds its entry in a section as well, and acquires a local reference to it. That is a handle, and localcount_release gets
- * none: any release lets go of any reference. So the handles that are held lie on a stack in the row, under the row's lock.
+ * localcount_acquire acquires a local reference. That is a handle, and localcount_release gets none: any release lets go of any reference. So the handles
+ * that are held lie on a stack in the row, under the row's lock.
  *
  * psref_target_destroy and localcount_drain detach the entry, and then make turns of destroying it until it is freed, without the interlock between
  * two. psref_target_destroy then performs: the sections in which the last references were released have ended as well. A drain waits for the
  * caller's condition variable between two turns once the counts are collected. A release on a CPU whose count was collected is told so while its
  * reference is still held: only then it takes the caller's lock, gives the reference up, and wakes the drain, which can't return before that lock is
  * free. After any other release the count isn't touched again, for the drain may have returned.
- *
- * The soft interrupts of a level are a thread of their CPU's. It takes the CPU, or gets it from the thread that has it, which waits meanwhile.
  *
  * The order of locks: the caller's, then a CPU's hold, then the row's or the interlock, and a sleep queue of lock.c. No other lock is taken under the
  * last three.
@@ -69,8 +63,7 @@
 #include "../include/kupaldiz/workqueue.h"
 #include "registry.h"
 
-/* The limits, which a test may change: of a bank; how many nanoseconds a drain waits before it looks again; how many milliseconds a wait lasts before it
- * says what it waits for. */
+/* The limits, which a test may change: of a bank; a drain's nanoseconds between two looks; a wait's milliseconds before it says what it waits for. */
 #ifndef KUPALDIZ_ROWS
 #define KUPALDIZ_ROWS		32
 #endif

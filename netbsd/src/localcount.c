@@ -90,8 +90,7 @@ void localcount_acquire(struct localcount *lc)
 	leave_cpu(me);
 }
 
-/* Gives up a reference that a drain waits for, and wakes the drain, which goes on once the caller's lock is free. A soft interrupt takes that lock, too,
- * at any level: as in the kernel it sleeps if it must. */
+/* Gives up a reference that a drain waits for, and wakes the drain. A soft interrupt takes the interlock, too: as in the kernel it sleeps if it must. */
 static void release_collected(struct thread *me, struct bank *bank, struct registry_local *reference, kcondvar_t *cv, kmutex_t *interlock)
 {
 	acquire_mutex(me, interlock);
@@ -134,8 +133,7 @@ static void report_wait(struct thread *me, struct row *row, const struct registr
 		report(me, count == 1 ? "waits for %zu reference, acquired%s" : "waits for %zu references, one of them acquired%s", count, AT_PLACE(place));
 }
 
-/* Lets others run, without the interlock: until the last release wakes it, or for a while where a section is waited for, whose end wakes nobody. Whether it
- * is time to say what it waits for. */
+/* Lets others run, without the interlock: until the last release wakes it, or for a while: the end of a section wakes nobody. Whether to report the wait. */
 static bool wait_once(struct thread *me, const struct registry_stage *met, kcondvar_t *cv, kmutex_t *interlock, struct pauses *pauses)
 {
 	if (met->stage == REGISTRY_LOCAL) {

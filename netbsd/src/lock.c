@@ -210,8 +210,7 @@ bool pauses_are_over(struct pauses *pauses)
 	return true;
 }
 
-/* Lets others run while a wait for `met`, or for anything where that is NULL, isn't over: at first at once, then for a time that doubles. Whether it is time to
- * report the wait. */
+/* Lets others run while a wait for `met` isn't over, or for anything where that is NULL; each time for longer. Whether it is time to report the wait. */
 bool pause_longer(struct pauses *pauses, const struct registry_stage *met)
 {
 	const struct timespec pause = {0, pauses->nanoseconds};

@@ -101,11 +101,8 @@ static struct bank *find_spent(void)
 	return found;
 }
 
-/*
- * Opens those anew. Nobody uses them until then, but a call on some CPU may still be about to return from one: each CPU is visited before. One sweep
- * alone has a bank. If two had it, the first could open it, and others use it up again: the second would have visited the CPUs before those calls.
- * The thread may sleep.
- */
+/* Opens those anew. A call on some CPU may still be about to return from one: each CPU is visited before. One sweep alone has a bank: if two had it, the first
+ * could open it, and others use it up again after the second has visited the CPUs. The thread may sleep. */
 void sweep_banks(struct thread *me)
 {
 	for (struct bank *found; (found = find_spent()) != NULL;) {
@@ -253,10 +250,7 @@ static bool poll_wait(struct thread *me, struct bank *bank, struct registry_wait
 	return answer == REGISTRY_DONE;
 }
 
-/*
- * Begins a wait in each bank from this place on that a CPU takes for its sections, gives the interlock back, and ends the waits. Mostly that is one bank, so a
- * wait lies on the stack only where there is one.
- */
+/* Begins a wait in each bank from this place on that a CPU takes for its sections, gives the interlock back, and ends the waits. Mostly that is one bank. */
 static void perform_from(struct thread *me, unsigned place, struct pauses *pauses)
 {
 	struct registry_stage met = {REGISTRY_GRACE, 0};

@@ -195,7 +195,6 @@ static void test_counters(void)
 	percpu_free(stats, STATS * sizeof(uint64_t));
 }
 
-/* How often parts were visited. */
 static unsigned looks;
 
 /* Looks at a CPU's part, once it was found to be zeros. It begins a line, and the parts lie apart: each has its CPU's number in all bytes. */
@@ -208,7 +207,6 @@ static void look_at_part(void *own, void *size, struct cpu_info *cpu)
 	memset(part, (int)cpu_index(cpu) + 1, *(size_t *)size);
 }
 
-/* Each CPU's part is made, looked at and ended once. */
 static void test_parts(void)
 {
 	static size_t sizes[] = {1, 64, 65, BLOCK};
@@ -223,7 +221,6 @@ static void test_parts(void)
 	}
 }
 
-/* How often each CPU was visited. */
 static unsigned visited[KUPALDIZ_CPUS];
 
 static void visit_cpu(void *high, void *other)

@@ -7,7 +7,6 @@
 
 #include "things.h"
 
-/* What is refused from now on. */
 static enum lack { NOTHING_LACKS, CALLOC, MALLOC, REALLOC, ALIGNED, THREADS, KEY, VALUE, AT_FORK } lacks;
 
 /* A call that fails where it lacks. */

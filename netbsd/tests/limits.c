@@ -135,7 +135,6 @@ THREAD(release_all,
     for (unsigned i = 0; i < *(unsigned *)arg; i++)
 	    localcount_release(&counts[0], &cv, &lock))
 
-/* References that go one way: acquired on one CPU, and released on another. */
 static void test_one_way(unsigned references)
 {
 	pthread_t other;
@@ -166,7 +165,6 @@ static void *read_all(void *arg)
 	return arg;
 }
 
-/* Shows another one. The one before. */
 static int *show(void)
 {
 	int *next = malloc(sizeof(*next));

@@ -176,7 +176,6 @@ static void *wait_in_order(void *of)
 	return of;
 }
 
-/* Lets others have the lock for a while. */
 static void wait_a_tick(void) { EXPECT(cv_timedwait(&other_cv, &lock, 1) == EWOULDBLOCK); }
 
 /* Each signal wakes one, who waits longest. Whose time is over leaves the queue, from its beginning, its middle or its end; the last one comes afterwards. */

@@ -27,7 +27,6 @@ static callout_t no_callout;
 
 HANDLER(nothing, (void)0)
 
-/* What each case begins with: this thread on CPU 0, and one of each thing. */
 static void begin(void)
 {
 	kupaldiz_bind(0);
@@ -78,7 +77,6 @@ static void await_ready(void)
 /* Starts a thread that doesn't end. */
 static void start_alone(void *(*body)(void *)) { pthread_t thread; start_thread(&thread, body, NULL); }
 
-/* The same, until it is ready. */
 static void start(void *(*body)(void *)) { start_alone(body); await_ready(); }
 static void on_two_threads(void *(*body)(void *)) { start_alone(body); on_thread(body); }
 
@@ -98,7 +96,6 @@ static void as_softint(void (*handler)(void *))
 
 static void run_handler(void *handler, void *arg) { (*(void (**)(void *))handler)(arg); }
 
-/* Runs it on each CPU as a function of xcall(9). */
 static void broadcast(unsigned flags, void (*handler)(void *))
 {
 	xc_wait(xc_broadcast(flags, run_handler, &handler, NULL));
@@ -546,7 +543,6 @@ static const struct state {
     {in_softint, "in a soft interrupt"},
 };
 
-/* Judges the call in one state. */
 static void judge_call(void (*body)(void), const char *subject, const char *reason)
 {
 	char line[160];

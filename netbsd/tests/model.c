@@ -35,7 +35,6 @@ static atomic_uint copies, interrupts;
 static unsigned steps;
 static void *cookies[SOFTINT_SERIAL + 1];
 
-/* The next number of an actor's, below a bound. */
 static unsigned below(struct actor *actor, unsigned bound)
 {
 	actor->random ^= actor->random << 13;
@@ -154,7 +153,6 @@ static void count_in(struct actor *actor)
 	localcount_release(&object->count, &cv, &lock);
 }
 
-/* Releases the object that is on its way, if one is. */
 static void count_out(struct actor *actor)
 {
 	struct object *object = atomic_exchange(&handed[below(actor, HANDED)], NULL);
@@ -165,7 +163,6 @@ static void count_out(struct actor *actor)
 	localcount_release(&object->count, &cv, &lock);
 }
 
-/* Reads in a section for a while. */
 static void read_for_a_while(struct actor *actor)
 {
 	int s = enter(actor);

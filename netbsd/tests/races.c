@@ -31,10 +31,8 @@ static void *refer_first(void *arg)
 	return arg;
 }
 
-/*
- * psref_held looks into the table of its CPU while the thread has that CPU. It asks for a reference that is counted elsewhere, as its CPU is full, and looks at
- * the place of the other thread's first, which that one writes afterwards.
- */
+/* psref_held looks into the table of its CPU while the thread has that CPU. It asks for a reference that is counted elsewhere, as its CPU is full, and looks at
+ * the place of the other thread's first, which that one writes afterwards. */
 static void test_asked(void)
 {
 	static struct psref psrefs[FULL + 1];

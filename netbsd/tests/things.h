@@ -21,7 +21,6 @@ static inline void make_things(int level)
 	localcount_init(&count);
 }
 
-/* Waits for those that have the count. */
 static inline void drain(struct localcount *of)
 {
 	mutex_enter(&lock);

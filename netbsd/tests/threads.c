@@ -69,7 +69,6 @@ static void test_end(void)
 	EXPECT(is_over);
 }
 
-/* What such a thread is to itself. */
 static _Atomic(lwp_t *) itself;
 
 HANDLER(tell_itself, atomic_store(&itself, curlwp); kthread_exit(0))
@@ -248,7 +247,6 @@ static void test_cancelled(void (**wait)(void))
 	pserialize_read_exit(pserialize_read_enter());
 }
 
-/* Whether a thread waits for the lock: its word says so. */
 static bool is_waited_for(const kmutex_t *mutex) { return (__atomic_load_n(&mutex->mtx_word, __ATOMIC_RELAXED) & 1) != 0; }
 
 static atomic_bool gone;
@@ -332,7 +330,6 @@ static void test_passed(void)
 	EXPECT(most >= 2);
 }
 
-/* A thread that has one CPU. */
 static struct keeper {
 	pthread_t thread;
 	atomic_bool has, ends;
@@ -359,7 +356,6 @@ static void keep_cpu(unsigned cpu)
 
 static void free_cpu(unsigned cpu) { atomic_store(&keepers[cpu].ends, true); end_thread(keepers[cpu].thread); }
 
-/* This thread isn't bound, and was on that CPU last. */
 static void come_from(unsigned cpu) { kupaldiz_bind(cpu); kupaldiz_unbind(); }
 
 /* No other CPU is free or without a bound thread: a thread that waits for another one waits for ever. */

@@ -8,7 +8,6 @@
 
 enum { MOST_LATE = 30 };	/* seconds, on a busy machine */
 
-/* The clock that nobody sets, in nanoseconds. */
 static int64_t now(void)
 {
 	struct timespec time;
@@ -16,7 +15,6 @@ static int64_t now(void)
 	return (int64_t)time.tv_sec * 1000000000 + time.tv_nsec;
 }
 
-/* A tick lasts ten milliseconds. */
 static void test_ticks(void)
 {
 	int64_t before = now() / TICK;
@@ -26,7 +24,6 @@ static void test_ticks(void)
 	EXPECT(getuptime() - now() / 1000000000 <= 1);
 }
 
-/* So much time has gone by since then, and not much more. */
 static void require_gone(int64_t from, int64_t nanoseconds)
 {
 	EXPECT(now() - from >= nanoseconds && now() - from < nanoseconds + MOST_LATE * INT64_C(1000000000));
@@ -42,7 +39,6 @@ static void test_delays(void)
 	}
 }
 
-/* A pause without the lock, or a wait for the condition variable. */
 static void test_wait(bool pauses, int ticks)
 {
 	int64_t from = now();
