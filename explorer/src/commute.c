@@ -74,16 +74,6 @@ static bool comes_after(const uint32_t *clock, unsigned at)
 	return clock[search->steps[at].chosen] >= at + 1;
 }
 
-/* The last step of this step's thread before it; else the one in which the thread was made; -1 for none. */
-static int step_before(unsigned at)
-{
-	unsigned thread = search->steps[at].chosen;
-	for (int before = (int)at - 1; before >= 0; before--)
-		if (search->steps[before].chosen == thread)
-			return before;
-	return run.routines[thread].made ? run.routines[thread].made_at : -1;
-}
-
 static bool has_earlier(const unsigned *list, unsigned count, unsigned at)
 {
 	for (unsigned place = 0; place < count; place++)
@@ -139,7 +129,12 @@ static unsigned order_step(unsigned at, unsigned upto, unsigned *races)
 	struct step *step = &search->steps[at];
 	clocks base = {0}, covered;
 	unsigned count = 0;
-	int before = step_before(at);
+	/* The last step of this step's thread before it; else the one in which the thread was made; -1 for none. */
+	int before = (int)at - 1;
+	while (before >= 0 && search->steps[before].chosen != step->chosen)
+		before--;
+	if (before < 0 && run.routines[step->chosen].made)
+		before = run.routines[step->chosen].made_at;
 	if (before >= 0)
 		memcpy(base, search->steps[before].clock, sizeof(base));
 	memcpy(step->clock, base, sizeof(base));

@@ -38,16 +38,6 @@ void end_run(enum end end, const char *format, ...)
 
 /* ---- One run. ---- */
 
-static void check_end(void)
-{
-	size_t held = 0;
-	if (live_owner(&held) != NULL)
-		fail(held > 0 ? "a local count with %zu references is left at the end" : "a target or a local count is left at the end", held);
-	check_heap();
-	if (options.finish != NULL)
-		check_none_left();
-}
-
 static void run_setup(void *arg)
 {
 	(void)arg;
@@ -64,19 +54,14 @@ static void run_setup(void *arg)
 	if (options.finish != NULL)
 		options.finish();
 	end_of_thread(kupaldiz_self);
-	check_end();
+	size_t held = 0;
+	if (live_owner(&held) != NULL)
+		fail(held > 0 ? "a local count with %zu references is left at the end" : "a target or a local count is left at the end", held);
+	check_heap();
+	if (options.finish != NULL)
+		check_none_left();
 	find_races_at_end();
 	leave_run(ENDED_WELL);
-}
-
-static void keep_names(void)
-{
-	search->ended = 0;
-	for (const struct routine *at = run.routines; at < &run.routines[run.count]; at++) {
-		snprintf(search->names[at->number], sizeof(search->names[0]), "%s", name_of_routine(at));
-		search->ended |= (uint32_t)at->ended << at->number;
-	}
-	snprintf(search->names[CLOCK], sizeof(search->names[0]), "clock");
 }
 
 static void keep_outcome(void)
@@ -104,7 +89,12 @@ static void run_here(void)
 	search->stuck = false;
 	run_main(run_setup);
 	search->runs++;
-	keep_names();
+	search->ended = 0;
+	for (const struct routine *at = run.routines; at < &run.routines[run.count]; at++) {
+		snprintf(search->names[at->number], sizeof(search->names[0]), "%s", name_of_routine(at));
+		search->ended |= (uint32_t)at->ended << at->number;
+	}
+	snprintf(search->names[CLOCK], sizeof(search->names[0]), "clock");
 	kupaldiz_self = NULL;
 	if (search->end == ENDED_WELL) {
 		search->found.schedules++;
@@ -327,15 +317,6 @@ static void cut_down(struct bench_found *found)
 		;
 }
 
-/* A thread goes on for so many points. How many there are then. */
-static unsigned add_turns(unsigned count, unsigned thread, unsigned long turns)
-{
-	refuse_if(turns > POINTS - count, "the schedule is too long");
-	for (; turns > 0; turns--)
-		search->steps[count++].chosen = (uint8_t)thread;
-	return count;
-}
-
 /* The threads of a schedule, as the choices of the first steps. */
 static void read_schedule(const char *text)
 {
@@ -347,7 +328,9 @@ static void read_schedule(const char *text)
 		unsigned long turns = at[1] >= '0' && at[1] <= '9' ? strtoul(at + 1, &end, 10) : 1;
 		if (thread >= THREADS || turns == 0)
 			refuse("\"%s\" is no schedule: a letter for each thread, or a dot for the clock, and how many points it goes on", text);
-		count = add_turns(count, thread, turns);
+		refuse_if(turns > POINTS - count, "the schedule is too long");
+		for (; turns > 0; turns--)
+			search->steps[count++].chosen = (uint8_t)thread;
 		at = end;
 	}
 	if (!read_failures(failures == NULL ? "" : failures))

@@ -25,14 +25,6 @@ static const char *call_of(const struct thread *self)
 	return self == NULL || self->call == NULL ? "setup" : self->call;
 }
 
-static unsigned char *reserve_room(unsigned number, size_t size, size_t align)
-{
-	size_t begin = (used[number] + align - 1) / align * align;
-	refuse_if(size > PART || begin + size + FENCE > PART, "the code takes more than %d bytes in one run", PART);
-	used[number] = begin + size + FENCE;
-	return parts + (size_t)number * PART + begin;
-}
-
 static uint32_t *owner_of(const volatile unsigned char *at)
 {
 	return &owners[(size_t)(at - parts) / SMALLEST];
@@ -43,7 +35,11 @@ void *bench_allocate(size_t size, size_t align, bool judged)
 {
 	unsigned number = run.current == NULL ? 0 : run.current->number;
 	const struct thread *self = kupaldiz_self;
-	unsigned char *at = reserve_room(number, size, align < SMALLEST ? SMALLEST : align);
+	align = align < SMALLEST ? SMALLEST : align;
+	size_t begin = (used[number] + align - 1) / align * align;
+	refuse_if(size > PART || begin + size + FENCE > PART, "the code takes more than %d bytes in one run", PART);
+	used[number] = begin + size + FENCE;
+	unsigned char *at = parts + (size_t)number * PART + begin;
 	memset(at, NEW, size);
 	memset(at + size, BEHIND, FENCE);
 	*(struct block *)new_row(BLOCKS) = (struct block){.at = at, .size = size, .live = true, .judged = judged, .by = number,

@@ -109,17 +109,6 @@ static void set_deadline(struct routine *me, int64_t deadline)
 	me->deadline = deadline;
 }
 
-/* The wake-up alone has enabled it, unless its time is over or it might end early. */
-static void leave_queue(struct routine *me, const void *of)
-{
-	touch(ON_WAKE, me, 0, is_late(me) || me->may_end != IN_TIME ? 0 : ACQUIRES);
-	note_ending(me, !me->woken && !is_late(me));
-	if (me->woken)
-		acquire_clock(ON_WAKE, me, 0);
-	else
-		touch(ON_CV, of, 0, WRITES);
-}
-
 static bool wait_for_wake(const void *of, int64_t deadline)
 {
 	struct routine *me = run.current;
@@ -131,7 +120,13 @@ static bool wait_for_wake(const void *of, int64_t deadline)
 	wait_here(was_woken, of);
 	if (me->relock != NULL)
 		check_live(me->call, me->relock, sizeof(*me->relock));
-	leave_queue(me, of);
+	/* The wake-up alone has enabled it, unless its time is over or it might end early. */
+	touch(ON_WAKE, me, 0, is_late(me) || me->may_end != IN_TIME ? 0 : ACQUIRES);
+	note_ending(me, !me->woken && !is_late(me));
+	if (me->woken)
+		acquire_clock(ON_WAKE, me, 0);
+	else
+		touch(ON_CV, of, 0, WRITES);
 	me->queue = NULL;
 	set_deadline(me, NEVER);
 	return me->woken;

@@ -41,18 +41,6 @@ static void read_place(FILE *from, unsigned long at, struct spot *spot)
 		snprintf(spot->text, sizeof(spot->text), "instruction %#lx", at);
 }
 
-static void find_place(const void *pc, struct spot *spot)
-{
-	char command[512], file[256];
-	unsigned long at = find_origin(pc, file, sizeof(file));
-	*spot = (struct spot){.pc = pc};
-	snprintf(command, sizeof(command), "addr2line -f -s -i -e '%s' %#lx 2>/dev/null", file, at);
-	FILE *said = popen(command, "r");
-	refuse_if(said == NULL, "no process is left");
-	read_place(said, at, spot);
-	pclose(said);
-}
-
 /* The text of a place that has one in no header, else that of the instruction, which is looked for once. */
 const char *place_of(const char *place, const void *pc)
 {
@@ -62,6 +50,13 @@ const char *place_of(const char *place, const void *pc)
 		if (search->spots[at].pc == pc)
 			return search->spots[at].text;
 	struct spot *spot = &search->spots[search->spot_count++ % SPOTS];
-	find_place(pc, spot);
+	char command[512], file[256];
+	unsigned long origin = find_origin(pc, file, sizeof(file));
+	*spot = (struct spot){.pc = pc};
+	snprintf(command, sizeof(command), "addr2line -f -s -i -e '%s' %#lx 2>/dev/null", file, origin);
+	FILE *said = popen(command, "r");
+	refuse_if(said == NULL, "no process is left");
+	read_place(said, origin, spot);
+	pclose(said);
 	return spot->text;
 }

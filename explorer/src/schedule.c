@@ -143,21 +143,6 @@ static unsigned choose_random(uint32_t enabled)
 	return best;
 }
 
-/* A thread that may spin doesn't go on where another one can. */
-static void throttle(struct step *step, const struct step *before)
-{
-	uint32_t own = before == NULL || before->turns < PATIENCE ? 0 : bit(before->chosen);
-	step->throttled = (step->enabled & ~own) != 0 ? own : 0;
-	search->found.throttled += step->throttled != 0;
-}
-
-/* Where a deadline stands, and time has gone on early as often as it may, an order is left out. */
-static void count_hurried(uint32_t enabled)
-{
-	bool waits = run.ticks == options.ticks && run.phase == RUNNING && next_time() != NEVER;
-	search->found.hurried += waits && (enabled & bit(CLOCK)) == 0;
-}
-
 /* ---- Steps that are never made. ---- */
 
 static const struct set ticking = {.count = 2, .of = {{.size = 1, .kind = ON_TIME, .how = WRITES}, {.size = 1, .kind = ON_DEADLINE, .cpu = ANY}}};
@@ -189,11 +174,14 @@ void find_races_at_end(void)
 static unsigned choose_new(struct step *step, const struct step *before)
 {
 	uint32_t enabled = step->enabled, can = enabled;
-	step->explored = 0;
-	step->sleeping = 0;
-	step->backtrack = 0;
-	throttle(step, before);
-	count_hurried(enabled);
+	step->explored = step->sleeping = step->backtrack = 0;
+	/* A thread that may spin doesn't go on where another one can. */
+	uint32_t own = before == NULL || before->turns < PATIENCE ? 0 : bit(before->chosen);
+	step->throttled = (enabled & ~own) != 0 ? own : 0;
+	search->found.throttled += step->throttled != 0;
+	/* Where a deadline stands, and time has gone on early as often as it may, an order is left out. */
+	bool waits = run.ticks == options.ticks && run.phase == RUNNING && next_time() != NEVER;
+	search->found.hurried += waits && (enabled & bit(CLOCK)) == 0;
 	if (search->mode == RANDOM && step->throttled != 0)
 		search->priorities[before->chosen] = --search->lowest;
 	if (search->mode == RANDOM)

@@ -76,21 +76,17 @@ static const struct routine *append_cause(char *text, const struct routine *me)
 	return word == NULL ? NULL : routine_of(lock_owner(word));
 }
 
-static const struct routine *first_stuck(void)
-{
-	for (unsigned number = 1; number < run.count; number++)
-		if (!run.routines[number].daemon && !run.routines[number].ended)
-			return &run.routines[number];
-	return &run.routines[0];
-}
-
 /* Tells who waits, and who each waits for, up to one who waits for nobody, or for one that was told. */
 void report_stuck(void)
 {
 	char text[BENCH_LINE] = "";
 	uint32_t told = 0;
 	search->stuck = true;
-	const struct routine *at = first_stuck();
+	/* The first thread that isn't the layer's and hasn't ended, the one of the setup last. */
+	const struct routine *at = &run.routines[1], *end = &run.routines[run.count];
+	while (at < end && (at->daemon || at->ended))
+		at++;
+	at = at < end ? at : run.routines;
 	while (at != NULL && (told & UINT32_C(1) << at->number) == 0) {
 		told |= UINT32_C(1) << at->number;
 		if (text[0] != '\0')

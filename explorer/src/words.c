@@ -53,17 +53,6 @@ void kupaldiz_from(const char *place)
 static const char *const accesses[] = {"membar", [KUPALDIZ_LOADS] = "atomic load", [KUPALDIZ_STORES] = "atomic store",
     [KUPALDIZ_LOADS | KUPALDIZ_STORES] = "atomic change"};
 
-/* What a barrier makes of the relaxed accesses before and after it. */
-static void pass_barrier(struct routine *me, unsigned how)
-{
-	if ((how & KUPALDIZ_ACQUIRES) != 0)
-		join(me->clock, me->pending);
-	if ((how & KUPALDIZ_RELEASES) != 0) {
-		memcpy(me->released, me->clock, sizeof(me->released));
-		me->clock[me->number]++;
-	}
-}
-
 /* A store that doesn't load ends what the stores before it have left. */
 static void order_access(struct routine *me, const volatile void *address, unsigned how)
 {
@@ -89,9 +78,14 @@ void access_atomically(const volatile void *address, size_t size, unsigned how, 
 	bool writes = (how & KUPALDIZ_STORES) != 0;
 	me->pc = pc;
 	point(call, from != NULL ? from : place, NULL, NULL);
-	if (address == NULL) {
-		pass_barrier(me, how);
-	} else {
+	/* A barrier makes something of the relaxed accesses before and after it. */
+	if (address == NULL && (how & KUPALDIZ_ACQUIRES) != 0)
+		join(me->clock, me->pending);
+	if (address == NULL && (how & KUPALDIZ_RELEASES) != 0) {
+		memcpy(me->released, me->clock, sizeof(me->released));
+		me->clock[me->number]++;
+	}
+	if (address != NULL) {
 		const struct use use = {writes ? "writes" : "reads", me->place, me->pc, writes, true};
 		check_live(call, address, size);
 		touch_memory(address, size, writes ? WRITES : 0);

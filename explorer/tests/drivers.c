@@ -78,11 +78,7 @@ BODY(get_entry)
 	KASSERT(error == ENOENT || (error == 0 && request.er_value >= 5 && strcmp(request.er_name, "entry") == 0));
 }
 
-BODY(delete_entry)
-{
-	struct entry_request request = {.er_key = 1};
-	KASSERT(entry_ioctl(ENTRYDEL, &request) == 0);
-}
+HANDLER(delete_entry, struct entry_request request = {.er_key = 1}; KASSERT(entry_ioctl(ENTRYDEL, &request) == 0))
 
 BODY(set_entry)
 {

@@ -22,10 +22,7 @@ BODY(use_object)
 
 HANDLER(end_at_once, kthread_exit(0))
 
-BODY(make_thread)
-{
-	KASSERT(kthread_create(PRI_NONE, KTHREAD_MPSAFE, NULL, end_at_once, NULL, NULL, "made") == 0);
-}
+HANDLER(make_thread, KASSERT(kthread_create(PRI_NONE, KTHREAD_MPSAFE, NULL, end_at_once, NULL, NULL, "made") == 0))
 
 BODY(make_softint)
 {

@@ -138,23 +138,14 @@ __attribute__((no_sanitize("undefined"))) BODY(crash)
 HANDLER(set_word, atomic_store_relaxed(&word, 1))
 HANDLER(exit_at_once, kthread_exit(0))
 
-BODY(join_never)
-{
-	lwp_t *made;
-	(void)kthread_create(PRI_NONE, KTHREAD_MUSTJOIN, NULL, exit_at_once, NULL, &made, "worker");
-}
+HANDLER(join_never, lwp_t *made; (void)kthread_create(PRI_NONE, KTHREAD_MUSTJOIN, NULL, exit_at_once, NULL, &made, "worker"))
 
 static void *softint;
 
 HANDLER(use_in_handler, atomic_inc_uint(block))
 
 /* The handler may run between the two. */
-BODY(free_and_disestablish)
-{
-	softint_schedule(softint);
-	kmem_free(block, sizeof(*block));
-	softint_disestablish(softint);
-}
+HANDLER(free_and_disestablish, softint_schedule(softint); kmem_free(block, sizeof(*block)); softint_disestablish(softint))
 
 static void freed_before_disestablish(void)
 {
@@ -314,11 +305,7 @@ HANDLER(use_own_late, free_block(arg); read_block(arg))
 /* The call that takes the memory comes before no access of the other thread. */
 HANDLER(take_block, atomic_store_relaxed(&block, kmem_zalloc(sizeof(*block), KM_SLEEP)))
 
-BODY(use_given_block)
-{
-	const unsigned *given = atomic_load_relaxed(&block);
-	KASSERT(given == NULL || *given == 0);
-}
+HANDLER(use_given_block, const unsigned *given = atomic_load_relaxed(&block); KASSERT(given == NULL || *given == 0))
 
 HANDLER(write_behind_seen, *(volatile unsigned *)(block + 1) = 1)
 

@@ -11,11 +11,7 @@ static struct ifnet *wm0;
 
 HANDLER(output_wm0, int error = if_output_byname("wm0"); KASSERT(error == 0 || error == ENXIO))
 
-BODY(detach_wm0)
-{
-	if_detach(wm0);
-	kmem_free(wm0, sizeof(*wm0));
-}
+HANDLER(detach_wm0, if_detach(wm0); kmem_free(wm0, sizeof(*wm0)))
 
 static void begin_if(void)
 {

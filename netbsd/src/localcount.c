@@ -41,26 +41,6 @@ static size_t held_count(struct row *row, const char **place)
 	return count;
 }
 
-static void push(struct thread *me, struct row *row, const struct registry_local *reference)
-{
-	pthread_mutex_lock(&row->lock);
-	if (row->count == row->room) {
-		row->room = row->room == 0 ? FIRST_ROOM : row->room * 2;
-		row->held = grow_row(me, row->held, row->room * sizeof(*row->held));
-	}
-	row->held[row->count++] = (struct held){*reference, me->place};
-	pthread_mutex_unlock(&row->lock);
-}
-
-static void pop(struct thread *me, struct row *row, struct registry_local *reference, const kcondvar_t *cv, const kmutex_t *interlock)
-{
-	pthread_mutex_lock(&row->lock);
-	require_same(me, row, cv, interlock);
-	stop_if(me, row->count == 0, "no reference to the count is held");
-	*reference = row->held[--row->count].local;
-	pthread_mutex_unlock(&row->lock);
-}
-
 /* Acquires a reference on a CPU of the registry's, in a section of its own or in the one that is open. */
 static uint32_t acquire_on(struct thread *me, struct registry_cpu *handle, const struct row *row, struct registry_local *reference)
 {
@@ -86,7 +66,14 @@ void localcount_acquire(struct localcount *lc)
 	}
 	stop_if(me, answer == REGISTRY_NOT_FOUND, "the count is being drained");
 	must_succeed(me, answer);
-	push(me, at.row, &reference);
+	struct row *row = at.row;
+	pthread_mutex_lock(&row->lock);
+	if (row->count == row->room) {
+		row->room = row->room == 0 ? FIRST_ROOM : row->room * 2;
+		row->held = grow_row(me, row->held, row->room * sizeof(*row->held));
+	}
+	row->held[row->count++] = (struct held){reference, me->place};
+	pthread_mutex_unlock(&row->lock);
 	leave_cpu(me);
 }
 
@@ -107,7 +94,11 @@ void localcount_release(struct localcount *lc, kcondvar_t *cv, kmutex_t *interlo
 	struct registry_local reference = {0};
 	stop_if(me, has_mutex(me, interlock), "the thread has the interlock");
 	struct found_row at = count_row(me, lc);
-	pop(me, at.row, &reference, cv, interlock);
+	pthread_mutex_lock(&at.row->lock);
+	require_same(me, at.row, cv, interlock);
+	stop_if(me, at.row->count == 0, "no reference to the count is held");
+	reference = at.row->held[--at.row->count].local;
+	pthread_mutex_unlock(&at.row->lock);
 	hold_cpu(me);
 	COMES_BEFORE(&at.row->gone);
 	uint32_t answer = registry_local_release(handle_of(me, at.bank), &reference);

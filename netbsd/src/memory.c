@@ -32,13 +32,6 @@ static uint64_t mark_of(const struct pool *pool) { return 0x6b6d656d2d6c6976 ^ (
 
 _Static_assert(sizeof(struct head) % _Alignof(max_align_t) == 0, "a block behind a head is aligned for any type");
 
-/* What a block is aligned to: what its pool asks for; else a line, if it is of whole lines, as a type is that begins a line; else what fits any type. */
-static size_t alignment_of(size_t size, const struct pool *pool)
-{
-	size_t align = pool == NULL ? 0 : pool->pr_align;
-	return align == 0 && size % LINE == 0 ? LINE : align < _Alignof(max_align_t) ? _Alignof(max_align_t) : align;
-}
-
 static struct head *alloc_memory(size_t size, size_t align)
 {
 	size_t before = align > sizeof(struct head) ? align : sizeof(struct head);
@@ -59,7 +52,10 @@ static void *alloc_block(struct thread *me, size_t size, bool sleeps, const stru
 		require_sleepable(me);
 	else if (FAILS())
 		return NULL;
-	struct head *head = alloc_memory(size, alignment_of(size, pool));
+	/* A block is aligned to what its pool asks for; else to a line, if it is of whole lines, as a type is that begins a line; else to what fits any type. */
+	size_t align = pool == NULL ? 0 : pool->pr_align;
+	align = align == 0 && size % LINE == 0 ? LINE : align < _Alignof(max_align_t) ? _Alignof(max_align_t) : align;
+	struct head *head = alloc_memory(size, align);
 	stop_if(me, head == NULL && sleeps, "out of memory");
 	if (head == NULL)
 		return NULL;

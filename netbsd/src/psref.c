@@ -50,18 +50,13 @@ static uint32_t *chain_of(struct cpu *cpu, const struct psref *psref)
 	return &cpu->chains[(uint32_t)(mixed >> 32) & (cpu->room - 1)];
 }
 
-/* The reference that lies in this storage; NULL where none does. The storage itself isn't read: it may never have been written. */
-static struct reference *reference_at(struct cpu *cpu, const struct psref *psref)
-{
-	uint32_t place = cpu->room == 0 ? NOTHING : *chain_of(cpu, psref);
-	while (place != NOTHING && cpu->references[place].psref != psref)
-		place = cpu->references[place].next;
-	return place == NOTHING ? NULL : &cpu->references[place];
-}
-
+/* The storage itself isn't read: it may never have been written. */
 static void require_unheld(const struct thread *me, const struct psref *psref)
 {
-	stop_if(me, reference_at(me->cpu, psref) != NULL, "the reference is held already");
+	uint32_t place = me->cpu->room == 0 ? NOTHING : *chain_of(me->cpu, psref);
+	while (place != NOTHING && me->cpu->references[place].psref != psref)
+		place = me->cpu->references[place].next;
+	stop_if(me, place != NOTHING, "the reference is held already");
 }
 
 static void add_to_chain(struct cpu *cpu, uint32_t place)

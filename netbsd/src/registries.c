@@ -115,16 +115,6 @@ void sweep_banks(struct thread *me)
 	}
 }
 
-/* A name that no entry had before: a letter, and the digits of the serial. */
-static struct registry_name name_for(struct thread *me, uint64_t serial)
-{
-	char text[REGISTRY_NAME_BYTES + 8];
-	struct registry_name name;
-	int length = snprintf(text, sizeof(text), "t%llu", (unsigned long long)serial);
-	must_succeed(me, registry_name_parse(text, (size_t)length, &name, NULL));
-	return name;
-}
-
 /* The row of an owner by what it noted. Whether the owner is live. */
 bool find_row(const void *owner, uint64_t serial, uint64_t place, struct found_row *found)
 {
@@ -164,10 +154,14 @@ static struct bank *attach_somewhere(struct thread *me, const struct registry_na
 
 void attach_row(struct thread *me, const void *owner, uint64_t *serial, uint64_t *place)
 {
+	char text[REGISTRY_NAME_BYTES + 8];
+	struct registry_name name;
 	struct registry_entry made;
 	enter_interlock();
 	stop_if(me, is_live(owner), "it is live already");
-	const struct registry_name name = name_for(me, ++serials);
+	/* A name that no entry had before. */
+	int length = snprintf(text, sizeof(text), "t%llu", (unsigned long long)++serials);
+	must_succeed(me, registry_name_parse(text, (size_t)length, &name, NULL));
 	struct bank *bank = attach_somewhere(me, &name, owner, &made);
 	struct row *row = &bank->rows[made.slot];
 	row->serial = serials;
@@ -210,22 +204,17 @@ bool try_free_row(struct thread *me, struct found_row at, struct registry_stage 
 	return answer == REGISTRY_DONE;
 }
 
-/* Takes another bank for the sections of this thread's CPU, since those of the one before are used up. */
-static void move_sections(struct thread *me)
-{
-	enter_interlock();
-	me->cpu->bank->hosts--;
-	retire_bank(me->cpu->bank);
-	me->cpu->bank = roomy_bank(me);
-	me->cpu->bank->hosts++;
-	exit_interlock();
-}
-
 void enter_section(struct thread *me)
 {
 	uint32_t answer;
-	while ((answer = registry_enter(handle_of(me, me->cpu->bank))) == REGISTRY_SECTIONS_SPENT)
-		move_sections(me);
+	while ((answer = registry_enter(handle_of(me, me->cpu->bank))) == REGISTRY_SECTIONS_SPENT) {
+		enter_interlock();
+		me->cpu->bank->hosts--;
+		retire_bank(me->cpu->bank);
+		me->cpu->bank = roomy_bank(me);
+		me->cpu->bank->hosts++;
+		exit_interlock();
+	}
 	must_succeed(me, answer);
 	/* No test on x86-64 sees this fence: the enter is one there. Elsewhere the list could be loaded before the section is seen. */
 	__atomic_thread_fence(__ATOMIC_SEQ_CST);

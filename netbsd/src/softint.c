@@ -61,18 +61,6 @@ void note_pending(struct cpu *cpu)
 	__atomic_store_n(&cpu->pending, (pending & ~cpu->blocked) | cpu->goes_on, __ATOMIC_RELEASE);
 }
 
-static void enqueue(struct softint *softint, unsigned cpu)
-{
-	struct softint **at = &queues[cpu][softint->level];
-	if (softint->pending[cpu])
-		return;
-	while (*at != NULL)
-		at = &(*at)->behind[cpu];
-	*at = softint;
-	softint->behind[cpu] = NULL;
-	softint->pending[cpu] = true;
-}
-
 static void dequeue(struct softint *softint, unsigned cpu)
 {
 	struct softint **at = &queues[cpu][softint->level];
@@ -156,7 +144,15 @@ void schedule_on(struct thread *me, void *cookie, struct cpu *cpu)
 	ensure_softint_thread(me, cpu, softint->level);
 	/* The list was free while that thread began. */
 	require_established(me, softint);
-	enqueue(softint, cpu->info.ci_index);
+	unsigned number = cpu->info.ci_index;
+	struct softint **at = &queues[number][softint->level];
+	while (*at != NULL)
+		at = &(*at)->behind[number];
+	if (!softint->pending[number]) {
+		*at = softint;
+		softint->behind[number] = NULL;
+		softint->pending[number] = true;
+	}
 	note_pending(cpu);
 	pthread_cond_broadcast(&pending_changed);
 	pthread_mutex_unlock(&pending_list);

@@ -52,18 +52,6 @@ static void wake_threads(void)
 	pthread_mutex_unlock(&pending_list);
 }
 
-/* Runs the handlers of a level, until one of a higher level waits. The thread has the CPU. */
-static void run_level(struct thread *me, int level)
-{
-	me->holds = 1;
-	while (highest(me->cpu) <= level && run_softint(me, level))
-		;
-	me->holds = 0;
-	me->level = IPL_NONE;
-	return_cpu(me);
-	wake_threads();		/* lower levels go on */
-}
-
 static _Noreturn void *run_all(void *of)
 {
 	struct softint_thread *softint_thread = of;
@@ -84,7 +72,13 @@ static _Noreturn void *run_all(void *of)
 			pthread_cond_wait(&pending_changed, &pending_list);
 		pthread_mutex_unlock(&pending_list);
 		lock_acquire(&me->cpu->hold, me, NULL);
-		run_level(me, softint_thread->level);
+		me->holds = 1;
+		while (highest(me->cpu) <= softint_thread->level && run_softint(me, softint_thread->level))
+			;
+		me->holds = 0;
+		me->level = IPL_NONE;
+		return_cpu(me);
+		wake_threads();		/* lower levels go on */
 	}
 }
 

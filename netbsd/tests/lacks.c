@@ -11,6 +11,7 @@ static enum lack { NOTHING_LACKS, CALLOC, MALLOC, REALLOC, ALIGNED, THREADS, KEY
 
 /* A call that fails where it lacks. */
 #define LACKS(what, type, failed, name, parameters, arguments) \
+	type __real_##name parameters; \
 	type __wrap_##name parameters { return lacks == what ? (failed) : __real_##name arguments; }
 
 LACKS(MALLOC, void *, NULL, malloc, (size_t size), (size))

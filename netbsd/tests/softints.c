@@ -7,18 +7,10 @@ static atomic_uint runs, waits;
 static atomic_int ran_on;
 static unsigned order[4], ordered;
 
-/* Reads and refers, as a handler does, nested in the section that is open. */
 static void handle(void *arg)
 {
-	struct psref psref;
 	EXPECT(cpu_softintr_p() && (curlwp->l_pflag & LP_INTR) != 0 && !pserialize_in_read_section());
 	atomic_store(&ran_on, (int)cpu_number());
-	int s = pserialize_read_enter();
-	EXPECT(s == 0);
-	psref_acquire(&psref, &target, things);
-	pserialize_read_exit(s);
-	EXPECT(psref_held(&target, things));
-	psref_release(&psref, &target, things);
 	atomic_fetch_add((atomic_uint *)arg, 1);
 }
 

@@ -51,6 +51,7 @@ static void keep(void)
 static atomic_bool lasts, lasts_inside;
 
 #define LASTS(call, flag) \
+	uint32_t __real_##call(struct registry_cpu *cpu, struct registry_local *reference); \
 	uint32_t __wrap_##call(struct registry_cpu *cpu, struct registry_local *reference) \
 	{ \
 		if (atomic_load(flag)) \
