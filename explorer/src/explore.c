@@ -29,14 +29,9 @@ void refuse(const char *format, ...)
 
 void end_run(enum end end, const char *format, ...)
 {
-	va_list words;
-	va_start(words, format);
-	vsnprintf(search->found.line, sizeof(search->found.line), format, words);
-	va_end(words);
+	FORMAT(search->found.line, format);
 	leave_run(end);
 }
-
-/* ---- One run. ---- */
 
 static void run_setup(void *arg)
 {
@@ -140,8 +135,6 @@ static bool is_wrong(void)
 {
 	return search->end == FAILED || search->end == UNFIT;
 }
-
-/* ---- The next schedule. ---- */
 
 /* The last step at which something else is planned. Whether there is one. */
 static bool next_schedule(void)

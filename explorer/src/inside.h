@@ -3,7 +3,7 @@
 #define KUPALDIZ_BENCH_INSIDE_H
 
 #include "layer.h"
-#include "stand_ins.h"
+#include "shim.h"
 
 #include "../bench.h"
 

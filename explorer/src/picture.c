@@ -49,10 +49,7 @@ static void escape(FILE *to, const char *text)
 __attribute__((format(printf, 5, 6))) static void text_at(FILE *to, double x, double y, const char *kind, const char *format, ...)
 {
 	char text[256];
-	va_list words;
-	va_start(words, format);
-	vsnprintf(text, sizeof(text), format, words);
-	va_end(words);
+	FORMAT(text, format);
 	fprintf(to, "<text x=\"%.1f\" y=\"%.1f\" class=\"%s\">", x, y, kind);
 	escape(to, text);
 	fputs("</text>", to);

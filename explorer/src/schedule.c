@@ -56,8 +56,6 @@ void make_barrier(void)
 		search->steps[run.step - 1].set.barrier = true;
 }
 
-/* ---- Who can go on. ---- */
-
 /* A thread that has its CPU isn't while a soft interrupt has it. */
 bool is_enabled(const struct routine *routine)
 {
@@ -91,8 +89,6 @@ uint32_t enabled_now(void)
 		enabled |= bit(CLOCK);
 	return enabled;
 }
-
-/* ---- Which one does. ---- */
 
 static unsigned lowest(uint32_t mask)
 {
@@ -278,8 +274,6 @@ static void choose(void)
 	} while (chosen == CLOCK);
 	switch_to(&run.routines[chosen]);
 }
-
-/* ---- Points. ---- */
 
 /* The thread that makes a call. It has a CPU from its first call on. */
 struct routine *here(const char *call)

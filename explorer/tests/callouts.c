@@ -40,14 +40,6 @@ static void begin_timers(void)
 		callout_init(&timers[at].callout, CALLOUT_MPSAFE);
 }
 
-static void end_timers(void)
-{
-	for (unsigned at = 0; at < TIMERS; at++) {
-		(void)callout_halt(&timers[at].callout, NULL);
-		callout_destroy(&timers[at].callout);
-	}
-}
-
 static bool late;	/* one of them, by the clock's leave to go on although a thread can */
 
 /* Waits for its next run, which comes so many ticks after it was set, between two times. */
@@ -248,7 +240,16 @@ BODY(set_meanwhile)
 
 static void make_things(void) { mutex_init(&lock, MUTEX_DEFAULT, IPL_SOFTCLOCK); }
 static void end_lock(void) { mutex_destroy(&lock); }
-static void end_all(void) { end_timers(); end_lock(); bench_outcome(late ? "late" : "exact"); }
+
+static void end_all(void)
+{
+	for (unsigned at = 0; at < TIMERS; at++) {
+		(void)callout_halt(&timers[at].callout, NULL);
+		callout_destroy(&timers[at].callout);
+	}
+	end_lock();
+	bench_outcome(late ? "late" : "exact");
+}
 
 static const struct find finds[] = {
 	{"each time", NULL, set_each, .make = begin_timers, .finish = end_all, .outcome = "exact"},

@@ -52,20 +52,14 @@ static inline bool goes_wrong(const struct find *find, struct bench_options opti
 	return wrong;
 }
 
-/* Whether a line has a text in it, as fnmatch(3) has it. */
-static inline bool is_line(const char *said, const char *looked_for)
-{
-	char pattern[256];
-	snprintf(pattern, sizeof(pattern), "*%s*", looked_for);
-	return fnmatch(pattern, said, 0) == 0;
-}
-
 /* Whether this is the fault: with fewer failures than it needs there is none. */
 static inline bool is_fault(const struct find *find, const struct bench_found *found)
 {
 	struct bench_found fewer;
+	char pattern[256];
+	snprintf(pattern, sizeof(pattern), "*%s*", find->line);
 	if (find->failed == NULL)
-		return is_line(found->line, find->line);
+		return fnmatch(pattern, found->line, 0) == 0;
 	return strcmp(found->line, find->line) == 0 && strcmp(found->failed, find->failed) == 0 &&
 	    (find->failures == 0 || !goes_wrong(find, (struct bench_options){.quiet = true}, find->failures - 1, &fewer));
 }

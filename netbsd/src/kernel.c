@@ -4,10 +4,7 @@
 void panic(const char *format, ...)
 {
 	char text[256];
-	va_list words;
-	va_start(words, format);
-	vsnprintf(text, sizeof(text), format, words);
-	va_end(words);
+	FORMAT(text, format);
 	struct thread *me = begin_call(__func__);
 	stop(me, "%s", text);
 }
@@ -20,10 +17,7 @@ void kupaldiz_failed(const char *what, const char *text, const char *place)
 void kupaldiz_failed_with(const char *place, const char *text, const char *format, ...)
 {
 	char more[256];
-	va_list words;
-	va_start(words, format);
-	vsnprintf(more, sizeof(more), format, words);
-	va_end(words);
+	FORMAT(more, format);
 	stop_at("KASSERTMSG", place, "not so: %s: %s", text, more);
 }
 
@@ -133,15 +127,9 @@ int kthread_create(pri_t priority, int flags, struct cpu_info *cpu, void (*body)
 		return ENOMEM;
 	struct kthread *kthread = memory(me, sizeof(*kthread));
 	bool joined = (flags & KTHREAD_MUSTJOIN) != 0;
-	va_list words;
 	(void)priority;
-	va_start(words, format);
-	vsnprintf(kthread->name, sizeof(kthread->name), format, words);
-	va_end(words);
-	kthread->cpu = cpu;
-	kthread->body = body;
-	kthread->arg = arg;
-	kthread->joined = joined;
+	*kthread = (struct kthread){.cpu = cpu, .body = body, .arg = arg, .joined = joined};
+	FORMAT(kthread->name, format);
 	int waits = begin_wait();
 	int answer = start_kthread(kthread, joined, made);
 	end_wait(waits);

@@ -345,6 +345,14 @@ static inline void leave_cpu(struct thread *me)
 _Noreturn void stop_at(const char *call, const char *place, const char *format, ...) __attribute__((format(printf, 3, 4)));
 #define stop(me, ...)	stop_at((me)->call, (me)->place, __VA_ARGS__)
 #define stop_if(me, condition, ...)	((condition) ? stop(me, __VA_ARGS__) : (void)0)
+/* Writes the words behind the parameter `format` of a function to an array. */
+#define FORMAT(array, format) \
+	do { \
+		va_list words; \
+		va_start(words, format); \
+		vsnprintf(array, sizeof(array), format, words); \
+		va_end(words); \
+	} while (0)
 void must_succeed(const struct thread *me, uint32_t answer);
 void report(const struct thread *me, const char *format, ...) __attribute__((format(printf, 2, 3)));
 struct timespec patience(void);

@@ -105,8 +105,6 @@ void sleepq_wake_all(struct sleepq *sleepq, const void *of)
 
 bool sleepq_has_waiter(struct sleepq *sleepq, const void *of) { return first_for(sleepq, of) != NULL; }
 
-/* ---- The lock. ---- */
-
 static uintptr_t word_of(const uintptr_t *word) { return __atomic_load_n(word, __ATOMIC_ACQUIRE); }
 
 /* A strong exchange: a weak one may fail without reason, and mutex_tryenter with it though the lock is free. No test on x86-64 sees the difference. */

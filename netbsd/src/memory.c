@@ -183,10 +183,8 @@ pool_cache_t pool_cache_init(size_t size, unsigned align, unsigned offset, unsig
 {
 	struct thread *me = sleepable(begin_plain(__func__));
 	struct pool_cache *cache = memory(me, sizeof(*cache));
+	*cache = (struct pool_cache){.make = make, .end = end, .arg = arg};
 	pool_init(&cache->pool, size, align, offset, (int)flags, name, from, level);
-	cache->make = make;
-	cache->end = end;
-	cache->arg = arg;
 	pthread_mutex_init(&cache->lock, NULL);
 	return cache;
 }

@@ -13,8 +13,7 @@ struct psref_class *psref_class_create(const char *name, ipl_cookie_t level)
 {
 	struct thread *me = sleepable(begin_plain(__func__));
 	struct psref_class *psref_class = memory(me, sizeof(*psref_class));
-	psref_class->name = name;
-	psref_class->level = level;
+	*psref_class = (struct psref_class){.name = name, .level = level};
 	return psref_class;
 }
 

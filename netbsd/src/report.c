@@ -4,10 +4,9 @@
 #include "layer.h"
 
 /* Writes one line at once, so that no other line mixes with it. A thread that was cancelled writes it, too, and goes on. */
-static void write_line(const char *call, const char *place, const char *format, va_list words)
+static void write_line(const char *call, const char *place, const char *reason)
 {
-	char reason[320], line[512];
-	vsnprintf(reason, sizeof(reason), format, words);
+	char line[512];
 	int length = snprintf(line, sizeof(line), "%s: %s%s%s\n", call, reason, place == NULL ? "" : ", at ", place == NULL ? "" : place);
 	if (length >= (int)sizeof(line)) {
 		length = sizeof(line) - 1;
@@ -21,19 +20,17 @@ static void write_line(const char *call, const char *place, const char *format, 
 
 void stop_at(const char *call, const char *place, const char *format, ...)
 {
-	va_list words;
-	va_start(words, format);
-	write_line(call, place, format, words);
-	va_end(words);
+	char reason[320];
+	FORMAT(reason, format);
+	write_line(call, place, reason);
 	abort();
 }
 
 void report(const struct thread *me, const char *format, ...)
 {
-	va_list words;
-	va_start(words, format);
-	write_line(me->call, NULL, format, words);
-	va_end(words);
+	char reason[320];
+	FORMAT(reason, format);
+	write_line(me->call, NULL, reason);
 }
 
 struct timespec patience(void) { return time_after(KUPALDIZ_PATIENCE * INT64_C(1000000)); }

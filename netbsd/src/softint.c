@@ -112,9 +112,7 @@ void *make_softint(unsigned flags, void (*handler)(void *), void *arg)
 	struct softint *made = calloc(1, sizeof(*made));
 	if (made == NULL)
 		return NULL;
-	made->handler = handler;
-	made->arg = arg;
-	made->level = IPL_SOFTCLOCK + (int)(flags & SOFTINT_LVLMASK & 3);
+	*made = (struct softint){.handler = handler, .arg = arg, .level = IPL_SOFTCLOCK + (int)(flags & SOFTINT_LVLMASK & 3)};
 	pthread_mutex_lock(&pending_list);
 	made->next = softints;
 	softints = made;

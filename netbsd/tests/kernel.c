@@ -8,8 +8,6 @@
 #include "test.h"
 #include "things.h"
 
-/* ---- spl(9), and the levels' names. ---- */
-
 static int level_now(void) { return splraiseipl(makeiplcookie(IPL_NONE)); }
 
 /* Each name raises the level to its own, and splx lowers it again. */
@@ -44,8 +42,6 @@ static void test_levels(void)
 	EXPECT(level_now() == IPL_NONE && !kpreempt_disabled() && !cpu_intr_p());
 	EXPECT((SOFTINT_BIO | SOFTINT_MPSAFE) != SOFTINT_BIO && (SOFTINT_SERIAL & SOFTINT_LVLMASK) == SOFTINT_SERIAL);
 }
-
-/* ---- mutex(9): which lock spins, by its type or by its level, and its CPU's level meanwhile. ---- */
 
 static void test_mutexes(void)
 {
@@ -364,8 +360,6 @@ static void test_copies(void)
 	EXPECT(copyoutstr("text", NULL, 0, NULL) == EFAULT && copyoutstr("text", first, 0, NULL) == ENAMETOOLONG);
 	EXPECT(copyin(NULL, first, 0) == 0 && copyout(there, NULL, 0) == 0 && copyin(there, NULL, 0) == 0 && copyout(NULL, first, 0) == 0);
 }
-
-/* ---- module_hook(9). ---- */
 
 MODULE_HOOK(sum_hook, int, (int, int));
 struct sum_hook_t sum_hook;

@@ -231,18 +231,6 @@ static void *wait_in_crowd(void *of)
 	return of;
 }
 
-/* One goes: it gets its signal, and no other does. */
-static void call_member(struct member *member)
-{
-	mutex_enter(&member->lock);
-	member->called = true;
-	cv_signal(&member->cv);
-	mutex_exit(&member->lock);
-	end_thread(member->thread);
-	cv_destroy(&member->cv);
-	mutex_destroy(&member->lock);
-}
-
 static void test_crowd(void)
 {
 	for (unsigned i = 0; i < CROWD; i++) {
@@ -255,8 +243,17 @@ static void test_crowd(void)
 	for (unsigned i = 0; i < CROWD; i++)
 		mutex_exit(&crowd[i * 7 % CROWD].lock);
 	sleep_for(20000);
-	for (unsigned i = 0; i < CROWD; i++)
-		call_member(&crowd[i * 3 % CROWD]);
+	/* One goes after another: it gets its signal, and no other does. */
+	for (unsigned i = 0; i < CROWD; i++) {
+		struct member *member = &crowd[i * 3 % CROWD];
+		mutex_enter(&member->lock);
+		member->called = true;
+		cv_signal(&member->cv);
+		mutex_exit(&member->lock);
+		end_thread(member->thread);
+		cv_destroy(&member->cv);
+		mutex_destroy(&member->lock);
+	}
 }
 
 int main(void)

@@ -9,7 +9,6 @@
 #include "stops.h"
 #include "wraps.h"
 
-#include "after.h"
 #include "things.h"
 
 /* What runs on a thread of its own before the body of the next one that is started. */

@@ -269,8 +269,6 @@ static void test_module(void)
 	EXPECT(kupaldiz_named_modcmd(MODULE_CMD_AUTOUNLOAD, NULL) == 0 && kupaldiz_named_modcmd(MODULE_CMD_STAT, NULL) == ENOTTY);
 }
 
-/* ---- cdefs, types, param, systm. ---- */
-
 struct __packed tight {
 	uint8_t	byte;
 	u_int	word;

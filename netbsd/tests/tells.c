@@ -185,19 +185,6 @@ struct holder {
 	atomic_bool holds;
 };
 
-static void hold_cpu_of(struct holder *holder)
-{
-	kpreempt_disable();
-	atomic_store(&holder->holds, true);
-	do
-		sleep_for(8000);
-	while (holder->cpu_is == KEEPS && !atomic_load(&told));
-	/* Nobody took the CPU away meanwhile. */
-	EXPECT(has_cpu(holder->cpu));
-	kpreempt_enable();
-	sleep_for(2000);
-}
-
 static struct psref_target next;
 
 /* Only the last one is counted elsewhere, since the CPU counts as many as it may. A reference to another target is none. */
@@ -214,8 +201,17 @@ static void *hold_one(void *of)
 		psref_acquire(&held[i], &target, things);
 	for (unsigned i = 0; i < beside; i++)
 		psref_release(&held[i], &target, things);
-	while (holder->cpu_is != FREES && !atomic_load(&told))
-		hold_cpu_of(holder);
+	while (holder->cpu_is != FREES && !atomic_load(&told)) {
+		kpreempt_disable();
+		atomic_store(&holder->holds, true);
+		do
+			sleep_for(8000);
+		while (holder->cpu_is == KEEPS && !atomic_load(&told));
+		/* Nobody took the CPU away meanwhile. */
+		EXPECT(has_cpu(holder->cpu));
+		kpreempt_enable();
+		sleep_for(2000);
+	}
 	atomic_store(&holder->holds, true);
 	await(&told);
 	if (holder->counted != NONE)

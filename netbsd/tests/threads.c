@@ -4,7 +4,7 @@
  */
 #include "test.h"
 
-#include "after.h"
+#include "wraps.h"
 #include "things.h"
 
 #include "src/layer.h"
@@ -91,8 +91,6 @@ static void test_joined_early(void)
 	EXPECT(kthread_create(PRI_NONE, KTHREAD_MUSTJOIN, NULL, tell_itself, NULL, &worker, "worker") == 0 && after == NULL);
 	EXPECT(worker == atomic_load(&itself));
 }
-
-/* ---- Destructors that still give something back. ---- */
 
 static kmutex_t own_lock;
 static krwlock_t rw;

@@ -20,4 +20,17 @@ WRAP(int, open, const char *path, int how, ...);
 WRAP(int, close, int file);
 WRAP(void, free, void *block);
 
+/* What this thread does once it has given back its next lock, while its call goes on. */
+static _Thread_local void (*after)(void);
+
+int __wrap_pthread_mutex_unlock(pthread_mutex_t *mutex)
+{
+	void (*does)(void) = after;
+	after = NULL;
+	int answer = __real_pthread_mutex_unlock(mutex);
+	if (does != NULL)
+		does();
+	return answer;
+}
+
 #endif
