@@ -73,7 +73,6 @@ static inline void join(uint32_t *clock, const uint32_t *other)
 			clock[number] = other[number];
 }
 
-/* A thread as the explorer has it. */
 struct routine {
 	void *stack;		/* where it was left */
 	void *fake_stack;
@@ -221,7 +220,6 @@ extern unsigned unseen_count;
 
 /* ---- What a run needs and the next one needn't find empty: it lies in memory of its own. ---- */
 
-/* A block of memory of the code's. */
 struct block {
 	unsigned char *at;
 	size_t size;

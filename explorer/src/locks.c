@@ -160,12 +160,6 @@ bool sleepq_wake(struct sleepq *sleepq, const void *of)
 	return true;
 }
 
-void sleepq_wake_all(struct sleepq *sleepq, const void *of)
-{
-	while (sleepq_wake(sleepq, of))
-		;
-}
-
 bool sleepq_has_waiter(struct sleepq *sleepq, const void *of)
 {
 	(void)sleepq;

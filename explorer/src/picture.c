@@ -141,14 +141,6 @@ static void draw_steps(FILE *to)
 	}
 }
 
-static void draw_fault(FILE *to)
-{
-	if (search->length == 0)
-		return;
-	double x = x_of(search->length - 1), middle = TOP + row_of(search->steps[search->length - 1].chosen) * ROW;
-	fprintf(to, "<path class=\"fault\" d=\"M%.1f %.1fl12 12m0 -12l-12 12\"/>\n", x - 6, middle - 6);
-}
-
 /* The steps, one a line. Where the list ends. */
 static double list_steps(FILE *to, double y)
 {
@@ -215,7 +207,10 @@ bool draw(const char *name, const struct bench_found *found)
 	for (unsigned at = 0; at < search->length; at++)
 		draw_pairs(to, at);
 	draw_steps(to);
-	draw_fault(to);
+	if (search->length > 0) {
+		double x = x_of(search->length - 1), middle = TOP + row_of(search->steps[search->length - 1].chosen) * ROW;
+		fprintf(to, "<path class=\"fault\" d=\"M%.1f %.1fl12 12m0 -12l-12 12\"/>\n", x - 6, middle - 6);
+	}
 	write_lines(to, list_steps(to, list) + 6, found->line);
 	fputs("</svg>\n", to);
 	bool written = ferror(to) == 0;

@@ -32,19 +32,14 @@ static char *stack_of(unsigned number)
 }
 
 /* A switch isn't a return to where the last call was made from, so a shadow stack would end the program. This instruction does nothing without one. */
-static void check_no_shadow_stack(void)
+void map_stacks(void)
 {
 	uint64_t top = 0;
 	__asm__ volatile(".byte 0xf3, 0x48, 0x0f, 0x1e, 0xc8" : "+a"(top));	/* rdsspq %rax */
 	if (top != 0)
 		refuse("the program runs with a shadow stack, which the bench can't switch: link it with -z noshstk, or run it with "
 		       "GLIBC_TUNABLES=glibc.cpu.hwcaps=-SHSTK");
-}
-
-/* A stack for each, with as much room below that nothing may touch. They stay. */
-void map_stacks(void)
-{
-	check_no_shadow_stack();
+	/* A stack for each, with as much room below that nothing may touch. They stay. */
 	stacks = map_pages((size_t)THREADS * 2 * STACK, MAP_PRIVATE);
 	for (unsigned number = 0; number < THREADS; number++) {
 		mprotect(stack_of(number) - STACK, STACK, PROT_NONE);

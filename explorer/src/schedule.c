@@ -236,15 +236,6 @@ static unsigned begin_step(uint32_t enabled)
 	return chosen;
 }
 
-static void name_step(struct step *step, const struct routine *routine)
-{
-	step->guarded = routine == NULL || routine->guard != NULL;
-	step->call = routine == NULL ? "clock" : routine->call;
-	step->place = routine == NULL ? NULL : routine->place;
-	step->pc = routine == NULL ? NULL : routine->pc;
-	step->cpu = routine == NULL || routine->self == NULL || routine->self->cpu == NULL ? NOBODY : (uint8_t)routine->self->cpu->info.ci_index;
-}
-
 /* Lets time go on to the next deadline. Once the clock may not hurry any more it waits until no thread is enabled, and so changes places with none. */
 static void tick(uint32_t enabled)
 {
@@ -268,7 +259,13 @@ static void choose(void)
 		if (enabled == 0)
 			report_stuck();
 		chosen = begin_step(enabled);
-		name_step(&search->steps[run.step - 1], chosen == CLOCK ? NULL : &run.routines[chosen]);
+		struct step *step = &search->steps[run.step - 1];
+		const struct routine *routine = chosen == CLOCK ? NULL : &run.routines[chosen];
+		step->guarded = routine == NULL || routine->guard != NULL;
+		step->call = routine == NULL ? "clock" : routine->call;
+		step->place = routine == NULL ? NULL : routine->place;
+		step->pc = routine == NULL ? NULL : routine->pc;
+		step->cpu = routine == NULL || routine->self == NULL || routine->self->cpu == NULL ? NOBODY : (uint8_t)routine->self->cpu->info.ci_index;
 		if (chosen == CLOCK)
 			tick(enabled);
 	} while (chosen == CLOCK);

@@ -53,7 +53,7 @@ RULES = [
 ORDERED = {
     "locks": "touch(ON_THREAD, joined, 0, ORDERS | ACQUIRES);",
     "routine": "touch(ON_THREAD, me, 0, WRITES | RELEASES);",
-    "xcalls": "made++;\n		touch(ON_XCALL, NULL, 0, WRITES | RELEASES);",
+    "more_calls": "made++;\n		touch(ON_XCALL, NULL, 0, WRITES | RELEASES);",
 }
 
 # What a step touches: a kind of thing, or a call that says it; and that it writes that.

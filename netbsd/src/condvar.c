@@ -93,19 +93,14 @@ int cv_timedwait_sig(kcondvar_t *cv, kmutex_t *mutex, int ticks)
 	return timedwait(begin_call(__func__), cv, mutex, ticks, true);
 }
 
-void cv_signal(kcondvar_t *cv)
+static void wake(struct thread *me, kcondvar_t *cv, bool all)
 {
-	struct thread *me = begin_call(__func__);
-	wake_cv(me, cv, false);
+	wake_cv(me, cv, all);
 	end_call(me);
 }
 
-void cv_broadcast(kcondvar_t *cv)
-{
-	struct thread *me = begin_call(__func__);
-	wake_cv(me, cv, true);
-	end_call(me);
-}
+void cv_signal(kcondvar_t *cv) { wake(begin_call(__func__), cv, false); }
+void cv_broadcast(kcondvar_t *cv) { wake(begin_call(__func__), cv, true); }
 
 bool cv_has_waiters(kcondvar_t *cv)
 {

@@ -103,11 +103,19 @@ static void *run_kthread(void *of)
 	stop_at("kthread_create", NULL, "the body returned without kthread_exit");
 }
 
-/* Starts it, and waits until it has begun. From then on another thread may join and free it, if it is to be joined. 0 or an errno. */
-static int start_kthread(struct kthread *kthread, bool joined, lwp_t **made)
+/* Once it has begun another thread may join and free it, if it is to be joined. */
+int kthread_create(pri_t priority, int flags, struct cpu_info *cpu, void (*body)(void *), void *arg, lwp_t **made, const char *format, ...)
 {
+	struct thread *me = sleepable(begin_plain(__func__));
+	if (FAILS())
+		return ENOMEM;
+	struct kthread *kthread = memory(me, sizeof(*kthread));
+	bool joined = (flags & KTHREAD_MUSTJOIN) != 0;
+	(void)priority;
 	lwp_t *lwp = NULL;
-	kthread->begun = &lwp;
+	*kthread = (struct kthread){.begun = &lwp, .cpu = cpu, .body = body, .arg = arg, .joined = joined};
+	FORMAT(kthread->name, format);
+	int waits = begin_wait();
 	pthread_mutex_lock(&kthreads_lock);
 	int answer = pthread_create(&kthread->id, NULL, run_kthread, kthread);
 	while (answer == 0 && lwp == NULL)
@@ -117,21 +125,6 @@ static int start_kthread(struct kthread *kthread, bool joined, lwp_t **made)
 		pthread_detach(kthread->id);
 	if (answer == 0 && made != NULL)
 		*made = lwp;
-	return answer;
-}
-
-int kthread_create(pri_t priority, int flags, struct cpu_info *cpu, void (*body)(void *), void *arg, lwp_t **made, const char *format, ...)
-{
-	struct thread *me = sleepable(begin_plain(__func__));
-	if (FAILS())
-		return ENOMEM;
-	struct kthread *kthread = memory(me, sizeof(*kthread));
-	bool joined = (flags & KTHREAD_MUSTJOIN) != 0;
-	(void)priority;
-	*kthread = (struct kthread){.cpu = cpu, .body = body, .arg = arg, .joined = joined};
-	FORMAT(kthread->name, format);
-	int waits = begin_wait();
-	int answer = start_kthread(kthread, joined, made);
 	end_wait(waits);
 	if (answer != 0 || !joined)
 		free(kthread);

@@ -178,8 +178,12 @@ void sleepq_lock(struct sleepq *sleepq);
 void sleepq_unlock(struct sleepq *sleepq);
 bool sleepq_wait(struct sleepq *sleepq, const void *of, struct thread *me, const struct timespec *deadline);
 bool sleepq_wake(struct sleepq *sleepq, const void *of);
-void sleepq_wake_all(struct sleepq *sleepq, const void *of);
 bool sleepq_has_waiter(struct sleepq *sleepq, const void *of);
+static inline void sleepq_wake_all(struct sleepq *sleepq, const void *of)
+{
+	while (sleepq_wake(sleepq, of))
+		;
+}
 
 struct timespec time_after(int64_t nanoseconds);
 
@@ -213,7 +217,6 @@ struct thread {
 	char name[32];
 };
 
-/* A reference in the table of its CPU. */
 struct reference {
 	const struct psref *psref;	/* where it lies, NULL where the place is free */
 	const struct psref_target *target;
@@ -389,7 +392,6 @@ struct row {
 	const kmutex_t *interlock;
 };
 
-/* A local reference that is held. */
 struct held {
 	struct registry_local local;
 	const char *place;
@@ -410,7 +412,6 @@ struct bank {
 	struct row rows[ROWS];
 };
 
-/* A row and its bank. */
 struct found_row {
 	struct bank *bank;
 	struct row *row;

@@ -77,17 +77,6 @@ void localcount_acquire(struct localcount *lc)
 	leave_cpu(me);
 }
 
-/* Gives up a reference that a drain waits for, and wakes the drain. A soft interrupt takes the interlock, too: as in the kernel it sleeps if it must. */
-static void release_collected(struct thread *me, struct bank *bank, struct registry_local *reference, kcondvar_t *cv, kmutex_t *interlock)
-{
-	acquire_mutex(me, interlock);
-	enter_interlock();
-	must_succeed(me, registry_local_give_up(&bank->keeper, reference));
-	exit_interlock();
-	wake_cv(me, cv, true);
-	release_mutex(me, interlock);
-}
-
 void localcount_release(struct localcount *lc, kcondvar_t *cv, kmutex_t *interlock)
 {
 	struct thread *me = begin_call(__func__);
@@ -103,10 +92,16 @@ void localcount_release(struct localcount *lc, kcondvar_t *cv, kmutex_t *interlo
 	COMES_BEFORE(&at.row->gone);
 	uint32_t answer = registry_local_release(handle_of(me, at.bank), &reference);
 	unhold_cpu(me);
-	if (answer == REGISTRY_COLLECTED)
-		release_collected(me, at.bank, &reference, cv, interlock);
-	else
-		must_succeed(me, answer);
+	if (answer == REGISTRY_COLLECTED) {
+		/* A drain waits for it. A soft interrupt takes the interlock, too: as in the kernel it sleeps if it must. */
+		acquire_mutex(me, interlock);
+		enter_interlock();
+		answer = registry_local_give_up(&at.bank->keeper, &reference);
+		exit_interlock();
+		wake_cv(me, cv, true);
+		release_mutex(me, interlock);
+	}
+	must_succeed(me, answer);
 	end_call(me);
 }
 

@@ -97,12 +97,6 @@ bool sleepq_wake(struct sleepq *sleepq, const void *of)
 	return true;
 }
 
-void sleepq_wake_all(struct sleepq *sleepq, const void *of)
-{
-	while (sleepq_wake(sleepq, of))
-		;
-}
-
 bool sleepq_has_waiter(struct sleepq *sleepq, const void *of) { return first_for(sleepq, of) != NULL; }
 
 static uintptr_t word_of(const uintptr_t *word) { return __atomic_load_n(word, __ATOMIC_ACQUIRE); }

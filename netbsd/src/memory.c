@@ -225,23 +225,19 @@ void pool_cache_destroy(pool_cache_t cache)
 	free(cache);
 }
 
-static void *construct(struct thread *me, pool_cache_t cache, int flags)
-{
-	void *object = pool_alloc(me, &cache->pool, flags);
-	if (object == NULL || cache->make == NULL || cache->make(cache->arg, object, flags) == 0)
-		return object;
-	pool_release(me, &cache->pool, object);
-	return NULL;
-}
-
 void *pool_cache_get(pool_cache_t cache, int flags)
 {
 	struct thread *me = begin_call(__func__);
 	if ((flags & PR_WAITOK) != 0)
 		require_sleepable(me);
 	struct head *head = pop_constructed(cache);
-	if (head == NULL)
-		return construct(me, cache, flags);
+	if (head == NULL) {
+		void *object = pool_alloc(me, &cache->pool, flags);
+		if (object == NULL || cache->make == NULL || cache->make(cache->arg, object, flags) == 0)
+			return object;
+		pool_release(me, &cache->pool, object);
+		return NULL;
+	}
 	head->mark = mark_of(&cache->pool);
 	__atomic_fetch_add(&cache->pool.pr_out, 1, __ATOMIC_RELAXED);
 	return head + 1;

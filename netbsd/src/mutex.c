@@ -81,29 +81,22 @@ static void restore_level(struct thread *me, int level)
 		lower_level(me, me->level_before);
 }
 
-/* Takes a lock that doesn't spin. Whoever has its CPU, as a soft interrupt has, gives it back while it waits. */
-static void acquire_slowly(struct thread *me, kmutex_t *mutex)
-{
-	bool steps = me->holds > 0;
-	require_blockable(me);
-	if (lock_tryacquire(&mutex->mtx_word, me))
-		return;
-	if (steps)
-		yield_cpu(me);
-	lock_acquire(&mutex->mtx_word, me, report_wait);
-	if (steps)
-		reclaim_cpu(me);
-}
-
+/* Whoever has its CPU, as a soft interrupt has, gives it back while it waits for a lock that doesn't spin. */
 void acquire_mutex(struct thread *me, kmutex_t *mutex)
 {
 	require_mutex(me, mutex);
 	stop_if(me, has_mutex(me, mutex), "the thread has the lock already, taken%s", AT_PLACE(mutex->mtx_place));
-	if (mutex->mtx_spins) {
+	bool steps = me->holds > 0 && !mutex->mtx_spins;
+	if (mutex->mtx_spins)
 		raise_to_level_of(me, mutex);
+	else
+		require_blockable(me);
+	if (mutex->mtx_spins || !lock_tryacquire(&mutex->mtx_word, me)) {
+		if (steps)
+			yield_cpu(me);
 		lock_acquire(&mutex->mtx_word, me, report_wait);
-	} else {
-		acquire_slowly(me, mutex);
+		if (steps)
+			reclaim_cpu(me);
 	}
 	note_acquired(me, mutex);
 }

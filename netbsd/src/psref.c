@@ -235,24 +235,19 @@ bool psref_held(const struct psref_target *target, struct psref_class *psref_cla
 	return held;
 }
 
-/* Stops where this thread has a reference to the target: nobody else could release it. */
-static void require_none_of_own(struct thread *me, const struct psref_target *target)
-{
-	if (me->references == 0)
-		return;
-	hold_cpu(me);
-	const struct reference *found = find_reference(me->cpu, target, me);
-	stop_if(me, found != NULL, "this thread has a reference to the target, acquired%s", AT_PLACE(found->place));
-	unhold_cpu(me);
-}
-
 void psref_target_destroy(struct psref_target *target, struct psref_class *psref_class)
 {
 	struct thread *me = sleepable(begin_call(__func__));
 	struct pauses pauses = begin_pauses();
 	struct registry_stage met = {0, 0};
 	struct found_row at = target_row(me, target, psref_class);
-	require_none_of_own(me, target);
+	if (me->references > 0) {
+		hold_cpu(me);
+		/* Nobody else could release it. */
+		const struct reference *found = find_reference(me->cpu, target, me);
+		stop_if(me, found != NULL, "this thread has a reference to the target, acquired%s", AT_PLACE(found->place));
+		unhold_cpu(me);
+	}
 	int waits = begin_wait();
 	retire_row(me, at, target);
 	while (!try_free_row(me, at, &met)) {

@@ -284,21 +284,17 @@ const void *live_owner(size_t *held)
 	return NULL;
 }
 
-/* A CPU may have been left in a section. */
-static void close_bank(struct thread *me, struct bank *bank)
-{
-	for (struct row *row = bank->rows; row < &bank->rows[ROWS]; row++)
-		for (size_t place = 0; place < row->count; place++)
-			must_succeed(me, registry_local_forget(&row->held[place].local));
-	for (unsigned cpu = 0; cpu < ALL_CPUS; cpu++)
-		while (registry_exit(&bank->cpus[cpu].cpu) == REGISTRY_DONE)
-			;
-	close_registry(me, bank);
-}
-
-/* Closes each registry. No thread goes on in a call, and none calls the layer again. */
+/* Closes each registry. No thread goes on in a call, and none calls the layer again; but a CPU may have been left in a section. */
 void close_banks(struct thread *me)
 {
-	for (unsigned place = 0; place < bank_count; place++)
-		close_bank(me, banks[place]);
+	for (unsigned place = 0; place < bank_count; place++) {
+		struct bank *bank = banks[place];
+		for (struct row *row = bank->rows; row < &bank->rows[ROWS]; row++)
+			for (size_t held = 0; held < row->count; held++)
+				must_succeed(me, registry_local_forget(&row->held[held].local));
+		for (unsigned cpu = 0; cpu < ALL_CPUS; cpu++)
+			while (registry_exit(&bank->cpus[cpu].cpu) == REGISTRY_DONE)
+				;
+		close_registry(me, bank);
+	}
 }

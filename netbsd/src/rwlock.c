@@ -49,20 +49,6 @@ static bool report_wait(struct thread *me, const krwlock_t *rw)
 	return true;
 }
 
-static void rw_acquire(struct thread *me, krwlock_t *rw, krw_t how)
-{
-	struct timespec tells = patience();
-	bool told = false;
-	rw->rw_wanted += how == RW_WRITER;
-	while (!rw_tryacquire(me, rw, how)) {
-		if (sleepq_wait(sleepq_of(rw), rw, me, told ? NULL : &tells) || told)
-			continue;
-		told = report_wait(me, rw);
-		tells = patience();
-	}
-	rw->rw_wanted -= how == RW_WRITER;
-}
-
 void rw_enter(krwlock_t *rw, const krw_t how)
 {
 	struct thread *me = lock_rw(begin_call(__func__), rw);
@@ -72,11 +58,19 @@ void rw_enter(krwlock_t *rw, const krw_t how)
 		sleepq_unlock(sleepq_of(rw));
 		return;
 	}
-	bool steps = me->holds > 0;
+	bool steps = me->holds > 0, told = false;
 	if (steps)
 		yield_cpu(me);
 	int waits = begin_wait();
-	rw_acquire(me, rw, how);
+	struct timespec tells = patience();
+	rw->rw_wanted += how == RW_WRITER;
+	while (!rw_tryacquire(me, rw, how)) {
+		if (sleepq_wait(sleepq_of(rw), rw, me, told ? NULL : &tells) || told)
+			continue;
+		told = report_wait(me, rw);
+		tells = patience();
+	}
+	rw->rw_wanted -= how == RW_WRITER;
 	end_wait(waits);
 	sleepq_unlock(sleepq_of(rw));
 	if (steps)

@@ -97,21 +97,16 @@ void ensure_softint_thread(struct thread *me, struct cpu *cpu, int level)
 	end_wait(waits);
 }
 
-/* The thread of the highest level that waits on this thread's CPU above its own level; NULL where none does. */
-static struct thread *next_above(const struct thread *me)
-{
-	pthread_mutex_lock(&pending_list);
-	int level = highest(me->cpu);
-	struct thread *next = level > me->level ? threads[me->cpu->info.ci_index][level].thread : NULL;
-	pthread_mutex_unlock(&pending_list);
-	return next;
-}
-
 /* Lets the soft interrupts that wait have the CPU, one level after another, and waits for it. */
 void lend_cpu(struct thread *me)
 {
-	struct thread *next;
-	while ((next = next_above(me)) != NULL) {
+	for (;;) {
+		pthread_mutex_lock(&pending_list);
+		int level = highest(me->cpu);
+		struct thread *next = level > me->level ? threads[me->cpu->info.ci_index][level].thread : NULL;
+		pthread_mutex_unlock(&pending_list);
+		if (next == NULL)
+			return;
 		next->lender = me;
 		lock_hand_over(&me->cpu->hold, next);
 		wake_threads();
