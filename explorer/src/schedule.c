@@ -139,8 +139,6 @@ static unsigned choose_random(uint32_t enabled)
 	return best;
 }
 
-/* ---- Steps that are never made. ---- */
-
 static const struct set ticking = {.count = 2, .of = {{.size = 1, .kind = ON_TIME, .how = WRITES}, {.size = 1, .kind = ON_DEADLINE, .cpu = ANY}}};
 
 /* The run ends after its first `upto` steps, well or cut short: what is disabled then of the clock and the soft interrupts may race with one of them. A thread

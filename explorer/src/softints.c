@@ -107,7 +107,6 @@ void lend_cpu(struct thread *me)
 	(void)me;
 }
 
-/* A thread that has its CPU waits for a lock: others get the CPU meanwhile. */
 void yield_cpu(struct thread *me)
 {
 	run.current->off = true;
@@ -117,7 +116,6 @@ void yield_cpu(struct thread *me)
 		lock_release(&me->cpu->hold, me);
 }
 
-/* It has the lock, and goes on once it has the CPU again. */
 void reclaim_cpu(struct thread *me)
 {
 	if (me->softint) {

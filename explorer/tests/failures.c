@@ -93,8 +93,6 @@ BODY(pause_once)
 
 HANDLER(make_ready, mutex_enter(&lock); ready = true; cv_signal(&cv); mutex_exit(&lock))
 
-/* ---- What lies in memory that is given back. ---- */
-
 struct softc {
 	callout_t callout;
 	struct work work;

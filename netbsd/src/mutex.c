@@ -1,7 +1,6 @@
 /* mutex.c - mutex(9) */
 #include "layer.h"
 
-/* A lock that mutex_obj_alloc made. */
 struct counted_mutex {
 	kmutex_t mutex;		/* first */
 	unsigned references;	/* an atomic */

@@ -270,7 +270,6 @@ void disable_preemption(struct thread *me)
 	me->preemptions++;
 }
 
-/* Stops with this line where it isn't disabled. */
 void enable_preemption(struct thread *me, const char *otherwise)
 {
 	stop_if(me, me->preemptions == 0, "%s", otherwise);

@@ -58,8 +58,6 @@ STOPS("kupaldiz_bind: out of memory, at PLACE", open_without(NOTHING_LACKS); on_
 THREAD(bind_without_value, lacks = VALUE; kupaldiz_bind(1))
 STOPS("kupaldiz_bind: out of memory, at PLACE", open_without(NOTHING_LACKS); on_thread(bind_without_value))
 
-/* ---- Calls that can't say it. ---- */
-
 STOPS("psref_class_create: out of memory", open_without(CALLOC); psref_class_create("other", IPL_NONE))
 STOPS("psref_acquire: out of memory, at PLACE", struct psref psref; open_without(REALLOC); psref_acquire(&psref, &target, things))
 STOPS("localcount_acquire: out of memory, at PLACE", open_without(REALLOC); localcount_acquire(&count))
@@ -73,8 +71,6 @@ STOPS("callout_init: out of memory", open_without(CALLOC); callout_init(&callout
 STOPS("callout: no thread is left",
     open_without(NOTHING_LACKS); callout_init(&callout, CALLOUT_MPSAFE); lacks = THREADS; callout_reset(&callout, 1, nothing, NULL);
     sleep_for(20000000))
-
-/* ---- Calls that say it. ---- */
 
 static void require_no_memory(void)
 {
