@@ -19,7 +19,7 @@ library: $(OUT)/libkupaldiz_bench.a $(OUT)/$(BENCH_SHARED)
 install: install_bench
 endif
 
-$(BENCH_FOLDER)/names: explorer/src/calls.c explorer/src/more_calls.c explorer/src/xcalls.c explorer/src/made.c
+$(BENCH_FOLDER)/names: explorer/src/calls.c explorer/src/more_calls.c
 	mkdir -p $(BENCH_FOLDER)
 	$(BENCH_WRAPPED)
 

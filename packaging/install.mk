@@ -93,10 +93,7 @@ $(OUT)/$(SHARED): $(OUT)/libkupaldiz.a packaging/kupaldiz.map packaging/install.
 
 $(NETBSD_OBJECTS): $(OUT)/installed-netbsd/%.o: netbsd/src/%.c netbsd/src/layer.h $(addprefix netbsd/include/,$(NETBSD_HEADERS)) $(FACE) packaging/places.mk packaging/install.mk
 	mkdir -p $(OUT)/installed-netbsd
-	$(CC) $(COMPILED) -Inetbsd/include -c -o $@ $<
-
-# These ask for it before any header; with other limits their header comes before that.
-$(OUT)/installed-netbsd/thread.o $(OUT)/installed-netbsd/kernel.o: override CPPFLAGS += -D_GNU_SOURCE
+	$(CC) $(COMPILED) -D_GNU_SOURCE -Inetbsd/include -c -o $@ $<
 
 # One object, from which the calls alone are seen: what the layer's parts name among them clashes with no name of a program.
 $(OUT)/libkupaldiz_netbsd.a: $(NETBSD_OBJECTS)

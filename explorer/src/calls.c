@@ -1,12 +1,7 @@
 /*
- * calls.c - the layer's calls for locks, sections and references, each with its point
- *
- * A call announces where it is and what must hold before it can go on, says what it touches, and then is the layer's
- * own. Calls that only look at what is the thread's have no point.
+ * calls.c - the layer's calls for locks, sections and references: each announces where it is and what must hold before it can go on, says what it touches,
+ * and then is the layer's own. Calls that only look at what is the thread's have no point.
  */
-#include <stdio.h>
-#include <string.h>
-
 #include "inside.h"
 
 void at_call(const char *call)
@@ -14,7 +9,6 @@ void at_call(const char *call)
 	point(call, NULL, NULL, NULL);
 }
 
-/* A point of a call with a thing that lies in memory. */
 void at_live(const char *call, const void *thing, size_t size)
 {
 	at_call(call);
@@ -34,9 +28,61 @@ void at_cpu(const char *call)
 	point(call, NULL, me->self->holds == 0 ? is_free : NULL, &me->self->cpu->hold);
 }
 
-/* ---- mutex(9). ---- */
+/* ---- What is initialised and must be ended before its memory is given back, works in queues too; and wake-ups that nobody waited for. ---- */
 
-/* Whether the thread has its CPU, as a soft interrupt has, and gives it back where it waits for the mutex. */
+void track_made(const char *call, const void *lock)
+{
+	if (run.current != NULL)
+		((struct thing *)row_for(THINGS, (uintptr_t)lock))->made = call;
+}
+
+void track_ended(const void *lock)
+{
+	struct thing *row = row_with(THINGS, (uintptr_t)lock);
+	if (row != NULL)
+		row->made = NULL;
+}
+
+void check_none_made(const char *call, const void *from, size_t size)
+{
+	const struct thing *rows = rows_of(THINGS);
+	for (size_t at = 0; at < run.rows[THINGS]; at++)
+		if (rows[at].made != NULL && rows[at].by.key - (uintptr_t)from < size)
+			fail("%s%s: what %s has made lies in it and was never destroyed", call, AT_PLACE(run.current->place), rows[at].made);
+}
+
+void check_none_left(void)
+{
+	unsigned left = 0;
+	const char *call = NULL;
+	const struct thing *rows = rows_of(THINGS);
+	for (size_t at = 0; at < run.rows[THINGS]; at++) {
+		if (rows[at].made == NULL)
+			continue;
+		left++;
+		call = rows[at].made;
+	}
+	fail_if(left > 0, "%u locks, condition variables or callouts are left at the end, one of them made by %s", left, call);
+}
+
+WRAPPED(void, mutex_init, (kmutex_t *mutex, kmutex_type_t type, int level), (mutex, type, level),
+    track_made(__func__, mutex))
+WRAPPED(void, cv_init, (kcondvar_t *cv, const char *name), (cv, name), track_made(__func__, cv))
+WRAPPED(void, rw_init, (krwlock_t *rw), (rw), track_made(__func__, rw))
+
+void track_wake(const char *call, const char *place, const void *cv, bool waited)
+{
+	struct thing *row = row_for(THINGS, (uintptr_t)cv);
+	row->missed = waited ? NULL : call;
+	row->missed_at = place;
+}
+
+const struct thing *lost_wakeup_at(const void *cv)
+{
+	const struct thing *row = row_with(THINGS, (uintptr_t)cv);
+	return row != NULL && row->missed != NULL ? row : NULL;
+}
+
 static bool steps_off(const struct routine *me, const kmutex_t *mutex)
 {
 	return me->self->holds > 0 && !mutex->mtx_spins;
@@ -69,8 +115,6 @@ WRAPPED(void, mutex_destroy, (kmutex_t *mutex), (mutex), AT(ON_LOCK, mutex, 0); 
 WRAPPED(void, mutex_obj_hold, (kmutex_t *mutex), (mutex), AT(ON_LOCK, mutex, 0))
 WRAPPED(bool, mutex_obj_free, (kmutex_t *mutex), (mutex), AT(ON_LOCK, mutex, WRITES))
 
-/* ---- condvar(9). ---- */
-
 /* A wait gives the lock back, and takes it again in the step in which the thread goes on. */
 static void at_cv_wait(const char *call, kcondvar_t *cv, kmutex_t *mutex)
 {
@@ -102,8 +146,7 @@ WRAPPED(bool, cv_has_waiters, (kcondvar_t *cv), (cv), LIVE(cv))
 WRAPPED(bool, cv_is_valid, (kcondvar_t *cv), (cv), AT(ON_CV, cv, 0))
 WRAPPED(void, cv_destroy, (kcondvar_t *cv), (cv), AT(ON_CV, cv, WRITES); track_ended(cv))
 
-/* ---- rwlock(9): a thread that waits for one is in the lock's own queue. ---- */
-
+/* A thread that waits for an rwlock is in the lock's own queue. */
 AROUND(void, rw_enter, (krwlock_t *rw, const krw_t how), (rw, how), AT(ON_LOCK, rw, 0),
     touch(ON_LOCK, rw, 0, WRITES); acquire_clock(ON_LOCK, rw, 0))
 ANSWERED(int, rw_tryenter, (krwlock_t *rw, const krw_t how), (rw, how), AT(ON_LOCK, rw, WRITES), if (answer) acquire_clock(ON_LOCK, rw, 0))
@@ -116,14 +159,10 @@ WRAPPED(void, rw_destroy, (krwlock_t *rw), (rw), AT(ON_LOCK, rw, 0); track_ended
 WRAPPED(int, rw_read_held, (krwlock_t *rw), (rw), AT(ON_LOCK, rw, 0))
 WRAPPED(int, rw_lock_held, (krwlock_t *rw), (rw), AT(ON_LOCK, rw, 0))
 
-/* ---- pserialize(9). ---- */
-
 WRAPPED(int, pserialize_read_enter, (void), (), at_cpu(__func__))
 WRAPPED(void, pserialize_read_exit, (int s), (s), at_call(__func__))
 WRAPPED(void, pserialize_perform, (pserialize_t psz), (psz), at_thing(__func__, ON_TARGET, psz, 1, 0))
 WRAPPED(void, pserialize_destroy, (pserialize_t psz), (psz), at_thing(__func__, ON_TARGET, psz, 1, WRITES))
-
-/* ---- psref(9). ---- */
 
 WRAPPED(void, psref_class_destroy, (struct psref_class *psref_class), (psref_class),
     at_thing(__func__, ON_TARGET, psref_class, 1, WRITES))
@@ -152,8 +191,6 @@ WRAPPED(void, psref_copy, (struct psref *to, const struct psref *from, struct ps
     (to, from, psref_class), at_reference(__func__, from->psref_target, sizeof(*from->psref_target), 0))
 WRAPPED(bool, psref_held, (const struct psref_target *target, struct psref_class *psref_class), (target, psref_class),
     at_reference(__func__, target, sizeof(*target), 0))
-
-/* ---- localcount(9). ---- */
 
 WRAPPED(void, localcount_init, (struct localcount *lc), (lc), AT(ON_TARGET, lc, WRITES))
 WRAPPED(void, localcount_fini, (struct localcount *lc), (lc), AT(ON_TARGET, lc, 0))

@@ -17,11 +17,8 @@
  * wrong, such neighbours leave the same memory in both orders. For this, two steps must conflict here if the one acquires the clock that the other
  * has released.
  */
-#include <string.h>
-
 #include "inside.h"
 
-/* Whether two accesses are of the same thing, and one of them writes it. */
 static bool clash(const struct access *one, const struct access *other)
 {
 	if (one->kind != other->kind || ((one->how | other->how) & WRITES) == 0)
@@ -31,12 +28,9 @@ static bool clash(const struct access *one, const struct access *other)
 	return one->address == other->address && (one->cpu == other->cpu || one->cpu == ANY || other->cpu == ANY);
 }
 
-/*
- * How a step is to a later one: they commute; they never change places; it does nothing to the later one but enable it; or they conflict otherwise
- *
- * A step that enables another one is no race with it: a step ACQUIRES only what its thread waits for before it does anything, and so the two can't change
- * places. Who asks the thread of xcall(9) for a second call enables it anew, and changes nothing of the first.
- */
+/* How a step is to a later one: they commute; they never change places; it does nothing to the later one but enable it; or they conflict otherwise. A step
+ * that enables another one is no race with it: a step ACQUIRES only what its thread waits for before it does anything, and so the two can't change
+ * places. Who asks the thread of xcall(9) for a second call enables it anew, and changes nothing of the first. */
 enum relation { COMMUTE, ORDERED, ENABLES, CONFLICTS };
 
 static enum relation relation_of_accesses(const struct access *first, const struct access *second)
@@ -75,26 +69,11 @@ bool are_dependent(const struct set *one, const struct set *other)
 	return relation_of(one, other) != COMMUTE;
 }
 
-/* ---- The order of the steps of a run. ---- */
-
 static bool comes_after(const uint32_t *clock, unsigned at)
 {
 	return clock[search->steps[at].chosen] >= at + 1;
 }
 
-/* The last step of this step's thread before it; else the one in which the thread was made; -1 for none. */
-static int step_before(unsigned at)
-{
-	unsigned thread = search->steps[at].chosen;
-	for (int before = (int)at - 1; before >= 0; before--)
-		if (search->steps[before].chosen == thread)
-			return before;
-	return run.routines[thread].made ? run.routines[thread].made_at : -1;
-}
-
-/* ---- Races. ---- */
-
-/* Whether a step of those listed comes before this one. */
 static bool has_earlier(const unsigned *list, unsigned count, unsigned at)
 {
 	for (unsigned place = 0; place < count; place++)
@@ -122,11 +101,7 @@ static uint32_t initials(unsigned earlier, unsigned later)
 	return found;
 }
 
-/*
- * Adds a backtrack point to the earlier step, unless a thread is planned there that leads to the later step without it
- *
- * One that is asleep there needs none: what begins with it was tried.
- */
+/* Plans a thread at the earlier step that leads to the later one without it, unless one is planned, or asleep there: what begins with that was tried. */
 static void add_backtrack_point(unsigned earlier, unsigned later)
 {
 	struct step *step = &search->steps[earlier];
@@ -147,18 +122,19 @@ static bool was_enabled(unsigned earlier, unsigned later, int before)
 	return (search->steps[earlier].enabled >> step->chosen & 1) != 0;
 }
 
-/*
- * Sets a step among the first `upto`. The races that it has, in a list: how many.
- *
- * `covered` has what comes before a race at which the step's thread was enabled: once the two have changed places, the search looks back further. A step
- * that was never made comes after no barrier.
- */
+/* Sets a step among the first `upto`. The races that it has, in a list: how many. `covered` has what comes before a race at which the step's thread was
+ * enabled: once the two have changed places, the search looks back further. A step that was never made comes after no barrier. */
 static unsigned order_step(unsigned at, unsigned upto, unsigned *races)
 {
 	struct step *step = &search->steps[at];
 	clocks base = {0}, covered;
 	unsigned count = 0;
-	int before = step_before(at);
+	/* The last step of this step's thread before it; else the one in which the thread was made; -1 for none. */
+	int before = (int)at - 1;
+	while (before >= 0 && search->steps[before].chosen != step->chosen)
+		before--;
+	if (before < 0 && run.routines[step->chosen].made)
+		before = run.routines[step->chosen].made_at;
 	if (before >= 0)
 		memcpy(base, search->steps[before].clock, sizeof(base));
 	memcpy(step->clock, base, sizeof(base));
@@ -182,16 +158,11 @@ static unsigned order_step(unsigned at, unsigned upto, unsigned *races)
 }
 
 /* Sets a step among the first `upto`, and adds the backtrack points that it asks for. */
-static void find_races(unsigned at, unsigned upto)
+void find_races(unsigned at, unsigned upto)
 {
 	unsigned *races = scratch->races, count = order_step(at, upto, races);
 	for (unsigned place = 0; place < count; place++)
 		add_backtrack_point(races[place], at);
-}
-
-void find_races_of_step(unsigned at)
-{
-	find_races(at, at);
 }
 
 /* The same of the step that a thread which is disabled after the first `upto` would have made, as far as its guard says: it has these accesses. */

@@ -4,16 +4,10 @@
  * First all schedules, with the reduction; where these don't end, all with at most 0, 1, 2, .. preemptions; and then some by random priorities. Once a run
  * goes wrong, schedules with fewer switches are tried until one of them does.
  */
-#include <limits.h>
 #include <malloc.h>
 #include <signal.h>
-#include <stdarg.h>
-#include <stdio.h>
-#include <stdlib.h>
-#include <string.h>
 #include <sys/mman.h>
 #include <sys/wait.h>
-#include <unistd.h>
 
 #include "inside.h"
 
@@ -33,33 +27,17 @@ void refuse(const char *format, ...)
 	_exit(2);
 }
 
-void fail(const char *format, ...)
+void end_run(enum end end, const char *format, ...)
 {
-	va_list words;
-	va_start(words, format);
-	vsnprintf(search->found.line, sizeof(search->found.line), format, words);
-	va_end(words);
-	leave_run(FAILED);
-}
-
-/* ---- One run. ---- */
-
-static void check_end(void)
-{
-	size_t held = 0;
-	if (live_owner(&held) != NULL)
-		fail(held > 0 ? "a local count with %zu references is left at the end" : "a target or a local count is left at the end", held);
-	check_heap();
-	if (options.finish != NULL)
-		check_none_left();
+	FORMAT(search->found.line, format);
+	leave_run(end);
 }
 
 static void run_setup(void *arg)
 {
 	(void)arg;
 	prepare();
-	if (run.count == 1)
-		refuse("setup has made no thread");
+	refuse_if(run.count == 1, "setup has made no thread");
 	start_routines();
 	run.phase = RUNNING;
 	point("finish", NULL, all_have_ended, NULL);
@@ -71,38 +49,29 @@ static void run_setup(void *arg)
 	if (options.finish != NULL)
 		options.finish();
 	end_of_thread(kupaldiz_self);
-	check_end();
+	size_t held = 0;
+	if (live_owner(&held) != NULL)
+		fail(held > 0 ? "a local count with %zu references is left at the end" : "a target or a local count is left at the end", held);
+	check_heap();
+	if (options.finish != NULL)
+		check_none_left();
 	find_races_at_end();
 	leave_run(ENDED_WELL);
-}
-
-static void keep_names(void)
-{
-	search->ended = 0;
-	for (unsigned number = 0; number < run.count; number++) {
-		const struct routine *at = &run.routines[number];
-		snprintf(search->names[number], sizeof(search->names[number]), "%s", name_of_routine(at));
-		search->ended |= (uint32_t)at->ended << number;
-	}
-	snprintf(search->names[CLOCK], sizeof(search->names[0]), "clock");
 }
 
 static void keep_outcome(void)
 {
 	struct bench_found *found = &search->found;
-	for (unsigned at = 0; at < found->outcomes; at++) {
-		if (strcmp(found->outcome[at].text, run.outcome) == 0) {
-			found->outcome[at].count++;
-			return;
-		}
-	}
-	if (found->outcomes == BENCH_OUTCOMES) {
+	struct bench_outcome *at = found->outcome;
+	while (at < &found->outcome[found->outcomes] && strcmp(at->text, run.outcome) != 0)
+		at++;
+	if (at == &found->outcome[BENCH_OUTCOMES]) {
 		found->others++;
 		return;
 	}
-	struct bench_outcome *made = &found->outcome[found->outcomes++];
-	memcpy(made->text, run.outcome, sizeof(made->text));
-	made->count = 1;
+	found->outcomes += at == &found->outcome[found->outcomes];
+	memcpy(at->text, run.outcome, sizeof(at->text));
+	at->count++;
 }
 
 static void run_here(void)
@@ -115,7 +84,12 @@ static void run_here(void)
 	search->stuck = false;
 	run_main(run_setup);
 	search->runs++;
-	keep_names();
+	search->ended = 0;
+	for (const struct routine *at = run.routines; at < &run.routines[run.count]; at++) {
+		snprintf(search->names[at->number], sizeof(search->names[0]), "%s", name_of_routine(at));
+		search->ended |= (uint32_t)at->ended << at->number;
+	}
+	snprintf(search->names[CLOCK], sizeof(search->names[0]), "clock");
 	kupaldiz_self = NULL;
 	if (search->end == ENDED_WELL) {
 		search->found.schedules++;
@@ -131,21 +105,23 @@ static int status_of(void (*body)(void))
 	int status;
 	fflush(NULL);
 	pid_t child = fork();
-	if (child < 0)
-		refuse("no process is left");
+	refuse_if(child < 0, "no process is left");
 	if (child == 0) {
 		body();
 		fflush(NULL);
 		_exit(0);
 	}
-	if (waitpid(child, &status, 0) != child)
-		refuse("the child is gone");
+	refuse_if(waitpid(child, &status, 0) != child, "the child is gone");
 	return status;
 }
 
-/* Executes one in a process of its own, and ends as that one does where it crashes. */
-static void run_apart(void)
+/* Executes one, in a process of its own where the program needs that, and ends as that one does where it crashes. */
+static void run_once(void)
 {
+	if (!search->apart) {
+		run_here();
+		return;
+	}
 	int status = status_of(run_here);
 	if (WIFSIGNALED(status)) {
 		signal(WTERMSIG(status), SIG_DFL);
@@ -155,21 +131,10 @@ static void run_apart(void)
 		_exit(WIFEXITED(status) ? WEXITSTATUS(status) : 1);
 }
 
-static void run_once(void)
-{
-	if (search->apart)
-		run_apart();
-	else
-		run_here();
-}
-
-/* Whether the last one was wrong. */
 static bool is_wrong(void)
 {
 	return search->end == FAILED || search->end == UNFIT;
 }
-
-/* ---- The next schedule. ---- */
 
 /* The last step at which something else is planned. Whether there is one. */
 static bool next_schedule(void)
@@ -199,7 +164,6 @@ static void begin_search(enum mode mode, uint64_t limit, unsigned bound)
 	search->prefix = search->fresh = 0;
 }
 
-/* Runs one schedule after another. Whether all were run and none was wrong. */
 static bool run_all(void)
 {
 	for (; search->limit > 0; search->limit--) {
@@ -232,34 +196,22 @@ static uint64_t random_number(void)
 	return search->seed = at;
 }
 
-/* Those that fall do so below all that were drawn. */
-static void draw_priorities(void)
-{
-	search->lowest = POINTS + 16;
-	for (unsigned at = 0; at < THREADS; at++)
-		search->priorities[at] = search->lowest + (unsigned)(random_number() >> 33 & 0xffffff);
-}
-
-static void draw_changes(unsigned length)
-{
-	for (unsigned at = 0; at < sizeof(search->changes) / sizeof(search->changes[0]); at++)
-		search->changes[at] = (unsigned)(random_number() % (length + 1));
-}
-
+/* Priorities that fall do so below all that were drawn. */
 static void run_random(void)
 {
 	unsigned length = search->length;
 	begin_search(RANDOM, options.random, 0);
 	for (uint64_t count = 0; count < options.random && !is_wrong(); count++) {
-		draw_priorities();
-		draw_changes(length);
+		search->lowest = POINTS + 16;
+		for (unsigned at = 0; at < THREADS; at++)
+			search->priorities[at] = search->lowest + (unsigned)(random_number() >> 33 & 0xffffff);
+		for (unsigned at = 0; at < sizeof(search->changes) / sizeof(search->changes[0]); at++)
+			search->changes[at] = (unsigned)(random_number() % (length + 1));
 		run_once();
 		length = search->length > length ? search->length : length;
 		search->found.random++;
 	}
 }
-
-/* ---- In the child. ---- */
 
 static bool search_orders(void)
 {
@@ -304,7 +256,6 @@ static void search_in_child(void)
 	search->over = true;
 }
 
-/* Does something in a child. How its last run ended. */
 static enum end in_child(void (*body)(void), bool is_silent)
 {
 	search_body = body;
@@ -323,8 +274,6 @@ static enum end in_child(void (*body)(void), bool is_silent)
 	search->runs++;
 	return FAILED;
 }
-
-/* ---- In the parent. ---- */
 
 static void keep_schedule(struct bench_found *found)
 {
@@ -361,16 +310,6 @@ static void cut_down(struct bench_found *found)
 		;
 }
 
-/* A thread goes on for so many points. How many there are then. */
-static unsigned add_turns(unsigned count, unsigned thread, unsigned long turns)
-{
-	if (turns > POINTS - count)
-		refuse("the schedule is too long");
-	for (; turns > 0; turns--)
-		search->steps[count++].chosen = (uint8_t)thread;
-	return count;
-}
-
 /* The threads of a schedule, as the choices of the first steps. */
 static void read_schedule(const char *text)
 {
@@ -382,7 +321,9 @@ static void read_schedule(const char *text)
 		unsigned long turns = at[1] >= '0' && at[1] <= '9' ? strtoul(at + 1, &end, 10) : 1;
 		if (thread >= THREADS || turns == 0)
 			refuse("\"%s\" is no schedule: a letter for each thread, or a dot for the clock, and how many points it goes on", text);
-		count = add_turns(count, thread, turns);
+		refuse_if(turns > POINTS - count, "the schedule is too long");
+		for (; turns > 0; turns--)
+			search->steps[count++].chosen = (uint8_t)thread;
 		at = end;
 	}
 	if (!read_failures(failures == NULL ? "" : failures))
@@ -397,8 +338,7 @@ static bool goes_wrong(void (*body)(void), struct bench_found *found)
 {
 	enum end end = in_child(body, false);
 	*found = search->found;
-	if (end == UNFIT)
-		refuse("%s", found->line);
+	refuse_if(end == UNFIT, "%s", found->line);
 	found->first = end == FAILED ? search->runs : 0;
 	return end == FAILED;
 }
@@ -426,8 +366,7 @@ static void fill_options(const struct bench_options *given)
 	options.seed = options.seed == 0 ? 1 : options.seed;
 	options.ticks = options.ticks == 0 ? 1 : options.ticks;
 	options.failures = options.failures == 0 ? 1 : options.failures;
-	if (options.failures > BENCH_FAILURES)
-		refuse("at most %d failures in a run", BENCH_FAILURES);
+	refuse_if(options.failures > BENCH_FAILURES, "at most %d failures in a run", BENCH_FAILURES);
 }
 
 static void make_search(void)
@@ -449,12 +388,10 @@ static void make_search(void)
 
 int bench_explore(void (*setup)(void), const struct bench_options *given)
 {
-	if (run.current != NULL)
-		refuse("bench_explore inside of a run");
+	refuse_if(run.current != NULL, "bench_explore inside of a run");
 	fill_options(given);
 	check_own_calls();
-	if (setup == NULL)
-		refuse("there is no setup");
+	refuse_if(setup == NULL, "there is no setup");
 	prepare = setup;
 	make_search();
 	struct bench_found *found = &search->told;
@@ -467,20 +404,16 @@ int bench_explore(void (*setup)(void), const struct bench_options *given)
 	}
 	if (!options.quiet)
 		show(stdout, found);
-	if (options.picture != NULL && found->first != 0 && !draw(options.picture, found))
-		refuse("%s can't be written", options.picture);
+	refuse_if(options.picture != NULL && found->first != 0 && !draw(options.picture, found), "%s can't be written", options.picture);
 	if (options.found != NULL)
 		*options.found = *found;
 	return found->first != 0;
 }
 
-/* ---- What a test calls. ---- */
-
 void bench_thread(const char *name, void (*body)(void *), void *arg)
 {
 	(void)here(__func__);
-	if (body == NULL)
-		refuse("bench_thread without a body");
+	refuse_if(body == NULL, "bench_thread without a body");
 	make_routine(name, body, arg, false);
 	if (run.phase != SETTING_UP)
 		start_routines();
@@ -494,6 +427,5 @@ void bench_outcome(const char *format, ...)
 	va_start(words, format);
 	length += (size_t)vsnprintf(run.outcome + length, sizeof(run.outcome) - length, format, words);
 	va_end(words);
-	if (length >= sizeof(run.outcome))
-		refuse("an outcome has more than %d bytes", BENCH_TEXT - 1);
+	refuse_if(length >= sizeof(run.outcome), "an outcome has more than %d bytes", BENCH_TEXT - 1);
 }

@@ -1,17 +1,11 @@
 /*
- * failures.c - calls that fail although memory is left, and waits that end although nobody ended them
+ * failures.c - calls that fail although memory is left, and waits that end although nobody ended them: failpoints, by the thread and its number there
  *
- * A failpoint is such a call or wait, by its thread and its number among that thread's failpoints. A plan is a few failpoints. In each of its runs exactly
- * these fail. The first plan is empty. A failpoint that is met and isn't in the plan makes a further plan, with that one too, unless it has too many. So each
- * failpoint that some schedule meets fails in all schedules that meet it.
+ * In each run of a plan exactly its failpoints fail. The first plan is empty. One that is met and isn't in the plan makes a further plan, with that one too,
+ * unless it has too many. So each failpoint that some schedule meets fails in all schedules that meet it.
  */
-#include <stdio.h>
-#include <stdlib.h>
-#include <string.h>
-
 #include "inside.h"
 
-/* Begins the next plan. Whether there is one. */
 bool next_failure(void)
 {
 	if (search->plan + 1 == search->plan_count)
@@ -20,21 +14,12 @@ bool next_failure(void)
 	return true;
 }
 
-/* ---- Chances. ---- */
-
 static int compare(const void *one, const void *other)
 {
 	const struct failpoint *a = one, *b = other;
 	return a->thread != b->thread ? a->thread - b->thread : a->number - b->number;
 }
 
-static bool is_planned(struct failpoint failpoint)
-{
-	const struct plan *plan = &search->plans[search->plan];
-	return bsearch(&failpoint, plan->of, plan->count, sizeof(failpoint), compare) != NULL;
-}
-
-/* Adds the plan that has this failpoint, too, unless it is there. */
 static void add_plan(struct failpoint failpoint)
 {
 	struct plan more = search->plans[search->plan];
@@ -54,13 +39,13 @@ static void add_plan(struct failpoint failpoint)
 static bool fails_here(void)
 {
 	const struct failpoint failpoint = {(uint16_t)run.current->number, run.current->failpoints++};
-	if (is_planned(failpoint))
+	const struct plan *plan = &search->plans[search->plan];
+	if (bsearch(&failpoint, plan->of, plan->count, sizeof(failpoint), compare) != NULL)
 		return true;
 	add_plan(failpoint);
 	return false;
 }
 
-/* Tells of a failpoint that was taken, the call that the thread is in. */
 static void note_failure(const char *how)
 {
 	size_t length = strlen(search->failed);
@@ -75,8 +60,6 @@ bool bench_fails(void)
 	note_failure("fails");
 	return true;
 }
-
-/* ---- Waits that end early. ---- */
 
 void bench_may_end_early(bool signals)
 {
@@ -125,7 +108,6 @@ static int read_failpoint(const char *text, struct failpoint *failpoint)
 	return length;
 }
 
-/* Plans what a text says. Whether it is well-formed. */
 bool read_failures(const char *text)
 {
 	struct plan *plan = &search->plans[search->plan = 0];

@@ -1,11 +1,7 @@
 /*
- * heap.c - the memory of a run
- *
- * Each thread takes memory from a part of its own, so that an address doesn't depend on the order of the threads. Nothing is used again in a run. What is given
- * back is filled, and looked at again at the end. Behind each block lies a fence.
+ * heap.c - the memory of a run: each thread takes it from a part of its own, so that an address doesn't depend on the order of the threads. Nothing is used
+ * again in a run. What is given back is filled, and looked at again at the end. Behind each block lies a fence.
  */
-#include <stdio.h>
-#include <string.h>
 #include <sys/mman.h>
 
 #include "inside.h"
@@ -29,16 +25,6 @@ static const char *call_of(const struct thread *self)
 	return self == NULL || self->call == NULL ? "setup" : self->call;
 }
 
-/* Room in the part of the thread that runs. */
-static unsigned char *reserve_room(unsigned number, size_t size, size_t align)
-{
-	size_t begin = (used[number] + align - 1) / align * align;
-	if (size > PART || begin + size + FENCE > PART)
-		refuse("the code takes more than %d bytes in one run", PART);
-	used[number] = begin + size + FENCE;
-	return parts + (size_t)number * PART + begin;
-}
-
 static uint32_t *owner_of(const volatile unsigned char *at)
 {
 	return &owners[(size_t)(at - parts) / SMALLEST];
@@ -49,7 +35,11 @@ void *bench_allocate(size_t size, size_t align, bool judged)
 {
 	unsigned number = run.current == NULL ? 0 : run.current->number;
 	const struct thread *self = kupaldiz_self;
-	unsigned char *at = reserve_room(number, size, align < SMALLEST ? SMALLEST : align);
+	align = align < SMALLEST ? SMALLEST : align;
+	size_t begin = (used[number] + align - 1) / align * align;
+	refuse_if(size > PART || begin + size + FENCE > PART, "the code takes more than %d bytes in one run", PART);
+	used[number] = begin + size + FENCE;
+	unsigned char *at = parts + (size_t)number * PART + begin;
 	memset(at, NEW, size);
 	memset(at + size, BEHIND, FENCE);
 	*(struct block *)new_row(BLOCKS) = (struct block){.at = at, .size = size, .live = true, .judged = judged, .by = number,
@@ -89,8 +79,7 @@ static bool is_within(const struct block *block, const volatile void *at, size_t
 
 static _Noreturn void report_use(const char *what, const char *place, const struct block *block)
 {
-	if (block->live)
-		fail("%s%s: beyond a block of %zu bytes", what, AT_PLACE(place), block->size);
+	fail_if(block->live, "%s%s: beyond a block of %zu bytes", what, AT_PLACE(place), block->size);
 	fail("%s%s: use of freed memory: thread \"%s\" gave it back by %s%s", what, AT_PLACE(place), run.routines[block->freed_by].name, block->freed_call,
 	    AT_PLACE(block->freed_place));
 }
@@ -127,7 +116,6 @@ static bool is_filled(const unsigned char *at, size_t size, unsigned char byte)
 	return true;
 }
 
-/* Stops where something was written behind a block, or into one that was given back. */
 static void check_block(const struct block *block)
 {
 	if (!is_filled(block->at + block->size, FENCE, BEHIND))
@@ -151,8 +139,7 @@ void bench_free(void *address)
 	struct block *block = block_at(address);
 	if (address == NULL)
 		return;
-	if (block == NULL || block->at != address)
-		fail("%s: no block of memory", call_of(kupaldiz_self));
+	fail_if(block == NULL || block->at != address, "%s: no block of memory", call_of(kupaldiz_self));
 	check_block(block);
 	end_block(block);
 	memset(block->at, FREED, block->size);
@@ -185,19 +172,16 @@ void *bench_realloc(void *address, size_t size)
 	return made;
 }
 
-/* Stops where more is left than may be, or something was written where nothing may. */
 void check_heap(void)
 {
 	unsigned left = 0;
-	const struct block *first = NULL, *rows = rows_of(BLOCKS);
-	for (size_t place = 0; place < run.rows[BLOCKS]; place++) {
-		const struct block *block = &rows[place];
+	const struct block *first = NULL, *block = rows_of(BLOCKS);
+	for (size_t count = run.rows[BLOCKS]; count > 0; count--, block++) {
 		check_block(block);
 		if (!block->live || !block->judged)
 			continue;
 		left++;
 		first = block;
 	}
-	if (left > options.left)
-		fail("%u blocks of memory are left at the end, one of them taken by %s%s", left, first->call, AT_PLACE(first->place));
+	fail_if(left > options.left, "%u blocks of memory are left at the end, one of them taken by %s%s", left, first->call, AT_PLACE(first->place));
 }

@@ -2,10 +2,8 @@
 #ifndef KUPALDIZ_BENCH_INSIDE_H
 #define KUPALDIZ_BENCH_INSIDE_H
 
-#include <stdio.h>
-
 #include "layer.h"
-#include "stand_ins.h"
+#include "shim.h"
 
 #include "../bench.h"
 
@@ -32,7 +30,7 @@ enum kind {
 	ON_XCALL,	/* the queue of calls of xcall(9) */
 	ON_BOUND,	/* how many threads are bound to a CPU */
 	ON_TIME,
-	ON_DEADLINE,	/* of a thread: the clock's next step depends on them all */
+	ON_DEADLINE,	/* of a thread, or with ANY of all: the clock's next step depends on them */
 	ON_WAKE		/* of a thread that waits */
 };
 
@@ -75,7 +73,6 @@ static inline void join(uint32_t *clock, const uint32_t *other)
 			clock[number] = other[number];
 }
 
-/* A thread as the explorer has it. */
 struct routine {
 	void *stack;		/* where it was left */
 	void *fake_stack;
@@ -223,7 +220,6 @@ extern unsigned unseen_count;
 
 /* ---- What a run needs and the next one needn't find empty: it lies in memory of its own. ---- */
 
-/* A block of memory of the code's. */
 struct block {
 	unsigned char *at;
 	size_t size;
@@ -268,33 +264,7 @@ struct scratch {
 
 extern struct scratch *scratch;
 
-/* ---- routine.c ---- */
-
-void map_stacks(void);
-bool is_on_stack(const struct routine *routine, const volatile void *at);
-struct routine *make_routine(const char *name, void (*body)(void *), void *arg, bool daemon);
-void switch_to(struct routine *routine);
-void first_point(struct routine *me);
-void run_main(void (*body)(void *));
-_Noreturn void leave_run(enum end end);
-_Noreturn void end_routine(void);
-
-/* ---- schedule.c ---- */
-
-void point(const char *call, const char *place, guard_fn *guard, const void *of);
-void wait_here(guard_fn *guard, const void *of);
-void touch(enum kind kind, const volatile void *address, unsigned cpu, unsigned how);
-void touch_memory(const volatile void *address, size_t size, unsigned how);
-void touch_deadlines(unsigned thread, unsigned how);
-void make_barrier(void);
-void find_races_at_end(void);
-void start_routines(void);
-struct routine *here(const char *call);
-bool is_enabled(const struct routine *routine);
-bool all_have_ended(const struct routine *routine);
-uint32_t enabled_now(void);
-
-/* ---- calls.c and more_calls.c ---- */
+/* ---- The layer's calls, as the explorer has them. ---- */
 
 /* LAYER - the layer's own call, whose name has layer_ before it in this library. */
 #define LAYER(type, name, parameters)	type layer_##name parameters
@@ -327,32 +297,44 @@ uint32_t enabled_now(void);
 		return answer; \
 	}
 
-void at_call(const char *call);
-void at_thing(const char *call, enum kind kind, const void *thing, size_t size, unsigned how);
-void at_live(const char *call, const void *thing, size_t size);
-void at_cpu(const char *call);
-
 /* A call with a thing whose size is known, and one that touches it. */
 #define LIVE(thing)		at_live(__func__, thing, sizeof(*(thing)))
 #define AT(kind, thing, how)	at_thing(__func__, kind, thing, sizeof(*(thing)), how)
 
-/* ---- failures.c: calls that fail, and waits that end early. ---- */
+/* ---- What the parts call of one another, file by file. ---- */
 
+void map_stacks(void);
+bool is_on_stack(const struct routine *routine, const volatile void *at);
+struct routine *make_routine(const char *name, void (*body)(void *), void *arg, bool daemon);
+void switch_to(struct routine *routine);
+void first_point(struct routine *me);
+void run_main(void (*body)(void *));
+_Noreturn void leave_run(enum end end);
+_Noreturn void end_routine(void);
+void point(const char *call, const char *place, guard_fn *guard, const void *of);
+void wait_here(guard_fn *guard, const void *of);
+void touch(enum kind kind, const volatile void *address, unsigned cpu, unsigned how);
+void touch_memory(const volatile void *address, size_t size, unsigned how);
+void make_barrier(void);
+void find_races_at_end(void);
+void start_routines(void);
+struct routine *here(const char *call);
+bool is_enabled(const struct routine *routine);
+bool all_have_ended(const struct routine *routine);
+uint32_t enabled_now(void);
+void at_call(const char *call);
+void at_thing(const char *call, enum kind kind, const void *thing, size_t size, unsigned how);
+void at_live(const char *call, const void *thing, size_t size);
+void at_cpu(const char *call);
 bool next_failure(void);
 void note_ending(struct routine *me, bool early);
 void write_failures(char *text, size_t room);
 bool read_failures(const char *text);
-
-/* ---- made.c: what is initialised and must be ended, and wake-ups that came too early. ---- */
-
 void track_made(const char *call, const void *lock);
 void check_none_made(const char *call, const void *from, size_t size);
 void check_none_left(void);
 void track_wake(const char *call, const char *place, const void *cv, bool waited);
 const struct thing *lost_wakeup_at(const void *cv);
-
-/* ---- What guards are: locks.c. ---- */
-
 bool is_free(const struct routine *me);
 bool can_take(const struct routine *me);
 bool was_woken(const struct routine *me);
@@ -362,41 +344,22 @@ bool has_ended_handler(const struct routine *me);
 bool has_ended(const struct routine *me);
 bool can_begin(const struct routine *me);
 bool is_xcall_complete(const struct routine *me);
-const struct routine *xcaller(void);
+extern struct routine *xcaller;
 uint64_t *releases_of(const void *target);
 void sleep_until(int64_t time);
 void end_self(void);
-
-/* ---- commute.c ---- */
-
 bool are_dependent(const struct set *one, const struct set *other);
-void find_races_of_step(unsigned at);
+void find_races(unsigned at, unsigned upto);
 void find_races_of_disabled(unsigned thread, const struct set *set, unsigned upto);
-
-/* ---- words.c ---- */
-
 void release_clock(enum kind kind, const volatile void *address, unsigned cpu);
 void acquire_clock(enum kind kind, const volatile void *address, unsigned cpu);
 void inherit_clock(struct routine *made);
 void acquire_all_clocks(void);
-
 void access_atomically(const volatile void *address, size_t size, unsigned how, const char *place, const void *pc);
-
-/* ---- plain.c ---- */
-
 void use_memory(const volatile void *address, size_t size, const struct use *use);
 void access_plainly(const volatile void *address, size_t size, bool writes, const void *pc);
-
-/* ---- tsan.c ---- */
-
 void check_own_calls(void);
-
-/* ---- places.c ---- */
-
 const char *place_of(const char *place, const void *pc);
-
-/* ---- tables.c ---- */
-
 void *map_pages(size_t size, int how);
 void *rows_of(enum table table);
 void *new_row(enum table table);
@@ -404,34 +367,22 @@ void *row_with(enum table table, uintptr_t key);
 void *row_after(enum table table, const void *row);
 void *add_row(enum table table, uintptr_t key);
 void *row_for(enum table table, uintptr_t key);
-
-/* ---- heap.c ---- */
-
 void map_heap(void);
 bool is_live(const void *at);
 size_t size_of_block(const void *at);
 void check_live(const char *call, const volatile void *at, size_t size);
 void check_usable(const struct routine *me, const volatile void *at, size_t size, const struct use *use);
 void check_heap(void);
-
-/* ---- state.c ---- */
-
 void save_state(void);
 void restore_state(void);
-
-/* ---- locks.c, for the scheduler. ---- */
-
 int64_t next_time(void);
-
-/* ---- stuck.c ---- */
-
 const char *name_of_routine(const struct routine *routine);
 void report_stuck(void);
-
-/* ---- explore.c, show.c ---- */
-
-_Noreturn void fail(const char *format, ...) __attribute__((format(printf, 1, 2)));
+_Noreturn void end_run(enum end end, const char *format, ...) __attribute__((format(printf, 2, 3)));
+#define fail(...)			end_run(FAILED, __VA_ARGS__)
 _Noreturn void refuse(const char *format, ...) __attribute__((format(printf, 1, 2)));
+#define fail_if(condition, ...)		((condition) ? fail(__VA_ARGS__) : (void)0)
+#define refuse_if(condition, ...)	((condition) ? refuse(__VA_ARGS__) : (void)0)
 void write_schedule(char *text, size_t room);
 const char *short_place(const char *place);
 const char *place_of_step(const struct step *step);

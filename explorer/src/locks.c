@@ -1,15 +1,8 @@
 /*
- * locks.c - lock.c and the C library's threads, as the explorer has them
- *
- * A thread that waits names what it waits for; the scheduler asks that before it goes on with the thread. Nothing looks again and again.
+ * locks.c - lock.c and the C library's threads, as the explorer has them: a thread that waits names what it waits for, which the scheduler asks before it
+ * goes on with the thread
  */
-#include <errno.h>
-#include <stdio.h>
-#include <string.h>
-
 #include "inside.h"
-
-/* ---- Time. ---- */
 
 enum { DAY = 86400 };
 
@@ -28,15 +21,12 @@ static int64_t time_of(const struct timespec *deadline)
 	return (int64_t)deadline->tv_sec * 1000000000 + deadline->tv_nsec;
 }
 
-/* When the next of those that wait for a time goes on; NEVER where none does. */
 int64_t next_time(void)
 {
 	int64_t next = NEVER;
-	for (unsigned number = 0; number < run.count; number++) {
-		const struct routine *at = &run.routines[number];
+	for (const struct routine *at = run.routines; at < &run.routines[run.count]; at++)
 		if (!at->ended && at->deadline < next && at->deadline > run.time)
 			next = at->deadline;
-	}
 	return next;
 }
 
@@ -68,21 +58,16 @@ bool is_free(const struct routine *me)
 	return *word == 0 || *word == (uintptr_t)me->self;
 }
 
-/* Waits until it is free. Whoever waits for its own CPU doesn't have it, although it has begun to. */
-static void await_lock(uintptr_t *word, const struct thread *me)
-{
-	bool off = run.current->off;
-	if (me->cpu != NULL && word == &me->cpu->hold)
-		run.current->off = true;
-	wait_here(is_free, word);
-	run.current->off = off;
-}
-
+/* Whoever waits for its own CPU doesn't have it, although it has begun to. */
 void lock_acquire(uintptr_t *word, struct thread *me, report_fn *reporter)
 {
+	bool off = run.current->off;
 	(void)reporter;
-	if (run.current->visits || *word != 0)
-		await_lock(word, me);
+	if (run.current->visits || *word != 0) {
+		run.current->off |= me->cpu != NULL && word == &me->cpu->hold;
+		wait_here(is_free, word);
+		run.current->off = off;
+	}
 	touch(ON_LOCK, word, 0, WRITES | ACQUIRES);
 	*word = (uintptr_t)me;
 }
@@ -94,9 +79,6 @@ void lock_release(uintptr_t *word, struct thread *me)
 	*word = 0;
 }
 
-/* ---- What threads wait in. ---- */
-
-/* There are no queues: each thread has what it waits for. */
 struct sleepq *sleepq_of(const void *address)
 {
 	(void)address;
@@ -113,7 +95,6 @@ void sleepq_unlock(struct sleepq *sleepq)
 	(void)sleepq;
 }
 
-/* Whether it was woken, or its time is over, and the lock is free that it takes then. */
 bool was_woken(const struct routine *me)
 {
 	if (!me->woken && !is_late(me) && me->may_end == IN_TIME)
@@ -124,22 +105,10 @@ bool was_woken(const struct routine *me)
 static void set_deadline(struct routine *me, int64_t deadline)
 {
 	if (deadline != me->deadline)
-		touch_deadlines(me->number, WRITES);
+		touch(ON_DEADLINE, NULL, me->number, WRITES);
 	me->deadline = deadline;
 }
 
-/* The wake-up alone has enabled it, unless its time is over or it might end early. */
-static void leave_queue(struct routine *me, const void *of)
-{
-	touch(ON_WAKE, me, 0, is_late(me) || me->may_end != IN_TIME ? 0 : ACQUIRES);
-	note_ending(me, !me->woken && !is_late(me));
-	if (me->woken)
-		acquire_clock(ON_WAKE, me, 0);
-	else
-		touch(ON_CV, of, 0, WRITES);
-}
-
-/* Waits to be woken for something, until a time at most. */
 static bool wait_for_wake(const void *of, int64_t deadline)
 {
 	struct routine *me = run.current;
@@ -151,7 +120,13 @@ static bool wait_for_wake(const void *of, int64_t deadline)
 	wait_here(was_woken, of);
 	if (me->relock != NULL)
 		check_live(me->call, me->relock, sizeof(*me->relock));
-	leave_queue(me, of);
+	/* The wake-up alone has enabled it, unless its time is over or it might end early. */
+	touch(ON_WAKE, me, 0, is_late(me) || me->may_end != IN_TIME ? 0 : ACQUIRES);
+	note_ending(me, !me->woken && !is_late(me));
+	if (me->woken)
+		acquire_clock(ON_WAKE, me, 0);
+	else
+		touch(ON_CV, of, 0, WRITES);
 	me->queue = NULL;
 	set_deadline(me, NEVER);
 	return me->woken;
@@ -164,15 +139,12 @@ bool sleepq_wait(struct sleepq *sleepq, const void *of, struct thread *me, const
 	return wait_for_wake(of, time_of(deadline));
 }
 
-/* The thread that waits the longest for something and wasn't woken; NULL where none does. */
 static struct routine *first_for(const void *of)
 {
 	struct routine *first = NULL;
-	for (unsigned number = 0; number < run.count; number++) {
-		struct routine *at = &run.routines[number];
+	for (struct routine *at = run.routines; at < &run.routines[run.count]; at++)
 		if (at->queue == of && !at->woken && (first == NULL || at->arrived < first->arrived))
 			first = at;
-	}
 	return first;
 }
 
@@ -186,12 +158,6 @@ bool sleepq_wake(struct sleepq *sleepq, const void *of)
 	touch(ON_WAKE, first, 0, WRITES | RELEASES);
 	first->woken = true;
 	return true;
-}
-
-void sleepq_wake_all(struct sleepq *sleepq, const void *of)
-{
-	while (sleepq_wake(sleepq, of))
-		;
 }
 
 bool sleepq_has_waiter(struct sleepq *sleepq, const void *of)
@@ -221,8 +187,7 @@ bool has_ended_section(const struct routine *me)
 
 uint64_t *releases_of(const void *target)
 {
-	struct thing *row = row_for(THINGS, (uintptr_t)target);
-	return &row->releases;
+	return &((struct thing *)row_for(THINGS, (uintptr_t)target))->releases;
 }
 
 bool was_released(const struct routine *me)
@@ -304,23 +269,17 @@ uint32_t bench_perform_begin(struct registry_keeper *keeper, struct registry_cpu
 	return registry_perform_begin(keeper, cpu, wait);
 }
 
-/* Each section that was open as the wait began has ended before this, whichever it was that the last turn met. */
-static void acquire_ended(const struct routine *me)
+uint32_t bench_perform_turn(struct registry_keeper *keeper, struct registry_cpu *cpu, struct registry_wait *wait, uint64_t *waited)
 {
-	for (unsigned number = 0; number < KUPALDIZ_CPUS; number++) {
-		uint64_t section = me->sections[number];
+	uint32_t answer = registry_perform_turn(keeper, cpu, wait, waited);
+	/* Each section that was open as the wait began has ended before this, whichever it was that the last turn met. */
+	for (unsigned number = 0; number < KUPALDIZ_CPUS && answer == REGISTRY_DONE; number++) {
+		uint64_t section = run.current->sections[number];
 		if (section == 0 || run.ends[number] < section)
 			continue;
 		touch(ON_END, (const void *)(uintptr_t)section, number, ORDERS);
 		acquire_clock(ON_END, (const void *)(uintptr_t)section, number);
 	}
-}
-
-uint32_t bench_perform_turn(struct registry_keeper *keeper, struct registry_cpu *cpu, struct registry_wait *wait, uint64_t *waited)
-{
-	uint32_t answer = registry_perform_turn(keeper, cpu, wait, waited);
-	if (answer == REGISTRY_DONE)
-		acquire_ended(run.current);
 	return answer;
 }
 

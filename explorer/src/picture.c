@@ -1,8 +1,4 @@
 /* picture.c - a schedule as a picture: a row for each thread, time to the right, and the steps underneath */
-#include <stdarg.h>
-#include <stdio.h>
-#include <string.h>
-
 #include "inside.h"
 
 enum { WIDE = 900, LEFT = 110, RIGHT = 18, TOP = 60, ROW = 58, LINE_HIGH = 16, LETTERS = 125 };
@@ -53,16 +49,12 @@ static void escape(FILE *to, const char *text)
 __attribute__((format(printf, 5, 6))) static void text_at(FILE *to, double x, double y, const char *kind, const char *format, ...)
 {
 	char text[256];
-	va_list words;
-	va_start(words, format);
-	vsnprintf(text, sizeof(text), format, words);
-	va_end(words);
+	FORMAT(text, format);
 	fprintf(to, "<text x=\"%.1f\" y=\"%.1f\" class=\"%s\">", x, y, kind);
 	escape(to, text);
 	fputs("</text>", to);
 }
 
-/* The address of what a step touches of a kind. */
 static uintptr_t object_of(const struct step *step, unsigned kind)
 {
 	for (uint32_t at = 0; at < step->set.count; at++)
@@ -71,7 +63,6 @@ static uintptr_t object_of(const struct step *step, unsigned kind)
 	return 0;
 }
 
-/* The row of a thread among those that have a step. */
 static unsigned row_of(unsigned thread)
 {
 	uint32_t seen = 0;
@@ -80,7 +71,6 @@ static unsigned row_of(unsigned thread)
 	return (unsigned)__builtin_popcount(seen & ((UINT32_C(1) << thread) - 1));
 }
 
-/* The step that ends what this one begins; the end of the picture where none does. */
 static unsigned end_of(unsigned from, const struct pair *pair)
 {
 	const struct step *first = &search->steps[from];
@@ -124,12 +114,6 @@ static void draw_wait(FILE *to, unsigned at)
 		draw_bar(to, at, next, "wait", 0);
 }
 
-static void draw_each(FILE *to, void (*draw_step)(FILE *, unsigned))
-{
-	for (unsigned at = 0; at < search->length; at++)
-		draw_step(to, at);
-}
-
 static void draw_rows(FILE *to)
 {
 	uint32_t seen = 0;
@@ -155,14 +139,6 @@ static void draw_steps(FILE *to)
 			text_at(to, x - 4, y - 12, "faint", "%u", at + 1);
 		fputc('\n', to);
 	}
-}
-
-static void draw_fault(FILE *to)
-{
-	if (search->length == 0)
-		return;
-	double x = x_of(search->length - 1), middle = TOP + row_of(search->steps[search->length - 1].chosen) * ROW;
-	fprintf(to, "<path class=\"fault\" d=\"M%.1f %.1fl12 12m0 -12l-12 12\"/>\n", x - 6, middle - 6);
 }
 
 /* The steps, one a line. Where the list ends. */
@@ -226,10 +202,15 @@ bool draw(const char *name, const struct bench_found *found)
 	text_at(to, 14, 24, "title", "%s", options.name);
 	draw_legend(to);
 	draw_rows(to);
-	draw_each(to, draw_wait);
-	draw_each(to, draw_pairs);
+	for (unsigned at = 0; at < search->length; at++)
+		draw_wait(to, at);
+	for (unsigned at = 0; at < search->length; at++)
+		draw_pairs(to, at);
 	draw_steps(to);
-	draw_fault(to);
+	if (search->length > 0) {
+		double x = x_of(search->length - 1), middle = TOP + row_of(search->steps[search->length - 1].chosen) * ROW;
+		fprintf(to, "<path class=\"fault\" d=\"M%.1f %.1fl12 12m0 -12l-12 12\"/>\n", x - 6, middle - 6);
+	}
 	write_lines(to, list_steps(to, list) + 6, found->line);
 	fputs("</svg>\n", to);
 	bool written = ferror(to) == 0;

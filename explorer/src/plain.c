@@ -5,8 +5,6 @@
  * clocks of words.c: Flanagan, Freund, "FastTrack: Efficient and Precise Dynamic Race Detection", PLDI 2009. It keeps the last uses of each eight bytes:
  * those that no later use of the same bytes has replaced.
  */
-#include <string.h>
-
 #include "inside.h"
 
 enum { GRAIN = 8 };
@@ -48,7 +46,6 @@ static void record(const struct routine *me, struct plain now)
 	*row = now;
 }
 
-/* The bits of the bytes of a grain that lie between two addresses. */
 static uint8_t bytes_of(uintptr_t grain, uintptr_t from, uintptr_t to)
 {
 	unsigned first = from > grain ? (unsigned)(from - grain) : 0, after = to < grain + GRAIN ? (unsigned)(to - grain) : GRAIN;
@@ -68,15 +65,6 @@ void use_memory(const volatile void *address, size_t size, const struct use *use
 }
 
 /* With `racy` it is a point, which touches the memory. */
-static void access_racily(struct routine *me, const volatile void *address, size_t size, const struct use *use)
-{
-	me->pc = use->pc;
-	point(use->writes ? "plain write" : "plain read", NULL, NULL, NULL);
-	me->pc = NULL;
-	check_usable(me, address, size, use);
-	touch_memory(address, size, use->writes ? WRITES : 0);
-}
-
 void access_plainly(const volatile void *address, size_t size, bool writes, const void *pc)
 {
 	struct routine *me = run.current;
@@ -84,9 +72,12 @@ void access_plainly(const volatile void *address, size_t size, bool writes, cons
 	if (me == NULL || size == 0 || is_on_stack(me, address))
 		return;
 	if (options.racy) {
-		access_racily(me, address, size, &use);
-		return;
+		me->pc = pc;
+		point(writes ? "plain write" : "plain read", NULL, NULL, NULL);
+		me->pc = NULL;
 	}
 	check_usable(me, address, size, &use);
+	if (options.racy)
+		touch_memory(address, size, writes ? WRITES : 0);
 	use_memory(address, size, &use);
 }

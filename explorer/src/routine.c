@@ -3,10 +3,7 @@
 #error "the bench is for x86-64 alone: it switches stacks by that processor's instructions"
 #endif
 
-#include <stdio.h>
-#include <string.h>
 #include <sys/mman.h>
-#include <unistd.h>
 
 #if __has_include(<valgrind/valgrind.h>)
 #include <valgrind/valgrind.h>
@@ -35,19 +32,14 @@ static char *stack_of(unsigned number)
 }
 
 /* A switch isn't a return to where the last call was made from, so a shadow stack would end the program. This instruction does nothing without one. */
-static void check_no_shadow_stack(void)
+void map_stacks(void)
 {
 	uint64_t top = 0;
 	__asm__ volatile(".byte 0xf3, 0x48, 0x0f, 0x1e, 0xc8" : "+a"(top));	/* rdsspq %rax */
 	if (top != 0)
 		refuse("the program runs with a shadow stack, which the bench can't switch: link it with -z noshstk, or run it with "
 		       "GLIBC_TUNABLES=glibc.cpu.hwcaps=-SHSTK");
-}
-
-/* A stack for each, with as much room below that nothing may touch. They stay. */
-void map_stacks(void)
-{
-	check_no_shadow_stack();
+	/* A stack for each, with as much room below that nothing may touch. They stay. */
 	stacks = map_pages((size_t)THREADS * 2 * STACK, MAP_PRIVATE);
 	for (unsigned number = 0; number < THREADS; number++) {
 		mprotect(stack_of(number) - STACK, STACK, PROT_NONE);
@@ -59,8 +51,6 @@ bool is_on_stack(const struct routine *routine, const volatile void *at)
 {
 	return (uintptr_t)at - (uintptr_t)stack_of(routine->number) < STACK;
 }
-
-/* ---- Switching. ---- */
 
 /* Leaves one stack, with what a call keeps: six registers, MXCSR and the control word of the x87. Goes on where another one was left. */
 void bench_switch(void **left, void *to);
@@ -109,7 +99,6 @@ static void come_to_stack(void *fake, const void **bottom, size_t *size)
 		__sanitizer_finish_switch_fiber(fake, bottom, size);
 }
 
-/* The thread's words of the layer are those of `to` from now on. */
 static void exchange(struct routine *from, struct routine *to)
 {
 	if (from != NULL) {
@@ -121,7 +110,6 @@ static void exchange(struct routine *from, struct routine *to)
 	kupaldiz_places = to == NULL ? (struct places){0} : to->places;
 }
 
-/* Goes on with another thread, and returns when this one is gone on with. */
 void switch_to(struct routine *to)
 {
 	struct routine *from = run.current;
@@ -144,8 +132,6 @@ void leave_run(enum end end)
 	_exit(2);
 }
 
-/* ---- The life of a thread. ---- */
-
 /* What has a name already is the test's. */
 static void begin_routine(void)
 {
@@ -162,8 +148,7 @@ static void begin_routine(void)
 /* A thread that runs `body(arg)`. It isn't begun. */
 struct routine *make_routine(const char *name, void (*body)(void *), void *arg, bool daemon)
 {
-	if (run.count == THREADS - 1)
-		refuse("there are more than %d threads", THREADS - 1);
+	refuse_if(run.count == THREADS - 1, "there are more than %d threads", THREADS - 1);
 	struct routine *made = &run.routines[run.count];
 	*made = (struct routine){.made = true, .daemon = daemon, .number = run.count, .name = name, .body = body, .arg = arg, .deadline = NEVER,
 	    .made_at = run.step == 0 ? -1 : (int)run.step - 1};
@@ -183,11 +168,9 @@ struct routine *make_routine(const char *name, void (*body)(void *), void *arg, 
 	return made;
 }
 
-/* Each new thread runs up to its first point. */
 void start_routines(void)
 {
-	for (unsigned number = 0; number < run.count; number++) {
-		struct routine *at = &run.routines[number];
+	for (struct routine *at = run.routines; at < &run.routines[run.count]; at++) {
 		if (at->begun)
 			continue;
 		struct routine *before = starter;
@@ -218,7 +201,6 @@ void end_routine(void)
 	_exit(2);
 }
 
-/* Runs the first thread, with all that comes of it, until the run is left. */
 void run_main(void (*body)(void *))
 {
 	struct routine *first = make_routine("setup", body, NULL, false);

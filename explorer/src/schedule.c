@@ -1,7 +1,4 @@
 /* schedule.c - points, and which thread goes on from one */
-#include <stdio.h>
-#include <string.h>
-
 #include "inside.h"
 
 struct run run;
@@ -52,12 +49,6 @@ void touch_memory(const volatile void *address, size_t size, unsigned how)
 	record_access((struct access){(uintptr_t)address, (uint32_t)size, 0, ON_MEMORY, (uint8_t)how});
 }
 
-/* A thread's deadline, or with ANY all of them. */
-void touch_deadlines(unsigned thread, unsigned how)
-{
-	touch(ON_DEADLINE, NULL, thread, how);
-}
-
 /* All that ran comes before the step, and all that will run after it. */
 void make_barrier(void)
 {
@@ -65,36 +56,26 @@ void make_barrier(void)
 		search->steps[run.step - 1].set.barrier = true;
 }
 
-/* ---- Who can go on. ---- */
-
-/* A thread that has its CPU can't while a soft interrupt has it. */
-static bool has_its_cpu(const struct routine *routine)
-{
-	const struct thread *self = routine->self;
-	return self == NULL || self->holds == 0 || routine->off || lock_owner(&self->cpu->hold) == self;
-}
-
+/* A thread that has its CPU isn't while a soft interrupt has it. */
 bool is_enabled(const struct routine *routine)
 {
+	const struct thread *self = routine->self;
 	if (!routine->made || routine->ended || (run.phase == SETTING_UP && routine->number != 0))
 		return false;
-	return has_its_cpu(routine) && (routine->guard == NULL || routine->guard(routine));
+	bool has_cpu = self == NULL || self->holds == 0 || routine->off || lock_owner(&self->cpu->hold) == self;
+	return has_cpu && (routine->guard == NULL || routine->guard(routine));
 }
 
-/* Whether time may go on although a thread can. */
 static bool clock_may_jump(void)
 {
 	return run.ticks < options.ticks && next_time() != NEVER && run.phase == RUNNING;
 }
 
-/* Whether all threads have ended, and no soft interrupt waits. */
 bool all_have_ended(const struct routine *routine)
 {
-	for (unsigned number = 0; number < run.count; number++) {
-		const struct routine *other = &run.routines[number];
+	for (const struct routine *other = run.routines; other < &run.routines[run.count]; other++)
 		if (other != routine && (other->daemon ? is_enabled(other) : !other->ended))
 			return false;
-	}
 	return true;
 }
 
@@ -109,8 +90,6 @@ uint32_t enabled_now(void)
 	return enabled;
 }
 
-/* ---- Which one does. ---- */
-
 static unsigned lowest(uint32_t mask)
 {
 	return (unsigned)__builtin_ctz(mask);
@@ -123,11 +102,8 @@ static unsigned next_after(unsigned number, uint32_t mask)
 	return lowest(above != 0 ? above : mask);
 }
 
-/*
- * Those of another step that sleep here, too: what they would do commutes with what was done
- *
- * The clock never sleeps: where no thread is enabled it doesn't hurry, which is another step. To let fewer threads sleep tries more, and leaves nothing out.
- */
+/* Those of another step that sleep here, too: what they would do commutes with what was done. The clock never sleeps: where no thread is enabled it doesn't
+ * hurry, which is another step. To let fewer threads sleep tries more, and leaves nothing out. */
 static void inherit_sleep_set(const struct step *before, struct step *step)
 {
 	uint32_t candidates = (before->sleeping | before->explored) & ~bit(before->chosen) & ~bit(CLOCK);
@@ -151,7 +127,6 @@ static unsigned highest_priority(uint32_t mask)
 	return best;
 }
 
-/* By random priorities, which fall at some points. */
 static unsigned choose_random(uint32_t enabled)
 {
 	unsigned best = highest_priority(enabled);
@@ -164,41 +139,20 @@ static unsigned choose_random(uint32_t enabled)
 	return best;
 }
 
-/* A thread that may spin doesn't go on where another one can. */
-static void throttle(struct step *step, const struct step *before)
-{
-	uint32_t own = before == NULL || before->turns < PATIENCE ? 0 : bit(before->chosen);
-	step->throttled = (step->enabled & ~own) != 0 ? own : 0;
-	search->found.throttled += step->throttled != 0;
-}
-
-/* Where a deadline stands, and time has gone on early as often as it may, an order is left out. */
-static void count_hurried(uint32_t enabled)
-{
-	bool waits = run.ticks == options.ticks && run.phase == RUNNING && next_time() != NEVER;
-	search->found.hurried += waits && (enabled & bit(CLOCK)) == 0;
-}
-
-/* ---- Steps that are never made. ---- */
-
 static const struct set ticking = {.count = 2, .of = {{.size = 1, .kind = ON_TIME, .how = WRITES}, {.size = 1, .kind = ON_DEADLINE, .cpu = ANY}}};
 
-/*
- * The run ends after its first `upto` steps, well or cut short: what is disabled then of the clock and the soft interrupts may race with one of them
- *
- * A thread that waits for a lock, a wake-up or its CPU needs nothing here: it goes on in each run that isn't cut, and its step has its races there.
- */
+/* The run ends after its first `upto` steps, well or cut short: what is disabled then of the clock and the soft interrupts may race with one of them. A thread
+ * that waits for a lock, a wake-up or its CPU needs nothing here: it goes on in each run that isn't cut, and its step has its races there. */
 static void find_races_of_all_disabled(unsigned upto)
 {
 	if (!clock_may_jump() && run.ticks < options.ticks)
 		find_races_of_disabled(CLOCK, &ticking, upto);
-	for (unsigned number = 0; number < run.count; number++) {
-		const struct routine *routine = &run.routines[number];
+	for (const struct routine *routine = run.routines; routine < &run.routines[run.count]; routine++) {
 		if (routine->guard != can_begin || is_enabled(routine))
 			continue;
 		uint16_t cpu = (uint16_t)routine->self->cpu->info.ci_index;
 		const struct set queue = {.count = 1, .of = {{.size = 1, .kind = ON_PENDING, .cpu = cpu, .how = WRITES}}};
-		find_races_of_disabled(number, &queue, upto);
+		find_races_of_disabled(routine->number, &queue, upto);
 	}
 }
 
@@ -206,7 +160,7 @@ void find_races_at_end(void)
 {
 	if (search->mode != REDUCED)
 		return;
-	find_races_of_step(run.step - 1);
+	find_races(run.step - 1, run.step - 1);
 	find_races_of_all_disabled(run.finish + 1);
 }
 
@@ -214,11 +168,14 @@ void find_races_at_end(void)
 static unsigned choose_new(struct step *step, const struct step *before)
 {
 	uint32_t enabled = step->enabled, can = enabled;
-	step->explored = 0;
-	step->sleeping = 0;
-	step->backtrack = 0;
-	throttle(step, before);
-	count_hurried(enabled);
+	step->explored = step->sleeping = step->backtrack = 0;
+	/* A thread that may spin doesn't go on where another one can. */
+	uint32_t own = before == NULL || before->turns < PATIENCE ? 0 : bit(before->chosen);
+	step->throttled = (enabled & ~own) != 0 ? own : 0;
+	search->found.throttled += step->throttled != 0;
+	/* Where a deadline stands, and time has gone on early as often as it may, an order is left out. */
+	bool waits = run.ticks == options.ticks && run.phase == RUNNING && next_time() != NEVER;
+	search->found.hurried += waits && (enabled & bit(CLOCK)) == 0;
 	if (search->mode == RANDOM && step->throttled != 0)
 		search->priorities[before->chosen] = --search->lowest;
 	if (search->mode == RANDOM)
@@ -242,16 +199,11 @@ static unsigned choose_new(struct step *step, const struct step *before)
 
 static void check_replayed(const struct step *step, uint32_t enabled)
 {
-	if ((enabled & bit(step->chosen)) == 0) {
-		snprintf(search->found.line, sizeof(search->found.line), "the schedule doesn't fit: at point %u thread \"%s\" can't go on", run.step,
-		    step->chosen < run.count && run.routines[step->chosen].name != NULL ? run.routines[step->chosen].name : "?");
-		leave_run(UNFIT);
-	}
-	if (search->mode != REPLAYED && enabled != step->enabled) {
-		snprintf(search->found.line, sizeof(search->found.line),
-		    "two runs by one schedule differ at point %u: the code depends on something outside of it", run.step);
-		leave_run(UNFIT);
-	}
+	const char *name = step->chosen < run.count ? run.routines[step->chosen].name : NULL;
+	if ((enabled & bit(step->chosen)) == 0)
+		end_run(UNFIT, "the schedule doesn't fit: at point %u thread \"%s\" can't go on", run.step, name == NULL ? "?" : name);
+	if (search->mode != REPLAYED && enabled != step->enabled)
+		end_run(UNFIT, "two runs by one schedule differ at point %u: the code depends on something outside of it", run.step);
 }
 
 static unsigned begin_step(uint32_t enabled)
@@ -282,23 +234,6 @@ static unsigned begin_step(uint32_t enabled)
 	return chosen;
 }
 
-static void name_step(struct step *step, const struct routine *routine)
-{
-	step->guarded = routine == NULL || routine->guard != NULL;
-	step->call = routine == NULL ? "clock" : routine->call;
-	step->place = routine == NULL ? NULL : routine->place;
-	step->pc = routine == NULL ? NULL : routine->pc;
-	step->cpu = routine == NULL || routine->self == NULL || routine->self->cpu == NULL ? NOBODY : (uint8_t)routine->self->cpu->info.ci_index;
-}
-
-static void end_step(void)
-{
-	if (run.step > search->fresh && search->mode == REDUCED)
-		find_races_of_step(run.step - 1);
-	if (run.step == POINTS)
-		fail("the run doesn't end: it has come to %d points", POINTS);
-}
-
 /* Lets time go on to the next deadline. Once the clock may not hurry any more it waits until no thread is enabled, and so changes places with none. */
 static void tick(uint32_t enabled)
 {
@@ -307,7 +242,7 @@ static void tick(uint32_t enabled)
 	run.ticks += enabled != bit(CLOCK);
 	run.time = next_time();
 	touch(ON_TIME, NULL, 0, WRITES);
-	touch_deadlines(ANY, 0);
+	touch(ON_DEADLINE, NULL, ANY, 0);
 }
 
 static void choose(void)
@@ -315,26 +250,31 @@ static void choose(void)
 	uint32_t enabled;
 	unsigned chosen;
 	do {
-		end_step();
+		if (run.step > search->fresh && search->mode == REDUCED)
+			find_races(run.step - 1, run.step - 1);
+		fail_if(run.step == POINTS, "the run doesn't end: it has come to %d points", POINTS);
 		enabled = enabled_now();
 		if (enabled == 0)
 			report_stuck();
 		chosen = begin_step(enabled);
-		name_step(&search->steps[run.step - 1], chosen == CLOCK ? NULL : &run.routines[chosen]);
+		struct step *step = &search->steps[run.step - 1];
+		const struct routine *routine = chosen == CLOCK ? NULL : &run.routines[chosen];
+		step->guarded = routine == NULL || routine->guard != NULL;
+		step->call = routine == NULL ? "clock" : routine->call;
+		step->place = routine == NULL ? NULL : routine->place;
+		step->pc = routine == NULL ? NULL : routine->pc;
+		step->cpu = routine == NULL || routine->self == NULL || routine->self->cpu == NULL ? NOBODY : (uint8_t)routine->self->cpu->info.ci_index;
 		if (chosen == CLOCK)
 			tick(enabled);
 	} while (chosen == CLOCK);
 	switch_to(&run.routines[chosen]);
 }
 
-/* ---- Points. ---- */
-
 /* The thread that makes a call. It has a CPU from its first call on. */
 struct routine *here(const char *call)
 {
 	struct routine *me = run.current;
-	if (me == NULL)
-		refuse("%s outside of bench_explore", call);
+	refuse_if(me == NULL, "%s outside of bench_explore", call);
 	struct thread *self = kupaldiz_self;
 	me->self = self;
 	if (me->name == NULL && self != NULL)

@@ -1,17 +1,8 @@
-/* show.c - what was found, as lines; a schedule as a short text */
-#include <stdio.h>
-#include <string.h>
+/* show.c - what was found, as lines; a schedule as a short text; the place of an instruction, as far as the program has it for addr2line(1) */
+#include <dlfcn.h>
+#include <link.h>
 
 #include "inside.h"
-
-/* How many points a thread goes on from a step. */
-static unsigned turns_from(unsigned from)
-{
-	unsigned at = from;
-	while (at < search->length && search->steps[at].chosen == search->steps[from].chosen)
-		at++;
-	return at - from;
-}
 
 /* A letter for each thread, a dot for the clock, and how many points it goes on where that isn't 1. */
 void write_schedule(char *text, size_t room)
@@ -19,14 +10,14 @@ void write_schedule(char *text, size_t room)
 	size_t length = 0;
 	for (unsigned at = 0, turns; at < search->length && length + 8 < room; at += turns) {
 		unsigned thread = search->steps[at].chosen;
-		turns = turns_from(at);
+		for (turns = 1; at + turns < search->length && search->steps[at + turns].chosen == thread; turns++)
+			;
 		char letter = thread == CLOCK ? '.' : (char)('a' + thread);
 		length += (size_t)snprintf(text + length, room - length, turns == 1 ? "%c" : "%c%u", letter, turns);
 	}
 	text[length] = '\0';
 }
 
-/* A file's name without its folders. */
 const char *short_place(const char *place)
 {
 	const char *slash = place == NULL ? NULL : strrchr(place, '/');
@@ -94,8 +85,7 @@ static void show_unseen(FILE *to)
 
 static void show_outcomes(FILE *to, const struct bench_found *found)
 {
-	for (unsigned at = 0; at < found->outcomes; at++) {
-		const struct bench_outcome *outcome = &found->outcome[at];
+	for (const struct bench_outcome *outcome = found->outcome; outcome < &found->outcome[found->outcomes]; outcome++) {
 		if (outcome->text[0] != '\0')
 			fprintf(to, "%s: outcome %s: %llu\n", options.name, outcome->text, (unsigned long long)outcome->count);
 		else if (found->outcomes > 1)
@@ -118,4 +108,61 @@ void show(FILE *to, const struct bench_found *found)
 	fprintf(to, "%s: found by run %llu; schedule %s, switches %u, preemptions %u\n", options.name, (unsigned long long)found->first,
 	    found->schedule, found->changes, found->preemptions);
 	show_steps(to);
+}
+
+static unsigned long find_origin(const void *pc, char *file, size_t room)
+{
+	Dl_info info;
+	struct link_map *object = NULL;
+	if (dladdr1(pc, &info, (void **)&object, RTLD_DL_LINKMAP) != 0 && object != NULL && object->l_name[0] != '\0')
+		snprintf(file, room, "%s", object->l_name);
+	else
+		snprintf(file, room, "/proc/%d/exe", (int)getpid());
+	return (uintptr_t)pc - (object == NULL ? 0 : object->l_addr) - 1;
+}
+
+static bool is_header(const char *place)
+{
+	const char *colon = strrchr(place, ':');
+	return colon != NULL && colon - place > 2 && strncmp(colon - 2, ".h", 2) == 0;
+}
+
+/* Reads what addr2line says: a function and a place in turn, from the inlined one outwards. The place is the first that lies in no header. */
+static void read_place(FILE *from, unsigned long at, struct spot *spot)
+{
+	char function[96], place[sizeof(spot->text)];
+	while (fgets(function, sizeof(function), from) != NULL && fgets(place, sizeof(place), from) != NULL) {
+		function[strcspn(function, " \n")] = '\0';
+		place[strcspn(place, " \n")] = '\0';
+		if (spot->text[0] != '\0' && place[0] == '?')
+			return;
+		if (place[0] != '?')
+			snprintf(spot->text, sizeof(spot->text), "%s", place);
+		else if (function[0] != '?')
+			snprintf(spot->text, sizeof(spot->text), "%s(), compiled without -g", function);
+		if (!is_header(spot->text))
+			break;
+	}
+	if (spot->text[0] == '\0')
+		snprintf(spot->text, sizeof(spot->text), "instruction %#lx", at);
+}
+
+/* The text of a place that has one in no header, else that of the instruction, which is looked for once. */
+const char *place_of(const char *place, const void *pc)
+{
+	if (pc == NULL || (place != NULL && !is_header(place)))
+		return place == NULL ? "a place unknown" : place;
+	for (unsigned at = 0; at < SPOTS && at < search->spot_count; at++)
+		if (search->spots[at].pc == pc)
+			return search->spots[at].text;
+	struct spot *spot = &search->spots[search->spot_count++ % SPOTS];
+	char command[512], file[256];
+	unsigned long origin = find_origin(pc, file, sizeof(file));
+	*spot = (struct spot){.pc = pc};
+	snprintf(command, sizeof(command), "addr2line -f -s -i -e '%s' %#lx 2>/dev/null", file, origin);
+	FILE *said = popen(command, "r");
+	refuse_if(said == NULL, "no process is left");
+	read_place(said, origin, spot);
+	pclose(said);
+	return spot->text;
 }

@@ -9,7 +9,6 @@
 
 static struct routine *softints[KUPALDIZ_CPUS][LEVELS];
 
-/* Whether a soft interrupt of a level may have the CPU now. */
 static bool may_have(const struct cpu *cpu, int level)
 {
 	const struct thread *owner = lock_owner(&cpu->hold);
@@ -25,7 +24,6 @@ static bool has_higher(const struct cpu *cpu, int level)
 	return false;
 }
 
-/* Whether one of the thread's level waits on a CPU that may have it. */
 bool can_begin(const struct routine *me)
 {
 	const struct cpu *cpu = me->of;
@@ -55,7 +53,6 @@ static void release_cpu(struct thread *me)
 	me->lender = NULL;
 }
 
-/* Takes the CPU, and runs the handlers of a level that wait on it. */
 static void run_waiting(struct thread *me, unsigned number, int level)
 {
 	touch(ON_PENDING, NULL, number, WRITES);
@@ -110,7 +107,6 @@ void lend_cpu(struct thread *me)
 	(void)me;
 }
 
-/* A thread that has its CPU waits for a lock: others get the CPU meanwhile. */
 void yield_cpu(struct thread *me)
 {
 	run.current->off = true;
@@ -120,7 +116,6 @@ void yield_cpu(struct thread *me)
 		lock_release(&me->cpu->hold, me);
 }
 
-/* It has the lock, and goes on once it has the CPU again. */
 void reclaim_cpu(struct thread *me)
 {
 	if (me->softint) {

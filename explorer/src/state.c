@@ -5,7 +5,6 @@
  * its own, and so each of its runs has a process of its own.
  */
 #include <link.h>
-#include <string.h>
 #include <sys/mman.h>
 
 #include "inside.h"
@@ -35,18 +34,6 @@ UNSEEN static void copy(char *to, const char *from, size_t size)
 			to_words[at] = words[at];
 }
 
-static void add_part(uintptr_t from, uintptr_t to)
-{
-	from = (from + 7) & ~(uintptr_t)7;
-	to &= ~(uintptr_t)7;
-	if (from >= to)
-		return;
-	if (count == MOST_PARTS)
-		refuse("the program has too many parts");
-	parts[count++] = (struct part){.at = (char *)from, .kept = map_pages(to - from, MAP_PRIVATE), .size = to - from};
-}
-
-/* Whether an address lies in one of an object's parts. */
 static bool has_address(const struct dl_phdr_info *object, uintptr_t address)
 {
 	for (unsigned at = 0; at < object->dlpi_phnum; at++) {
@@ -58,14 +45,16 @@ static bool has_address(const struct dl_phdr_info *object, uintptr_t address)
 	return false;
 }
 
-/* Adds the writable parts of an object. */
 static void add_object(const struct dl_phdr_info *object)
 {
 	for (unsigned at = 0; at < object->dlpi_phnum; at++) {
 		const ElfW(Phdr) *part = &object->dlpi_phdr[at];
-		uintptr_t from = object->dlpi_addr + part->p_vaddr;
-		if (part->p_type == PT_LOAD && (part->p_flags & PF_W) != 0)
-			add_part(from, from + part->p_memsz);
+		uintptr_t from = object->dlpi_addr + part->p_vaddr, to = (from + part->p_memsz) & ~(uintptr_t)7;
+		from = (from + 7) & ~(uintptr_t)7;
+		if (part->p_type != PT_LOAD || (part->p_flags & PF_W) == 0 || from >= to)
+			continue;
+		refuse_if(count == MOST_PARTS, "the program has too many parts");
+		parts[count++] = (struct part){.at = (char *)from, .kept = map_pages(to - from, MAP_PRIVATE), .size = to - from};
 	}
 }
 

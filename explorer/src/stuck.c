@@ -1,8 +1,4 @@
 /* stuck.c - what is wrong where no thread can go on */
-#include <stdarg.h>
-#include <stdio.h>
-#include <string.h>
-
 #include "inside.h"
 
 const char *name_of_routine(const struct routine *routine)
@@ -18,7 +14,6 @@ static const struct routine *routine_of(const struct thread *thread)
 	return NULL;
 }
 
-/* The thread that has a reference of a CPU's to a target. */
 static const struct routine *holder_on(unsigned cpu, const void *target)
 {
 	const struct cpu *at = &cpus[cpu];
@@ -28,7 +23,6 @@ static const struct routine *holder_on(unsigned cpu, const void *target)
 	return NULL;
 }
 
-/* The thread of soft interrupts that has begun a handler and waits. */
 static const struct routine *stuck_softint(void)
 {
 	for (unsigned number = 0; number < run.count; number++)
@@ -60,7 +54,7 @@ static const struct routine *append_cause(char *text, const struct routine *me)
 	}
 	if (me->guard == is_xcall_complete) {
 		append(text, "the call");
-		return xcaller();
+		return xcaller;
 	}
 	if (me->guard == has_ended) {
 		append(text, "its end");
@@ -82,37 +76,26 @@ static const struct routine *append_cause(char *text, const struct routine *me)
 	return word == NULL ? NULL : routine_of(lock_owner(word));
 }
 
-/* Where a thread waits, and who it waits for. */
-static const struct routine *report_wait(const struct routine *me, char *text)
-{
-	append(text, "thread \"%s\" waits in %s%s for ", name_of_routine(me), me->call, AT_PLACE(me->place));
-	const struct routine *on = append_cause(text, me);
-	if (on != NULL && on != me)
-		append(text, " of thread \"%s\"", name_of_routine(on));
-	return on;
-}
-
-/* The first thread that isn't the layer's and hasn't ended. */
-static const struct routine *first_stuck(void)
-{
-	for (unsigned number = 1; number < run.count; number++)
-		if (!run.routines[number].daemon && !run.routines[number].ended)
-			return &run.routines[number];
-	return &run.routines[0];
-}
-
 /* Tells who waits, and who each waits for, up to one who waits for nobody, or for one that was told. */
 void report_stuck(void)
 {
 	char text[BENCH_LINE] = "";
 	uint32_t told = 0;
 	search->stuck = true;
-	const struct routine *at = first_stuck();
+	/* The first thread that isn't the layer's and hasn't ended, the one of the setup last. */
+	const struct routine *at = &run.routines[1], *end = &run.routines[run.count];
+	while (at < end && (at->daemon || at->ended))
+		at++;
+	at = at < end ? at : run.routines;
 	while (at != NULL && (told & UINT32_C(1) << at->number) == 0) {
 		told |= UINT32_C(1) << at->number;
 		if (text[0] != '\0')
 			append(text, "; ");
-		at = report_wait(at, text);
+		append(text, "thread \"%s\" waits in %s%s for ", name_of_routine(at), at->call, AT_PLACE(at->place));
+		const struct routine *on = append_cause(text, at);
+		if (on != NULL && on != at)
+			append(text, " of thread \"%s\"", name_of_routine(on));
+		at = on;
 	}
 	fail("%s: %s", at == NULL ? "nobody can go on" : "deadlock", text);
 }

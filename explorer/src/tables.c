@@ -1,5 +1,4 @@
 /* tables.c - memory that no run begins anew, and the tables in it: they grow, and some are looked up by a key */
-#include <string.h>
 #include <sys/mman.h>
 
 #include "inside.h"
@@ -17,8 +16,7 @@ static const size_t sizes[TABLES] = {
 void *map_pages(size_t size, int how)
 {
 	void *at = mmap(NULL, size, PROT_READ | PROT_WRITE, how | MAP_ANONYMOUS | MAP_NORESERVE, -1, 0);
-	if (at == MAP_FAILED)
-		refuse("out of memory");
+	refuse_if(at == MAP_FAILED, "out of memory");
 	return at;
 }
 
@@ -40,7 +38,6 @@ static void extend(enum table table)
 	scratch->tables[table].room = room;
 }
 
-/* One row more, of zeros. */
 void *new_row(enum table table)
 {
 	if (run.rows[table] == scratch->tables[table].room)
@@ -51,7 +48,6 @@ void *new_row(enum table table)
 
 /* ---- Rows by a key: each begins with a struct keyed. ---- */
 
-/* The list of a key and of others: its first row. */
 static uint32_t *list_of(enum table table, uintptr_t key)
 {
 	if (run.rows[table] == 0)
@@ -59,7 +55,6 @@ static uint32_t *list_of(enum table table, uintptr_t key)
 	return &scratch->lists[table][(key * 0x9e3779b97f4a7c15u >> 32) % LISTS];
 }
 
-/* The first row with a key from one on, counted from 1; NULL where there is none. */
 static void *find_from(enum table table, uint32_t row, uintptr_t key)
 {
 	for (; row != 0;) {
@@ -91,7 +86,6 @@ void *add_row(enum table table, uintptr_t key)
 	return row;
 }
 
-/* The row with a key, which is made where there is none. */
 void *row_for(enum table table, uintptr_t key)
 {
 	void *row = row_with(table, key);

@@ -1,10 +1,7 @@
 /*
- * tsan.c - the calls that gcc and clang make of loads and stores with -fsanitize=thread; the sanitizer's own library isn't linked
- *
- * Each plain access is told before it is made. An atomic access of the layer's headers has had its point; any other one gets it here.
+ * tsan.c - the calls that gcc and clang make of loads and stores with -fsanitize=thread, before each; the sanitizer's own library isn't linked. An atomic
+ * access of the layer's headers has had its point; any other one gets it here.
  */
-#include <string.h>
-
 #include "inside.h"
 
 #define PC	__builtin_return_address(0)
@@ -26,8 +23,6 @@ void __tsan_func_entry(const void *caller)
 void __tsan_func_exit(void)
 {
 }
-
-/* ---- Plain accesses. ---- */
 
 #define ACCESS(name, size, writes) \
 	void __tsan_##name(void *at) \
@@ -78,8 +73,6 @@ void *__tsan_memset(void *to, int byte, size_t size)
 	access_plainly(to, size, true, PC);
 	return memset(to, byte, size);
 }
-
-/* ---- Atomic accesses. ---- */
 
 /* What an order of the language asks for: the point's words. */
 static unsigned order_of(int order)
@@ -165,11 +158,9 @@ unsigned unseen_count;
 /* The sanitizer's own library has it, and this one hasn't. */
 void *__tsan_create_fiber(unsigned flags) __attribute__((weak));
 
-/* Stops where that library has the compiler's calls. */
 void check_own_calls(void)
 {
-	if (__tsan_create_fiber != NULL)
-		refuse("the program is linked with -fsanitize=thread: compile with it, and link without it");
+	refuse_if(__tsan_create_fiber != NULL, "the program is linked with -fsanitize=thread: compile with it, and link without it");
 }
 
 void kupaldiz_unseen(const char *file)

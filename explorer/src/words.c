@@ -1,14 +1,9 @@
 /*
- * words.c - atomic accesses and barriers, and which step comes after which
- *
- * Each thread has a vector clock: what of the others' comes before it. Whoever gives something leaves its clock there, and whoever takes it joins that
- * with its own. Two accesses are ordered where the later thread's clock has the earlier one's.
+ * words.c - atomic accesses and barriers, and which step comes after which, by vector clocks: whoever gives something leaves its thread's clock there, and
+ * whoever takes it joins that with its own
  */
-#include <string.h>
-
 #include "inside.h"
 
-/* What was left at a thing. */
 static uint32_t *clock_at(enum kind kind, const volatile void *address, unsigned cpu)
 {
 	uintptr_t of = ((uintptr_t)address * 31 + (uintptr_t)kind) * (UINT8_MAX + 1) + cpu % (UINT8_MAX + 1);
@@ -48,8 +43,6 @@ void inherit_clock(struct routine *made)
 	made->clock[made->number] = 1;
 }
 
-/* ---- The points. ---- */
-
 void kupaldiz_from(const char *place)
 {
 	if (run.current != NULL)
@@ -59,17 +52,6 @@ void kupaldiz_from(const char *place)
 /* What an access is called, by whether it loads and whether it stores. */
 static const char *const accesses[] = {"membar", [KUPALDIZ_LOADS] = "atomic load", [KUPALDIZ_STORES] = "atomic store",
     [KUPALDIZ_LOADS | KUPALDIZ_STORES] = "atomic change"};
-
-/* What a barrier makes of the relaxed accesses before and after it. */
-static void pass_barrier(struct routine *me, unsigned how)
-{
-	if ((how & KUPALDIZ_ACQUIRES) != 0)
-		join(me->clock, me->pending);
-	if ((how & KUPALDIZ_RELEASES) != 0) {
-		memcpy(me->released, me->clock, sizeof(me->released));
-		me->clock[me->number]++;
-	}
-}
 
 /* A store that doesn't load ends what the stores before it have left. */
 static void order_access(struct routine *me, const volatile void *address, unsigned how)
@@ -96,9 +78,14 @@ void access_atomically(const volatile void *address, size_t size, unsigned how, 
 	bool writes = (how & KUPALDIZ_STORES) != 0;
 	me->pc = pc;
 	point(call, from != NULL ? from : place, NULL, NULL);
-	if (address == NULL) {
-		pass_barrier(me, how);
-	} else {
+	/* A barrier makes something of the relaxed accesses before and after it. */
+	if (address == NULL && (how & KUPALDIZ_ACQUIRES) != 0)
+		join(me->clock, me->pending);
+	if (address == NULL && (how & KUPALDIZ_RELEASES) != 0) {
+		memcpy(me->released, me->clock, sizeof(me->released));
+		me->clock[me->number]++;
+	}
+	if (address != NULL) {
 		const struct use use = {writes ? "writes" : "reads", me->place, me->pc, writes, true};
 		check_live(call, address, size);
 		touch_memory(address, size, writes ? WRITES : 0);

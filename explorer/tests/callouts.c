@@ -1,13 +1,5 @@
-/*
- * callouts - callout(9) by the explorer's clock, in every order: when and where each callout runs, and what a halt waits
- * for and ends
- *
- * The last line counts the cases.
- */
-#include <errno.h>
+/* callouts - callout(9) by the explorer's clock, in every order: when and where each callout runs, and what a halt waits for and ends */
 #include <limits.h>
-#include <sys/kernel.h>
-#include <sys/proc.h>
 
 #include "finds.h"
 
@@ -48,14 +40,6 @@ static void begin_timers(void)
 		callout_init(&timers[at].callout, CALLOUT_MPSAFE);
 }
 
-static void end_timers(void)
-{
-	for (unsigned at = 0; at < TIMERS; at++) {
-		(void)callout_halt(&timers[at].callout, NULL);
-		callout_destroy(&timers[at].callout);
-	}
-}
-
 static bool late;	/* one of them, by the clock's leave to go on although a thread can */
 
 /* Waits for its next run, which comes so many ticks after it was set, between two times. */
@@ -67,8 +51,6 @@ UNSEEN static void await_run(const struct timer *timer, unsigned runs, int from,
 	KASSERT(timer->runs == runs && timer->ran_at - from >= ticks);
 	late |= timer->ran_at - until > ticks;
 }
-
-/* ---- Times. ---- */
 
 /* Below one tick is one tick. */
 BODY(set_each)
@@ -156,8 +138,6 @@ UNSEEN BODY(keep_cpu)
 		KASSERT(timers[at].runs == 1 && timers[at].cpu == 2 && (!at_once || timers[at].after == each[at].after));
 	kupaldiz_unbind();
 }
-
-/* ---- Halts. ---- */
 
 /* The first call may be made anywhere. So may a halt that doesn't have to wait, and it keeps its lock. */
 BODY(use_inside)
@@ -258,11 +238,18 @@ BODY(set_meanwhile)
 	note_set();
 }
 
-/* ---- All of them. ---- */
-
 static void make_things(void) { mutex_init(&lock, MUTEX_DEFAULT, IPL_SOFTCLOCK); }
 static void end_lock(void) { mutex_destroy(&lock); }
-static void end_all(void) { end_timers(); end_lock(); bench_outcome(late ? "late" : "exact"); }
+
+static void end_all(void)
+{
+	for (unsigned at = 0; at < TIMERS; at++) {
+		(void)callout_halt(&timers[at].callout, NULL);
+		callout_destroy(&timers[at].callout);
+	}
+	end_lock();
+	bench_outcome(late ? "late" : "exact");
+}
 
 static const struct find finds[] = {
 	{"each time", NULL, set_each, .make = begin_timers, .finish = end_all, .outcome = "exact"},

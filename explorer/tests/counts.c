@@ -1,9 +1,5 @@
-/*
- * counts - small programs have as many schedules as combinatorics says, and what is found says what was left out
- */
-#include <sys/atomic.h>
-#include <sys/systm.h>
-
+/* counts - small programs have as many schedules as combinatorics says, and what is found says what was left out */
+#include "../../netbsd/tests/pages.h"
 #include "cases.h"
 
 /* ---- Each order is tried once, of threads that touch nothing one alone; some outcomes have no room, and some runs have none. ---- */
@@ -87,8 +83,6 @@ static void test_random(void)
 	options.found = &again;
 	EXPECT(bench_explore(make_racers, &options) == 1 && found.random == again.random && strcmp(found.schedule, again.schedule) == 0);
 }
-
-/* ---- A thread that spins for another one. ---- */
 
 static bool is_set;
 

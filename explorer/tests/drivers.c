@@ -1,8 +1,4 @@
-/*
- * drivers - the seven drivers of netbsd/examples, right as they are: no schedule of their threads breaks anything; nor do real threads, with threads.c
- *
- *     drivers [CASE [SCHEDULE]]
- */
+/* drivers [CASE [SCHEDULE]] - the seven drivers of netbsd/examples: no schedule of their threads breaks anything; nor do real threads, with threads.c */
 #include <errno.h>
 #include <sys/atomic.h>
 #include <sys/module.h>
@@ -82,11 +78,7 @@ BODY(get_entry)
 	KASSERT(error == ENOENT || (error == 0 && request.er_value >= 5 && strcmp(request.er_name, "entry") == 0));
 }
 
-BODY(delete_entry)
-{
-	struct entry_request request = {.er_key = 1};
-	KASSERT(entry_ioctl(ENTRYDEL, &request) == 0);
-}
+HANDLER(delete_entry, struct entry_request request = {.er_key = 1}; KASSERT(entry_ioctl(ENTRYDEL, &request) == 0))
 
 BODY(set_entry)
 {
@@ -181,8 +173,6 @@ static void begin_unload(void)
 	if (error == 0)
 		bench_thread("unload", unload, NULL);
 }
-
-/* ---- All of them. ---- */
 
 const struct driver_case driver_cases[] = {
 	{"bridge", make_bridge, bridge_fini, {{"broadcast", broadcast}, {"delete", delete_member, &first}}},

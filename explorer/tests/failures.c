@@ -1,15 +1,4 @@
-/*
- * failures - calls that fail, waits that end early, and works, hooks, soft interrupts and the parts of CPUs: what the bench finds by them, and that it
- * tries each
- *
- * The last line counts the cases.
- */
-#include <errno.h>
-#include <sys/module_hook.h>
-#include <sys/percpu.h>
-#include <sys/pool.h>
-#include <sys/workqueue.h>
-
+/* failures - calls that fail, waits that end early, works, hooks, soft interrupts and the parts of CPUs: what the bench finds, and that it tries each */
 #include "finds.h"
 
 static kmutex_t lock;
@@ -20,8 +9,6 @@ static unsigned count;
 static void make_things(void) { mutex_init(&lock, MUTEX_DEFAULT, IPL_NONE); cv_init(&cv, "cv"); }
 static void end_lock(void) { cv_destroy(&cv); mutex_destroy(&lock); }
 HANDLER(nothing, (void)0)
-
-/* ---- Calls that fail. ---- */
 
 BODY(use_object)
 {
@@ -35,10 +22,7 @@ BODY(use_object)
 
 HANDLER(end_at_once, kthread_exit(0))
 
-BODY(make_thread)
-{
-	KASSERT(kthread_create(PRI_NONE, KTHREAD_MPSAFE, NULL, end_at_once, NULL, NULL, "made") == 0);
-}
+HANDLER(make_thread, KASSERT(kthread_create(PRI_NONE, KTHREAD_MPSAFE, NULL, end_at_once, NULL, NULL, "made") == 0))
 
 BODY(make_softint)
 {
@@ -68,8 +52,6 @@ BODY(use_two_blocks)
 	if (two != NULL)
 		kmem_free(two, 8);
 }
-
-/* ---- Waits that end early. ---- */
 
 BODY(wait_once)
 {
@@ -110,8 +92,6 @@ BODY(pause_once)
 }
 
 HANDLER(make_ready, mutex_enter(&lock); ready = true; cv_signal(&cv); mutex_exit(&lock))
-
-/* ---- What lies in memory that is given back. ---- */
 
 struct softc {
 	callout_t callout;

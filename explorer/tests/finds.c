@@ -1,13 +1,7 @@
 /*
- * finds - one small piece of code for each thing that the bench finds, data races too, and what it says; and for each order that makes none
- *
- *     finds            the last line counts the cases
- *     finds PICTURE    writes the picture of the first one, explorer/deadlock.svg, which has the numbers of its lines
+ * finds [PICTURE] - one small piece of code for each thing that the bench finds, data races too, and what it says; and for each order that makes none. With
+ * a name it writes the picture of the first one, explorer/deadlock.svg, which has the numbers of its lines.
  */
-#include <sys/localcount.h>
-#include <sys/psref.h>
-#include <sys/rwlock.h>
-#include <sys/xcall.h>
 #include <xmmintrin.h>
 
 #include "finds.h"
@@ -67,8 +61,6 @@ static void make_things(void)
 	cv_init(&cv, "cv");
 }
 
-/* ---- Locks. ---- */
-
 HANDLER(one_two, mutex_enter(&one); mutex_enter(&two); mutex_exit(&two); mutex_exit(&one))
 HANDLER(read_twice, rw_enter(&rw, RW_READER); rw_enter(&rw, RW_READER); rw_exit(&rw); rw_exit(&rw))
 HANDLER(write_once, rw_enter(&rw, RW_WRITER); rw_exit(&rw))
@@ -88,8 +80,6 @@ BODY(downgrade)
 
 HANDLER(read_beside, rw_enter(&rw, RW_READER); mutex_enter(&one); flag = true; cv_signal(&cv); mutex_exit(&one); rw_exit(&rw))
 
-/* ---- Waking. ---- */
-
 BODY(wait_carelessly)
 {
 	if (!atomic_load_relaxed(&flag)) {
@@ -100,8 +90,6 @@ BODY(wait_carelessly)
 }
 
 HANDLER(wake, atomic_store_relaxed(&flag, true); mutex_enter(&one); cv_broadcast(&cv); mutex_exit(&one))
-
-/* ---- Memory. ---- */
 
 HANDLER(use_block, atomic_inc_uint(block))
 HANDLER(free_block, kmem_free(block, sizeof(*block)))
@@ -127,8 +115,6 @@ enum { LONG = 4096 };
 static void make_long_block(void) { block = kmem_zalloc(LONG, KM_SLEEP); }
 HANDLER(write_last_freed, kmem_free(block, LONG); write_unseen(block + LONG / sizeof(*block) - 1))
 
-/* ---- References and sections. ---- */
-
 BODY(never_ends)
 {
 	while (!atomic_load_relaxed(&flag))
@@ -152,25 +138,14 @@ __attribute__((no_sanitize("undefined"))) BODY(crash)
 HANDLER(set_word, atomic_store_relaxed(&word, 1))
 HANDLER(exit_at_once, kthread_exit(0))
 
-BODY(join_never)
-{
-	lwp_t *made;
-	(void)kthread_create(PRI_NONE, KTHREAD_MUSTJOIN, NULL, exit_at_once, NULL, &made, "worker");
-}
-
-/* ---- Soft interrupts, drains. ---- */
+HANDLER(join_never, lwp_t *made; (void)kthread_create(PRI_NONE, KTHREAD_MUSTJOIN, NULL, exit_at_once, NULL, &made, "worker"))
 
 static void *softint;
 
 HANDLER(use_in_handler, atomic_inc_uint(block))
 
 /* The handler may run between the two. */
-BODY(free_and_disestablish)
-{
-	softint_schedule(softint);
-	kmem_free(block, sizeof(*block));
-	softint_disestablish(softint);
-}
+HANDLER(free_and_disestablish, softint_schedule(softint); kmem_free(block, sizeof(*block)); softint_disestablish(softint))
 
 static void freed_before_disestablish(void)
 {
@@ -285,8 +260,6 @@ static void make_levels(unsigned blocked, unsigned wakes)
 static void higher_waits(void) { make_levels(SOFTINT_SERIAL, SOFTINT_CLOCK); }
 static void lower_waits(void) { make_levels(SOFTINT_CLOCK, SOFTINT_NET); }
 
-/* ---- Data races: under locks, and without. ---- */
-
 HANDLER(write_under_one, mutex_enter(&one); word = 1; mutex_exit(&one))
 HANDLER(read_under_two, mutex_enter(&two); KASSERT(word < 2); mutex_exit(&two))
 
@@ -321,14 +294,10 @@ BODY(end_release)
 
 HANDLER(read_second_state, KASSERT(atomic_load_acquire(&state) != 2 || word == 1))
 
-/* ---- Data races: atomics and barriers. ---- */
-
 HANDLER(read_word, KASSERT(!atomic_load_acquire(&flag) || word < 2))
 HANDLER(write_word_relaxed, word = 1; atomic_store_relaxed(&flag, true))
 HANDLER(write_word_released, word = 1; atomic_store_release(&flag, true))
 HANDLER(write_word_fenced, word = 1; membar_release(); atomic_store_relaxed(&flag, true))
-
-/* ---- Data races: memory. ---- */
 
 HANDLER(read_block, KASSERT(*block == 0))
 HANDLER(use_own_late, free_block(arg); read_block(arg))
@@ -336,11 +305,7 @@ HANDLER(use_own_late, free_block(arg); read_block(arg))
 /* The call that takes the memory comes before no access of the other thread. */
 HANDLER(take_block, atomic_store_relaxed(&block, kmem_zalloc(sizeof(*block), KM_SLEEP)))
 
-BODY(use_given_block)
-{
-	const unsigned *given = atomic_load_relaxed(&block);
-	KASSERT(given == NULL || *given == 0);
-}
+HANDLER(use_given_block, const unsigned *given = atomic_load_relaxed(&block); KASSERT(given == NULL || *given == 0))
 
 HANDLER(write_behind_seen, *(volatile unsigned *)(block + 1) = 1)
 
@@ -478,8 +443,6 @@ static void make_many_locks(void)
 	for (unsigned at = 0; at < MANY; at++)
 		mutex_init(&many_locks[at], MUTEX_DEFAULT, IPL_NONE);
 }
-
-/* ---- What is found. ---- */
 
 static const struct find finds[] = {
 	{"a reader that enters again behind a writer", "nobody can go on: thread \"first\" waits in rw_enter",

@@ -3,17 +3,9 @@
 #define BENCH_FINDS_H
 
 #include <fnmatch.h>
-#include <sys/atomic.h>
-#include <sys/callout.h>
-#include <sys/condvar.h>
-#include <sys/intr.h>
-#include <sys/kmem.h>
-#include <sys/kthread.h>
-#include <sys/mutex.h>
-#include <sys/pserialize.h>
-#include <sys/systm.h>
 
 #include "../../netbsd/tests/child.h"
+#include "../../netbsd/tests/pages.h"
 #include "cases.h"
 
 struct find {
@@ -60,25 +52,18 @@ static inline bool goes_wrong(const struct find *find, struct bench_options opti
 	return wrong;
 }
 
-/* Whether a line has a text in it, as fnmatch(3) has it. */
-static inline bool is_line(const char *said, const char *looked_for)
-{
-	char pattern[256];
-	snprintf(pattern, sizeof(pattern), "*%s*", looked_for);
-	return fnmatch(pattern, said, 0) == 0;
-}
-
 /* Whether this is the fault: with fewer failures than it needs there is none. */
 static inline bool is_fault(const struct find *find, const struct bench_found *found)
 {
 	struct bench_found fewer;
+	char pattern[256];
+	snprintf(pattern, sizeof(pattern), "*%s*", find->line);
 	if (find->failed == NULL)
-		return is_line(found->line, find->line);
+		return fnmatch(pattern, found->line, 0) == 0;
 	return strcmp(found->line, find->line) == 0 && strcmp(found->failed, find->failed) == 0 &&
 	    (find->failures == 0 || !goes_wrong(find, (struct bench_options){.quiet = true}, find->failures - 1, &fewer));
 }
 
-/* Whether there are these outcomes and no others. */
 static inline bool has_outcomes(const struct find *find, const struct bench_found *found)
 {
 	unsigned wanted = 0;

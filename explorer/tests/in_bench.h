@@ -16,8 +16,6 @@
 #include "../bench.h"
 #include "../../c/examples/expect.h"
 
-/* ---- Threads. ---- */
-
 enum { MOST_STARTED = 8 };
 
 static struct started {
@@ -54,8 +52,6 @@ static inline void end_thread(pthread_t thread)
 
 #include "../../netbsd/tests/cases.h"
 
-/* ---- Cases. ---- */
-
 static void (*begin_case)(void);
 static void (*body_of_case)(void);
 
@@ -71,7 +67,6 @@ static inline void make_case(void)
 	bench_thread(PROGRAM, run_body, NULL);
 }
 
-/* Whether the explorer says the case's line. */
 bool is_right(void (*begin)(void), const struct stop_case *the_case)
 {
 	struct bench_found found;

@@ -1,8 +1,4 @@
-/*
- * kernel_files - the files of netbsd/examples/kernel, in the idiom of the kernel's own: no schedule of their threads breaks them, nor does a failure
- *
- *     kernel_files [CASE [SCHEDULE]]
- */
+/* kernel_files [CASE [SCHEDULE]] - the files of netbsd/examples/kernel: no schedule of their threads breaks them, nor does a failure */
 #include "../../netbsd/examples/kernel/if.c"
 #include "../../netbsd/examples/kernel/if_bridge.c"
 #include "../../netbsd/examples/kernel/key.c"
@@ -15,11 +11,7 @@ static struct ifnet *wm0;
 
 HANDLER(output_wm0, int error = if_output_byname("wm0"); KASSERT(error == 0 || error == ENXIO))
 
-BODY(detach_wm0)
-{
-	if_detach(wm0);
-	kmem_free(wm0, sizeof(*wm0));
-}
+HANDLER(detach_wm0, if_detach(wm0); kmem_free(wm0, sizeof(*wm0)))
 
 static void begin_if(void)
 {

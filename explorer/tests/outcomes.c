@@ -8,34 +8,15 @@
  *     outcomes reduced FIRST COUNT  what the search with the reduction comes to, for a comparison with a reduction that has a fault
  *     outcomes print FIRST COUNT    the same of those that real threads may be compared with
  */
-#include <string.h>
-#include <sys/atomic.h>
-#include <sys/callout.h>
-#include <sys/condvar.h>
-#include <sys/intr.h>
-#include <sys/kmem.h>
-#include <sys/kthread.h>
-#include <sys/localcount.h>
-#include <sys/lwp.h>
-#include <sys/mutex.h>
-#include <sys/percpu.h>
-#include <sys/pool.h>
-#include <sys/pserialize.h>
-#include <sys/psref.h>
-#include <sys/rwlock.h>
-#include <sys/systm.h>
-#include <sys/workqueue.h>
-#include <sys/xcall.h>
 #include <time.h>
 
+#include "../../netbsd/tests/pages.h"
 #include "cases.h"
 
 enum { MOST = 4, LONGEST = 16 };
 
-/* The program. */
 static char texts[MOST][LONGEST];
 
-/* What its threads work on. */
 static unsigned words[2];	/* by atomic accesses */
 static unsigned plains[2];	/* by plain ones */
 static bool racy;		/* a data race is no fault, and what it decides is an outcome */
@@ -89,7 +70,6 @@ HANDLER(handle, atomic_store_relaxed(&words[1], 26))
 HANDLER(lock_and_store, atomic_store_relaxed(&words[0], 23); mutex_enter(&locks[0]); atomic_store_relaxed(&words[1], 22); mutex_exit(&locks[0]))
 HANDLER(ring, atomic_store_relaxed(&words[0], 25))
 
-/* Soft interrupts that any thread schedules. */
 enum { STORES, COUNTS, LOCKS, SOFTINTS };
 static struct {
 	const char *letters;
@@ -120,7 +100,6 @@ static void wait_for_flag(void)
 	mutex_exit(&locks[0]);
 }
 
-/* Waits for the flag for a tick at most. */
 static void wait_for_a_tick(unsigned thread)
 {
 	mutex_enter(&locks[0]);
@@ -140,12 +119,6 @@ UNSEEN static void end_softint(unsigned thread, bool frees)
 	if (!frees)
 		kmem_free(blocks[thread], sizeof(unsigned));
 	own_softints[thread] = NULL;
-}
-
-UNSEEN static void schedule_own(unsigned thread)
-{
-	if (own_softints[thread] != NULL)
-		softint_schedule(own_softints[thread]);
 }
 
 /* Acquires a local reference where the count isn't drained, and looks at a word while it has it. */
@@ -198,13 +171,6 @@ static void use_target(unsigned thread)
 	curlwp_bindx(bound);
 }
 
-static void end_target(void)
-{
-	atomic_store_release(&gone, true);
-	pserialize_perform(psz);
-	psref_target_destroy(&target, things);
-}
-
 HANDLER(store_and_exit, atomic_store_relaxed(&words[1], 24); *(unsigned *)arg = cpu_number() + 1; kthread_exit(0))
 
 /* Has a thread that it makes store a word, looks at another word meanwhile, and waits for its end. */
@@ -251,12 +217,6 @@ static void store_value(void *value, void *other)
 	atomic_store_relaxed(&words[0], *(const unsigned *)value);
 }
 
-/* Has a CPU store a word. */
-static void call_cpu(unsigned value)
-{
-	xc_wait(xc_unicast(0, store_value, &value, NULL, kupaldiz_cpu(0)));
-}
-
 static void look_at(void *own, void *arg, struct cpu_info *cpu)
 {
 	(void)own;
@@ -300,7 +260,6 @@ UNSEEN static void use_cache(unsigned thread)
 	pool_cache_put(cache, object);
 }
 
-/* Does what a letter says. */
 UNSEEN static void execute(unsigned thread, char letter, unsigned value)
 {
 	switch (letter) {
@@ -322,7 +281,7 @@ UNSEEN static void execute(unsigned thread, char letter, unsigned value)
 	case 'r': case 'W': rw_enter(&rw, letter == 'r' ? RW_READER : RW_WRITER); has_rw[thread] = true; break;
 	case '|': if (has_rw[thread]) rw_exit(&rw); break;
 	case 'g': use_target(thread); break;
-	case 'D': end_target(); break;
+	case 'D': atomic_store_release(&gone, true); pserialize_perform(psz); psref_target_destroy(&target, things); break;
 	case 'h': case 'I': break;
 	case 'i': softint_schedule(softints[STORES].cookie); break;
 	case 'o': callout_reset(&callout, 1, ring, NULL); break;
@@ -335,7 +294,7 @@ UNSEEN static void execute(unsigned thread, char letter, unsigned value)
 	case 'v': observe(thread, (unsigned)getticks()); break;
 	case 'T': wait_for_a_tick(thread); break;
 	case 'S': cv_signal(&cv); break;
-	case 'j': schedule_own(thread); break;
+	case 'j': if (own_softints[thread] != NULL) softint_schedule(own_softints[thread]); break;
 	case 'e': end_softint(thread, false); break;
 	case 'f': end_softint(thread, true); break;
 	case 'l': (void)splnet(); break;
@@ -380,7 +339,7 @@ UNSEEN static void execute(unsigned thread, char letter, unsigned value)
 	case '%': localcount_release(&local, &cv, &locks[1]); break;
 	case '&': bind_anywhere(thread); break;
 	case '=': kupaldiz_unbind(); break;
-	case '~': call_cpu(value); break;
+	case '~': xc_wait(xc_unicast(0, store_value, &value, NULL, kupaldiz_cpu(0))); break;
 	case '?': pool_put(&pool, pooled); break;
 	case '*': pool_destroy(&pool); break;
 	case '/': use_cache(thread); break;
@@ -409,42 +368,22 @@ UNSEEN static void run_text(void *arg)
 
 /* ---- What programs work on: what one doesn't need isn't made. ---- */
 
-static void make_locks(void) { mutex_init(&locks[0], MUTEX_DEFAULT, IPL_SOFTNET); mutex_init(&locks[1], MUTEX_DEFAULT, IPL_SOFTNET); }
-static void end_lock(void) { mutex_destroy(&locks[0]); }
-static void end_other_lock(void) { mutex_destroy(&locks[1]); }
-static void make_spin(void) { mutex_init(&spin, MUTEX_SPIN, IPL_SOFTNET); }
-static void end_spin(void) { mutex_destroy(&spin); }
-static void make_shared(void) { shared = mutex_obj_alloc(MUTEX_DEFAULT, IPL_NONE); }
-static void hold_shared(void) { mutex_obj_hold(shared); }
-static void make_rw(void) { rw_init(&rw); }
-static void end_rw(void) { rw_destroy(&rw); }
-static void make_cv(void) { cv_init(&cv, "flag"); }
-static void end_cv(void) { cv_destroy(&cv); }
-static void make_psz(void) { psz = pserialize_create(); }
-static void end_psz(void) { pserialize_destroy(psz); }
-static void make_class(void) { things = psref_class_create("thing", IPL_SOFTNET); }
-static void end_class(void) { psref_class_destroy(things); }
-static void make_target(void) { psref_target_init(&target, things); }
-static void end_target_left(void) { if (!gone) psref_target_destroy(&target, things); }
-static void make_callout(void) { callout_init(&callout, 0); }
-static void end_callout(void) { (void)callout_halt(&callout, NULL); callout_destroy(&callout); }
-static void make_local(void) { localcount_init(&local); }
-static void end_local(void) { if (!drained) drain(); }
-static void make_pool(void) { pool_init(&pool, 8, 0, 0, 0, "pool", NULL, IPL_NONE); pooled = pool_get(&pool, PR_WAITOK); }
-static void make_cache(void) { cache = pool_cache_init(sizeof(unsigned), 0, 0, 0, "cache", NULL, IPL_NONE, number_object, NULL, NULL); }
-static void end_cache(void) { pool_cache_destroy(cache); }
-static void make_parts(void) { percpu = percpu_alloc(sizeof(unsigned)); }
+static struct thing {
+	const char *letters, *maker, *ender;
+	void (*make)(void), (*end)(void);
+} all_things[20];
+static unsigned thing_count;
+
+/* Programs with these letters work on it, and one with a letter of the next two makes or ends it itself. */
+#define THING(name, letters, maker, ender, made, ended) \
+	static void make_##name(void) { made; } \
+	static void end_##name(void) { ended; } \
+	__attribute__((constructor)) static void add_##name(void) \
+	{ \
+		all_things[thing_count++] = (struct thing){letters, maker, ender, make_##name, end_##name}; \
+	}
+
 static void do_work(struct work *done, void *arg) { (void)done; (void)arg; atomic_store_relaxed(&words[0], 21); }
-static void end_queue(void) { workqueue_destroy(queue); }
-
-static void make_queue(void)
-{
-	work = kmem_zalloc(sizeof(*work), KM_SLEEP);
-	EXPECT(workqueue_create(&queue, "queue", do_work, NULL, PRI_NONE, IPL_NONE, WQ_MPSAFE) == 0);
-}
-
-/* A soft interrupt waits on CPU 0 from the beginning, and its thread is made before the others. */
-static void schedule_early(void) { kupaldiz_bind(0); softint_schedule(softints[STORES].cookie); kupaldiz_unbind(); }
 
 static void make_softints(void)
 {
@@ -460,26 +399,32 @@ static void end_softints(void)
 			softint_disestablish(softints[at].cookie);
 }
 
-/* Programs with these letters work on it, and one with a letter of the last two makes or ends it itself. */
-static const struct thing {
-	const char *letters;
-	void (*make)(void), (*end)(void);
-	const char *maker, *ender;
-} all_things[] = {
-	{"()[]twsTSqQmuM56%", make_locks, end_lock, "", ""}, {"()[]twsTSqQmuM56%", NULL, end_other_lock, "", "M"}, {"HF", make_shared, NULL, "", ""},
-	{"I", hold_shared, NULL, "", ""}, {"{}", make_spin, end_spin, "", ""}, {"rWRJUEG!-", make_rw, end_rw, "", "-"},
-	{"wsTSqQuNVC56%", make_cv, end_cv, "", "C"}, {"<>PgDqQZ58", make_psz, end_psz, "", "Z"}, {"gD0123", make_class, end_class, "", "0"},
-	{"gD0123", make_target, end_target_left, "1", "0"}, {"ihpm", make_softints, end_softints, "", ""}, {"h", schedule_early, NULL, "", ""},
-	{"oO", make_callout, end_callout, "", ""}, {"qQ5678%", make_local, end_local, "4", "67"}, {"?*", make_pool, NULL, "", ""},
-	{"/_", make_cache, end_cache, "", "_"}, {"';\"", make_parts, NULL, "", ""}, {"@$,", make_queue, end_queue, "", ""},
-};
-enum { THINGS = sizeof(all_things) / sizeof(all_things[0]) };
+THING(lock, "()[]twsTSqQmuM56%", "", "", mutex_init(&locks[0], MUTEX_DEFAULT, IPL_SOFTNET), mutex_destroy(&locks[0]))
+THING(other_lock, "()[]twsTSqQmuM56%", "", "M", mutex_init(&locks[1], MUTEX_DEFAULT, IPL_SOFTNET), mutex_destroy(&locks[1]))
+THING(shared, "HF", "", "", shared = mutex_obj_alloc(MUTEX_DEFAULT, IPL_NONE), (void)0)
+THING(held, "I", "", "", mutex_obj_hold(shared), (void)0)
+THING(spin, "{}", "", "", mutex_init(&spin, MUTEX_SPIN, IPL_SOFTNET), mutex_destroy(&spin))
+THING(rw, "rWRJUEG!-", "", "-", rw_init(&rw), rw_destroy(&rw))
+THING(cv, "wsTSqQuNVC56%", "", "C", cv_init(&cv, "flag"), cv_destroy(&cv))
+THING(psz, "<>PgDqQZ58", "", "Z", psz = pserialize_create(), pserialize_destroy(psz))
+THING(class, "gD0123", "", "0", things = psref_class_create("thing", IPL_SOFTNET), psref_class_destroy(things))
+THING(target_left, "gD0123", "1", "0", psref_target_init(&target, things), if (!gone) psref_target_destroy(&target, things))
+THING(all_softints, "ihpm", "", "", make_softints(), end_softints())
+/* A soft interrupt waits on CPU 0 from the beginning, and its thread is made before the others. */
+THING(early, "h", "", "", kupaldiz_bind(0); softint_schedule(softints[STORES].cookie); kupaldiz_unbind(), (void)0)
+THING(callout, "oO", "", "", callout_init(&callout, 0), (void)callout_halt(&callout, NULL); callout_destroy(&callout))
+THING(local, "qQ5678%", "4", "67", localcount_init(&local), if (!drained) drain())
+THING(pool, "?*", "", "", pool_init(&pool, 8, 0, 0, 0, "pool", NULL, IPL_NONE); pooled = pool_get(&pool, PR_WAITOK), (void)0)
+THING(cache, "/_", "", "_", cache = pool_cache_init(sizeof(unsigned), 0, 0, 0, "cache", NULL, IPL_NONE, number_object, NULL, NULL), pool_cache_destroy(cache))
+THING(parts, "';\"", "", "", percpu = percpu_alloc(sizeof(unsigned)), (void)0)
+THING(queue, "@$,", "", "", work = kmem_zalloc(sizeof(*work), KM_SLEEP);
+    EXPECT(workqueue_create(&queue, "queue", do_work, NULL, PRI_NONE, IPL_NONE, WQ_MPSAFE) == 0), workqueue_destroy(queue))
 
 static void begin(void)
 {
 	static const char *const names[] = {"one", "two", "three", "four"};
-	for (const struct thing *it = all_things; it < &all_things[THINGS]; it++)
-		if (uses(it->letters) && !uses(it->maker) && it->make != NULL)
+	for (const struct thing *it = all_things; it < &all_things[thing_count]; it++)
+		if (uses(it->letters) && !uses(it->maker))
 			it->make();
 	for (unsigned at = 0; at < MOST; at++) {
 		if (strpbrk(texts[at], "jef") != NULL) {
@@ -500,8 +445,8 @@ static void finish(void)
 	/* A soft interrupt of real threads may run later. */
 	if (!prints || !uses("iohjm"))
 		bench_outcome("%u %u %u %u", words[0], words[1], plains[0], plains[1]);
-	for (const struct thing *it = &all_things[THINGS]; it-- > all_things;)
-		if (uses(it->letters) && !uses(it->ender) && it->end != NULL)
+	for (const struct thing *it = &all_things[thing_count]; it-- > all_things;)
+		if (uses(it->letters) && !uses(it->ender))
 			it->end();
 }
 
@@ -546,7 +491,6 @@ static void show_program(const char *head)
 	printf("%s%s, ticks %u: %s | %s | %s | %s\n", head, racy ? ", racy" : "", ticks, texts[0], texts[1], texts[2], texts[3]);
 }
 
-/* Compares the two ways of the search for the program that is written. */
 static void compare(void)
 {
 	if (prints && uses(NOT_BESIDE))
@@ -602,7 +546,6 @@ static void make_text(char *text, unsigned parts)
 		add(text, pieces[pick(sizeof(pieces) / sizeof(pieces[0]))]);
 }
 
-/* About how many points a text has. */
 static unsigned points_of(const char *text)
 {
 	unsigned points = 0;
@@ -680,14 +623,6 @@ static time_t now(void)
 	return time.tv_sec;
 }
 
-static void print_counts(void)
-{
-	if (seconds > 0)
-		printf("in %u seconds ", seconds);
-	printf("%u programs have the same outcomes by %llu schedules as by %llu; %u of them a fault; of %u others a part was compared; %u were too long\n",
-	    compared, reduceds, wholes, faults, begun, skipped);
-}
-
 int main(int count_of_words, char **given)
 {
 	const char *how = count_of_words == 4 ? given[1] : "";
@@ -707,6 +642,9 @@ int main(int count_of_words, char **given)
 	if (prints || reduced_alone)
 		return 0;
 	EXPECT(2 * faults < compared);
-	print_counts();
+	if (seconds > 0)
+		printf("in %u seconds ", seconds);
+	printf("%u programs have the same outcomes by %llu schedules as by %llu; %u of them a fault; of %u others a part was compared; %u were too long\n",
+	    compared, reduceds, wholes, faults, begun, skipped);
 	return 0;
 }

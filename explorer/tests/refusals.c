@@ -1,22 +1,12 @@
-/*
- * refusals - what the bench refuses: each ends its process with status 2, after one line
- *
- * The last line counts the cases.
- */
-#include <string.h>
-#include <sys/atomic.h>
-#include <sys/kmem.h>
-#include <sys/mutex.h>
-
+/* refusals - what the bench refuses: each ends its process with status 2, after one line */
 #include "../bench.h"
 #include "../../c/examples/expect.h"
 #include "../../netbsd/tests/bodies.h"
 #include "../../netbsd/tests/child.h"
+#include "../../netbsd/tests/pages.h"
 
 static kmutex_t one, two;
 static unsigned word, other;
-
-/* ---- What is called outside of bench_explore. ---- */
 
 HANDLER(one_two, mutex_enter(&one); mutex_enter(&two); mutex_exit(&two); mutex_exit(&one))
 HANDLER(two_one, mutex_enter(&two); mutex_enter(&one); mutex_exit(&one); mutex_exit(&two))
@@ -26,8 +16,6 @@ static void thread_outside(void) { bench_thread("lost", one_two, NULL); }
 static void atomic_outside(void) { atomic_inc_uint(&word); }
 static void outcome_outside(void) { bench_outcome("%u", word); }
 static void no_setup(void) { bench_explore(NULL, NULL); }
-
-/* ---- Setups. ---- */
 
 static void two_orders(void)
 {
@@ -116,7 +104,6 @@ static void run_refused(void)
 		bench_explore(refused->setup, &refused->options);
 }
 
-/* Whether a process ends with status 2 after the line. */
 static bool is_refused(const struct refusal *refusal)
 {
 	char said[512];

@@ -53,12 +53,12 @@ RULES = [
 ORDERED = {
     "locks": "touch(ON_THREAD, joined, 0, ORDERS | ACQUIRES);",
     "routine": "touch(ON_THREAD, me, 0, WRITES | RELEASES);",
-    "xcalls": "made++;\n		touch(ON_XCALL, NULL, 0, WRITES | RELEASES);",
+    "more_calls": "made++;\n		touch(ON_XCALL, NULL, 0, WRITES | RELEASES);",
 }
 
 # What a step touches: a kind of thing, or a call that says it; and that it writes that.
 KIND = r'(?P<kind>(?:(?<=\btouch\()|(?<=\bAT\()|(?<=at_thing\(__func__, )|(?<="percpu_foreach", ))ON_[A-Z]+)'
-CALL = r"(?P<call>\btouch_(?:memory|deadlines|bound)\((?!const |unsigned ))"
+CALL = r"(?P<call>\btouch_(?:memory|bound)\((?!const |unsigned ))"
 HOW = r"(?P<how>(?<!how = )(?<!& )\bWRITES\b)"
 PLANTED = {"kind": "(PLANTED({}) ? UNTOLD : 0) + {}", "call": "PLANTED({}) ? (void)0 : {}", "how": "(PLANTED({}) ? 0 : {})"}
 RECORD = "	record_access((struct access){(uintptr_t)address, 1,"

@@ -16,7 +16,6 @@ static void change(void *arg)
 
 static void begin(void) { bench_thread("one", change, NULL); bench_thread("two", change, NULL); }
 
-/* Seconds of a processor that the children have taken. */
 static double seconds(void)
 {
 	struct rusage usage;

@@ -98,20 +98,15 @@ static void *run_thread(void *of)
 	return NULL;
 }
 
-static void start_all(void)
-{
-	for (unsigned at = 0; at < thread_count; at++)
-		if (pthread_create(&threads[at].thread, NULL, run_thread, &threads[at]) != 0)
-			_exit(3);
-}
-
 /* What a run does in its process. */
 static void run(void (*setup)(void), const struct bench_options *options)
 {
 	alarm(5);
 	setup();
 	pthread_barrier_init(&begin, NULL, thread_count);
-	start_all();
+	for (unsigned at = 0; at < thread_count; at++)
+		if (pthread_create(&threads[at].thread, NULL, run_thread, &threads[at]) != 0)
+			_exit(3);
 	for (unsigned at = 0; at < thread_count; at++)
 		pthread_join(threads[at].thread, NULL);
 	if (options->finish != NULL)
@@ -121,14 +116,14 @@ static void run(void (*setup)(void), const struct bench_options *options)
 
 static void keep_outcome(struct bench_found *found)
 {
-	for (unsigned at = 0; at < found->outcomes; at++) {
-		if (strcmp(found->outcome[at].text, outcome) == 0) {
-			found->outcome[at].count++;
-			return;
-		}
-	}
-	if (found->outcomes < BENCH_OUTCOMES)
-		memcpy(found->outcome[found->outcomes++].text, outcome, BENCH_TEXT);
+	struct bench_outcome *at = found->outcome;
+	while (at < &found->outcome[found->outcomes] && strcmp(at->text, outcome) != 0)
+		at++;
+	if (at == &found->outcome[BENCH_OUTCOMES])
+		return;
+	found->outcomes += at == &found->outcome[found->outcomes];
+	memcpy(at->text, outcome, BENCH_TEXT);
+	at->count++;
 }
 
 /* One run. Whether it was right. */

@@ -1,13 +1,9 @@
-/*
- * callout.c - callout(9)
- *
- * One thread waits for the next time, and then schedules a soft interrupt on the CPU of the callout. That runs what is due there.
- */
+/* callout.c - callout(9): one thread waits for the next time, and schedules a soft interrupt on the callout's CPU, which runs what is due there */
 #include "layer.h"
 
 enum { PENDING = 1, FIRED = 2, INVOKING = 4, TOLD = 8 };
 
-/* Of all that follows, and of the words of each callout. */
+/* Of all that follows, and of the words of each callout. Static functions that don't take it are called with it. */
 static pthread_mutex_t lock = PTHREAD_MUTEX_INITIALIZER;
 static pthread_cond_t changed;	/* by the clock that nobody sets */
 static callout_t *callouts;	/* that are pending */
@@ -17,7 +13,6 @@ static struct thread *runners[KUPALDIZ_CPUS];
 static void *softint;
 static pthread_once_t begun = PTHREAD_ONCE_INIT;
 
-/* Takes it out of the list. The caller has the lock. */
 static void unlink_callout(callout_t *callout)
 {
 	callout_t **at = &callouts;
@@ -28,8 +23,7 @@ static void unlink_callout(callout_t *callout)
 	callout->c_state &= ~(uint32_t)(PENDING | TOLD);
 }
 
-/* The callout whose time came first, among those due on a CPU; of several the one that was set first, which is behind the others in the list. NULL where
- * none is due. The caller has the lock. */
+/* The callout of a CPU whose time came first; of several the one that was set first, which is behind the others in the list. NULL where none is due. */
 static callout_t *due_on(unsigned cpu)
 {
 	int64_t time = now();
@@ -40,7 +34,7 @@ static callout_t *due_on(unsigned cpu)
 	return first;
 }
 
-/* It isn't pending any more. Whether it had expired. The caller has the lock. */
+/* It isn't pending any more. Whether it had expired. */
 static bool cancel(callout_t *callout)
 {
 	bool expired = (callout->c_state & FIRED) != 0;
@@ -50,11 +44,7 @@ static bool cancel(callout_t *callout)
 	return expired;
 }
 
-/*
- * The soft interrupt: runs what is due on this CPU
- *
- * A callout isn't touched once its body runs, which may have freed it, unless somebody halts it: then what its body has set ends here.
- */
+/* A callout isn't touched once its body runs, which may have freed it, unless somebody halts it: then what its body has set ends here. */
 static void run_due(void *arg)
 {
 	unsigned cpu = cpu_number();
@@ -80,7 +70,6 @@ static void run_due(void *arg)
 	pthread_mutex_unlock(&lock);
 }
 
-/* Tells the CPUs of those that are due, once each. When the next one is. The caller has the lock. */
 static int64_t raise_due_softints(struct thread *me)
 {
 	int64_t next = INT64_MAX, time = now();
@@ -112,7 +101,6 @@ static _Noreturn void *run_clock(void *arg)
 	}
 }
 
-/* The soft interrupt and the clock's thread, at the first callout. */
 static void start_clock(void)
 {
 	pthread_t thread;
@@ -123,7 +111,6 @@ static void start_clock(void)
 	pthread_detach(thread);
 }
 
-/* A call of a callout begins: it takes the lock. */
 static struct thread *lock_callout(struct thread *me, const callout_t *callout)
 {
 	require_made(me, callout->c_made, A_CALLOUT, "the callout");
@@ -131,7 +118,6 @@ static struct thread *lock_callout(struct thread *me, const callout_t *callout)
 	return me;
 }
 
-/* Gives the lock back where a call returns this. */
 static bool unlock_with(bool answer)
 {
 	pthread_mutex_unlock(&lock);
@@ -146,7 +132,7 @@ void callout_init(callout_t *callout, unsigned flags)
 	*callout = (callout_t){.c_made = A_CALLOUT};
 }
 
-/* The first CPU that runs it on another thread than this one; KUPALDIZ_CPUS where none does. The caller has the lock. */
+/* The first CPU that runs it on another thread than this one; KUPALDIZ_CPUS where none does. */
 static unsigned running_cpu(const struct thread *me, const callout_t *callout)
 {
 	unsigned cpu = 0;
@@ -158,10 +144,8 @@ static unsigned running_cpu(const struct thread *me, const callout_t *callout)
 void callout_destroy(callout_t *callout)
 {
 	struct thread *me = lock_callout(begin_call(__func__), callout);
-	if ((callout->c_state & PENDING) != 0)
-		stop(me, "the callout is pending");
-	if (running_cpu(me, callout) < KUPALDIZ_CPUS)
-		stop(me, "the callout runs");
+	stop_if(me, (callout->c_state & PENDING) != 0, "the callout is pending");
+	stop_if(me, running_cpu(me, callout) < KUPALDIZ_CPUS, "the callout runs");
 	callout->c_made = ENDED;
 	pthread_mutex_unlock(&lock);
 }
@@ -174,11 +158,9 @@ void callout_setfunc(callout_t *callout, void (*body)(void *), void *arg)
 	pthread_mutex_unlock(&lock);
 }
 
-/* Lets it wait for its time. The caller has the lock. */
 static void make_pending(struct thread *me, callout_t *callout, int ticks)
 {
-	if (callout->c_body == NULL)
-		stop(me, "the callout has no function");
+	stop_if(me, callout->c_body == NULL, "the callout has no function");
 	if ((callout->c_state & PENDING) != 0)
 		unlink_callout(callout);
 	callout->c_state = (callout->c_state & ~(uint32_t)(FIRED | INVOKING)) | PENDING;
@@ -210,15 +192,7 @@ bool callout_stop(callout_t *callout)
 	return unlock_with(cancel(callout));
 }
 
-/* What a callout sets ends with its body, wherever that runs now. The caller has the lock. */
-static void note_halt(const callout_t *callout)
-{
-	for (unsigned cpu = 0; cpu < KUPALDIZ_CPUS; cpu++)
-		if (running[cpu] == callout)
-			halted[cpu] = true;
-}
-
-/* Waits until it doesn't run, and says after a while that it waits. The caller has the lock. */
+/* Waits until it doesn't run, and says after a while that it waits. What it sets ends with its body, wherever that runs now. */
 static void await_end(struct thread *me, const callout_t *callout)
 {
 	const struct timespec tells = patience();
@@ -226,7 +200,8 @@ static void await_end(struct thread *me, const callout_t *callout)
 	int waits = begin_wait();
 	unsigned cpu;
 	while ((cpu = running_cpu(me, callout)) < KUPALDIZ_CPUS) {
-		note_halt(callout);
+		for (unsigned at = 0; at < KUPALDIZ_CPUS; at++)
+			halted[at] |= running[at] == callout;
 		if (told)
 			pthread_cond_wait(&changed, &lock);
 		else if (pthread_cond_timedwait(&changed, &lock, &tells) != 0 && (told = true))
@@ -238,8 +213,7 @@ static void await_end(struct thread *me, const callout_t *callout)
 bool callout_halt(callout_t *callout, void *interlock)
 {
 	struct thread *me = lock_callout(begin_call(__func__), callout);
-	if (interlock != NULL && !has_mutex(me, interlock))
-		stop(me, "the thread does not have the lock");
+	stop_if(me, interlock != NULL && !has_mutex(me, interlock), "the thread does not have the lock");
 	bool expired = cancel(callout), runs = running_cpu(me, callout) < KUPALDIZ_CPUS;
 	if (runs) {
 		if (interlock != NULL)
@@ -255,7 +229,6 @@ bool callout_halt(callout_t *callout, void *interlock)
 	return expired;
 }
 
-/* Whether one of these holds of it. */
 static bool has_state(const char *call, callout_t *callout, uint32_t states)
 {
 	lock_callout(begin_plain(call), callout);

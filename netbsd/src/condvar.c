@@ -1,6 +1,4 @@
 /* condvar.c - condvar(9) */
-#include <errno.h>
-
 #include "layer.h"
 
 void cv_init(kcondvar_t *cv, const char *name) { *cv = (kcondvar_t){.cv_name = name, .cv_made = A_CV}; }
@@ -14,8 +12,7 @@ void cv_destroy(kcondvar_t *cv)
 {
 	struct thread *me = begin_call(__func__);
 	require_cv(me, cv);
-	if (cv_has_waiters(cv))
-		stop(me, "a thread waits for %s", cv->cv_name);
+	stop_if(me, cv_has_waiters(cv), "a thread waits for %s", cv->cv_name);
 	cv->cv_made = ENDED;
 }
 
@@ -26,13 +23,10 @@ static void require_sleepable_with(struct thread *me, const kmutex_t *mutex)
 		require_sleepable(me);
 		return;
 	}
-	if (me->softint)
-		stop(me, "in a soft interrupt");
-	if (me->depth > 0 || me->spins > 1 || me->level_before > IPL_NONE || me->preemptions > 0)
-		stop(me, "the thread has more than this spin lock");
+	stop_if(me, me->softint, "in a soft interrupt");
+	stop_if(me, me->depth > 0 || me->spins > 1 || me->level_before > IPL_NONE || me->preemptions > 0, "the thread has more than this spin lock");
 	/* The lock's own level is right. */
-	if (me->spins_at[me->level] == 0)
-		stop(me, "at a raised level");
+	stop_if(me, me->spins_at[me->level] == 0, "at a raised level");
 }
 
 /* Waits to be woken, without the lock meanwhile, for so long at most; less than 0 is for ever. Whether it was woken. */
@@ -42,8 +36,7 @@ bool wait_for(struct thread *me, kcondvar_t *cv, kmutex_t *mutex, int64_t nanose
 	struct sleepq *sleepq = sleepq_of(cv);
 	require_cv(me, cv);
 	require_mutex(me, mutex);
-	if (!has_mutex(me, mutex))
-		stop(me, "the thread does not have the lock");
+	stop_if(me, !has_mutex(me, mutex), "the thread does not have the lock");
 	require_sleepable_with(me, mutex);
 	int waits = begin_wait();
 	sleepq_lock(sleepq);
@@ -100,19 +93,14 @@ int cv_timedwait_sig(kcondvar_t *cv, kmutex_t *mutex, int ticks)
 	return timedwait(begin_call(__func__), cv, mutex, ticks, true);
 }
 
-void cv_signal(kcondvar_t *cv)
+static void wake(struct thread *me, kcondvar_t *cv, bool all)
 {
-	struct thread *me = begin_call(__func__);
-	wake_cv(me, cv, false);
+	wake_cv(me, cv, all);
 	end_call(me);
 }
 
-void cv_broadcast(kcondvar_t *cv)
-{
-	struct thread *me = begin_call(__func__);
-	wake_cv(me, cv, true);
-	end_call(me);
-}
+void cv_signal(kcondvar_t *cv) { wake(begin_call(__func__), cv, false); }
+void cv_broadcast(kcondvar_t *cv) { wake(begin_call(__func__), cv, true); }
 
 bool cv_has_waiters(kcondvar_t *cv)
 {

@@ -1,25 +1,10 @@
 /* kernel.c - assertions, panic(9), kpause(9), kthread(9) and copy_user(9) */
-#ifndef _GNU_SOURCE
-#define _GNU_SOURCE
-#endif
-#include <errno.h>
-#include <sched.h>
-#include <stdarg.h>
-#include <stdio.h>
-#include <stdlib.h>
-#include <string.h>
-
 #include "layer.h"
-
-/* ---- Assertions. ---- */
 
 void panic(const char *format, ...)
 {
 	char text[256];
-	va_list words;
-	va_start(words, format);
-	vsnprintf(text, sizeof(text), format, words);
-	va_end(words);
+	FORMAT(text, format);
 	struct thread *me = begin_call(__func__);
 	stop(me, "%s", text);
 }
@@ -32,16 +17,11 @@ void kupaldiz_failed(const char *what, const char *text, const char *place)
 void kupaldiz_failed_with(const char *place, const char *text, const char *format, ...)
 {
 	char more[256];
-	va_list words;
-	va_start(words, format);
-	vsnprintf(more, sizeof(more), format, words);
-	va_end(words);
+	FORMAT(more, format);
 	stop_at("KASSERTMSG", place, "not so: %s: %s", text, more);
 }
 
 void kupaldiz_assert_sleepable(void) { require_sleepable(begin_call("ASSERT_SLEEPABLE")); }
-
-/* ---- Time. ---- */
 
 /* The clock that nobody sets, in nanoseconds. */
 int64_t now(void)
@@ -69,8 +49,7 @@ int kpause(const char *name, bool interruptible, int ticks, kmutex_t *mutex)
 	if (mutex != NULL)
 		release_mutex(me, mutex);
 	require_sleepable(me);
-	if (ticks <= 0)
-		stop(me, "no time to sleep for");
+	stop_if(me, ticks <= 0, "no time to sleep for");
 	bool ended = interruptible && FAILS();
 	int waits = begin_wait();
 	if (ended)
@@ -85,7 +64,6 @@ int kpause(const char *name, bool interruptible, int ticks, kmutex_t *mutex)
 
 /* ---- kthread(9) ---- */
 
-/* A thread that kthread_create has made. */
 struct kthread {
 	pthread_t id;
 	struct thread *thread;
@@ -102,7 +80,6 @@ static pthread_mutex_t kthreads_lock = PTHREAD_MUTEX_INITIALIZER;
 static pthread_cond_t kthread_begun = PTHREAD_COND_INITIALIZER;
 static struct kthread *kthreads;	/* those that are joined at their end */
 
-/* Runs what it was made for, which ends by kthread_exit. */
 static void *run_kthread(void *of)
 {
 	struct kthread *kthread = of;
@@ -126,11 +103,19 @@ static void *run_kthread(void *of)
 	stop_at("kthread_create", NULL, "the body returned without kthread_exit");
 }
 
-/* Starts it, and waits until it has begun. From then on another thread may join and free it, if it is to be joined. 0 or an errno. */
-static int start_kthread(struct kthread *kthread, bool joined, lwp_t **made)
+/* Once it has begun another thread may join and free it, if it is to be joined. */
+int kthread_create(pri_t priority, int flags, struct cpu_info *cpu, void (*body)(void *), void *arg, lwp_t **made, const char *format, ...)
 {
+	struct thread *me = sleepable(begin_plain(__func__));
+	if (FAILS())
+		return ENOMEM;
+	struct kthread *kthread = memory(me, sizeof(*kthread));
+	bool joined = (flags & KTHREAD_MUSTJOIN) != 0;
+	(void)priority;
 	lwp_t *lwp = NULL;
-	kthread->begun = &lwp;
+	*kthread = (struct kthread){.begun = &lwp, .cpu = cpu, .body = body, .arg = arg, .joined = joined};
+	FORMAT(kthread->name, format);
+	int waits = begin_wait();
 	pthread_mutex_lock(&kthreads_lock);
 	int answer = pthread_create(&kthread->id, NULL, run_kthread, kthread);
 	while (answer == 0 && lwp == NULL)
@@ -140,27 +125,6 @@ static int start_kthread(struct kthread *kthread, bool joined, lwp_t **made)
 		pthread_detach(kthread->id);
 	if (answer == 0 && made != NULL)
 		*made = lwp;
-	return answer;
-}
-
-int kthread_create(pri_t priority, int flags, struct cpu_info *cpu, void (*body)(void *), void *arg, lwp_t **made, const char *format, ...)
-{
-	struct thread *me = sleepable(begin_plain(__func__));
-	if (FAILS())
-		return ENOMEM;
-	struct kthread *kthread = memory(me, sizeof(*kthread));
-	bool joined = (flags & KTHREAD_MUSTJOIN) != 0;
-	va_list words;
-	(void)priority;
-	va_start(words, format);
-	vsnprintf(kthread->name, sizeof(kthread->name), format, words);
-	va_end(words);
-	kthread->cpu = cpu;
-	kthread->body = body;
-	kthread->arg = arg;
-	kthread->joined = joined;
-	int waits = begin_wait();
-	int answer = start_kthread(kthread, joined, made);
 	end_wait(waits);
 	if (answer != 0 || !joined)
 		free(kthread);
@@ -171,12 +135,10 @@ void kthread_exit(int code)
 {
 	struct thread *me = begin_call(__func__);
 	(void)code;
-	if (!me->kthread)
-		stop(me, "kthread_create did not make this thread");
+	stop_if(me, !me->kthread, "kthread_create did not make this thread");
 	pthread_exit(NULL);
 }
 
-/* Waits for the end of a thread of the layer's, and says after a while that it waits. */
 void await_thread(struct thread *me, pthread_t id, const struct thread *thread)
 {
 	struct pauses pauses = begin_pauses();
@@ -190,18 +152,15 @@ void await_thread(struct thread *me, pthread_t id, const struct thread *thread)
 int kthread_join(lwp_t *thread)
 {
 	struct thread *me = sleepable(begin_call(__func__));
-	struct kthread *found = NULL;
+	struct kthread **at = &kthreads;
 	pthread_mutex_lock(&kthreads_lock);
-	for (struct kthread **at = &kthreads; *at != NULL; at = &(*at)->next) {
-		if (&(*at)->thread->lwp == thread) {
-			found = *at;
-			*at = found->next;
-			break;
-		}
-	}
+	while (*at != NULL && &(*at)->thread->lwp != thread)
+		at = &(*at)->next;
+	struct kthread *found = *at;
+	if (found != NULL)
+		*at = found->next;
 	pthread_mutex_unlock(&kthreads_lock);
-	if (found == NULL)
-		stop(me, "no thread that was made with KTHREAD_MUSTJOIN");
+	stop_if(me, found == NULL, "no thread that was made with KTHREAD_MUSTJOIN");
 	await_thread(me, found->id, found->thread);
 	reuse_thread(found->thread);
 	free(found);
@@ -210,7 +169,6 @@ int kthread_join(lwp_t *thread)
 
 /* ---- copy_user(9) ---- */
 
-/* Whether an address may be the user's. */
 static bool is_mapped(const void *user) { return (uintptr_t)user >= 4096; }
 
 static int copy_user(struct thread *me, const void *from, void *to, const void *user, size_t length)

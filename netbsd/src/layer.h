@@ -1,41 +1,35 @@
 /*
  * layer.h - what the parts of the layer share; no program includes it, except tests that look into the layer
  *
- * HOW THE PAGES ARE MAPPED
- *
  * A registry and its CPUs are a bank. All CPUs of a bank but the last are those of cpu.h, and the last is the writers'. Attaches, detaches and turns of waits
  * are made on that one, under the one lock `interlock`, which is also the keepers'. There is one bank at first. Further ones are opened where all slots
  * are taken; one whose changes are used up gets no new target, and is opened anew once it is empty.
  *
  * A thread has a CPU by taking the CPU's lock `hold`, for as long as it has a reason: a call, a section, a spin lock, a raised level. Whoever has
- * the CPU alone uses its handles, its table of references, and its place among the banks. So each handle is used by one call at a time.
+ * the CPU alone uses its handles, its table of references, and its place among the banks.
  *
- * A read section of pserialize(9) is a section of the thread's CPU in the bank that this CPU takes for its sections. Most often that is the first
- * bank; a CPU whose sections are used up there goes on in another one. pserialize_perform is a wait for all open sections of each such bank, begun and
- * turned on the writers' CPU. The caller's list isn't among the registry's words, so a full fence stands between its words and the section words:
- * after an enter, and before a wait. A reader whose enter the wait doesn't see thus sees what the writer stored before it. A CPU that goes
- * to another bank does so under the interlock: a wait that begins later sees it, and of one that began before, the reader sees all stores.
+ * A read section of pserialize(9) is a section of the thread's CPU in the bank that this CPU takes for its sections: most often the first; a CPU whose
+ * sections are used up there goes on in another one. pserialize_perform is a wait for all open sections of each such bank. The caller's list isn't among the
+ * registry's words, so a full fence stands between its words and the section words: after an enter, and before a wait. A reader whose enter the wait doesn't
+ * see thus sees what the writer stored before it. A CPU that goes to another bank does so under the interlock: a wait that begins later sees it, and of one
+ * that began before, the reader sees all stores.
  *
  * Each psref_target and each localcount is a driver of a bank, with a generated name that no other ever has, and the address of its owner as its
- * value. The slot that the registry gives it is also its row in the bank; the owner notes row and serial, and the row notes the owner. A call
- * is right in what it is given where both notes agree.
+ * value. Its slot is also its row in the bank; the owner notes row and serial, and the row notes the owner. A call is right in what it is given where both
+ * notes agree.
  *
- * psref_acquire is registry_get: it acquires the entry with its name, by an addition and a load, or in a section of its own. That is nested in the open
- * one if that is of the same bank.
- * What isn't found is being destroyed. That a reader who met a target in the caller's list finds its entry, too, lies in the
- * order of the atomic steps: the attach came before the list had the target. No contract says it, since the reader's CPU hasn't heard of the
- * attach. Each reference is noted in a table of its CPU: whose it is, where it lies, and where it was acquired.
+ * psref_acquire is registry_get: it acquires the entry with its name, by an addition and a load, or in a section of its own, nested in the open one if that
+ * is of the same bank. What isn't found is being destroyed. A reader who met a target in the caller's list finds its entry, too: the attach came before the
+ * list had the target. No contract says that, since the reader's CPU hasn't heard of the attach.
  *
- * localcount_acquire finds its entry in a section as well, and acquires a local reference to it. That is a handle, and localcount_release gets
- * none: any release lets go of any reference. So the handles that are held lie on a stack in the row, under the row's lock.
+ * localcount_acquire acquires a local reference. That is a handle, and localcount_release gets none: any release lets go of any reference. So the handles
+ * that are held lie on a stack in the row, under the row's lock.
  *
  * psref_target_destroy and localcount_drain detach the entry, and then make turns of destroying it until it is freed, without the interlock between
  * two. psref_target_destroy then performs: the sections in which the last references were released have ended as well. A drain waits for the
  * caller's condition variable between two turns once the counts are collected. A release on a CPU whose count was collected is told so while its
  * reference is still held: only then it takes the caller's lock, gives the reference up, and wakes the drain, which can't return before that lock is
  * free. After any other release the count isn't touched again, for the drain may have returned.
- *
- * The soft interrupts of a level are a thread of their CPU's. It takes the CPU, or gets it from the thread that has it, which waits meanwhile.
  *
  * The order of locks: the caller's, then a CPU's hold, then the row's or the interlock, and a sleep queue of lock.c. No other lock is taken under the
  * last three.
@@ -45,10 +39,17 @@
 
 #define KUPALDIZ_WITHOUT_PLACES
 
+#include <errno.h>
 #include <limits.h>
 #include <pthread.h>
+#include <sched.h>
+#include <stdarg.h>
+#include <stdio.h>
+#include <stdlib.h>
+#include <string.h>
 #include <sys/types.h>
 #include <time.h>
+#include <unistd.h>
 
 #include "../include/kupaldiz/cpu.h"
 #include "../include/kupaldiz/kernel.h"
@@ -62,8 +63,7 @@
 #include "../include/kupaldiz/workqueue.h"
 #include "registry.h"
 
-/* The limits, which a test may change: of a bank; how many nanoseconds a drain waits before it looks again; how many milliseconds a wait lasts before it
- * says what it waits for. */
+/* The limits, which a test may change: of a bank; a drain's nanoseconds between two looks; a wait's milliseconds before it says what it waits for. */
 #ifndef KUPALDIZ_ROWS
 #define KUPALDIZ_ROWS		32
 #endif
@@ -178,8 +178,12 @@ void sleepq_lock(struct sleepq *sleepq);
 void sleepq_unlock(struct sleepq *sleepq);
 bool sleepq_wait(struct sleepq *sleepq, const void *of, struct thread *me, const struct timespec *deadline);
 bool sleepq_wake(struct sleepq *sleepq, const void *of);
-void sleepq_wake_all(struct sleepq *sleepq, const void *of);
 bool sleepq_has_waiter(struct sleepq *sleepq, const void *of);
+static inline void sleepq_wake_all(struct sleepq *sleepq, const void *of)
+{
+	while (sleepq_wake(sleepq, of))
+		;
+}
 
 struct timespec time_after(int64_t nanoseconds);
 
@@ -213,7 +217,6 @@ struct thread {
 	char name[32];
 };
 
-/* A reference in the table of its CPU. */
 struct reference {
 	const struct psref *psref;	/* where it lies, NULL where the place is free */
 	const struct psref_target *target;
@@ -301,11 +304,6 @@ static inline int begin_wait(void)
 
 static inline void end_wait(int before) { pthread_setcancelstate(before, NULL); }
 
-/* ---- kernel.c, for other calls. ---- */
-
-void await_thread(struct thread *me, pthread_t id, const struct thread *thread);
-int64_t now(void);
-
 /* ---- softint.c, and the threads of soft interrupts in softint_thread.c ---- */
 
 extern pthread_mutex_t pending_list;
@@ -349,6 +347,15 @@ static inline void leave_cpu(struct thread *me)
 /* Ends the process after one line that names the call and its place. */
 _Noreturn void stop_at(const char *call, const char *place, const char *format, ...) __attribute__((format(printf, 3, 4)));
 #define stop(me, ...)	stop_at((me)->call, (me)->place, __VA_ARGS__)
+#define stop_if(me, condition, ...)	((condition) ? stop(me, __VA_ARGS__) : (void)0)
+/* Writes the words behind the parameter `format` of a function to an array. */
+#define FORMAT(array, format) \
+	do { \
+		va_list words; \
+		va_start(words, format); \
+		vsnprintf(array, sizeof(array), format, words); \
+		va_end(words); \
+	} while (0)
 void must_succeed(const struct thread *me, uint32_t answer);
 void report(const struct thread *me, const char *format, ...) __attribute__((format(printf, 2, 3)));
 struct timespec patience(void);
@@ -359,7 +366,6 @@ void require_sleepable(const struct thread *me);
 void *grow_row(const struct thread *me, void *row, size_t size);
 void *memory(const struct thread *me, size_t size);
 
-/* Where a call begins that may sleep. */
 static inline struct thread *sleepable(struct thread *me)
 {
 	require_sleepable(me);
@@ -386,7 +392,6 @@ struct row {
 	const kmutex_t *interlock;
 };
 
-/* A local reference that is held. */
 struct held {
 	struct registry_local local;
 	const char *place;
@@ -407,7 +412,6 @@ struct bank {
 	struct row rows[ROWS];
 };
 
-/* A row and its bank. */
 struct found_row {
 	struct bank *bank;
 	struct row *row;
@@ -429,13 +433,11 @@ void sweep_banks(struct thread *me);
 const void *live_owner(size_t *held);
 void close_banks(struct thread *me);
 
-/* ---- pserialize.c ---- */
+/* ---- Waits: lock.c, pserialize.c and psref.c. ---- */
 
 struct pserialize {
 	unsigned performing;	/* an atomic */
 };
-
-/* ---- lock.c: the pauses of waits. ---- */
 
 /* A wait's pauses: how long the next one is, and when it says what it waits for. */
 struct pauses {
@@ -446,11 +448,10 @@ struct pauses {
 struct pauses begin_pauses(void);
 bool pause_longer(struct pauses *pauses, const struct registry_stage *met);
 bool pauses_are_over(struct pauses *pauses);
-
 void report_section_wait(struct thread *me, uint64_t cpu);
 void report_reference_wait(struct thread *me, uint64_t cpu, const struct psref_target *target);
 
-/* ---- mutex.c and condvar.c, for other calls. ---- */
+/* ---- mutex.c, condvar.c and kernel.c, for other calls. ---- */
 
 void acquire_mutex(struct thread *me, kmutex_t *mutex);
 void enter_mutex(struct thread *me, kmutex_t *mutex);
@@ -460,6 +461,8 @@ void require_mutex(const struct thread *me, const kmutex_t *mutex);
 void require_blockable(const struct thread *me);
 bool wait_for(struct thread *me, kcondvar_t *cv, kmutex_t *mutex, int64_t nanoseconds);
 void wake_cv(struct thread *me, kcondvar_t *cv, bool all);
+void await_thread(struct thread *me, pthread_t id, const struct thread *thread);
+int64_t now(void);
 
 /* What each made thing has in its word, so that one that never was made, or has been ended, is told. */
 enum { A_MUTEX = 0x4d757478, A_CV = 0x436f6e64, A_RW = 0x52774c6b, A_CALLOUT = 0x43616c6c, ENDED = 0x456e6465 };

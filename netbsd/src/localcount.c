@@ -1,8 +1,4 @@
 /* localcount.c - localcount(9) */
-#include <sched.h>
-#include <stdio.h>
-#include <stdlib.h>
-
 #include "layer.h"
 
 enum { DRAINED = 1, FINISHED, FIRST_ROOM = 8 };
@@ -16,34 +12,26 @@ void localcount_init(struct localcount *lc)
 void localcount_fini(struct localcount *lc)
 {
 	struct thread *me = begin_call(__func__);
-	if (lc->lc_serial != 0 || lc->lc_row != DRAINED)
-		stop(me, "the count is not drained");
+	stop_if(me, lc->lc_serial != 0 || lc->lc_row != DRAINED, "the count is not drained");
 	lc->lc_row = FINISHED;
 }
 
-/* The row of a live count. */
 static struct found_row count_row(const struct thread *me, const struct localcount *lc)
 {
 	struct found_row found;
-	if (!find_row(lc, lc->lc_serial, lc->lc_row, &found))
-		stop(me, "the count is not live");
+	stop_if(me, !find_row(lc, lc->lc_serial, lc->lc_row, &found), "the count is not live");
 	return found;
 }
 
 /* Stops where the condition variable or the interlock differs from the one before. The row is locked. */
 static void require_same(struct thread *me, struct row *row, const kcondvar_t *cv, const kmutex_t *interlock)
 {
-	if (row->interlock != NULL && row->interlock != interlock)
-		stop(me, "the interlock differs from the one before");
-	if (row->cv != NULL && row->cv != cv)
-		stop(me, "the condition variable differs from the one before");
+	stop_if(me, row->interlock != NULL && row->interlock != interlock, "the interlock differs from the one before");
+	stop_if(me, row->cv != NULL && row->cv != cv, "the condition variable differs from the one before");
 	row->interlock = interlock;
 	row->cv = cv;
 }
 
-/* ---- The stack of references. ---- */
-
-/* How many references of a row's are held, and where the last one was acquired. */
 static size_t held_count(struct row *row, const char **place)
 {
 	pthread_mutex_lock(&row->lock);
@@ -52,31 +40,6 @@ static size_t held_count(struct row *row, const char **place)
 	pthread_mutex_unlock(&row->lock);
 	return count;
 }
-
-/* Lays a reference on the row's stack. Its handle is moved there. */
-static void push(struct thread *me, struct row *row, const struct registry_local *reference)
-{
-	pthread_mutex_lock(&row->lock);
-	if (row->count == row->room) {
-		row->room = row->room == 0 ? FIRST_ROOM : row->room * 2;
-		row->held = grow_row(me, row->held, row->room * sizeof(*row->held));
-	}
-	row->held[row->count++] = (struct held){*reference, me->place};
-	pthread_mutex_unlock(&row->lock);
-}
-
-/* Takes a reference from the row's stack. */
-static void pop(struct thread *me, struct row *row, struct registry_local *reference, const kcondvar_t *cv, const kmutex_t *interlock)
-{
-	pthread_mutex_lock(&row->lock);
-	require_same(me, row, cv, interlock);
-	if (row->count == 0)
-		stop(me, "no reference to the count is held");
-	*reference = row->held[--row->count].local;
-	pthread_mutex_unlock(&row->lock);
-}
-
-/* ---- Acquiring and releasing. ---- */
 
 /* Acquires a reference on a CPU of the registry's, in a section of its own or in the one that is open. */
 static uint32_t acquire_on(struct thread *me, struct registry_cpu *handle, const struct row *row, struct registry_local *reference)
@@ -101,47 +64,47 @@ void localcount_acquire(struct localcount *lc)
 		answer = acquire_on(me, writers(at.bank), at.row, &reference);
 		exit_interlock();
 	}
-	if (answer == REGISTRY_NOT_FOUND)
-		stop(me, "the count is being drained");
+	stop_if(me, answer == REGISTRY_NOT_FOUND, "the count is being drained");
 	must_succeed(me, answer);
-	push(me, at.row, &reference);
+	struct row *row = at.row;
+	pthread_mutex_lock(&row->lock);
+	if (row->count == row->room) {
+		row->room = row->room == 0 ? FIRST_ROOM : row->room * 2;
+		row->held = grow_row(me, row->held, row->room * sizeof(*row->held));
+	}
+	row->held[row->count++] = (struct held){reference, me->place};
+	pthread_mutex_unlock(&row->lock);
 	leave_cpu(me);
-}
-
-/* Gives up a reference that a drain waits for, and wakes the drain, which goes on once the caller's lock is free. A soft interrupt takes that lock, too,
- * at any level: as in the kernel it sleeps if it must. */
-static void release_collected(struct thread *me, struct bank *bank, struct registry_local *reference, kcondvar_t *cv, kmutex_t *interlock)
-{
-	acquire_mutex(me, interlock);
-	enter_interlock();
-	must_succeed(me, registry_local_give_up(&bank->keeper, reference));
-	exit_interlock();
-	wake_cv(me, cv, true);
-	release_mutex(me, interlock);
 }
 
 void localcount_release(struct localcount *lc, kcondvar_t *cv, kmutex_t *interlock)
 {
 	struct thread *me = begin_call(__func__);
 	struct registry_local reference = {0};
-	if (has_mutex(me, interlock))
-		stop(me, "the thread has the interlock");
+	stop_if(me, has_mutex(me, interlock), "the thread has the interlock");
 	struct found_row at = count_row(me, lc);
-	pop(me, at.row, &reference, cv, interlock);
+	pthread_mutex_lock(&at.row->lock);
+	require_same(me, at.row, cv, interlock);
+	stop_if(me, at.row->count == 0, "no reference to the count is held");
+	reference = at.row->held[--at.row->count].local;
+	pthread_mutex_unlock(&at.row->lock);
 	hold_cpu(me);
 	COMES_BEFORE(&at.row->gone);
 	uint32_t answer = registry_local_release(handle_of(me, at.bank), &reference);
 	unhold_cpu(me);
-	if (answer == REGISTRY_COLLECTED)
-		release_collected(me, at.bank, &reference, cv, interlock);
-	else
-		must_succeed(me, answer);
+	if (answer == REGISTRY_COLLECTED) {
+		/* A drain waits for it. A soft interrupt takes the interlock, too: as in the kernel it sleeps if it must. */
+		acquire_mutex(me, interlock);
+		enter_interlock();
+		answer = registry_local_give_up(&at.bank->keeper, &reference);
+		exit_interlock();
+		wake_cv(me, cv, true);
+		release_mutex(me, interlock);
+	}
+	must_succeed(me, answer);
 	end_call(me);
 }
 
-/* ---- Draining. ---- */
-
-/* Says what a drain waits for. */
 static void report_wait(struct thread *me, struct row *row, const struct registry_stage *met)
 {
 	if (met->stage == REGISTRY_GRACE) {
@@ -156,8 +119,7 @@ static void report_wait(struct thread *me, struct row *row, const struct registr
 		report(me, count == 1 ? "waits for %zu reference, acquired%s" : "waits for %zu references, one of them acquired%s", count, AT_PLACE(place));
 }
 
-/* Lets others run, without the interlock: until the last release wakes it, or for a while where a section is waited for, whose end wakes nobody. Whether it
- * is time to say what it waits for. */
+/* Lets others run, without the interlock: until the last release wakes it, or for a while: the end of a section wakes nobody. Whether to report the wait. */
 static bool wait_once(struct thread *me, const struct registry_stage *met, kcondvar_t *cv, kmutex_t *interlock, struct pauses *pauses)
 {
 	if (met->stage == REGISTRY_LOCAL) {
@@ -170,28 +132,22 @@ static bool wait_once(struct thread *me, const struct registry_stage *met, kcond
 	return over;
 }
 
-/* The kernel gives the interlock up while it visits each CPU, also where nobody has a reference. */
-static void let_others_in(struct thread *me, kmutex_t *interlock)
-{
-	release_mutex(me, interlock);
-	sched_yield();
-	acquire_mutex(me, interlock);
-}
-
 void localcount_drain(struct localcount *lc, kcondvar_t *cv, kmutex_t *interlock)
 {
 	struct thread *me = sleepable(begin_call(__func__));
 	struct pauses pauses = begin_pauses();
 	struct registry_stage met = {0, 0};
-	if (!has_mutex(me, interlock))
-		stop(me, "the thread does not have the interlock");
+	stop_if(me, !has_mutex(me, interlock), "the thread does not have the interlock");
 	struct found_row at = count_row(me, lc);
 	pthread_mutex_lock(&at.row->lock);
 	require_same(me, at.row, cv, interlock);
 	pthread_mutex_unlock(&at.row->lock);
 	int waits = begin_wait();
 	retire_row(me, at, lc);
-	let_others_in(me, interlock);
+	/* The kernel gives the interlock up while it visits each CPU, also where nobody has a reference. */
+	release_mutex(me, interlock);
+	sched_yield();
+	acquire_mutex(me, interlock);
 	while (!try_free_row(me, at, &met))
 		if (wait_once(me, &met, cv, interlock, &pauses))
 			report_wait(me, at.row, &met);

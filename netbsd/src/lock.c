@@ -1,12 +1,9 @@
 /*
  * lock.c - a lock that knows its owner, where threads wait, and the pauses of a wait
  *
- * A lock is one word: its owner, and a bit that says that somebody waits. Taking and giving a lock that nobody waits for is one atomic step. Whoever
- * waits is in the sleep queue of the lock's address, in the order of arrival.
+ * A lock is one word. Taking and giving one that nobody waits for is one atomic step. Whoever waits is in the sleep queue of the lock's address, in the order
+ * of arrival.
  */
-#include <sched.h>
-#include <stdio.h>
-
 #include "layer.h"
 
 enum { SLEEPQS = 64, WAITED = 1, PATIENT_TRIES = 2 };
@@ -50,12 +47,20 @@ struct timespec time_after(int64_t nanoseconds)
 
 static void leave_queue(struct sleepq *sleepq, struct thread *me)
 {
-	for (struct thread **at = &sleepq->first; *at != NULL; at = &(*at)->next) {
-		if (*at == me) {
-			*at = me->next;
-			return;
-		}
-	}
+	struct thread **at = &sleepq->first;
+	while (*at != NULL && *at != me)
+		at = &(*at)->next;
+	if (*at != NULL)
+		*at = me->next;
+}
+
+/* The first that waits for something; NULL where nobody does. */
+static struct thread *first_for(struct sleepq *sleepq, const void *of)
+{
+	struct thread *at = sleepq->first;
+	while (at != NULL && at->waits_for != of)
+		at = at->next;
+	return at;
 }
 
 /* Waits, with the sleep queue's lock, until it is woken or the time is over: whether it was woken. The caller isn't cancelled meanwhile. */
@@ -81,39 +86,18 @@ bool sleepq_wait(struct sleepq *sleepq, const void *of, struct thread *me, const
 	return me->woken;
 }
 
-/* Wakes the first that waits for something. Whether there was one. */
 bool sleepq_wake(struct sleepq *sleepq, const void *of)
 {
-	for (struct thread **at = &sleepq->first; *at != NULL; at = &(*at)->next) {
-		struct thread *found = *at;
-		if (found->waits_for == of) {
-			*at = found->next;
-			found->woken = true;
-			pthread_cond_signal(&found->cond);
-			return true;
-		}
-	}
-	return false;
-}
-
-void sleepq_wake_all(struct sleepq *sleepq, const void *of)
-{
-	while (sleepq_wake(sleepq, of))
-		;
-}
-
-/* The first that waits for something; NULL where nobody does. */
-static struct thread *first_for(struct sleepq *sleepq, const void *of)
-{
-	struct thread *at = sleepq->first;
-	while (at != NULL && at->waits_for != of)
-		at = at->next;
-	return at;
+	struct thread *found = first_for(sleepq, of);
+	if (found == NULL)
+		return false;
+	leave_queue(sleepq, found);
+	found->woken = true;
+	pthread_cond_signal(&found->cond);
+	return true;
 }
 
 bool sleepq_has_waiter(struct sleepq *sleepq, const void *of) { return first_for(sleepq, of) != NULL; }
-
-/* ---- The lock. ---- */
 
 static uintptr_t word_of(const uintptr_t *word) { return __atomic_load_n(word, __ATOMIC_ACQUIRE); }
 
@@ -196,7 +180,6 @@ void lock_release(uintptr_t *word, struct thread *me)
 	sleepq_unlock(sleepq);
 }
 
-/* Makes another thread the owner. That one waits for it by lock_acquire, or will. */
 void lock_hand_over(uintptr_t *word, struct thread *to)
 {
 	struct sleepq *sleepq = &lock_sleepqs[place_of(word)];
@@ -209,23 +192,17 @@ void lock_hand_over(uintptr_t *word, struct thread *to)
 
 struct pauses begin_pauses(void) { return (struct pauses){0, patience()}; }
 
-static bool is_past(const struct timespec *time)
-{
-	struct timespec now = time_after(0);
-	return now.tv_sec > time->tv_sec || (now.tv_sec == time->tv_sec && now.tv_nsec >= time->tv_nsec);
-}
-
 /* Whether it is time to say what the wait waits for: once. */
 bool pauses_are_over(struct pauses *pauses)
 {
-	if (pauses->tells.tv_sec == 0 || !is_past(&pauses->tells))
+	struct timespec now = time_after(0), tells = pauses->tells;
+	if (tells.tv_sec == 0 || now.tv_sec < tells.tv_sec || (now.tv_sec == tells.tv_sec && now.tv_nsec < tells.tv_nsec))
 		return false;
 	pauses->tells.tv_sec = 0;
 	return true;
 }
 
-/* Lets others run while a wait for `met`, or for anything where that is NULL, isn't over: at first at once, then for a time that doubles. Whether it is time to
- * report the wait. */
+/* Lets others run while a wait for `met` isn't over, or for anything where that is NULL; each time for longer. Whether it is time to report the wait. */
 bool pause_longer(struct pauses *pauses, const struct registry_stage *met)
 {
 	const struct timespec pause = {0, pauses->nanoseconds};

@@ -1,7 +1,4 @@
 /* memory.c - kmem(9), pool(9), pool_cache(9) and percpu(9) */
-#include <stdlib.h>
-#include <string.h>
-
 #include "layer.h"
 
 /* What stands before each block. */
@@ -35,14 +32,6 @@ static uint64_t mark_of(const struct pool *pool) { return 0x6b6d656d2d6c6976 ^ (
 
 _Static_assert(sizeof(struct head) % _Alignof(max_align_t) == 0, "a block behind a head is aligned for any type");
 
-/* What a block is aligned to: what its pool asks for; else a line, if it is of whole lines, as a type is that begins a line; else what fits any type. */
-static size_t alignment_of(size_t size, const struct pool *pool)
-{
-	size_t align = pool == NULL ? 0 : pool->pr_align;
-	return align == 0 && size % LINE == 0 ? LINE : align < _Alignof(max_align_t) ? _Alignof(max_align_t) : align;
-}
-
-/* Memory for a block behind its head; NULL where there is none. */
 static struct head *alloc_memory(size_t size, size_t align)
 {
 	size_t before = align > sizeof(struct head) ? align : sizeof(struct head);
@@ -56,25 +45,24 @@ static struct head *alloc_memory(size_t size, size_t align)
 	return head;
 }
 
-/* A block of kmem's, or an object of a pool's. */
 static void *alloc_block(struct thread *me, size_t size, bool sleeps, const struct pool *pool)
 {
-	if (size == 0)
-		stop(me, "a block of no bytes");
+	stop_if(me, size == 0, "a block of no bytes");
 	if (sleeps)
 		require_sleepable(me);
 	else if (FAILS())
 		return NULL;
-	struct head *head = alloc_memory(size, alignment_of(size, pool));
-	if (head == NULL && sleeps)
-		stop(me, "out of memory");
+	/* A block is aligned to what its pool asks for; else to a line, if it is of whole lines, as a type is that begins a line; else to what fits any type. */
+	size_t align = pool == NULL ? 0 : pool->pr_align;
+	align = align == 0 && size % LINE == 0 ? LINE : align < _Alignof(max_align_t) ? _Alignof(max_align_t) : align;
+	struct head *head = alloc_memory(size, align);
+	stop_if(me, head == NULL && sleeps, "out of memory");
 	if (head == NULL)
 		return NULL;
 	head->mark = mark_of(pool);
 	return head + 1;
 }
 
-/* A block of kmem's own, for a call with these flags. */
 static void *kmem_block(struct thread *me, size_t size, km_flag_t flags)
 {
 	if ((flags & (KM_SLEEP | KM_NOSLEEP)) == 0 || (flags & (KM_SLEEP | KM_NOSLEEP)) == (KM_SLEEP | KM_NOSLEEP))
@@ -84,16 +72,13 @@ static void *kmem_block(struct thread *me, size_t size, km_flag_t flags)
 
 static void *zeroed(void *block, size_t size) { return block == NULL ? NULL : memset(block, 0, size); }
 
-/* What stands before a block that is in use. Stops where it isn't. */
 static struct head *head_of(struct thread *me, void *block, const struct pool *pool)
 {
-	if (block == NULL)
-		stop(me, "no block");
+	stop_if(me, block == NULL, "no block");
 	struct head *head = (struct head *)block - 1;
 	if (head->mark == mark_of(pool))
 		return head;
-	if (pool != NULL)
-		stop(me, "no object of %s, or one that was given back", pool->pr_name);
+	stop_if(me, pool != NULL, "no object of %s, or one that was given back", pool->pr_name);
 	stop(me, "no block of kmem's, or one that was given back");
 }
 
@@ -107,16 +92,14 @@ static void free_head(struct head *head)
 static void free_block(struct thread *me, void *block, size_t size)
 {
 	struct head *head = head_of(me, block, NULL);
-	if (head->size != size)
-		stop(me, "%zu bytes are given back of a block of %zu", size, head->size);
+	stop_if(me, head->size != size, "%zu bytes are given back of a block of %zu", size, head->size);
 	free_head(head);
 }
 
 /* kmem_alloc and kmem_free aren't for interrupts. */
 static struct thread *uninterrupted(struct thread *me)
 {
-	if (me->softint)
-		stop(me, "in a soft interrupt");
+	stop_if(me, me->softint, "in a soft interrupt");
 	return me;
 }
 
@@ -171,8 +154,7 @@ void pool_init(struct pool *pool, size_t size, unsigned align, unsigned offset, 
 static void require_unused(struct thread *me, struct pool *pool)
 {
 	size_t out = __atomic_load_n(&pool->pr_out, __ATOMIC_ACQUIRE);
-	if (out != 0)
-		stop(me, "%zu objects of %s are in use", out, pool->pr_name);
+	stop_if(me, out != 0, "%zu objects of %s are in use", out, pool->pr_name);
 }
 
 static void *pool_alloc(struct thread *me, struct pool *pool, int flags)
@@ -201,10 +183,8 @@ pool_cache_t pool_cache_init(size_t size, unsigned align, unsigned offset, unsig
 {
 	struct thread *me = sleepable(begin_plain(__func__));
 	struct pool_cache *cache = memory(me, sizeof(*cache));
+	*cache = (struct pool_cache){.make = make, .end = end, .arg = arg};
 	pool_init(&cache->pool, size, align, offset, (int)flags, name, from, level);
-	cache->make = make;
-	cache->end = end;
-	cache->arg = arg;
 	pthread_mutex_init(&cache->lock, NULL);
 	return cache;
 }
@@ -215,7 +195,6 @@ static bool may_be_read(const struct pool_cache *cache)
 	return (cache->pool.pr_flags & PR_PSERIALIZE) != 0;
 }
 
-/* A constructed object that nobody uses; NULL where there is none. */
 static struct head *pop_constructed(pool_cache_t cache)
 {
 	pthread_mutex_lock(&cache->lock);
@@ -246,24 +225,19 @@ void pool_cache_destroy(pool_cache_t cache)
 	free(cache);
 }
 
-/* A new object, which is constructed. */
-static void *construct(struct thread *me, pool_cache_t cache, int flags)
-{
-	void *object = pool_alloc(me, &cache->pool, flags);
-	if (object == NULL || cache->make == NULL || cache->make(cache->arg, object, flags) == 0)
-		return object;
-	pool_release(me, &cache->pool, object);
-	return NULL;
-}
-
 void *pool_cache_get(pool_cache_t cache, int flags)
 {
 	struct thread *me = begin_call(__func__);
 	if ((flags & PR_WAITOK) != 0)
 		require_sleepable(me);
 	struct head *head = pop_constructed(cache);
-	if (head == NULL)
-		return construct(me, cache, flags);
+	if (head == NULL) {
+		void *object = pool_alloc(me, &cache->pool, flags);
+		if (object == NULL || cache->make == NULL || cache->make(cache->arg, object, flags) == 0)
+			return object;
+		pool_release(me, &cache->pool, object);
+		return NULL;
+	}
 	head->mark = mark_of(&cache->pool);
 	__atomic_fetch_add(&cache->pool.pr_out, 1, __ATOMIC_RELAXED);
 	return head + 1;
@@ -294,13 +268,11 @@ static void *own_of(const struct percpu *percpu, unsigned cpu)
 static percpu_t *create(struct thread *me, size_t size, percpu_callback_t make, percpu_callback_t end, void *arg)
 {
 	require_sleepable(me);
-	if (size > SIZE_MAX / KUPALDIZ_CPUS - LINE)
-		stop(me, "out of memory");
+	stop_if(me, size > SIZE_MAX / KUPALDIZ_CPUS - LINE, "out of memory");
 	struct percpu *percpu = memory(me, sizeof(*percpu));
 	size_t stride = (size + LINE - 1) / LINE * LINE;
 	*percpu = (struct percpu){.size = size, .stride = stride, .end = end, .arg = arg};
-	if (posix_memalign((void **)&percpu->blocks, LINE, stride * KUPALDIZ_CPUS) != 0)
-		stop(me, "out of memory");
+	stop_if(me, posix_memalign((void **)&percpu->blocks, LINE, stride * KUPALDIZ_CPUS) != 0, "out of memory");
 	memset(percpu->blocks, 0, stride * KUPALDIZ_CPUS);
 	for (unsigned cpu = 0; cpu < KUPALDIZ_CPUS && make != NULL; cpu++)
 		make(own_of(percpu, cpu), arg, &cpus[cpu].info);
@@ -317,8 +289,7 @@ percpu_t *percpu_alloc(size_t size) { return create(begin_plain(__func__), size,
 void percpu_free(percpu_t *percpu, size_t size)
 {
 	struct thread *me = sleepable(begin_call(__func__));
-	if (percpu->size != size)
-		stop(me, "%zu bytes are given back of %zu", size, percpu->size);
+	stop_if(me, percpu->size != size, "%zu bytes are given back of %zu", size, percpu->size);
 	for (unsigned cpu = 0; cpu < KUPALDIZ_CPUS && percpu->end != NULL; cpu++)
 		percpu->end(own_of(percpu, cpu), percpu->arg, &cpus[cpu].info);
 	free(percpu->blocks);
@@ -344,7 +315,6 @@ void percpu_foreach(percpu_t *percpu, percpu_callback_t look, void *arg)
 		look(own_of(percpu, cpu), arg, &cpus[cpu].info);
 }
 
-/* What percpu_foreach_xcall has each CPU do. */
 struct visit {
 	percpu_t *percpu;
 	percpu_callback_t look;

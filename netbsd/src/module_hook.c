@@ -7,7 +7,6 @@
 
 #include "../include/sys/atomic.h"
 
-/* The lock and the condition variable of all drains. */
 static kmutex_t lock = {.mtx_made = A_MUTEX, .mtx_level = IPL_NONE};
 static kcondvar_t drained = {.cv_name = "mod_hook", .cv_made = A_CV};
 static struct pserialize psz;
@@ -20,8 +19,7 @@ static const char *begin_change(const char *call, const bool *hooked, bool is_se
 {
 	struct thread *me = begin_call(call);
 	require_sleepable(me);
-	if (*hooked != is_set)
-		stop(me, is_set ? "the hook is not set" : "the hook is set already");
+	stop_if(me, *hooked != is_set, is_set ? "the hook is not set" : "the hook is set already");
 	return me->place;
 }
 

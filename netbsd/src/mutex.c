@@ -1,9 +1,6 @@
 /* mutex.c - mutex(9) */
-#include <stdlib.h>
-
 #include "layer.h"
 
-/* A lock that mutex_obj_alloc made. */
 struct counted_mutex {
 	kmutex_t mutex;		/* first */
 	unsigned references;	/* an atomic */
@@ -28,8 +25,7 @@ static void destroy(struct thread *me, kmutex_t *mutex)
 {
 	require_mutex(me, mutex);
 	struct thread *owner = lock_owner(&mutex->mtx_word);
-	if (owner != NULL)
-		stop(me, "the lock is held: thread \"%s\" took it%s", NAME_OF(owner), AT_PLACE(place_of(mutex)));
+	stop_if(me, owner != NULL, "the lock is held: thread \"%s\" took it%s", NAME_OF(owner), AT_PLACE(place_of(mutex)));
 	mutex->mtx_made = ENDED;
 }
 
@@ -38,15 +34,11 @@ void mutex_destroy(kmutex_t *mutex) { destroy(begin_call(__func__), mutex); }
 /* Stops where the thread mustn't wait for a lock that doesn't spin. */
 void require_blockable(const struct thread *me)
 {
-	if (me->depth > 0)
-		stop(me, "inside a read section, entered%s", AT_PLACE(me->entered));
-	if (me->spins > 0)
-		stop(me, "with a spin lock, and this lock does not spin");
-	if (me->preemptions > 0)
-		stop(me, "with preemption disabled");
+	stop_if(me, me->depth > 0, "inside a read section, entered%s", AT_PLACE(me->entered));
+	stop_if(me, me->spins > 0, "with a spin lock, and this lock does not spin");
+	stop_if(me, me->preemptions > 0, "with preemption disabled");
 }
 
-/* Says who has the lock that this thread waits for. */
 static void report_wait(struct thread *me, const uintptr_t *word)
 {
 	struct thread *owner = lock_owner(word);
@@ -73,7 +65,6 @@ static int level_of(const kmutex_t *mutex)
 	return mutex->mtx_level < IPL_HIGH ? mutex->mtx_level : IPL_HIGH;
 }
 
-/* Raises the CPU's level to that of a spin lock, which this thread takes then. */
 static void raise_to_level_of(struct thread *me, const kmutex_t *mutex)
 {
 	int before = raise_level(me, level_of(mutex));
@@ -82,7 +73,6 @@ static void raise_to_level_of(struct thread *me, const kmutex_t *mutex)
 		me->level_before = before;
 }
 
-/* The level before, once the last spin lock is given back. */
 static void restore_level(struct thread *me, int level)
 {
 	me->spins_at[level]--;
@@ -90,30 +80,22 @@ static void restore_level(struct thread *me, int level)
 		lower_level(me, me->level_before);
 }
 
-/* Takes a lock that doesn't spin. Whoever has its CPU, as a soft interrupt has, gives it back while it waits. */
-static void acquire_slowly(struct thread *me, kmutex_t *mutex)
-{
-	bool steps = me->holds > 0;
-	require_blockable(me);
-	if (lock_tryacquire(&mutex->mtx_word, me))
-		return;
-	if (steps)
-		yield_cpu(me);
-	lock_acquire(&mutex->mtx_word, me, report_wait);
-	if (steps)
-		reclaim_cpu(me);
-}
-
+/* Whoever has its CPU, as a soft interrupt has, gives it back while it waits for a lock that doesn't spin. */
 void acquire_mutex(struct thread *me, kmutex_t *mutex)
 {
 	require_mutex(me, mutex);
-	if (has_mutex(me, mutex))
-		stop(me, "the thread has the lock already, taken%s", AT_PLACE(mutex->mtx_place));
-	if (mutex->mtx_spins) {
+	stop_if(me, has_mutex(me, mutex), "the thread has the lock already, taken%s", AT_PLACE(mutex->mtx_place));
+	bool steps = me->holds > 0 && !mutex->mtx_spins;
+	if (mutex->mtx_spins)
 		raise_to_level_of(me, mutex);
+	else
+		require_blockable(me);
+	if (mutex->mtx_spins || !lock_tryacquire(&mutex->mtx_word, me)) {
+		if (steps)
+			yield_cpu(me);
 		lock_acquire(&mutex->mtx_word, me, report_wait);
-	} else {
-		acquire_slowly(me, mutex);
+		if (steps)
+			reclaim_cpu(me);
 	}
 	note_acquired(me, mutex);
 }
@@ -121,8 +103,7 @@ void acquire_mutex(struct thread *me, kmutex_t *mutex)
 void release_mutex(struct thread *me, kmutex_t *mutex)
 {
 	require_mutex(me, mutex);
-	if (!has_mutex(me, mutex))
-		stop(me, "the thread does not have the lock");
+	stop_if(me, !has_mutex(me, mutex), "the thread does not have the lock");
 	int level = level_of(mutex);
 	lock_release(&mutex->mtx_word, me);
 	if (level > IPL_NONE)
@@ -167,8 +148,7 @@ int mutex_tryenter(kmutex_t *mutex)
 static void require_spin(const struct thread *me, const kmutex_t *mutex)
 {
 	require_mutex(me, mutex);
-	if (!mutex->mtx_spins)
-		stop(me, "the lock does not spin");
+	stop_if(me, !mutex->mtx_spins, "the lock does not spin");
 }
 
 void mutex_spin_enter(kmutex_t *mutex)
@@ -192,8 +172,7 @@ int mutex_ownable(const kmutex_t *mutex)
 {
 	struct thread *me = begin_plain(__func__);
 	require_mutex(me, mutex);
-	if (has_mutex(me, mutex))
-		stop(me, "the thread has the lock already");
+	stop_if(me, has_mutex(me, mutex), "the thread has the lock already");
 	return 1;
 }
 

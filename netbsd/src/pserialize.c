@@ -1,6 +1,4 @@
 /* pserialize.c - pserialize(9) */
-#include <stdlib.h>
-
 #include "layer.h"
 
 pserialize_t pserialize_create(void)
@@ -12,8 +10,7 @@ pserialize_t pserialize_create(void)
 void pserialize_destroy(pserialize_t psz)
 {
 	struct thread *me = begin_call(__func__);
-	if (__atomic_load_n(&psz->performing, __ATOMIC_ACQUIRE) != 0)
-		stop(me, "a thread performs with it");
+	stop_if(me, __atomic_load_n(&psz->performing, __ATOMIC_ACQUIRE) != 0, "a thread performs with it");
 	free(psz);
 }
 
@@ -33,10 +30,8 @@ int pserialize_read_enter(void)
 void pserialize_read_exit(int s)
 {
 	struct thread *me = begin_call(__func__);
-	if (me->depth == 0)
-		stop(me, "outside any read section");
-	if (s < 0 || (unsigned)s != me->depth - 1)
-		stop(me, "not the section that was entered last");
+	stop_if(me, me->depth == 0, "outside any read section");
+	stop_if(me, s < 0 || (unsigned)s != me->depth - 1, "not the section that was entered last");
 	if (--me->depth == 0) {
 		__atomic_store_n(&me->entered, NULL, __ATOMIC_RELAXED);
 		exit_section(me);
@@ -58,7 +53,6 @@ void pserialize_perform(pserialize_t psz)
 bool pserialize_in_read_section(void) { return begin_plain(__func__)->depth > 0; }
 bool pserialize_not_in_read_section(void) { return begin_plain(__func__)->depth == 0; }
 
-/* Says of a CPU whose section lasts which thread is inside, and since where. */
 void report_section_wait(struct thread *me, uint64_t cpu)
 {
 	struct thread *owner = cpu < KUPALDIZ_CPUS ? lock_owner(&cpus[cpu].hold) : NULL;

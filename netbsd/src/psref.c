@@ -1,8 +1,4 @@
 /* psref.c - psref(9) */
-#include <stdio.h>
-#include <stdlib.h>
-#include <string.h>
-
 #include "layer.h"
 
 struct psref_class {
@@ -17,16 +13,14 @@ struct psref_class *psref_class_create(const char *name, ipl_cookie_t level)
 {
 	struct thread *me = sleepable(begin_plain(__func__));
 	struct psref_class *psref_class = memory(me, sizeof(*psref_class));
-	psref_class->name = name;
-	psref_class->level = level;
+	*psref_class = (struct psref_class){.name = name, .level = level};
 	return psref_class;
 }
 
 void psref_class_destroy(struct psref_class *psref_class)
 {
 	struct thread *me = begin_call(__func__);
-	if (__atomic_load_n(&psref_class->targets, __ATOMIC_ACQUIRE) != 0)
-		stop(me, "a target of class %s is live", psref_class->name);
+	stop_if(me, __atomic_load_n(&psref_class->targets, __ATOMIC_ACQUIRE) != 0, "a target of class %s is live", psref_class->name);
 	free(psref_class);
 }
 
@@ -38,14 +32,11 @@ void psref_target_init(struct psref_target *target, struct psref_class *psref_cl
 	__atomic_fetch_add(&psref_class->targets, 1, __ATOMIC_ACQ_REL);
 }
 
-/* The row of a live target of a class. */
 static struct found_row target_row(const struct thread *me, const struct psref_target *target, const struct psref_class *psref_class)
 {
 	struct found_row found;
-	if (!find_row(target, target->prt_serial, target->prt_row, &found))
-		stop(me, "the target is not live");
-	if (target->prt_class != psref_class)
-		stop(me, "the target is not of class %s", psref_class->name);
+	stop_if(me, !find_row(target, target->prt_serial, target->prt_row, &found), "the target is not live");
+	stop_if(me, target->prt_class != psref_class, "the target is not of class %s", psref_class->name);
 	return found;
 }
 
@@ -58,20 +49,13 @@ static uint32_t *chain_of(struct cpu *cpu, const struct psref *psref)
 	return &cpu->chains[(uint32_t)(mixed >> 32) & (cpu->room - 1)];
 }
 
-/* The reference that lies in this storage; NULL where none does. The storage itself isn't read: it may never have been written. */
-static struct reference *reference_at(struct cpu *cpu, const struct psref *psref)
-{
-	uint32_t place = cpu->room == 0 ? NOTHING : *chain_of(cpu, psref);
-	while (place != NOTHING && cpu->references[place].psref != psref)
-		place = cpu->references[place].next;
-	return place == NOTHING ? NULL : &cpu->references[place];
-}
-
-/* Stops where this storage has a reference of this CPU. */
+/* The storage itself isn't read: it may never have been written. */
 static void require_unheld(const struct thread *me, const struct psref *psref)
 {
-	if (reference_at(me->cpu, psref) != NULL)
-		stop(me, "the reference is held already");
+	uint32_t place = me->cpu->room == 0 ? NOTHING : *chain_of(me->cpu, psref);
+	while (place != NOTHING && me->cpu->references[place].psref != psref)
+		place = me->cpu->references[place].next;
+	stop_if(me, place != NOTHING, "the reference is held already");
 }
 
 static void add_to_chain(struct cpu *cpu, uint32_t place)
@@ -81,7 +65,6 @@ static void add_to_chain(struct cpu *cpu, uint32_t place)
 	*chain = place;
 }
 
-/* Makes room for twice as many references, with as many chains. No place is free. */
 static void extend(struct thread *me)
 {
 	struct cpu *cpu = me->cpu;
@@ -113,26 +96,18 @@ static void note_reference(struct thread *me, struct psref *psref, const struct 
 	me->references++;
 }
 
-/* The reference that lies there, which is this thread's; stops where there is none. */
 static struct reference *own_reference(const struct thread *me, const struct psref *psref)
 {
-	if (psref->psref_target == NULL || psref->psref_cpu >= KUPALDIZ_CPUS)
-		stop(me, "the reference is not held");
-	if (psref->psref_cpu != me->cpu->info.ci_index)
-		stop(me, "the reference is of CPU %u, and this is CPU %u", psref->psref_cpu, me->cpu->info.ci_index);
+	stop_if(me, psref->psref_target == NULL || psref->psref_cpu >= KUPALDIZ_CPUS, "the reference is not held");
+	stop_if(me, psref->psref_cpu != me->cpu->info.ci_index, "the reference is of CPU %u, and this is CPU %u", psref->psref_cpu, me->cpu->info.ci_index);
 	struct reference *found = psref->psref_index < me->cpu->room ? &me->cpu->references[psref->psref_index] : NULL;
-	if (found == NULL || found->psref == NULL || found->serial != psref->psref_serial)
-		stop(me, "the reference is not held");
-	if (found->psref != psref)
-		stop(me, "the reference was moved by its bytes: it was acquired elsewhere%s", AT_PLACE(found->place));
-	if (found->thread != me)
-		stop(me, "the reference is of thread \"%s\", acquired%s", NAME_OF(found->thread), AT_PLACE(found->place));
-	if (found->target != psref->psref_target)
-		stop(me, "the reference was written over");
+	stop_if(me, found == NULL || found->psref == NULL || found->serial != psref->psref_serial, "the reference is not held");
+	stop_if(me, found->psref != psref, "the reference was moved by its bytes: it was acquired elsewhere%s", AT_PLACE(found->place));
+	stop_if(me, found->thread != me, "the reference is of thread \"%s\", acquired%s", NAME_OF(found->thread), AT_PLACE(found->place));
+	stop_if(me, found->target != psref->psref_target, "the reference was written over");
 	return found;
 }
 
-/* The place of a reference is free again. */
 static void forget_reference(struct thread *me, struct reference *reference)
 {
 	struct cpu *cpu = me->cpu;
@@ -146,18 +121,9 @@ static void forget_reference(struct thread *me, struct reference *reference)
 	me->references--;
 }
 
-/* ---- Acquiring and releasing. ---- */
-
 static void require_bound(const struct thread *me)
 {
-	if (!is_bound(me) && me->preemptions == 0)
-		stop(me, "the thread is not bound to a CPU");
-}
-
-/* Whether this CPU can count no more: what it asks for then is counted by the writers' CPU. */
-static bool is_full(uint32_t answer)
-{
-	return answer == REGISTRY_SECTIONS_SPENT || answer == REGISTRY_PASSIVE_FULL;
+	stop_if(me, !is_bound(me) && me->preemptions == 0, "the thread is not bound to a CPU");
 }
 
 /* A call with the registry's CPU that counts: this thread's, or the writers', under the interlock. */
@@ -190,25 +156,17 @@ static uint32_t count_one(struct thread *me, struct found_row at, uint32_t via, 
 static uint32_t count_more(struct thread *me, struct found_row at, uint32_t via, bool is_copy)
 {
 	uint32_t other = via == WRITERS ? me->cpu->info.ci_index : WRITERS, answer = count_one(me, at, via, is_copy);
-	if (is_full(answer)) {
+	/* This CPU can count no more. */
+	if (answer == REGISTRY_SECTIONS_SPENT || answer == REGISTRY_PASSIVE_FULL) {
 		uint32_t second = count_one(me, at, other, is_copy);
 		if (second == REGISTRY_DONE)
 			return other;
 		/* A copy of one that is being destroyed is right. */
 		answer = is_copy ? answer : second;
 	}
-	if (answer == REGISTRY_NOT_FOUND)
-		stop(me, "the target is being destroyed");
+	stop_if(me, answer == REGISTRY_NOT_FOUND, "the target is being destroyed");
 	must_succeed(me, answer);
 	return via;
-}
-
-static void release(struct thread *me, struct found_row at, uint64_t number, uint32_t via)
-{
-	COMES_BEFORE(&at.row->gone);
-	uint32_t answer = registry_release(begin_count(me, at, via), number);
-	end_count(via);
-	must_succeed(me, answer);
 }
 
 void psref_acquire(struct psref *psref, const struct psref_target *target, struct psref_class *psref_class)
@@ -227,15 +185,17 @@ void psref_release(struct psref *psref, const struct psref_target *target, struc
 	struct thread *me = begin_call(__func__);
 	hold_cpu(me);
 	struct reference *reference = own_reference(me, psref);
-	if (psref->psref_target != target)
-		stop(me, "the reference is to another target");
+	stop_if(me, psref->psref_target != target, "the reference is to another target");
 	struct found_row at = target_row(me, target, psref_class);
 	uint64_t number = at.row->number;
 	uint32_t via = reference->via;
 	/* Once it is released its target may be gone, and this row another's. */
 	psref->psref_target = NULL;
 	forget_reference(me, reference);
-	release(me, at, number, via);
+	COMES_BEFORE(&at.row->gone);
+	uint32_t answer = registry_release(begin_count(me, at, via), number);
+	end_count(via);
+	must_succeed(me, answer);
 	leave_cpu(me);
 }
 
@@ -275,41 +235,29 @@ bool psref_held(const struct psref_target *target, struct psref_class *psref_cla
 	return held;
 }
 
-/* ---- The end of a target. ---- */
-
-/* Stops where this thread has a reference to the target: nobody else could release it. */
-static void require_none_of_own(struct thread *me, const struct psref_target *target)
-{
-	if (me->references == 0)
-		return;
-	hold_cpu(me);
-	const struct reference *found = find_reference(me->cpu, target, me);
-	if (found != NULL)
-		stop(me, "this thread has a reference to the target, acquired%s", AT_PLACE(found->place));
-	unhold_cpu(me);
-}
-
-/* Says what the end of a target waits for. */
-static void report_stage(struct thread *me, const struct registry_stage *met, const struct psref_target *target)
-{
-	if (met->stage == REGISTRY_GRACE)
-		report_section_wait(me, met->what);
-	else
-		report_reference_wait(me, met->what, target);
-}
-
 void psref_target_destroy(struct psref_target *target, struct psref_class *psref_class)
 {
 	struct thread *me = sleepable(begin_call(__func__));
 	struct pauses pauses = begin_pauses();
 	struct registry_stage met = {0, 0};
 	struct found_row at = target_row(me, target, psref_class);
-	require_none_of_own(me, target);
+	if (me->references > 0) {
+		hold_cpu(me);
+		/* Nobody else could release it. */
+		const struct reference *found = find_reference(me->cpu, target, me);
+		stop_if(me, found != NULL, "this thread has a reference to the target, acquired%s", AT_PLACE(found->place));
+		unhold_cpu(me);
+	}
 	int waits = begin_wait();
 	retire_row(me, at, target);
-	while (!try_free_row(me, at, &met))
-		if (pause_longer(&pauses, &met))
-			report_stage(me, &met, target);
+	while (!try_free_row(me, at, &met)) {
+		if (!pause_longer(&pauses, &met))
+			continue;
+		if (met.stage == REGISTRY_GRACE)
+			report_section_wait(me, met.what);
+		else
+			report_reference_wait(me, met.what, target);
+	}
 	/* A section may have released the last reference and still follow the links of what the target lies in. */
 	perform_all(me);
 	target->prt_class = NULL;
@@ -318,8 +266,6 @@ void psref_target_destroy(struct psref_target *target, struct psref_class *psref
 	sweep_banks(me);
 	end_wait(waits);
 }
-
-/* ---- Lines. ---- */
 
 /* What a CPU's table says of a target. Whether it says something. The caller has that CPU. */
 static bool describe(const struct cpu *cpu, const struct psref_target *target, char *text, size_t room)
@@ -338,7 +284,6 @@ static bool describe(const struct cpu *cpu, const struct psref_target *target, c
 	return true;
 }
 
-/* Takes a CPU for a look at it, if it is free before long. */
 static bool try_hold_cpu(struct thread *me, struct cpu *cpu)
 {
 	const struct timespec moment = {0, 1000000};

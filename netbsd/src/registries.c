@@ -1,11 +1,5 @@
 /* registries.c - registries and their rows, and the sections and waits that go over all of them */
-#include <errno.h>
-#include <stdio.h>
-#include <stdlib.h>
-
 #include "layer.h"
-
-enum { SWEPT = 64 };
 
 static pthread_mutex_t interlock = PTHREAD_MUTEX_INITIALIZER;
 static struct bank *banks[MOST_BANKS];	/* atomics; each is stored once, under the interlock */
@@ -17,7 +11,6 @@ static uint64_t serials;
 void enter_interlock(void) { pthread_mutex_lock(&interlock); }
 void exit_interlock(void) { pthread_mutex_unlock(&interlock); }
 
-/* The handle of a CPU in a bank. The thread has that CPU. */
 static struct registry_cpu *handle(struct bank *bank, unsigned cpu)
 {
 	USED_BY_CALL(&bank->cpus[cpu].cpu);
@@ -27,9 +20,6 @@ static struct registry_cpu *handle(struct bank *bank, unsigned cpu)
 struct registry_cpu *writers(struct bank *bank) { return handle(bank, WRITERS); }
 struct registry_cpu *handle_of(struct thread *me, struct bank *bank) { return handle(bank, me->cpu->info.ci_index); }
 
-/* ---- Opening. ---- */
-
-/* Opens the registry of a bank. */
 static void open_registry(struct thread *me, struct bank *bank)
 {
 	const struct registry_settings settings = {
@@ -48,23 +38,18 @@ static void retire_bank(struct bank *bank)
 	bank->used_up = true;
 }
 
-/* Opens it anew: nothing of it is in use. */
-static void reopen(struct thread *me, struct bank *bank)
+static void close_registry(struct thread *me, struct bank *bank)
 {
 	for (unsigned cpu = 0; cpu < ALL_CPUS; cpu++)
 		must_succeed(me, registry_close_cpu(&bank->cpus[cpu].cpu));
 	must_succeed(me, registry_close_keeper(&bank->keeper));
-	used_up--;
-	open_registry(me, bank);
 }
 
 static struct bank *new_bank(struct thread *me)
 {
 	struct bank *bank = NULL;
-	if (bank_count == MOST_BANKS)
-		stop(me, "%d targets and counts are live", MOST_BANKS * ROWS);
-	if (posix_memalign((void **)&bank, LINE, sizeof(*bank)) != 0)
-		stop(me, "out of memory");
+	stop_if(me, bank_count == MOST_BANKS, "%d targets and counts are live", MOST_BANKS * ROWS);
+	stop_if(me, posix_memalign((void **)&bank, LINE, sizeof(*bank)) != 0, "out of memory");
 	*bank = (struct bank){.place = bank_count};
 	for (unsigned row = 0; row < ROWS; row++)
 		pthread_mutex_init(&bank->rows[row].lock, NULL);
@@ -72,12 +57,6 @@ static struct bank *new_bank(struct thread *me)
 	__atomic_store_n(&banks[bank_count], bank, __ATOMIC_RELEASE);
 	__atomic_store_n(&bank_count, bank_count + 1, __ATOMIC_RELEASE);
 	return bank;
-}
-
-/* Whether a bank that is used up is in no use any more, and no sweep has it. */
-static bool is_spent(const struct bank *bank)
-{
-	return bank->used_up && !bank->swept && bank->live == 0 && bank->hosts == 0 && bank->waits == 0;
 }
 
 /* A bank with a free slot: one that there is, or a new one. The caller has the interlock. */
@@ -106,49 +85,34 @@ void open_banks(struct thread *me)
 	exit_interlock();
 }
 
-/* Some banks that are in no use any more. No other sweep finds them. How many. */
-static unsigned find_spent(struct bank *found[SWEPT])
+/* A bank that is used up and in no use any more; NULL where there is none. No other sweep finds it. */
+static struct bank *find_spent(void)
 {
-	unsigned count = 0;
+	struct bank *found = NULL;
 	enter_interlock();
-	for (unsigned place = 0; place < bank_count && used_up > 0 && count < SWEPT; place++) {
-		if (is_spent(banks[place])) {
-			banks[place]->swept = true;
-			found[count++] = banks[place];
-		}
+	for (unsigned place = 0; place < bank_count && used_up > 0 && found == NULL; place++) {
+		struct bank *bank = banks[place];
+		if (bank->used_up && !bank->swept && bank->live == 0 && bank->hosts == 0 && bank->waits == 0)
+			found = bank;
 	}
+	if (found != NULL)
+		found->swept = true;
 	exit_interlock();
-	return count;
+	return found;
 }
 
-/*
- * Opens some of those anew. Nobody uses them until then, but a call on some CPU may still be about to return from one: each CPU is visited before. One sweep
- * alone has a bank. If two had it, the first could open it, and others use it up again: the second would have visited the CPUs before those calls.
- * The thread may sleep.
- */
+/* Opens those anew. A call on some CPU may still be about to return from one: each CPU is visited before. One sweep alone has a bank: if two had it, the first
+ * could open it, and others use it up again after the second has visited the CPUs. The thread may sleep. */
 void sweep_banks(struct thread *me)
 {
-	struct bank *found[SWEPT];
-	unsigned count = find_spent(found);
-	if (count == 0)
-		return;
-	visit_cpus(me);
-	enter_interlock();
-	for (unsigned place = 0; place < count; place++)
-		reopen(me, found[place]);
-	exit_interlock();
-}
-
-/* ---- Rows. ---- */
-
-/* A name that no entry had before: a letter, and the digits of the serial. */
-static struct registry_name name_for(struct thread *me, uint64_t serial)
-{
-	char text[REGISTRY_NAME_BYTES + 8];
-	struct registry_name name;
-	int length = snprintf(text, sizeof(text), "t%llu", (unsigned long long)serial);
-	must_succeed(me, registry_name_parse(text, (size_t)length, &name, NULL));
-	return name;
+	for (struct bank *found; (found = find_spent()) != NULL;) {
+		visit_cpus(me);
+		enter_interlock();
+		close_registry(me, found);
+		used_up--;
+		open_registry(me, found);
+		exit_interlock();
+	}
 }
 
 /* The row of an owner by what it noted. Whether the owner is live. */
@@ -188,14 +152,16 @@ static struct bank *attach_somewhere(struct thread *me, const struct registry_na
 	}
 }
 
-/* Attaches an entry for an owner, whose serial and place are written to it. */
 void attach_row(struct thread *me, const void *owner, uint64_t *serial, uint64_t *place)
 {
+	char text[REGISTRY_NAME_BYTES + 8];
+	struct registry_name name;
 	struct registry_entry made;
 	enter_interlock();
-	if (is_live(owner))
-		stop(me, "it is live already");
-	const struct registry_name name = name_for(me, ++serials);
+	stop_if(me, is_live(owner), "it is live already");
+	/* A name that no entry had before. */
+	int length = snprintf(text, sizeof(text), "t%llu", (unsigned long long)++serials);
+	must_succeed(me, registry_name_parse(text, (size_t)length, &name, NULL));
 	struct bank *bank = attach_somewhere(me, &name, owner, &made);
 	struct row *row = &bank->rows[made.slot];
 	row->serial = serials;
@@ -211,12 +177,10 @@ void attach_row(struct thread *me, const void *owner, uint64_t *serial, uint64_t
 	exit_interlock();
 }
 
-/* Detaches the entry of an owner's row, once. */
 void retire_row(struct thread *me, struct found_row at, const void *owner)
 {
 	enter_interlock();
-	if (at.row->retired || at.bank->owners[at.row - at.bank->rows] != owner)
-		stop(me, "another thread waits for it already");
+	stop_if(me, at.row->retired || at.bank->owners[at.row - at.bank->rows] != owner, "another thread waits for it already");
 	at.row->retired = true;
 	must_succeed(me, registry_detach(&at.bank->keeper, writers(at.bank), REGISTRY_DRIVER, &at.row->name, NULL));
 	exit_interlock();
@@ -240,25 +204,17 @@ bool try_free_row(struct thread *me, struct found_row at, struct registry_stage 
 	return answer == REGISTRY_DONE;
 }
 
-/* ---- Sections. ---- */
-
-/* Takes another bank for the sections of this thread's CPU, since those of the one before are used up. */
-static void move_sections(struct thread *me)
-{
-	enter_interlock();
-	me->cpu->bank->hosts--;
-	retire_bank(me->cpu->bank);
-	me->cpu->bank = roomy_bank(me);
-	me->cpu->bank->hosts++;
-	exit_interlock();
-}
-
-/* Enters a section of this thread's CPU. The thread has the CPU. */
 void enter_section(struct thread *me)
 {
 	uint32_t answer;
-	while ((answer = registry_enter(handle_of(me, me->cpu->bank))) == REGISTRY_SECTIONS_SPENT)
-		move_sections(me);
+	while ((answer = registry_enter(handle_of(me, me->cpu->bank))) == REGISTRY_SECTIONS_SPENT) {
+		enter_interlock();
+		me->cpu->bank->hosts--;
+		retire_bank(me->cpu->bank);
+		me->cpu->bank = roomy_bank(me);
+		me->cpu->bank->hosts++;
+		exit_interlock();
+	}
 	must_succeed(me, answer);
 	/* No test on x86-64 sees this fence: the enter is one there. Elsewhere the list could be loaded before the section is seen. */
 	__atomic_thread_fence(__ATOMIC_SEQ_CST);
@@ -270,63 +226,39 @@ void exit_section(struct thread *me)
 	must_succeed(me, registry_exit(handle_of(me, me->cpu->bank)));
 }
 
-/* ---- Waits. ---- */
-
-/* A wait for the sections of one bank. */
-struct bank_wait {
-	struct bank *bank;
-	struct registry_wait wait;
-};
-
-/* Begins a wait in a bank. The caller has the interlock. */
-static void begin_bank_wait(struct thread *me, struct bank *bank, struct bank_wait *wait)
-{
-	bank->waits++;
-	wait->bank = bank;
-	must_succeed(me, registry_perform_begin(&bank->keeper, writers(bank), &wait->wait));
-}
-
-/* One turn of a wait: whether all sections that were open as it began have ended. */
-static bool poll_bank_wait(struct thread *me, struct bank_wait *wait, uint64_t *waited)
+/* One turn of a wait in a bank: whether all sections that were open as it began have ended. */
+static bool poll_wait(struct thread *me, struct bank *bank, struct registry_wait *wait, uint64_t *waited)
 {
 	enter_interlock();
-	uint32_t answer = registry_perform_turn(&wait->bank->keeper, writers(wait->bank), &wait->wait, waited);
+	uint32_t answer = registry_perform_turn(&bank->keeper, writers(bank), wait, waited);
 	if (answer != REGISTRY_WAITING) {
 		must_succeed(me, answer);
-		wait->bank->waits--;
+		bank->waits--;
 	}
 	exit_interlock();
 	return answer == REGISTRY_DONE;
 }
 
-/* Waits until those sections have ended. */
-static void end_bank_wait(struct thread *me, struct bank_wait *wait, struct pauses *pauses)
-{
-	struct registry_stage met = {REGISTRY_GRACE, 0};
-	while (!poll_bank_wait(me, wait, &met.what))
-		if (pause_longer(pauses, &met))
-			report_section_wait(me, met.what);
-}
-
-/*
- * Begins a wait in each bank from this place on that a CPU takes for its sections, gives the interlock back, and ends the waits. Mostly that is one bank, so a
- * wait lies on the stack only where there is one.
- */
+/* Begins a wait in each bank from this place on that a CPU takes for its sections, gives the interlock back, and ends the waits. Mostly that is one bank. */
 static void perform_from(struct thread *me, unsigned place, struct pauses *pauses)
 {
-	struct bank_wait wait;
+	struct registry_stage met = {REGISTRY_GRACE, 0};
+	struct registry_wait wait;
 	while (place < bank_count && banks[place]->hosts == 0)
 		place++;
 	if (place == bank_count) {
 		exit_interlock();
 		return;
 	}
-	begin_bank_wait(me, banks[place], &wait);
+	struct bank *bank = banks[place];
+	bank->waits++;
+	must_succeed(me, registry_perform_begin(&bank->keeper, writers(bank), &wait));
 	perform_from(me, place + 1, pauses);
-	end_bank_wait(me, &wait, pauses);
+	while (!poll_wait(me, bank, &wait, &met.what))
+		if (pause_longer(pauses, &met))
+			report_section_wait(me, met.what);
 }
 
-/* Waits until each section that is open on any CPU has ended. */
 void perform_all(struct thread *me)
 {
 	struct pauses pauses = begin_pauses();
@@ -352,32 +284,17 @@ const void *live_owner(size_t *held)
 	return NULL;
 }
 
-/* Closes a CPU's handle, also if the CPU was left in a section. */
-static void close_cpu(struct thread *me, struct registry_cpu *cpu)
-{
-	while (registry_exit(cpu) == REGISTRY_DONE)
-		;
-	must_succeed(me, registry_close_cpu(cpu));
-}
-
-static void forget_held(struct thread *me, struct row *row)
-{
-	for (size_t place = 0; place < row->count; place++)
-		must_succeed(me, registry_local_forget(&row->held[place].local));
-}
-
-static void close_bank(struct thread *me, struct bank *bank)
-{
-	for (unsigned slot = 0; slot < ROWS; slot++)
-		forget_held(me, &bank->rows[slot]);
-	for (unsigned cpu = 0; cpu < ALL_CPUS; cpu++)
-		close_cpu(me, &bank->cpus[cpu].cpu);
-	must_succeed(me, registry_close_keeper(&bank->keeper));
-}
-
-/* Closes each registry. No thread goes on in a call, and none calls the layer again. */
+/* Closes each registry. No thread goes on in a call, and none calls the layer again; but a CPU may have been left in a section. */
 void close_banks(struct thread *me)
 {
-	for (unsigned place = 0; place < bank_count; place++)
-		close_bank(me, banks[place]);
+	for (unsigned place = 0; place < bank_count; place++) {
+		struct bank *bank = banks[place];
+		for (struct row *row = bank->rows; row < &bank->rows[ROWS]; row++)
+			for (size_t held = 0; held < row->count; held++)
+				must_succeed(me, registry_local_forget(&row->held[held].local));
+		for (unsigned cpu = 0; cpu < ALL_CPUS; cpu++)
+			while (registry_exit(&bank->cpus[cpu].cpu) == REGISTRY_DONE)
+				;
+		close_registry(me, bank);
+	}
 }

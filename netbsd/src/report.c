@@ -1,19 +1,12 @@
 /* report.c - lines on standard error: what stops the process, and what a wait waits for */
-#include <errno.h>
 #include <fcntl.h>
-#include <stdarg.h>
-#include <stdio.h>
-#include <stdlib.h>
-#include <string.h>
-#include <unistd.h>
 
 #include "layer.h"
 
 /* Writes one line at once, so that no other line mixes with it. A thread that was cancelled writes it, too, and goes on. */
-static void write_line(const char *call, const char *place, const char *format, va_list words)
+static void write_line(const char *call, const char *place, const char *reason)
 {
-	char reason[320], line[512];
-	vsnprintf(reason, sizeof(reason), format, words);
+	char line[512];
 	int length = snprintf(line, sizeof(line), "%s: %s%s%s\n", call, reason, place == NULL ? "" : ", at ", place == NULL ? "" : place);
 	if (length >= (int)sizeof(line)) {
 		length = sizeof(line) - 1;
@@ -27,25 +20,21 @@ static void write_line(const char *call, const char *place, const char *format, 
 
 void stop_at(const char *call, const char *place, const char *format, ...)
 {
-	va_list words;
-	va_start(words, format);
-	write_line(call, place, format, words);
-	va_end(words);
+	char reason[320];
+	FORMAT(reason, format);
+	write_line(call, place, reason);
 	abort();
 }
 
 void report(const struct thread *me, const char *format, ...)
 {
-	va_list words;
-	va_start(words, format);
-	write_line(me->call, NULL, format, words);
-	va_end(words);
+	char reason[320];
+	FORMAT(reason, format);
+	write_line(me->call, NULL, reason);
 }
 
-/* When a wait says what it waits for: so long from now on. */
 struct timespec patience(void) { return time_after(KUPALDIZ_PATIENCE * INT64_C(1000000)); }
 
-/* Stops where the registry refuses, as at a limit. */
 void must_succeed(const struct thread *me, uint32_t answer)
 {
 	char text[128];
@@ -84,44 +73,31 @@ const char *at_place(const char *place, char *text, size_t room)
 	return text;
 }
 
-/* Stops where a thing was destroyed, or never made: its word isn't the wanted one. */
 void require_made(const struct thread *me, uint32_t made, uint32_t wanted, const char *what)
 {
-	if (made == ENDED)
-		stop(me, "%s was destroyed", what);
-	if (made != wanted)
-		stop(me, "%s was never initialised", what);
+	stop_if(me, made == ENDED, "%s was destroyed", what);
+	stop_if(me, made != wanted, "%s was never initialised", what);
 }
 
-/* Stops where the thread mustn't sleep. */
 void require_sleepable(const struct thread *me)
 {
-	if (me->depth > 0)
-		stop(me, "inside a read section, entered%s", AT_PLACE(me->entered));
-	if (me->softint)
-		stop(me, "in a soft interrupt");
-	if (me->spins > 0)
-		stop(me, "with a spin lock");
-	if (me->level > IPL_NONE)
-		stop(me, "at a raised level");
-	if (me->holds > 0)
-		stop(me, "with preemption disabled");
+	stop_if(me, me->depth > 0, "inside a read section, entered%s", AT_PLACE(me->entered));
+	stop_if(me, me->softint, "in a soft interrupt");
+	stop_if(me, me->spins > 0, "with a spin lock");
+	stop_if(me, me->level > IPL_NONE, "at a raised level");
+	stop_if(me, me->holds > 0, "with preemption disabled");
 }
 
-/* Memory for a row that this one goes on with. */
 void *grow_row(const struct thread *me, void *row, size_t size)
 {
 	row = realloc(row, size);
-	if (row == NULL)
-		stop(me, "out of memory");
+	stop_if(me, row == NULL, "out of memory");
 	return row;
 }
 
-/* Memory of zeros. */
 void *memory(const struct thread *me, size_t size)
 {
 	void *block = calloc(1, size);
-	if (block == NULL)
-		stop(me, "out of memory");
+	stop_if(me, block == NULL, "out of memory");
 	return block;
 }

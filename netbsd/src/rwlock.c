@@ -1,9 +1,8 @@
-/* rwlock.c - rwlock(9): its words are read and written under the lock of the sleep queue in which its threads wait */
+/* rwlock.c - rwlock(9): its words are read and written under the lock of the sleep queue in which its threads wait, which most functions are called with */
 #include "layer.h"
 
 void rw_init(krwlock_t *rw) { *rw = (krwlock_t){.rw_made = A_RW}; }
 
-/* A call of a lock begins: it takes the sleep queue's lock. */
 static struct thread *lock_rw(struct thread *me, const krwlock_t *rw)
 {
 	require_made(me, rw->rw_made, A_RW, "the lock");
@@ -11,7 +10,6 @@ static struct thread *lock_rw(struct thread *me, const krwlock_t *rw)
 	return me;
 }
 
-/* Gives that lock back where a call returns this. */
 static int unlock_rw(const krwlock_t *rw, int answer)
 {
 	sleepq_unlock(sleepq_of(rw));
@@ -21,8 +19,7 @@ static int unlock_rw(const krwlock_t *rw, int answer)
 void rw_destroy(krwlock_t *rw)
 {
 	struct thread *me = lock_rw(begin_call(__func__), rw);
-	if (rw->rw_writer != 0 || rw->rw_readers != 0)
-		stop(me, "the lock is held");
+	stop_if(me, rw->rw_writer != 0 || rw->rw_readers != 0, "the lock is held");
 	rw->rw_made = ENDED;
 	sleepq_unlock(sleepq_of(rw));
 }
@@ -41,7 +38,6 @@ static bool rw_tryacquire(struct thread *me, krwlock_t *rw, krw_t how)
 	return true;
 }
 
-/* Says who has the lock. Whether anybody has it. The caller has the sleep queue's lock. */
 static bool report_wait(struct thread *me, const krwlock_t *rw)
 {
 	if (rw->rw_writer == 0 && rw->rw_readers == 0)
@@ -53,11 +49,20 @@ static bool report_wait(struct thread *me, const krwlock_t *rw)
 	return true;
 }
 
-/* Waits until it has the lock. The caller has the sleep queue's lock. */
-static void rw_acquire(struct thread *me, krwlock_t *rw, krw_t how)
+void rw_enter(krwlock_t *rw, const krw_t how)
 {
+	struct thread *me = lock_rw(begin_call(__func__), rw);
+	require_blockable(me);
+	stop_if(me, rw->rw_writer == (uintptr_t)me, "the thread has the lock already");
+	if (rw_tryacquire(me, rw, how)) {
+		sleepq_unlock(sleepq_of(rw));
+		return;
+	}
+	bool steps = me->holds > 0, told = false;
+	if (steps)
+		yield_cpu(me);
+	int waits = begin_wait();
 	struct timespec tells = patience();
-	bool told = false;
 	rw->rw_wanted += how == RW_WRITER;
 	while (!rw_tryacquire(me, rw, how)) {
 		if (sleepq_wait(sleepq_of(rw), rw, me, told ? NULL : &tells) || told)
@@ -66,23 +71,6 @@ static void rw_acquire(struct thread *me, krwlock_t *rw, krw_t how)
 		tells = patience();
 	}
 	rw->rw_wanted -= how == RW_WRITER;
-}
-
-void rw_enter(krwlock_t *rw, const krw_t how)
-{
-	struct thread *me = lock_rw(begin_call(__func__), rw);
-	require_blockable(me);
-	if (rw->rw_writer == (uintptr_t)me)
-		stop(me, "the thread has the lock already");
-	if (rw_tryacquire(me, rw, how)) {
-		sleepq_unlock(sleepq_of(rw));
-		return;
-	}
-	bool steps = me->holds > 0;
-	if (steps)
-		yield_cpu(me);
-	int waits = begin_wait();
-	rw_acquire(me, rw, how);
 	end_wait(waits);
 	sleepq_unlock(sleepq_of(rw));
 	if (steps)
@@ -95,20 +83,17 @@ int rw_tryenter(krwlock_t *rw, const krw_t how)
 	return unlock_rw(rw, rw_tryacquire(me, rw, how));
 }
 
-/* Stops where the thread can't have the lock. The caller has the sleep queue's lock. */
+/* Stops where the thread can't have the lock. */
 static void require_held(const struct thread *me, const krwlock_t *rw)
 {
-	if (rw->rw_writer == 0 && rw->rw_readers == 0)
-		stop(me, "nobody has the lock");
-	if (me->locks == 0)
-		stop(me, "the thread does not have the lock");
+	stop_if(me, rw->rw_writer == 0 && rw->rw_readers == 0, "nobody has the lock");
+	stop_if(me, me->locks == 0, "the thread does not have the lock");
 }
 
 void rw_exit(krwlock_t *rw)
 {
 	struct thread *me = lock_rw(begin_call(__func__), rw);
-	if (rw->rw_writer != 0 && rw->rw_writer != (uintptr_t)me)
-		stop(me, "another thread has the lock as its writer");
+	stop_if(me, rw->rw_writer != 0 && rw->rw_writer != (uintptr_t)me, "another thread has the lock as its writer");
 	require_held(me, rw);
 	if (rw->rw_writer != 0)
 		rw->rw_writer = 0;
@@ -134,8 +119,7 @@ int rw_tryupgrade(krwlock_t *rw)
 void rw_downgrade(krwlock_t *rw)
 {
 	struct thread *me = lock_rw(begin_plain(__func__), rw);
-	if (rw->rw_writer != (uintptr_t)me)
-		stop(me, "the thread is not the lock's writer");
+	stop_if(me, rw->rw_writer != (uintptr_t)me, "the thread is not the lock's writer");
 	rw->rw_writer = 0;
 	rw->rw_readers = 1;
 	sleepq_wake_all(sleepq_of(rw), rw);

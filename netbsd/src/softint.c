@@ -1,6 +1,4 @@
 /* softint.c - softint(9) and spl(9) */
-#include <stdlib.h>
-
 #include "layer.h"
 
 struct softint {
@@ -13,13 +11,11 @@ struct softint {
 	struct softint *behind[KUPALDIZ_CPUS];	/* the next one in the queue */
 };
 
-/* The lock of all that follows. Each CPU's `pending` is written under it, too. */
+/* The lock of all that follows. Each CPU's `pending` is written under it, too. Static functions that don't take it are called with it. */
 pthread_mutex_t pending_list = PTHREAD_MUTEX_INITIALIZER;
 pthread_cond_t pending_changed = PTHREAD_COND_INITIALIZER;
 static struct softint *softints;
 static struct softint *queues[KUPALDIZ_CPUS][LEVELS];	/* the first that waits, in the order in which they were scheduled */
-
-/* ---- Levels. ---- */
 
 /* The CPU's level is at least this one. The level before. */
 int raise_level(struct thread *me, int level)
@@ -32,7 +28,6 @@ int raise_level(struct thread *me, int level)
 	return before;
 }
 
-/* The CPU's level is this one again. */
 void lower_level(struct thread *me, int level)
 {
 	int before = me->level;
@@ -43,26 +38,17 @@ void lower_level(struct thread *me, int level)
 
 int kupaldiz_splraise(int level) { return raise_level(begin_call("splraise"), level); }
 
-/* The highest level of the spin locks that the thread has. */
-static int level_of_spins(const struct thread *me)
-{
-	int level = IPL_HIGH;
-	while (level > IPL_NONE && me->spins_at[level] == 0)
-		level--;
-	return level;
-}
-
 void splx(int level)
 {
 	struct thread *me = begin_call(__func__);
-	if (level < me->level && level < level_of_spins(me))
-		stop(me, "with a spin lock");
+	int of_spins = IPL_HIGH;
+	while (of_spins > IPL_NONE && me->spins_at[of_spins] == 0)
+		of_spins--;
+	stop_if(me, level < me->level && level < of_spins, "with a spin lock");
 	if (level < me->level)
 		lower_level(me, level);
 	end_call(me);
 }
-
-/* ---- Handlers. ---- */
 
 /* Writes down which levels of a CPU have a soft interrupt that may run next: one that waits, unless another handler of the level waits for a lock; or such
  * a handler, once it has the lock. The caller has the list. */
@@ -75,20 +61,6 @@ void note_pending(struct cpu *cpu)
 	__atomic_store_n(&cpu->pending, (pending & ~cpu->blocked) | cpu->goes_on, __ATOMIC_RELEASE);
 }
 
-/* Puts one at the end of its queue, unless it waits there. The caller has the list. */
-static void enqueue(struct softint *softint, unsigned cpu)
-{
-	struct softint **at = &queues[cpu][softint->level];
-	if (softint->pending[cpu])
-		return;
-	while (*at != NULL)
-		at = &(*at)->behind[cpu];
-	*at = softint;
-	softint->behind[cpu] = NULL;
-	softint->pending[cpu] = true;
-}
-
-/* Takes one out of its queue, if it waits there. The caller has the list. */
 static void dequeue(struct softint *softint, unsigned cpu)
 {
 	struct softint **at = &queues[cpu][softint->level];
@@ -103,16 +75,11 @@ static void dequeue(struct softint *softint, unsigned cpu)
 /* Stops where a handler, or a function of xcall(9), left something behind. It began at this level, with so many locks and references. */
 void check_handler_return(const struct thread *me, const char *what, int level, unsigned locks, unsigned references)
 {
-	if (me->depth > 0)
-		stop(me, "%s returned inside a read section", what);
-	if (me->spins > 0 || me->locks > locks)
-		stop(me, "%s returned with a lock", what);
-	if (me->preemptions > 0)
-		stop(me, "%s returned with preemption disabled", what);
-	if (me->references > references)
-		stop(me, "%s returned with a passive reference", what);
-	if (me->level > level)
-		stop(me, "%s returned at a raised level", what);
+	stop_if(me, me->depth > 0, "%s returned inside a read section", what);
+	stop_if(me, me->spins > 0 || me->locks > locks, "%s returned with a lock", what);
+	stop_if(me, me->preemptions > 0, "%s returned with preemption disabled", what);
+	stop_if(me, me->references > references, "%s returned with a passive reference", what);
+	stop_if(me, me->level > level, "%s returned at a raised level", what);
 }
 
 /* Runs the next handler of a level. Whether there was one, and the level is above that of the CPU's lender. */
@@ -140,17 +107,12 @@ bool run_softint(struct thread *me, int level)
 	return true;
 }
 
-/* ---- softint(9). ---- */
-
-/* The same as softint_establish, wherever the thread is. */
 void *make_softint(unsigned flags, void (*handler)(void *), void *arg)
 {
 	struct softint *made = calloc(1, sizeof(*made));
 	if (made == NULL)
 		return NULL;
-	made->handler = handler;
-	made->arg = arg;
-	made->level = IPL_SOFTCLOCK + (int)(flags & SOFTINT_LVLMASK & 3);
+	*made = (struct softint){.handler = handler, .arg = arg, .level = IPL_SOFTCLOCK + (int)(flags & SOFTINT_LVLMASK & 3)};
 	pthread_mutex_lock(&pending_list);
 	made->next = softints;
 	softints = made;
@@ -164,17 +126,14 @@ void *softint_establish(unsigned flags, void (*handler)(void *), void *arg)
 	return FAILS() ? NULL : make_softint(flags, handler, arg);
 }
 
-/* Stops where it isn't established. The caller has the list. */
 static void require_established(const struct thread *me, const struct softint *softint)
 {
 	const struct softint *at = softints;
 	while (at != NULL && at != softint)
 		at = at->next;
-	if (at == NULL || at->dead)
-		stop(me, "the soft interrupt is not established");
+	stop_if(me, at == NULL || at->dead, "the soft interrupt is not established");
 }
 
-/* Has it run on a CPU. */
 void schedule_on(struct thread *me, void *cookie, struct cpu *cpu)
 {
 	struct softint *softint = cookie;
@@ -183,7 +142,15 @@ void schedule_on(struct thread *me, void *cookie, struct cpu *cpu)
 	ensure_softint_thread(me, cpu, softint->level);
 	/* The list was free while that thread began. */
 	require_established(me, softint);
-	enqueue(softint, cpu->info.ci_index);
+	unsigned number = cpu->info.ci_index;
+	struct softint **at = &queues[number][softint->level];
+	while (*at != NULL)
+		at = &(*at)->behind[number];
+	if (!softint->pending[number]) {
+		*at = softint;
+		softint->behind[number] = NULL;
+		softint->pending[number] = true;
+	}
 	note_pending(cpu);
 	pthread_cond_broadcast(&pending_changed);
 	pthread_mutex_unlock(&pending_list);
@@ -195,18 +162,6 @@ void softint_schedule(void *cookie)
 	hold_cpu(me);
 	schedule_on(me, cookie, me->cpu);
 	leave_cpu(me);
-}
-
-/* Waits until no handler of it runs, and says after a while that it waits. The caller has the list. */
-static void await_handlers(struct thread *me, struct softint *softint)
-{
-	struct pauses pauses = begin_pauses();
-	while (softint->running > 0) {
-		pthread_mutex_unlock(&pending_list);
-		if (pause_longer(&pauses, NULL))
-			report(me, "waits for its handler");
-		pthread_mutex_lock(&pending_list);
-	}
 }
 
 void softint_disestablish(void *cookie)
@@ -221,7 +176,13 @@ void softint_disestablish(void *cookie)
 		dequeue(softint, cpu);
 		note_pending(&cpus[cpu]);
 	}
-	await_handlers(me, softint);
+	struct pauses pauses = begin_pauses();
+	while (softint->running > 0) {
+		pthread_mutex_unlock(&pending_list);
+		if (pause_longer(&pauses, NULL))
+			report(me, "waits for its handler");
+		pthread_mutex_lock(&pending_list);
+	}
 	while (*at != softint)
 		at = &(*at)->next;
 	*at = softint->next;

@@ -5,8 +5,6 @@
  * handler: by taking its lock, or by getting it from the thread that has it, which waits meanwhile and gets it back. It gets it back, too, where a handler
  * waits for a lock: then handlers of other levels may have the CPU. Of those that can run the highest goes first.
  */
-#include <stdio.h>
-
 #include "layer.h"
 
 struct softint_thread {
@@ -17,7 +15,6 @@ struct softint_thread {
 
 static struct softint_thread threads[KUPALDIZ_CPUS][LEVELS];
 
-/* The highest level that waits on a CPU; IPL_NONE where none does. */
 static int highest(const struct cpu *cpu)
 {
 	uint32_t pending = __atomic_load_n(&cpu->pending, __ATOMIC_ACQUIRE);
@@ -48,33 +45,11 @@ static void note_waits(struct thread *me, bool is_blocked, bool goes_on)
 	pthread_mutex_unlock(&pending_list);
 }
 
-/* The threads look again at what waits, and at who has their CPU. */
 static void wake_threads(void)
 {
 	pthread_mutex_lock(&pending_list);
 	pthread_cond_broadcast(&pending_changed);
 	pthread_mutex_unlock(&pending_list);
-}
-
-/* Waits for a soft interrupt of this level, above which none waits, or until the CPU is lent. */
-static void await_turn(const struct softint_thread *of)
-{
-	pthread_mutex_lock(&pending_list);
-	while (highest(of->cpu) != of->level && lock_owner(&of->cpu->hold) != of->thread)
-		pthread_cond_wait(&pending_changed, &pending_list);
-	pthread_mutex_unlock(&pending_list);
-}
-
-/* Runs the handlers of a level, until one of a higher level waits. The thread has the CPU. */
-static void run_level(struct thread *me, int level)
-{
-	me->holds = 1;
-	while (highest(me->cpu) <= level && run_softint(me, level))
-		;
-	me->holds = 0;
-	me->level = IPL_NONE;
-	return_cpu(me);
-	wake_threads();		/* lower levels go on */
 }
 
 static _Noreturn void *run_all(void *of)
@@ -91,21 +66,29 @@ static _Noreturn void *run_all(void *of)
 	pthread_cond_broadcast(&pending_changed);
 	pthread_mutex_unlock(&pending_list);
 	for (;;) {
-		await_turn(softint_thread);
+		/* A soft interrupt of this level waits, above which none does, or the CPU is lent. */
+		pthread_mutex_lock(&pending_list);
+		while (highest(me->cpu) != softint_thread->level && lock_owner(&me->cpu->hold) != me)
+			pthread_cond_wait(&pending_changed, &pending_list);
+		pthread_mutex_unlock(&pending_list);
 		lock_acquire(&me->cpu->hold, me, NULL);
-		run_level(me, softint_thread->level);
+		me->holds = 1;
+		while (highest(me->cpu) <= softint_thread->level && run_softint(me, softint_thread->level))
+			;
+		me->holds = 0;
+		me->level = IPL_NONE;
+		return_cpu(me);
+		wake_threads();		/* lower levels go on */
 	}
 }
 
-/* The thread of a CPU's level, which is begun where it isn't. The caller has the list. */
 void ensure_softint_thread(struct thread *me, struct cpu *cpu, int level)
 {
 	pthread_t thread;
 	struct softint_thread *softint_thread = &threads[cpu->info.ci_index][level];
 	if (softint_thread->cpu == NULL) {
 		*softint_thread = (struct softint_thread){.cpu = cpu, .level = level};
-		if (pthread_create(&thread, NULL, run_all, softint_thread) != 0)
-			stop(me, "no thread is left");
+		stop_if(me, pthread_create(&thread, NULL, run_all, softint_thread) != 0, "no thread is left");
 		pthread_detach(thread);
 	}
 	int waits = begin_wait();
@@ -114,21 +97,16 @@ void ensure_softint_thread(struct thread *me, struct cpu *cpu, int level)
 	end_wait(waits);
 }
 
-/* The thread of the highest level that waits on this thread's CPU above its own level; NULL where none does. */
-static struct thread *next_above(const struct thread *me)
-{
-	pthread_mutex_lock(&pending_list);
-	int level = highest(me->cpu);
-	struct thread *next = level > me->level ? threads[me->cpu->info.ci_index][level].thread : NULL;
-	pthread_mutex_unlock(&pending_list);
-	return next;
-}
-
 /* Lets the soft interrupts that wait have the CPU, one level after another, and waits for it. */
 void lend_cpu(struct thread *me)
 {
-	struct thread *next;
-	while ((next = next_above(me)) != NULL) {
+	for (;;) {
+		pthread_mutex_lock(&pending_list);
+		int level = highest(me->cpu);
+		struct thread *next = level > me->level ? threads[me->cpu->info.ci_index][level].thread : NULL;
+		pthread_mutex_unlock(&pending_list);
+		if (next == NULL)
+			return;
 		next->lender = me;
 		lock_hand_over(&me->cpu->hold, next);
 		wake_threads();

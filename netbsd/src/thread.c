@@ -1,12 +1,4 @@
 /* thread.c - threads, their binding, and the CPUs that they share */
-#ifndef _GNU_SOURCE
-#define _GNU_SOURCE
-#endif
-#include <stdio.h>
-#include <stdlib.h>
-#include <string.h>
-#include <unistd.h>
-
 #include "layer.h"
 
 const char KUPALDIZ_NAMED(REGISTRY_BUILT_FOR, KUPALDIZ_CPUS) = 0;
@@ -58,7 +50,6 @@ static void open_layer(void)
 	open_banks(&nobody);
 }
 
-/* A condition variable whose waits end by the clock that nobody sets. */
 void init_cond(pthread_cond_t *cond)
 {
 	pthread_condattr_t monotonic;
@@ -68,7 +59,6 @@ void init_cond(pthread_cond_t *cond)
 	pthread_condattr_destroy(&monotonic);
 }
 
-/* Memory for a thread: that of one which has ended, or new one. */
 static struct thread *thread_memory(void)
 {
 	pthread_mutex_lock(&free_lock);
@@ -103,14 +93,11 @@ struct thread *named_thread(const char *call, const char *name)
 	return me;
 }
 
-/* Stops where the thread has passive references. */
 static void require_unreferring(const struct thread *me)
 {
-	if (me->references != 0)
-		stop(me, "the thread has passive references");
+	stop_if(me, me->references != 0, "the thread has passive references");
 }
 
-/* The thread isn't bound any more. */
 static void unbind(struct thread *me)
 {
 	require_unreferring(me);
@@ -133,12 +120,9 @@ void end_of_thread(struct thread *me)
 {
 	me->call = "pthread_exit";
 	me->place = NULL;
-	if (me->depth > 0)
-		stop(me, "inside a read section");
-	if (me->spins > 0 || me->locks > 0)
-		stop(me, "with a lock");
-	if (me->holds > 0)
-		stop(me, "with its CPU");
+	stop_if(me, me->depth > 0, "inside a read section");
+	stop_if(me, me->spins > 0 || me->locks > 0, "with a lock");
+	stop_if(me, me->holds > 0, "with its CPU");
 	require_unreferring(me);
 	if (is_bound(me))
 		unbind(me);
@@ -147,9 +131,6 @@ void end_of_thread(struct thread *me)
 		reuse_thread(me);
 }
 
-/* ---- Having a CPU. ---- */
-
-/* The thread runs on this CPU from now on. */
 void move_to(struct thread *me, struct cpu *cpu)
 {
 	me->cpu = cpu;
@@ -178,7 +159,6 @@ static void acquire_any_cpu(struct thread *me)
 	lock_acquire(&me->cpu->hold, me, report_cpu_wait);
 }
 
-/* Has the CPU, for one reason more. */
 void hold_cpu(struct thread *me)
 {
 	if (me->holds++ > 0)
@@ -189,7 +169,6 @@ void hold_cpu(struct thread *me)
 		acquire_any_cpu(me);
 }
 
-/* Has it for one reason less. */
 void unhold_cpu(struct thread *me)
 {
 	if (--me->holds == 0)
@@ -205,7 +184,6 @@ void visit_cpus(struct thread *me)
 	}
 }
 
-/* Says who has the CPU that this thread waits for. */
 void report_cpu_wait(struct thread *me, const uintptr_t *word)
 {
 	const struct cpu *cpu = (const struct cpu *)(const void *)((const char *)word - offsetof(struct cpu, hold));
@@ -217,8 +195,6 @@ void report_cpu_wait(struct thread *me, const uintptr_t *word)
 	    entered == NULL ? "keeps it" : "is inside a read section, entered", AT_PLACE(entered));
 }
 
-/* ---- The calls. ---- */
-
 struct lwp *kupaldiz_curlwp(void) { return &begin_plain("curlwp")->lwp; }
 
 struct cpu_info *kupaldiz_cpu(unsigned cpu)
@@ -227,7 +203,6 @@ struct cpu_info *kupaldiz_cpu(unsigned cpu)
 	return cpu < KUPALDIZ_CPUS ? &cpus[cpu].info : NULL;
 }
 
-/* Binds the thread to a CPU. */
 void bind_to(struct thread *me, struct cpu *cpu)
 {
 	move_to(me, cpu);
@@ -238,18 +213,15 @@ void bind_to(struct thread *me, struct cpu *cpu)
 void kupaldiz_bind(unsigned cpu)
 {
 	struct thread *me = begin_call(__func__);
-	if (cpu >= KUPALDIZ_CPUS)
-		stop(me, "there is no CPU %u", cpu);
-	if (is_bound(me))
-		stop(me, "the thread is bound to CPU %u", me->cpu->info.ci_index);
+	stop_if(me, cpu >= KUPALDIZ_CPUS, "there is no CPU %u", cpu);
+	stop_if(me, is_bound(me), "the thread is bound to CPU %u", me->cpu->info.ci_index);
 	require_sleepable(me);
 	bind_to(me, &cpus[cpu]);
 }
 
 static void require_bound(const struct thread *me)
 {
-	if (!is_bound(me))
-		stop(me, "the thread is not bound to a CPU");
+	stop_if(me, !is_bound(me), "the thread is not bound to a CPU");
 }
 
 void kupaldiz_unbind(void)
@@ -298,11 +270,9 @@ void disable_preemption(struct thread *me)
 	me->preemptions++;
 }
 
-/* Stops with this line where it isn't disabled. */
 void enable_preemption(struct thread *me, const char *otherwise)
 {
-	if (me->preemptions == 0)
-		stop(me, "%s", otherwise);
+	stop_if(me, me->preemptions == 0, "%s", otherwise);
 	me->preemptions--;
 	leave_cpu(me);
 }

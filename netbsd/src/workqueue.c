@@ -1,16 +1,10 @@
 /*
- * workqueue.c - workqueue(9)
- *
- * A queue has a lock, a condition variable and a thread, which runs one work after another without the lock. A work's memory isn't touched once its
+ * workqueue.c - workqueue(9): the thread of a queue runs one work after another without the queue's lock. A work's memory isn't touched once its
  * function is called, which may have freed it. The condition variable tells of a work for the thread, and of an end for those who wait.
  */
-#include <errno.h>
-#include <stdio.h>
-#include <stdlib.h>
-
 #include "layer.h"
 
-/* Works for one thread. What follows the lock is under it. */
+/* Works for one thread. What follows the lock is under it. Static functions that don't take it are called with it. */
 struct queue {
 	kmutex_t lock;
 	kcondvar_t changed;
@@ -31,23 +25,14 @@ struct workqueue {
 	struct queue queues[];
 };
 
-/* ---- The thread of a queue. ---- */
-
-/* Takes the first work out of the queue. The caller has the lock. */
-static struct work *dequeue(struct queue *queue)
+/* Does the first work. The lock is free meanwhile. */
+static void run_first_work(struct thread *me, struct queue *queue)
 {
 	struct work *work = queue->first;
 	queue->first = work->wk_next;
 	if (queue->first == NULL)
 		queue->last = &queue->first;
 	DEQUEUED(work);
-	return work;
-}
-
-/* Does the first work. The caller has the lock, which is free meanwhile. */
-static void run_first_work(struct thread *me, struct queue *queue)
-{
-	struct work *work = dequeue(queue);
 	queue->current = work;
 	release_mutex(me, &queue->lock);
 	queue->all->body(work, queue->all->arg);
@@ -80,9 +65,6 @@ static void *run_queue(void *of)
 	return NULL;
 }
 
-/* ---- Making and ending queues. ---- */
-
-/* Makes a queue and its thread, and waits until that has begun. 0 or an errno. */
 static int begin_queue(struct thread *me, struct queue *queue, int level)
 {
 	mutex_init(&queue->lock, MUTEX_DEFAULT, level);
@@ -98,25 +80,18 @@ static int begin_queue(struct thread *me, struct queue *queue, int level)
 	return 0;
 }
 
-/* Ends a queue and its thread. */
-static void end_queue(struct thread *me, struct queue *queue)
-{
-	acquire_mutex(me, &queue->lock);
-	if (queue->thread == me)
-		stop(me, "in a function of the queue");
-	if (queue->first != NULL)
-		stop(me, "a work is enqueued");
-	queue->ends = true;
-	wake_cv(me, &queue->changed, true);
-	release_mutex(me, &queue->lock);
-	await_thread(me, queue->id, queue->thread);
-	reuse_thread(queue->thread);
-}
-
 static void end_queues(struct thread *me, struct workqueue *all, unsigned count)
 {
-	for (unsigned at = 0; at < count; at++)
-		end_queue(me, &all->queues[at]);
+	for (struct queue *queue = all->queues; queue < &all->queues[count]; queue++) {
+		acquire_mutex(me, &queue->lock);
+		stop_if(me, queue->thread == me, "in a function of the queue");
+		stop_if(me, queue->first != NULL, "a work is enqueued");
+		queue->ends = true;
+		wake_cv(me, &queue->changed, true);
+		release_mutex(me, &queue->lock);
+		await_thread(me, queue->id, queue->thread);
+		reuse_thread(queue->thread);
+	}
 	free(all);
 }
 
@@ -151,9 +126,6 @@ void workqueue_destroy(struct workqueue *all)
 	end_queues(me, all, all->count);
 }
 
-/* ---- Works. ---- */
-
-/* Whether a work waits in a queue. The caller has the lock. */
 static bool is_enqueued(const struct queue *queue, const struct work *work)
 {
 	const struct work *at = queue->first;
@@ -165,13 +137,11 @@ static bool is_enqueued(const struct queue *queue, const struct work *work)
 void workqueue_enqueue(struct workqueue *all, struct work *work, struct cpu_info *cpu)
 {
 	struct thread *me = begin_call(__func__);
-	if (all->count == 1 && cpu != NULL)
-		stop(me, "a CPU is named, and the queue is without WQ_PERCPU");
+	stop_if(me, all->count == 1 && cpu != NULL, "a CPU is named, and the queue is without WQ_PERCPU");
 	unsigned number = all->count == 1 ? 0 : cpu != NULL ? cpu->ci_index : cpu_of(me)->info.ci_index;
 	struct queue *queue = &all->queues[number];
 	enter_mutex(me, &queue->lock);
-	if (is_enqueued(queue, work))
-		stop(me, "the work is enqueued already");
+	stop_if(me, is_enqueued(queue, work), "the work is enqueued already");
 	work->wk_next = NULL;
 	*queue->last = work;
 	queue->last = &work->wk_next;
@@ -180,18 +150,13 @@ void workqueue_enqueue(struct workqueue *all, struct work *work, struct cpu_info
 	end_call(me);
 }
 
-/* Waits until a work is neither in a queue nor being done by another thread than this one. */
-static void await_work(struct thread *me, struct queue *queue, const struct work *work)
-{
-	acquire_mutex(me, &queue->lock);
-	while (queue->thread != me && (is_enqueued(queue, work) || queue->current == work))
-		wait_for(me, &queue->changed, &queue->lock, -1);
-	release_mutex(me, &queue->lock);
-}
-
 void workqueue_wait(struct workqueue *all, struct work *work)
 {
 	struct thread *me = sleepable(begin_call(__func__));
-	for (unsigned at = 0; at < all->count; at++)
-		await_work(me, &all->queues[at], work);
+	for (struct queue *queue = all->queues; queue < &all->queues[all->count]; queue++) {
+		acquire_mutex(me, &queue->lock);
+		while (queue->thread != me && (is_enqueued(queue, work) || queue->current == work))
+			wait_for(me, &queue->changed, &queue->lock, -1);
+		release_mutex(me, &queue->lock);
+	}
 }

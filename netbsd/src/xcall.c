@@ -43,8 +43,7 @@ uint64_t xc_broadcast(unsigned flags, xcfunc_t body, void *arg_a, void *arg_b)
 void xc_wait(uint64_t ticket)
 {
 	struct thread *me = sleepable(begin_plain(__func__));
-	if (ticket == 0 || ticket > __atomic_load_n(&tickets, __ATOMIC_RELAXED))
-		stop(me, "no such call");
+	stop_if(me, ticket == 0 || ticket > __atomic_load_n(&tickets, __ATOMIC_RELAXED), "no such call");
 }
 
 void xc_barrier(unsigned flags)

@@ -36,7 +36,6 @@ static inline void add_case(void (*body)(void), const char *line, bool goes_on)
 #define STOPS(line, ...)	CASE(line, false, __VA_ARGS__)
 #define WAITS(line, ...)	CASE(line, true, __VA_ARGS__)
 
-/* Runs a body on a thread of its own, which ends. */
 static inline void on_thread(void *(*body)(void *))
 {
 	pthread_t thread;

@@ -1,8 +1,4 @@
-/*
- * kernel - the calls beside the three pages, as far as one thread and those that it makes see them
- *
- * It is compiled as a driver's file is. The bench runs it too: explorer/tests/named.c.
- */
+/* kernel - the calls beside the three pages. It is compiled as a driver's file is, and the bench runs it too: explorer/tests/named.c. */
 #include <sys/param.h>
 #include <sys/atomic.h>
 #include <sys/container_of.h>
@@ -11,8 +7,6 @@
 
 #include "test.h"
 #include "things.h"
-
-/* ---- spl(9), and the levels' names. ---- */
 
 static int level_now(void) { return splraiseipl(makeiplcookie(IPL_NONE)); }
 
@@ -49,17 +43,6 @@ static void test_levels(void)
 	EXPECT((SOFTINT_BIO | SOFTINT_MPSAFE) != SOFTINT_BIO && (SOFTINT_SERIAL & SOFTINT_LVLMASK) == SOFTINT_SERIAL);
 }
 
-/* ---- mutex(9): which lock spins, by its type or by its level, and its CPU's level meanwhile. ---- */
-
-static void test_mutex(kmutex_type_t type, int level, int raised)
-{
-	mutex_init(&lock, type, level);
-	EXPECT(mutex_tryenter(&lock) == 1 && mutex_owned(&lock) && kpreempt_disabled() == (raised != IPL_NONE) && level_now() == raised);
-	mutex_exit(&lock);
-	EXPECT(!kpreempt_disabled());
-	mutex_destroy(&lock);
-}
-
 static void test_mutexes(void)
 {
 	static const struct {
@@ -69,8 +52,13 @@ static void test_mutexes(void)
 	    {MUTEX_DEFAULT, IPL_HIGH, IPL_HIGH}, {MUTEX_DRIVER, IPL_SOFTBIO, IPL_NONE}, {MUTEX_DRIVER, IPL_BIO, IPL_BIO},
 	    {MUTEX_ADAPTIVE, IPL_NONE, IPL_NONE}, {MUTEX_NODEBUG, IPL_SCHED, IPL_SCHED}, {MUTEX_SPIN, IPL_NONE, IPL_VM},
 	    {MUTEX_SPIN, IPL_SOFTNET, IPL_SOFTNET}};
-	for (unsigned at = 0; at < __arraycount(each); at++)
-		test_mutex(each[at].type, each[at].level, each[at].raised);
+	for (unsigned at = 0; at < __arraycount(each); at++) {
+		mutex_init(&lock, each[at].type, each[at].level);
+		EXPECT(mutex_tryenter(&lock) == 1 && mutex_owned(&lock) && kpreempt_disabled() == (each[at].raised != IPL_NONE) && level_now() == each[at].raised);
+		mutex_exit(&lock);
+		EXPECT(!kpreempt_disabled());
+		mutex_destroy(&lock);
+	}
 }
 
 /* ---- kmem(9), pool(9), pool_cache(9). ---- */
@@ -203,7 +191,6 @@ static void test_counters(void)
 	percpu_free(stats, STATS * sizeof(uint64_t));
 }
 
-/* How often parts were visited. */
 static unsigned looks;
 
 /* Looks at a CPU's part, once it was found to be zeros. It begins a line, and the parts lie apart: each has its CPU's number in all bytes. */
@@ -216,7 +203,6 @@ static void look_at_part(void *own, void *size, struct cpu_info *cpu)
 	memset(part, (int)cpu_index(cpu) + 1, *(size_t *)size);
 }
 
-/* Each CPU's part is made, looked at and ended once. */
 static void test_parts(void)
 {
 	static size_t sizes[] = {1, 64, 65, BLOCK};
@@ -231,7 +217,6 @@ static void test_parts(void)
 	}
 }
 
-/* How often each CPU was visited. */
 static unsigned visited[KUPALDIZ_CPUS];
 
 static void visit_cpu(void *high, void *other)
@@ -270,21 +255,6 @@ static void test_cpus(void)
 	for (CPU_INFO_FOREACH(place, cpu))
 		EXPECT((int)cpu_index(cpu) == all++);
 	EXPECT(all == KUPALDIZ_CPUS && all == ncpu && pserialize_not_in_read_section());
-}
-
-/* Sections nest as deep as anybody likes, and counts and references are acquired in the deepest. */
-static void test_depth(void)
-{
-	enum { DEEP = 300 };
-	static int levels[DEEP];
-	make_things(IPL_NONE);
-	for (int i = 0; i < DEEP; i++)
-		EXPECT((levels[i] = pserialize_read_enter()) == i);
-	localcount_acquire(&count);
-	for (int i = DEEP - 1; i >= 0; i--)
-		pserialize_read_exit(levels[i]);
-	localcount_release(&count, &cv, &lock);
-	end_things();
 }
 
 /* ---- kthread(9), workqueue(9), time, and copies. ---- */
@@ -375,29 +345,21 @@ static void test_time(void)
 
 static void test_copies(void)
 {
-	char user[8] = "abcdefg", there[8] = "";
+	char user[8] = "abcdefg", there[8] = "", *const first = (char *)(uintptr_t)4096, *const last = first - 1;
 	size_t copied = 0;
 	EXPECT(copyin(user, there, sizeof(there)) == 0 && strcmp(there, "abcdefg") == 0);
 	EXPECT(copyout("ABCDEFG", user, 3) == 0 && strcmp(user, "ABCdefg") == 0 && copyout("a", user, 1) == 0);
-	EXPECT(copyin((void *)4095, there, 1) == EFAULT && strcmp(there, "abcdefg") == 0);
-	EXPECT(copyin(NULL, there, 1) == EFAULT && copyout(there, (void *)8, 1) == EFAULT && copyout(there, NULL, 0) == 0);
+	EXPECT(copyin(last, there, 1) == EFAULT && strcmp(there, "abcdefg") == 0);
+	EXPECT(copyin(NULL, there, 1) == EFAULT && copyout(there, (void *)8, 1) == EFAULT);
 	EXPECT(copyinstr(user, there, sizeof(there), &copied) == 0 && copied == 8 && strcmp(there, "aBCdefg") == 0);
 	EXPECT(copyinstr(user, there, 3, &copied) == ENAMETOOLONG && copied == 3);
-	EXPECT(copyoutstr("xy", user, sizeof(user), NULL) == 0 && strcmp(user, "xy") == 0 && copyoutstr("xy", NULL, 3, NULL) == EFAULT);
-}
-
-/* The first address that may be the user's. Of no bytes nothing is copied, so that what lies there isn't touched, and NULL is right. */
-static void test_empty_copies(void)
-{
-	char *const first = (char *)(uintptr_t)4096, *const last = (char *)(uintptr_t)4095, here = 'a';
-	size_t copied = 7;
-	EXPECT(copyoutstr("text", last, 0, &copied) == EFAULT && copied == 7);
+	EXPECT(copyoutstr("xy", user, sizeof(user), NULL) == 0 && strcmp(user, "xy") == 0);
+	/* Of no bytes nothing is copied, so that what lies at the first address that may be the user's isn't touched, and NULL is right. */
+	EXPECT(copyoutstr("text", last, 0, &copied) == EFAULT && copied == 3);
 	EXPECT(copyoutstr("text", first, 0, &copied) == ENAMETOOLONG && copied == 0);
 	EXPECT(copyoutstr("text", NULL, 0, NULL) == EFAULT && copyoutstr("text", first, 0, NULL) == ENAMETOOLONG);
-	EXPECT(copyin(NULL, first, 0) == 0 && copyout(&here, NULL, 0) == 0 && copyin(&here, NULL, 0) == 0 && copyout(NULL, first, 0) == 0);
+	EXPECT(copyin(NULL, first, 0) == 0 && copyout(there, NULL, 0) == 0 && copyin(there, NULL, 0) == 0 && copyout(NULL, first, 0) == 0);
 }
-
-/* ---- module_hook(9). ---- */
 
 MODULE_HOOK(sum_hook, int, (int, int));
 struct sum_hook_t sum_hook;
@@ -435,8 +397,8 @@ static void test_queue(void) { test_works(WQ_MPSAFE); }
 static void test_queues(void) { test_works(WQ_MPSAFE | WQ_PERCPU | WQ_FPU); }
 
 static void (*const kernel_tests[])(void) = {
-	test_levels, test_mutexes, test_memory, test_zeros, test_cache, test_looked_at, test_alignment, test_counters, test_parts, test_calls, test_cpus, test_depth,
-	test_threads, test_queue, test_queues, test_time, test_copies, test_empty_copies, test_hooks,
+	test_levels, test_mutexes, test_memory, test_zeros, test_cache, test_looked_at, test_alignment, test_counters, test_parts, test_calls, test_cpus,
+	test_threads, test_queue, test_queues, test_time, test_copies, test_hooks,
 };
 
 #ifndef KUPALDIZ_BENCH

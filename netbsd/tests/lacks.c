@@ -1,21 +1,17 @@
 /*
  * lacks - memory, threads and keys that run out: a call that can say so does, and any other ends its process with its line. What was given back is
- * told, even if the heap uses it again.
- *
- * The linker leads what the layer asks the C library for here (--wrap). Each case runs in a child. The last line counts the cases.
+ * told, even if the heap uses it again. The linker leads what the layer asks the C library for here (--wrap).
  */
-#include <sys/workqueue.h>
-
 #include "stops.h"
 #include "wraps.h"
 
 #include "things.h"
 
-/* What is refused from now on. */
 static enum lack { NOTHING_LACKS, CALLOC, MALLOC, REALLOC, ALIGNED, THREADS, KEY, VALUE, AT_FORK } lacks;
 
 /* A call that fails where it lacks. */
 #define LACKS(what, type, failed, name, parameters, arguments) \
+	type __real_##name parameters; \
 	type __wrap_##name parameters { return lacks == what ? (failed) : __real_##name arguments; }
 
 LACKS(MALLOC, void *, NULL, malloc, (size_t size), (size))
@@ -62,8 +58,6 @@ STOPS("kupaldiz_bind: out of memory, at PLACE", open_without(NOTHING_LACKS); on_
 THREAD(bind_without_value, lacks = VALUE; kupaldiz_bind(1))
 STOPS("kupaldiz_bind: out of memory, at PLACE", open_without(NOTHING_LACKS); on_thread(bind_without_value))
 
-/* ---- Calls that can't say it. ---- */
-
 STOPS("psref_class_create: out of memory", open_without(CALLOC); psref_class_create("other", IPL_NONE))
 STOPS("psref_acquire: out of memory, at PLACE", struct psref psref; open_without(REALLOC); psref_acquire(&psref, &target, things))
 STOPS("localcount_acquire: out of memory, at PLACE", open_without(REALLOC); localcount_acquire(&count))
@@ -77,8 +71,6 @@ STOPS("callout_init: out of memory", open_without(CALLOC); callout_init(&callout
 STOPS("callout: no thread is left",
     open_without(NOTHING_LACKS); callout_init(&callout, CALLOUT_MPSAFE); lacks = THREADS; callout_reset(&callout, 1, nothing, NULL);
     sleep_for(20000000))
-
-/* ---- Calls that say it. ---- */
 
 static void require_no_memory(void)
 {
@@ -113,8 +105,6 @@ static void require_no_threads(void)
 }
 STOPS("panic: threads were told to be out, at PLACE", require_no_threads(); panic("threads were told to be out"))
 
-/* ---- What was given back. ---- */
-
 STOPS("kmem_free: no block of kmem's, or one that was given back, at PLACE",
     void *block = kmem_alloc(32, KM_SLEEP); keeps = true; kmem_free(block, 32); kmem_free(block, 32))
 STOPS("pool_put: no object of thingpl, or one that was given back, at PLACE",
@@ -123,8 +113,6 @@ STOPS("pool_put: no object of thingpl, or one that was given back, at PLACE",
 STOPS("pool_cache_put: no object of thingpl, or one that was given back, at PLACE",
     pool_cache_t cache = pool_cache_init(24, 0, 0, 0, "thingpl", NULL, IPL_NONE, NULL, NULL, NULL); void *object = pool_cache_get(cache, PR_WAITOK);
     keeps = true; pool_cache_put(cache, object); pool_cache_put(cache, object))
-
-/* ---- Other misuses. ---- */
 
 STOPS("percpu_create: inside a read section, entered at PLACE", pserialize_read_enter(); percpu_create(8, NULL, NULL, NULL))
 /* More than all memory, by itself, and once it is there for each CPU. */

@@ -1,7 +1,7 @@
 /*
  * limits - more than one registry takes: over a layer whose registries have four rows, forty changes, twenty thousand sections of a CPU and two
- * thousand references. With `full` over the true limits, as far as a test comes to them: more than two million changes, and hundreds of live targets. At
- * the end all registries are closed; for that the test looks into the layer.
+ * thousand references. With `full` over the true limits, as far as a test comes to them: more than two million changes. At the end all
+ * registries are closed; for that the test looks into the layer.
  */
 #include <sched.h>
 
@@ -14,36 +14,13 @@
 #endif
 #include "src/layer.h"
 
-enum { MOST_LIVE = 300, READERS = 4, MANY = 300000, MANY_CHANGES = 2200000, COUNTS = 2100, REFERENCES = 3501 };	/* no multiple of 7 */
+enum { LIVE = 2 * ROWS + 1, LEFT = 3, READERS = 4, MANY = 300000, MANY_CHANGES = 2200000, COUNTS = 2100, REFERENCES = 3501 };	/* no multiple of 7 */
 
-static struct psref_target targets[MOST_LIVE];
-static struct localcount counts[MOST_LIVE];
+static struct psref_target targets[2];
+static struct localcount counts[LIVE];
 static atomic_bool over;
 static _Atomic(int *) shown;
 static atomic_uint sections;
-
-/* Many are live at once. Each can be referred to, and each ends. */
-static void test_live(unsigned live)
-{
-	struct psref psref;
-	for (unsigned i = 0; i < live; i++) {
-		psref_target_init(&targets[i], things);
-		localcount_init(&counts[i]);
-	}
-	for (unsigned i = 0; i < live; i++) {
-		psref_acquire(&psref, &targets[i], things);
-		EXPECT(psref_held(&targets[i], things) && !psref_held(&targets[(i + 1) % live], things));
-		psref_release(&psref, &targets[i], things);
-		localcount_acquire(&counts[i]);
-		EXPECT(localcount_debug_refcnt(&counts[i]) == 1);
-		localcount_release(&counts[i], &cv, &lock);
-	}
-	for (unsigned i = 0; i < live; i++) {
-		psref_target_destroy(&targets[i], things);
-		drain(&counts[i]);
-		localcount_fini(&counts[i]);
-	}
-}
 
 /* One target after another, beside one that stays, and then one count after another: more than there are registries for, unless some are opened anew. With
  * `full` there are more than a million targets, and none has another one's name. */
@@ -135,7 +112,6 @@ THREAD(release_all,
     for (unsigned i = 0; i < *(unsigned *)arg; i++)
 	    localcount_release(&counts[0], &cv, &lock))
 
-/* References that go one way: acquired on one CPU, and released on another. */
 static void test_one_way(unsigned references)
 {
 	pthread_t other;
@@ -166,7 +142,6 @@ static void *read_all(void *arg)
 	return arg;
 }
 
-/* Shows another one. The one before. */
 static int *show(void)
 {
 	int *next = malloc(sizeof(*next));
@@ -198,8 +173,6 @@ static void test_sections(unsigned rounds)
 
 /* ---- The end of all registries, as the bench comes to it after each run: each handle is closed, and each reference that was left is forgotten. ---- */
 
-enum { LIVE = 2 * ROWS + 1, LEFT = 3 };
-
 static struct found_row found[LIVE];
 static atomic_bool inside;
 
@@ -230,23 +203,19 @@ static void leave_all(void)
 		EXPECT(registry_enter(&cpus[0].bank->cpus[0].cpu) == REGISTRY_DONE);
 }
 
-/* The handles of a count's registry are empty, and so are those of its references. */
-static void require_closed(struct found_row at)
-{
-	EXPECT(registry_close_keeper(&at.bank->keeper) == REGISTRY_EMPTY_HANDLE);
-	for (unsigned cpu = 0; cpu < ALL_CPUS; cpu++)
-		EXPECT(registry_close_cpu(&at.bank->cpus[cpu].cpu) == REGISTRY_EMPTY_HANDLE);
-	for (unsigned place = 0; place < LEFT; place++)
-		EXPECT(registry_local_forget(&at.row->held[place].local) == REGISTRY_EMPTY_HANDLE);
-}
-
+/* The handles of each count's registry are empty then, and so are those of its references. */
 static void test_close(void)
 {
 	struct thread nobody = {.call = "closing"};
 	leave_all();
 	close_banks(&nobody);
-	for (unsigned i = 0; i < LIVE; i++)
-		require_closed(found[i]);
+	for (unsigned i = 0; i < LIVE; i++) {
+		EXPECT(registry_close_keeper(&found[i].bank->keeper) == REGISTRY_EMPTY_HANDLE);
+		for (unsigned cpu = 0; cpu < ALL_CPUS; cpu++)
+			EXPECT(registry_close_cpu(&found[i].bank->cpus[cpu].cpu) == REGISTRY_EMPTY_HANDLE);
+		for (unsigned place = 0; place < LEFT; place++)
+			EXPECT(registry_local_forget(&found[i].row->held[place].local) == REGISTRY_EMPTY_HANDLE);
+	}
 }
 
 int main(int argc, char **argv)
@@ -254,7 +223,6 @@ int main(int argc, char **argv)
 	bool full = argc == 2 && strcmp(argv[1], "full") == 0;
 	make_things(IPL_NONE);
 	kupaldiz_bind(1);
-	test_live(full ? MOST_LIVE : 40);
 	test_changes(full ? MANY_CHANGES : 6000);
 	test_references(REFERENCES, 1);
 	test_references(REFERENCES, 7);
@@ -265,7 +233,6 @@ int main(int argc, char **argv)
 	if (!full)
 		test_one_way(3000);
 	test_sections(full ? 2000 : 150);
-	test_live(full ? MOST_LIVE : 40);
 	end_things();
 	test_close();
 	puts(full ? "more than two million changes" : "more than each registry takes");

@@ -19,7 +19,7 @@ TEXT = re.compile(r'"((?:[^"\\]|\\.)*)"')
 def lines():
     """(file, what it says) of each."""
     for file in sorted((HERE.parent / "src").glob("*.c")):
-        for call in re.finditer(r"\b(?:stop|report|stop_at|enable_preemption)\(([^;]*);", file.read_text()):
+        for call in re.finditer(r"\b(?:stop|stop_if|report|stop_at|enable_preemption)\(([^;]*);", file.read_text()):
             yield from ((file.name, text) for text in TEXT.findall(call.group(1)) if " " in text or "%" in text)
         yield from ((file.name, f"{thing} was destroyed") for thing in MADE.findall(file.read_text()))
 

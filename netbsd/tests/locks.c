@@ -1,6 +1,4 @@
-/*
- * locks - the locks beside the three pages: what each guards, levels, conditions, and many that wait
- */
+/* locks - the locks beside the three pages: what each guards, levels, conditions, and many that wait */
 #include "test.h"
 #include "things.h"
 
@@ -19,8 +17,6 @@ static void run_all(void *(*body)(void *))
 	for (unsigned i = 0; i < THREADS; i++)
 		end_thread(threads[i]);
 }
-
-/* ---- Locks. ---- */
 
 static void *add_locked(void *arg)
 {
@@ -157,8 +153,6 @@ static void test_condvars(void)
 	EXPECT(!kpreempt_disabled());
 }
 
-/* ---- The queue of a condition variable. ---- */
-
 enum { WAITERS = 4, LONG = 20 };
 
 static kcondvar_t other_cv;
@@ -182,7 +176,6 @@ static void *wait_in_order(void *of)
 	return of;
 }
 
-/* Lets others have the lock for a while. */
 static void wait_a_tick(void) { EXPECT(cv_timedwait(&other_cv, &lock, 1) == EWOULDBLOCK); }
 
 /* Each signal wakes one, who waits longest. Whose time is over leaves the queue, from its beginning, its middle or its end; the last one comes afterwards. */
@@ -218,8 +211,6 @@ static void test_order(unsigned of, unsigned wanted)
 		end_thread(threads[i]);
 }
 
-/* ---- Many that wait. ---- */
-
 /* More locks and condition variables than the layer has places to wait in: some share one. */
 enum { CROWD = 80 };
 
@@ -240,18 +231,6 @@ static void *wait_in_crowd(void *of)
 	return of;
 }
 
-/* One goes: it gets its signal, and no other does. */
-static void call_member(struct member *member)
-{
-	mutex_enter(&member->lock);
-	member->called = true;
-	cv_signal(&member->cv);
-	mutex_exit(&member->lock);
-	end_thread(member->thread);
-	cv_destroy(&member->cv);
-	mutex_destroy(&member->lock);
-}
-
 static void test_crowd(void)
 {
 	for (unsigned i = 0; i < CROWD; i++) {
@@ -264,8 +243,17 @@ static void test_crowd(void)
 	for (unsigned i = 0; i < CROWD; i++)
 		mutex_exit(&crowd[i * 7 % CROWD].lock);
 	sleep_for(20000);
-	for (unsigned i = 0; i < CROWD; i++)
-		call_member(&crowd[i * 3 % CROWD]);
+	/* One goes after another: it gets its signal, and no other does. */
+	for (unsigned i = 0; i < CROWD; i++) {
+		struct member *member = &crowd[i * 3 % CROWD];
+		mutex_enter(&member->lock);
+		member->called = true;
+		cv_signal(&member->cv);
+		mutex_exit(&member->lock);
+		end_thread(member->thread);
+		cv_destroy(&member->cv);
+		mutex_destroy(&member->lock);
+	}
 }
 
 int main(void)

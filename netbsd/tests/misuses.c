@@ -1,8 +1,4 @@
-/*
- * misuses - what the manual pages forbid and a call sees: each case ends its process with its line
- *
- * The explorer runs them, too, except those of misuses_of_threads.c. The last line counts the cases.
- */
+/* misuses - what the manual pages forbid and a call sees: each case ends its process with its line. The explorer runs them, too. */
 #include "stops.h"
 #include "things.h"
 
@@ -31,7 +27,6 @@ static callout_t no_callout;
 
 HANDLER(nothing, (void)0)
 
-/* What each case begins with: this thread on CPU 0, and one of each thing. */
 static void begin(void)
 {
 	kupaldiz_bind(0);
@@ -82,7 +77,6 @@ static void await_ready(void)
 /* Starts a thread that doesn't end. */
 static void start_alone(void *(*body)(void *)) { pthread_t thread; start_thread(&thread, body, NULL); }
 
-/* The same, until it is ready. */
 static void start(void *(*body)(void *)) { start_alone(body); await_ready(); }
 static void on_two_threads(void *(*body)(void *)) { start_alone(body); on_thread(body); }
 
@@ -102,7 +96,6 @@ static void as_softint(void (*handler)(void *))
 
 static void run_handler(void *handler, void *arg) { (*(void (**)(void *))handler)(arg); }
 
-/* Runs it on each CPU as a function of xcall(9). */
 static void broadcast(unsigned flags, void (*handler)(void *))
 {
 	xc_wait(xc_broadcast(flags, run_handler, &handler, NULL));
@@ -550,18 +543,11 @@ static const struct state {
     {in_softint, "in a soft interrupt"},
 };
 
-/* Judges the call in one state. */
 static void judge_call(void (*body)(void), const char *subject, const char *reason)
 {
 	char line[160];
 	snprintf(line, sizeof(line), "%s: %s%s%s", made->name, subject, reason, made->has_place ? ", at PLACE" : "");
 	judge_case(begin, &(const struct stop_case){body, line, false});
-}
-
-static void judge_sleeper(void)
-{
-	for (unsigned at = 0; at < sizeof(states) / sizeof(states[0]); at++)
-		judge_call(states[at].body, "", states[at].reason);
 }
 
 /* ---- Each call that is given a lock, a condition variable or a callout, with one that was never initialised, and with one that was destroyed. ---- */
@@ -613,18 +599,15 @@ static const struct kind {
 static void use_never_made(void) { make_locked(); made->body(); }
 static void use_destroyed(void) { kinds[made->what].destroy(); use_never_made(); }
 
-static void judge_user(void)
-{
-	judge_call(use_never_made, kinds[made->what].name, " was never initialised");
-	judge_call(use_destroyed, kinds[made->what].name, " was destroyed");
-}
-
 int main(void)
 {
 	snprintf(beyond, sizeof(beyond), "kupaldiz_bind: there is no CPU %d, at PLACE", KUPALDIZ_CPUS);
 	for (made = sleepers; made < &sleepers[sleepers_count]; made++)
-		judge_sleeper();
-	for (made = users; made < &users[users_count]; made++)
-		judge_user();
+		for (unsigned at = 0; at < sizeof(states) / sizeof(states[0]); at++)
+			judge_call(states[at].body, "", states[at].reason);
+	for (made = users; made < &users[users_count]; made++) {
+		judge_call(use_never_made, kinds[made->what].name, " was never initialised");
+		judge_call(use_destroyed, kinds[made->what].name, " was destroyed");
+	}
 	return run_cases(begin);
 }

@@ -1,8 +1,6 @@
 /*
- * misuses_of_threads - misuses that depend on a fork, on a cancellation, or on when a thread ends or joins; and the line itself: the places that it has
- * where many were noted, the names of threads, and one that is too long or can't be written. Each case ends its process with its line
- *
- * The linker leads here (--wrap) pthread_mutex_unlock, pthread_create, write, open and close. The last line counts the cases.
+ * misuses_of_threads - misuses that depend on a fork, on a cancellation, or on when a thread ends or joins; and the line itself: its places, the names of
+ * threads, and one that is too long or can't be written. The linker leads here (--wrap) pthread_mutex_unlock, pthread_create, write, open and close.
  */
 #include <fcntl.h>
 #include <limits.h>
@@ -11,7 +9,6 @@
 #include "stops.h"
 #include "wraps.h"
 
-#include "after.h"
 #include "things.h"
 
 /* What runs on a thread of its own before the body of the next one that is started. */
@@ -143,8 +140,6 @@ STOPS("mutex_enter: the thread has the lock already, taken at the seventh place"
 THREAD(destroy_cancelled, EXPECT(pthread_cancel(pthread_self()) == 0); mutex_destroy(&held))
 STOPS("mutex_destroy: the lock is held: thread \"misuses_of_thre\" took it at PLACE, at PLACE", on_thread(destroy_cancelled))
 
-/* ---- Lengths. ---- */
-
 enum { ROOM = 512, TEXT = 500, MOST = ROOM - 2 };	/* a line has MOST bytes, and its newline */
 
 static char long_text[TEXT + 1], long_place[MOST], whole[MOST + 1];
@@ -168,8 +163,6 @@ STOPS(whole, report_with_place(write_whole()))
 STOPS(whole, report_with_place(write_whole() + 1))
 /* What can't be written is told by the reason. */
 STOPS("KASSERT: No space left on device", is_full = true; kupaldiz_failed("KASSERT", "1 + 1 == 3", NULL))
-
-/* ---- Names. ---- */
 
 static atomic_bool ready;
 

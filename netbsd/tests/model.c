@@ -1,11 +1,8 @@
 /*
  * model SEED STEPS - random programs of several threads against a model of pserialize(9), psref(9) and localcount(9)
  *
- * Threads look objects up, nest sections, acquire, copy and release passive references, acquire local references and hand them on, schedule soft
- * interrupts, and take objects out. The model counts beside the layer: which sections are open, and how many references of each kind an object has. It
- * says what must hold when a call returns. A CPU has one thread's section at a time. After a perform each section that was open has ended. After a destroy
- * or a drain no reference is held. What was copied is held, and what is reached is not freed. An object's words are plain memory, so that the thread sanitizer, too, judges the order
- * between the last use and the free.
+ * The model counts beside the layer which sections are open, and how many references of each kind an object has, and says what must hold when a call
+ * returns. An object's words are plain memory, so that the thread sanitizer, too, judges the order between the last use and the free.
  */
 #include "test.h"
 #include "things.h"
@@ -38,7 +35,6 @@ static atomic_uint copies, interrupts;
 static unsigned steps;
 static void *cookies[SOFTINT_SERIAL + 1];
 
-/* The next number of an actor's, below a bound. */
 static unsigned below(struct actor *actor, unsigned bound)
 {
 	actor->random ^= actor->random << 13;
@@ -48,8 +44,6 @@ static unsigned below(struct actor *actor, unsigned bound)
 }
 
 static void judge(const struct object *object) { EXPECT(object->state == LIVE && object->place < OBJECTS); }
-
-/* ---- Sections. ---- */
 
 static int enter(struct actor *actor)
 {
@@ -79,8 +73,6 @@ static struct object *meet(struct actor *actor)
 		judge(object);
 	return object;
 }
-
-/* ---- References. ---- */
 
 /* A place of the actor's that is free, or is not. MOST_HELD where there is none. */
 static unsigned find_place(struct actor *actor, bool taken)
@@ -161,7 +153,6 @@ static void count_in(struct actor *actor)
 	localcount_release(&object->count, &cv, &lock);
 }
 
-/* Releases the object that is on its way, if one is. */
 static void count_out(struct actor *actor)
 {
 	struct object *object = atomic_exchange(&handed[below(actor, HANDED)], NULL);
@@ -172,7 +163,6 @@ static void count_out(struct actor *actor)
 	localcount_release(&object->count, &cv, &lock);
 }
 
-/* Reads in a section for a while. */
 static void read_for_a_while(struct actor *actor)
 {
 	int s = enter(actor);
@@ -206,8 +196,6 @@ BODY(interrupt)
 	}
 	atomic_fetch_add(&interrupts, 1);
 }
-
-/* ---- The writer. ---- */
 
 static struct object *new_object(unsigned place)
 {
@@ -282,8 +270,6 @@ static void replace(struct actor *actor)
 	sweep(object);
 	end_object(actor, object);
 }
-
-/* ---- The program. ---- */
 
 static void step(struct actor *actor)
 {

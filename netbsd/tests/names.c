@@ -1,8 +1,4 @@
-/*
- * names - the names of names.txt that are no calls of the layer's: each does what its page says
- *
- * It is compiled as a driver's file is. The bench runs it too: explorer/tests/named.c.
- */
+/* names - the names of names.txt that are no calls. It is compiled as a driver's file is, and the bench runs it too: explorer/tests/named.c. */
 #include <sys/cdefs.h>
 __KERNEL_RCSID(0, "$NetBSD$");
 
@@ -18,8 +14,6 @@ __KERNEL_RCSID(0, "$NetBSD$");
 #include <sys/queue.h>
 
 #include "test.h"
-
-/* ---- atomic_ops(3). ---- */
 
 /* All operations on a word of one type. It holds 5 at first. */
 #define TEST_ATOMICS(type, add, add_nv, inc, inc_nv, dec, dec_nv, and, and_nv, or, or_nv, swap, cas, cas_ni) \
@@ -208,8 +202,6 @@ static void test_tailq(void)
 	EXPECT(TAILQ_EMPTY(&head));
 }
 
-/* ---- pslist(9). ---- */
-
 struct item {
 	struct pslist_entry link;
 	unsigned value;
@@ -250,8 +242,6 @@ static void test_pslist(void)
 	PSLIST_DESTROY(&head);
 }
 
-/* ---- evcnt(9). ---- */
-
 static struct evcnt events[2] = {EVCNT_INITIALIZER(EVCNT_TYPE_TRAP, NULL, "named", "first"), EVCNT_INITIALIZER(EVCNT_TYPE_MISC, &events[0], "named", "second")};
 EVCNT_ATTACH_STATIC2(events, 1);
 
@@ -266,8 +256,6 @@ static void test_events(void)
 	evcnt_detach(&events[1]);
 }
 
-/* ---- module(9). ---- */
-
 MODULE(MODULE_CLASS_DRIVER, named, NULL);
 
 static int named_modcmd(modcmd_t command, void *opaque)
@@ -280,8 +268,6 @@ static void test_module(void)
 {
 	EXPECT(kupaldiz_named_modcmd(MODULE_CMD_AUTOUNLOAD, NULL) == 0 && kupaldiz_named_modcmd(MODULE_CMD_STAT, NULL) == ENOTTY);
 }
-
-/* ---- cdefs, types, param, systm. ---- */
 
 struct __packed tight {
 	uint8_t	byte;

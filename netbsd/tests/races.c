@@ -1,8 +1,6 @@
 /*
  * races - what orders the threads that have passive references, as the detector of races sees it: the CPU that two share, and the release that a destroy
- * waits for
- *
- * The threads wait for each other by steps that order nothing. Over a layer whose registries have four rows, forty changes and two thousand references.
+ * waits for. They wait for each other by steps that order nothing, over registries of four rows, forty changes and two thousand references.
  */
 #include "test.h"
 #include "things.h"
@@ -33,10 +31,8 @@ static void *refer_first(void *arg)
 	return arg;
 }
 
-/*
- * psref_held looks into the table of its CPU while the thread has that CPU. It asks for a reference that is counted elsewhere, as its CPU is full, and looks at
- * the place of the other thread's first, which that one writes afterwards.
- */
+/* psref_held looks into the table of its CPU while the thread has that CPU. It asks for a reference that is counted elsewhere, as its CPU is full, and looks at
+ * the place of the other thread's first, which that one writes afterwards. */
 static void test_asked(void)
 {
 	static struct psref psrefs[FULL + 1];

@@ -1,7 +1,4 @@
-/*
- * softints - soft interrupts run on the CPU that scheduled them: between two calls of the thread that has it, inside its section too, and at once
- * where nobody has it; levels keep them off; one that waits for a lock lets the thread go on; a thread offers its CPU at the end of each call
- */
+/* softints - where and when soft interrupts run: levels, locks that a handler waits for, and the calls at whose end a thread offers its CPU */
 #include "test.h"
 #include "things.h"
 
@@ -10,18 +7,10 @@ static atomic_uint runs, waits;
 static atomic_int ran_on;
 static unsigned order[4], ordered;
 
-/* Reads and refers, as a handler does, nested in the section that is open. */
 static void handle(void *arg)
 {
-	struct psref psref;
 	EXPECT(cpu_softintr_p() && (curlwp->l_pflag & LP_INTR) != 0 && !pserialize_in_read_section());
 	atomic_store(&ran_on, (int)cpu_number());
-	int s = pserialize_read_enter();
-	EXPECT(s == 0);
-	psref_acquire(&psref, &target, things);
-	pserialize_read_exit(s);
-	EXPECT(psref_held(&target, things));
-	psref_release(&psref, &target, things);
 	atomic_fetch_add((atomic_uint *)arg, 1);
 }
 

@@ -11,7 +11,6 @@
 
 #include "cases.h"
 
-/* Whether a case said exactly its line, and ended by abort or well. */
 bool is_right(void (*begin)(void), const struct stop_case *the_case)
 {
 	char said[1024], wanted[512];

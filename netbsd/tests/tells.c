@@ -1,9 +1,6 @@
 /*
- * tells - a wait that lasts names who it waits for, once, by one line; a count that is full stops: over a layer whose patience is short, and whose limits
- * are low
- *
- * Each case runs in a child, which ends well. What is waited for ends once the line was written: the linker leads write here (--wrap), open, and what
- * acquires and releases a local reference in the archive, which may last. The last line counts the cases.
+ * tells - a wait that lasts names who it waits for, once, by one line; a count that is full stops: over a layer of little patience and low limits. What is
+ * waited for ends once the line was written: the linker leads write here (--wrap), open, and what acquires and releases a local reference in the archive.
  */
 #include <sys/prctl.h>
 
@@ -54,6 +51,7 @@ static void keep(void)
 static atomic_bool lasts, lasts_inside;
 
 #define LASTS(call, flag) \
+	uint32_t __real_##call(struct registry_cpu *cpu, struct registry_local *reference); \
 	uint32_t __wrap_##call(struct registry_cpu *cpu, struct registry_local *reference) \
 	{ \
 		if (atomic_load(flag)) \
@@ -89,8 +87,6 @@ static pthread_t hold(const char *name, void *(*body)(void *))
 
 static void release_count(void) { localcount_release(&count, &cv, &lock); }
 
-/* ---- Sections. ---- */
-
 #define FOR_READER	"waits for CPU 3, whose thread \"reader\" is inside a read section, entered at PLACE"
 
 HOLDER(read_long, int s = pserialize_read_enter(); keep(); pserialize_read_exit(s))
@@ -108,8 +104,6 @@ WAITS("xc_broadcast: " FOR_READER, BESIDE("reader", read_long, xc_wait(xc_broadc
 HOLDER(acquire_long,
     pserialize_read_exit(pserialize_read_enter()); atomic_store(&lasts_inside, true); localcount_acquire(&count); release_count())
 WAITS("pserialize_perform: waits for CPU 3", BESIDE("acquirer", acquire_long, pserialize_perform(psz)))
-
-/* ---- References. ---- */
 
 static struct psref first, second;
 
@@ -130,8 +124,6 @@ WAITS("localcount_drain: waits for 2 references, one of them acquired at PLACE",
 HOLDER(release_long, localcount_acquire(&count); atomic_store(&lasts, true); release_count())
 WAITS("localcount_drain: waits for a release that is under way", BESIDE("close", release_long, drain(&count)))
 
-/* ---- Locks. ---- */
-
 HOLDER(lock_long, mutex_enter(&lock); keep(); mutex_exit(&lock))
 WAITS("mutex_enter: waits for the lock that thread \"detach\" took at PLACE", BESIDE("detach", lock_long, mutex_enter(&lock); mutex_exit(&lock)))
 HOLDER(write_long, rw_enter(&rw, RW_WRITER); keep(); rw_exit(&rw))
@@ -150,8 +142,6 @@ WAITS("rw_enter: waits for 2 readers, the last of which took the lock at the sec
 HOLDER(spin_long, mutex_enter(&spin); keep(); mutex_exit(&spin))
 WAITS("mutex_spin_enter: waits for the lock that thread \"spinner\" took at PLACE",
     BESIDE("spinner", spin_long, kupaldiz_bind(4); mutex_spin_enter(&spin); mutex_spin_exit(&spin)))
-
-/* ---- CPUs, handlers, threads. ---- */
 
 /* The CPU is another thread's, which has raised its level. */
 HOLDER(raise_long, pserialize_read_exit(pserialize_read_enter()); int s = splnet(); keep(); splx(s))
@@ -195,19 +185,6 @@ struct holder {
 	atomic_bool holds;
 };
 
-static void hold_cpu_of(struct holder *holder)
-{
-	kpreempt_disable();
-	atomic_store(&holder->holds, true);
-	do
-		sleep_for(8000);
-	while (holder->cpu_is == KEEPS && !atomic_load(&told));
-	/* Nobody took the CPU away meanwhile. */
-	EXPECT(has_cpu(holder->cpu));
-	kpreempt_enable();
-	sleep_for(2000);
-}
-
 static struct psref_target next;
 
 /* Only the last one is counted elsewhere, since the CPU counts as many as it may. A reference to another target is none. */
@@ -224,8 +201,17 @@ static void *hold_one(void *of)
 		psref_acquire(&held[i], &target, things);
 	for (unsigned i = 0; i < beside; i++)
 		psref_release(&held[i], &target, things);
-	while (holder->cpu_is != FREES && !atomic_load(&told))
-		hold_cpu_of(holder);
+	while (holder->cpu_is != FREES && !atomic_load(&told)) {
+		kpreempt_disable();
+		atomic_store(&holder->holds, true);
+		do
+			sleep_for(8000);
+		while (holder->cpu_is == KEEPS && !atomic_load(&told));
+		/* Nobody took the CPU away meanwhile. */
+		EXPECT(has_cpu(holder->cpu));
+		kpreempt_enable();
+		sleep_for(2000);
+	}
 	atomic_store(&holder->holds, true);
 	await(&told);
 	if (holder->counted != NONE)

@@ -15,7 +15,6 @@
 #include "../../c/examples/expect.h"
 #include "bodies.h"
 
-/* Sleeps, as the holder of a reference may. */
 static inline void sleep_for(long microseconds)
 {
 	const struct timespec time = {microseconds / 1000000, microseconds % 1000000 * 1000};

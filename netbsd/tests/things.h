@@ -1,29 +1,8 @@
-/*
- * things.h - the headers of all pages, and what most tests are about: one thing of each of the three pages, with a lock and a condition variable
- */
+/* things.h - what most tests are about: one thing of each of the three pages, with a lock and a condition variable */
 #ifndef NETBSD_THINGS_H
 #define NETBSD_THINGS_H
 
-#include <errno.h>
-#include <sys/callout.h>
-#include <sys/condvar.h>
-#include <sys/cpu.h>
-#include <sys/intr.h>
-#include <sys/kernel.h>
-#include <sys/kmem.h>
-#include <sys/kthread.h>
-#include <sys/localcount.h>
-#include <sys/module_hook.h>
-#include <sys/mutex.h>
-#include <sys/percpu.h>
-#include <sys/pool.h>
-#include <sys/proc.h>
-#include <sys/pserialize.h>
-#include <sys/psref.h>
-#include <sys/rwlock.h>
-#include <sys/systm.h>
-#include <sys/workqueue.h>
-#include <sys/xcall.h>
+#include "pages.h"
 
 static struct psref_class *things;
 static struct psref_target target;
@@ -42,7 +21,6 @@ static inline void make_things(int level)
 	localcount_init(&count);
 }
 
-/* Waits for those that have the count. */
 static inline void drain(struct localcount *of)
 {
 	mutex_enter(&lock);

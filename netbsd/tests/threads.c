@@ -1,18 +1,13 @@
 /*
- * threads - what the layer keeps of threads, and the CPU that a thread gets: memory that is used again, and never by two at once; a thread of
- * kthread_create's until its join; destructors that still give something back, and cancellation; locks that go with their object, or are passed; the CPU that
- * is free, or has the fewest bound threads
- *
- * The linker leads pthread_mutex_unlock here (--wrap).
+ * threads - the memory and the CPU that a thread gets; its end: joins, destructors that still give something back, and cancellation; locks that go with
+ * their object, or are passed. The linker leads pthread_mutex_unlock here (--wrap).
  */
 #include "test.h"
 
-#include "after.h"
+#include "wraps.h"
 #include "things.h"
 
 #include "src/layer.h"
-
-/* ---- Memory of threads. ---- */
 
 /* A thread that has just begun ran nowhere, and isn't bound, though it has the memory of one that was. */
 static void *be_bound(void *kept)
@@ -74,9 +69,6 @@ static void test_end(void)
 	EXPECT(is_over);
 }
 
-/* ---- Threads of kthread_create's. ---- */
-
-/* What such a thread is to itself. */
 static _Atomic(lwp_t *) itself;
 
 HANDLER(tell_itself, atomic_store(&itself, curlwp); kthread_exit(0))
@@ -99,8 +91,6 @@ static void test_joined_early(void)
 	EXPECT(kthread_create(PRI_NONE, KTHREAD_MUSTJOIN, NULL, tell_itself, NULL, &worker, "worker") == 0 && after == NULL);
 	EXPECT(worker == atomic_load(&itself));
 }
-
-/* ---- Destructors that still give something back. ---- */
 
 static kmutex_t own_lock;
 static krwlock_t rw;
@@ -255,9 +245,6 @@ static void test_cancelled(void (**wait)(void))
 	pserialize_read_exit(pserialize_read_enter());
 }
 
-/* ---- A lock that goes with its object. ---- */
-
-/* Whether a thread waits for the lock: its word says so. */
 static bool is_waited_for(const kmutex_t *mutex) { return (__atomic_load_n(&mutex->mtx_word, __ATOMIC_RELAXED) & 1) != 0; }
 
 static atomic_bool gone;
@@ -295,8 +282,6 @@ static void test_gone(int level)
 	EXPECT(s == IPL_NONE);
 	splx(s);
 }
-
-/* ---- A lock that is passed. ---- */
 
 enum { ATTEMPTS = 30, MOST_TURNS = 10 };
 
@@ -343,9 +328,6 @@ static void test_passed(void)
 	EXPECT(most >= 2);
 }
 
-/* ---- CPUs. ---- */
-
-/* A thread that has one CPU. */
 static struct keeper {
 	pthread_t thread;
 	atomic_bool has, ends;
@@ -372,7 +354,6 @@ static void keep_cpu(unsigned cpu)
 
 static void free_cpu(unsigned cpu) { atomic_store(&keepers[cpu].ends, true); end_thread(keepers[cpu].thread); }
 
-/* This thread isn't bound, and was on that CPU last. */
 static void come_from(unsigned cpu) { kupaldiz_bind(cpu); kupaldiz_unbind(); }
 
 /* No other CPU is free or without a bound thread: a thread that waits for another one waits for ever. */

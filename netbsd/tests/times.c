@@ -1,7 +1,4 @@
-/*
- * times - time by the system's clock: which tick it is, and that delays, pauses and waits for a condition variable last as long as they say, whatever second
- * begins meanwhile, and although signals come to the process
- */
+/* times - ticks, delays, pauses and waits last as long as they say by the system's clock, whatever second begins, and although signals come */
 #include <signal.h>
 
 #include "test.h"
@@ -11,7 +8,6 @@
 
 enum { MOST_LATE = 30 };	/* seconds, on a busy machine */
 
-/* The clock that nobody sets, in nanoseconds. */
 static int64_t now(void)
 {
 	struct timespec time;
@@ -19,7 +15,6 @@ static int64_t now(void)
 	return (int64_t)time.tv_sec * 1000000000 + time.tv_nsec;
 }
 
-/* A tick lasts ten milliseconds. */
 static void test_ticks(void)
 {
 	int64_t before = now() / TICK;
@@ -29,7 +24,6 @@ static void test_ticks(void)
 	EXPECT(getuptime() - now() / 1000000000 <= 1);
 }
 
-/* So much time has gone by since then, and not much more. */
 static void require_gone(int64_t from, int64_t nanoseconds)
 {
 	EXPECT(now() - from >= nanoseconds && now() - from < nanoseconds + MOST_LATE * INT64_C(1000000000));
@@ -45,7 +39,6 @@ static void test_delays(void)
 	}
 }
 
-/* A pause without the lock, or a wait for the condition variable. */
 static void test_wait(bool pauses, int ticks)
 {
 	int64_t from = now();

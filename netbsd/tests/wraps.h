@@ -15,19 +15,22 @@
 
 WRAP(int, pthread_mutex_unlock, pthread_mutex_t *mutex);
 WRAP(int, pthread_create, pthread_t *thread, const pthread_attr_t *how, void *(*body)(void *), void *arg);
-WRAP(int, pthread_key_create, pthread_key_t *key, void (*end)(void *));
-WRAP(int, pthread_setspecific, pthread_key_t key, const void *value);
-WRAP(int, pthread_atfork, void (*before)(void), void (*parent)(void), void (*child)(void));
 WRAP(ssize_t, write, int file, const void *bytes, size_t length);
 WRAP(int, open, const char *path, int how, ...);
 WRAP(int, close, int file);
-WRAP(void *, malloc, size_t size);
-WRAP(void *, calloc, size_t count, size_t size);
-WRAP(void *, realloc, void *block, size_t size);
-WRAP(int, posix_memalign, void **block, size_t align, size_t size);
 WRAP(void, free, void *block);
 
-WRAP(uint32_t, registry_local_acquire, struct registry_cpu *cpu, struct registry_local *local);
-WRAP(uint32_t, registry_local_release, struct registry_cpu *cpu, struct registry_local *local);
+/* What this thread does once it has given back its next lock, while its call goes on. */
+static _Thread_local void (*after)(void);
+
+int __wrap_pthread_mutex_unlock(pthread_mutex_t *mutex)
+{
+	void (*does)(void) = after;
+	after = NULL;
+	int answer = __real_pthread_mutex_unlock(mutex);
+	if (does != NULL)
+		does();
+	return answer;
+}
 
 #endif

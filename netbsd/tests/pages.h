@@ -1,0 +1,22 @@
+/* pages.h - the headers of all pages */
+#include <errno.h>
+#include <sys/atomic.h>
+#include <sys/callout.h>
+#include <sys/condvar.h>
+#include <sys/cpu.h>
+#include <sys/intr.h>
+#include <sys/kernel.h>
+#include <sys/kmem.h>
+#include <sys/kthread.h>
+#include <sys/localcount.h>
+#include <sys/module_hook.h>
+#include <sys/mutex.h>
+#include <sys/percpu.h>
+#include <sys/pool.h>
+#include <sys/proc.h>
+#include <sys/pserialize.h>
+#include <sys/psref.h>
+#include <sys/rwlock.h>
+#include <sys/systm.h>
+#include <sys/workqueue.h>
+#include <sys/xcall.h>
