@@ -41,21 +41,35 @@ typedef unsigned CPU_INFO_ITERATOR;
 /* CPU_INFO_FOREACH - in the parentheses of a `for`: `ci` is each CPU in turn, and `place` a CPU_INFO_ITERATOR. */
 #define CPU_INFO_FOREACH(place, ci)	(place) = 0; ((ci) = kupaldiz_cpu(place)) != NULL; (place)++
 
-/* kupaldiz_bind - bind this thread to the CPU with that number, as a kernel thread that was created for a CPU. It stays bound until kupaldiz_unbind,
- * curlwp_bindx(0) or its end. Other threads may be bound to that CPU as well. Stops where there is no such CPU, where this thread is bound, and where it
- * mustn't sleep. */
+/*
+ * kupaldiz_bind - bind this thread to the CPU with that number, as a kernel thread that was created for a CPU
+ *
+ * It stays bound until kupaldiz_unbind, curlwp_bindx(0) or its end. Other threads may be bound to that CPU as well.
+ * Stops where there is no such CPU, where this thread is bound, and where it mustn't sleep.
+ */
 void kupaldiz_bind(unsigned cpu);
 
-/* kupaldiz_unbind - the thread isn't bound any more. Stops where this thread isn't bound, mustn't sleep, or has passive references. The end of a bound thread
- * does the same, once the destructors of its keys have run. The end of any thread stops where it has passive references. */
+/*
+ * kupaldiz_unbind - the thread isn't bound any more
+ *
+ * Stops where this thread isn't bound, mustn't sleep, or has passive references. The end of a bound thread does the same, once the destructors of its
+ * keys have run. The end of any thread stops where it has passive references.
+ */
 void kupaldiz_unbind(void);
 
-/* curlwp_bind - bind this thread to the CPU that it has. Where it has none, it is bound to the one with the fewest bound threads, which may not be the one that
- * curcpu named. It waits for nobody. Returns what curlwp_bindx takes: 0 where this call bound the thread, 1 where it was bound before. */
+/*
+ * curlwp_bind - bind this thread to the CPU that it has
+ *
+ * Where it has none, it is bound to the one with the fewest bound threads, which may not be the one that curcpu named. It waits for nobody.
+ * Returns what curlwp_bindx takes: 0 where this call bound the thread, 1 where it was bound before.
+ */
 int curlwp_bind(void);
 
-/* curlwp_bindx - undo a curlwp_bind: with 0 the thread is free to move, with 1 it stays bound. Stops where the thread isn't bound, and with 0 where it has
- * passive references. */
+/*
+ * curlwp_bindx - undo a curlwp_bind: with 0 the thread is free to move, with 1 it stays bound
+ *
+ * Stops where the thread isn't bound, and with 0 where it has passive references.
+ */
 void curlwp_bindx(int bound);
 
 /* curcpu - this thread's CPU. Where the thread isn't bound it may be another one by the next call. */

@@ -33,8 +33,12 @@ struct localcount {
 /* localcount_init - make a count live, with no reference. Stops where the thread mustn't sleep, and where the count is live already. */
 void localcount_init(struct localcount *lc);
 
-/* localcount_fini - end a count, after localcount_drain. It may be called anywhere, also where the thread mustn't sleep. The kernel's frees memory of
- * percpu(9), so a driver calls it where it may sleep. Stops where the count isn't drained. */
+/*
+ * localcount_fini - end a count, after localcount_drain
+ *
+ * It may be called anywhere, also where the thread mustn't sleep. The kernel's frees memory of percpu(9), so a driver calls it where it may sleep.
+ * Stops where the count isn't drained.
+ */
 void localcount_fini(struct localcount *lc);
 
 /*
@@ -49,9 +53,13 @@ void localcount_fini(struct localcount *lc);
  */
 void localcount_drain(struct localcount *lc, kcondvar_t *cv, kmutex_t *interlock);
 
-/* localcount_acquire - acquire a reference. The caller is inside a read section in which it found the object, or keeps it by a lock or a reference. It never
- * sleeps, and may be called in a soft interrupt, with a spin lock, at a raised level and with preemption disabled. Stops where the count isn't live or is being
- * drained, and where memory runs out. */
+/*
+ * localcount_acquire - acquire a reference
+ *
+ * The caller is inside a read section in which it found the object, or keeps it by a lock or a reference. It never sleeps, and may be called in a soft
+ * interrupt, with a spin lock, at a raised level and with preemption disabled.
+ * Stops where the count isn't live or is being drained, and where memory runs out.
+ */
 void localcount_acquire(struct localcount *lc);
 
 /*

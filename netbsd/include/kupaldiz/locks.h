@@ -36,8 +36,12 @@ void mutex_init(kmutex_t *mutex, kmutex_type_t type, int level);
 /* mutex_destroy - end a lock. Stops where it is held, and where it isn't a lock. */
 void mutex_destroy(kmutex_t *mutex);
 
-/* mutex_enter - take a lock, and wait for it. Stops where this thread has it; and, of an adaptive lock, inside a read section, with a spin lock or with
- * preemption disabled, and in a soft interrupt where the lock's level is IPL_NONE. */
+/*
+ * mutex_enter - take a lock, and wait for it
+ *
+ * Stops where this thread has it; and, of an adaptive lock, inside a read section, with a spin lock or with preemption disabled, and in
+ * a soft interrupt where the lock's level is IPL_NONE.
+ */
 void mutex_enter(kmutex_t *mutex);
 
 /* mutex_exit - give a lock back. Stops where this thread doesn't have it. */
@@ -78,8 +82,12 @@ void cv_init(kcondvar_t *cv, const char *name);
 /* cv_destroy - end a condition variable. Stops where a thread waits for it. */
 void cv_destroy(kcondvar_t *cv);
 
-/* cv_wait - wait to be woken, without the lock meanwhile. A wait may end although nobody woke it: in the explorer it does. So the caller looks again at what it
- * waits for. Stops where this thread doesn't have the lock, and where it mustn't sleep. The lock itself may be a spin lock. */
+/*
+ * cv_wait - wait to be woken, without the lock meanwhile
+ *
+ * A wait may end although nobody woke it: in the explorer it does. So the caller looks again at what it waits for.
+ * Stops where this thread doesn't have the lock, and where it mustn't sleep. The lock itself may be a spin lock.
+ */
 void cv_wait(kcondvar_t *cv, kmutex_t *mutex);
 
 /* cv_wait_sig - cv_wait. It returns 0, since there are no signals; in the explorer, kupaldiz_bench(7), one may end the wait, and it returns EINTR. */

@@ -52,27 +52,47 @@ void psref_class_destroy(struct psref_class *psref_class);
 /* psref_target_init - make a target live. Stops where it is live already. */
 void psref_target_init(struct psref_target *target, struct psref_class *psref_class);
 
-/* psref_target_destroy - wait until no reference to the target is held, on any CPU. It may sleep. An adaptive mutex may be held, unless a holder of a reference
- * takes it before its release. The target may then be freed or initialised again. Stops where the thread mustn't sleep; where the target isn't live, is of
- * another class, or is being destroyed already; and where this thread has a reference to it, which nobody else could release. */
+/*
+ * psref_target_destroy - wait until no reference to the target is held, on any CPU
+ *
+ * It may sleep. An adaptive mutex may be held, unless a holder of a reference takes it before its release. The target may then be freed or
+ * initialised again.
+ * Stops where the thread mustn't sleep; where the target isn't live, is of another class, or is being destroyed already; and where this thread
+ * has a reference to it, which nobody else could release.
+ */
 void psref_target_destroy(struct psref_target *target, struct psref_class *psref_class);
 
-/* psref_acquire - acquire a passive reference to the target. The caller is inside a read section in which it found the target, or keeps the target by a lock or
- * a reference of its own. Stops where this thread is neither bound nor a soft interrupt and has preemption enabled; where the target isn't live, is being
- * destroyed, or is of another class; and where `psref` is held. */
+/*
+ * psref_acquire - acquire a passive reference to the target
+ *
+ * The caller is inside a read section in which it found the target, or keeps the target by a lock or a reference of its own.
+ * Stops where this thread is neither bound nor a soft interrupt and has preemption enabled; where the target isn't live, is being destroyed, or is of
+ * another class; and where `psref` is held.
+ */
 void psref_acquire(struct psref *psref, const struct psref_target *target, struct psref_class *psref_class);
 
-/* psref_release - release a passive reference. Stops where the reference isn't held, is to another target, was moved by its bytes, or was acquired by another
- * thread; and where the target is of another class. What is printed if it is never released: kupaldiz_netbsd(7), "A passive reference that is not released". */
+/*
+ * psref_release - release a passive reference
+ *
+ * Stops where the reference isn't held, is to another target, was moved by its bytes, or was acquired by another thread; and where the target
+ * is of another class. What is printed if it is never released: kupaldiz_netbsd(7), "A passive reference that is not released".
+ */
 void psref_release(struct psref *psref, const struct psref_target *target, struct psref_class *psref_class);
 
-/* psref_copy - acquire one more reference to what `from` is to; each of the two is released by itself. It needs no read section, and the target may be being
- * destroyed. Stops where `from` isn't held, was moved by its bytes, or was acquired by another thread; where the target is of another class; and where `to` is
- * held. */
+/*
+ * psref_copy - acquire one more reference to what `from` is to; each of the two is released by itself
+ *
+ * It needs no read section, and the target may be being destroyed.
+ * Stops where `from` isn't held, was moved by its bytes, or was acquired by another thread; where the target is of another class; and where `to` is held.
+ */
 void psref_copy(struct psref *to, const struct psref *from, struct psref_class *psref_class);
 
-/* psref_held - whether a reference to the target is held that any thread acquired on this thread's CPU, for assertions. The target may be being destroyed.
- * Stops where this thread is neither bound nor a soft interrupt and has preemption enabled; and where the target isn't live or is of another class. */
+/*
+ * psref_held - whether a reference to the target is held that any thread acquired on this thread's CPU, for assertions
+ *
+ * The target may be being destroyed. Stops where this thread is neither bound nor a soft interrupt and has preemption enabled; and where the target
+ * isn't live or is of another class.
+ */
 bool psref_held(const struct psref_target *target, struct psref_class *psref_class);
 
 #define KUPALDIZ_PLACES_OF_PSREF

@@ -29,7 +29,11 @@ __BEGIN_DECLS
 /* softint_establish - make a soft interrupt of this level that runs `handler(arg)`. NULL where memory runs out. Stops where the thread mustn't sleep. */
 void *softint_establish(unsigned flags, void (*handler)(void *), void *arg);
 
-/* softint_disestablish - end a soft interrupt, on all CPUs. It waits for its handler, if that runs. Stops where the thread mustn't sleep. */
+/*
+ * softint_disestablish - end a soft interrupt, on all CPUs
+ *
+ * It waits for its handler, if that runs. Stops where the thread mustn't sleep.
+ */
 void softint_disestablish(void *cookie);
 
 /* softint_schedule - have its handler run once on this CPU. Nothing changes if it is scheduled there already. */
@@ -69,9 +73,13 @@ typedef void (*xcfunc_t)(void *, void *);
 /* XC_HIGHPRI_IPL - the flag XC_HIGHPRI. The level is accepted and changes nothing: the function runs at IPL_SOFTSERIAL. */
 #define XC_HIGHPRI_IPL(level)	(XC_HIGHPRI | (unsigned)(level) << 4)
 
-/* xc_broadcast - have each CPU run `body(arg_a, arg_b)` once. This thread runs it, on each CPU in turn, once no other thread of that CPU is inside a section;
- * it has ended when the call returns. In the explorer another thread runs it, as in the kernel, and it has ended when xc_wait returns. With XC_HIGHPRI it
- * mustn't sleep. Returns what xc_wait takes. Stops where the thread mustn't sleep, and where the function returns with what a handler mustn't return with. */
+/*
+ * xc_broadcast - have each CPU run `body(arg_a, arg_b)` once
+ *
+ * This thread runs it, on each CPU in turn, once no other thread of that CPU is inside a section; it has ended when the call returns. In the explorer
+ * another thread runs it, as in the kernel, and it has ended when xc_wait returns. With XC_HIGHPRI it mustn't sleep. Returns what xc_wait takes. Stops
+ * where the thread mustn't sleep, and where the function returns with what a handler mustn't return with.
+ */
 uint64_t xc_broadcast(unsigned flags, xcfunc_t body, void *arg_a, void *arg_b);
 
 /* xc_unicast - the same on one CPU. */

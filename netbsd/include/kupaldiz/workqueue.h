@@ -22,17 +22,28 @@ struct work {
 
 struct workqueue;
 
-/* workqueue_create - make a queue, and its thread, which calls `body(work, arg)` for each work. With WQ_PERCPU there is a queue and a thread for each CPU, and
- * the thread is bound to it. Returns 0 or ENOMEM; the queue is written to `made`. Stops where the thread mustn't sleep. */
+/*
+ * workqueue_create - make a queue, and its thread, which calls `body(work, arg)` for each work
+ *
+ * With WQ_PERCPU there is a queue and a thread for each CPU, and the thread is bound to it. Returns 0 or ENOMEM; the queue is written to `made`. Stops where
+ * the thread mustn't sleep.
+ */
 int workqueue_create(struct workqueue **made, const char *name, void (*body)(struct work *, void *), void *arg, pri_t priority, int level, int flags);
 
-/* workqueue_enqueue - have a work done. With WQ_PERCPU on that CPU, or on this thread's where `cpu` is NULL; without it `cpu` must be NULL. Once the work's
- * function was called with it, the work may be enqueued again, or freed. Stops where it is enqueued already, and where mutex_enter of a lock of the queue's
- * level would. */
+/*
+ * workqueue_enqueue - have a work done
+ *
+ * With WQ_PERCPU on that CPU, or on this thread's where `cpu` is NULL; without it `cpu` must be NULL. Once the work's function was called with it, the work
+ * may be enqueued again, or freed. Stops where it is enqueued already, and where mutex_enter of a lock of the queue's level would.
+ */
 void workqueue_enqueue(struct workqueue *queue, struct work *work, struct cpu_info *cpu);
 
-/* workqueue_wait - wait until a work is neither enqueued nor being done. The caller ensures that nobody enqueues it meanwhile. The function of a queue doesn't
- * wait for the works of its own thread: then it returns at once. Stops where the thread mustn't sleep. */
+/*
+ * workqueue_wait - wait until a work is neither enqueued nor being done
+ *
+ * The caller ensures that nobody enqueues it meanwhile. The function of a queue doesn't wait for the works of its own thread: then it returns at once.
+ * Stops where the thread mustn't sleep.
+ */
 void workqueue_wait(struct workqueue *queue, struct work *work);
 
 /* workqueue_destroy - end a queue and its threads. Stops where a work is enqueued, in a function of the queue, and where the thread mustn't sleep. */
