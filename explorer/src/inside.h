@@ -30,7 +30,7 @@ enum kind {
 	ON_XCALL,	/* the queue of calls of xcall(9) */
 	ON_BOUND,	/* how many threads are bound to a CPU */
 	ON_TIME,
-	ON_DEADLINE,	/* of a thread, or with ANY of all: the clock's next step depends on them */
+	ON_DEADLINE,	/* of a thread, or with ANY of all threads */
 	ON_WAKE		/* of a thread that waits */
 };
 

@@ -1,4 +1,4 @@
-/* show.c - what was found, as lines; a schedule as a short text; the place of an instruction, as far as the program has it for addr2line(1) */
+/* show.c - what was found, as lines; a schedule as a short text; the place of an instruction for addr2line(1) */
 #include <dlfcn.h>
 #include <link.h>
 

@@ -1,4 +1,4 @@
-/* callout.c - callout(9): one thread waits for the next time, and schedules a soft interrupt on the callout's CPU, which runs what is due there */
+/* callout.c - callout(9): one thread waits for the next time. A soft interrupt on the callout's CPU runs what is due. */
 #include "layer.h"
 
 enum { PENDING = 1, FIRED = 2, INVOKING = 4, TOLD = 8 };

@@ -1,4 +1,4 @@
-/* softints - where and when soft interrupts run: levels, locks that a handler waits for, and the calls at whose end a thread offers its CPU */
+/* softints - where and when soft interrupts run. Levels, locks that a handler waits for, calls that offer the CPU at their end */
 #include "test.h"
 #include "things.h"
 

@@ -1,4 +1,4 @@
-/* times - ticks, delays, pauses and waits last as long as they say by the system's clock, whatever second begins, and although signals come */
+/* times - ticks, delays, pauses and waits last as long as they say by the system's clock. A second may begin meanwhile, and signals come. */
 #include <signal.h>
 
 #include "test.h"

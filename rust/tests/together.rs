@@ -1,5 +1,5 @@
-//! Threads that share a registry. Their calls are random. Each thread alone changes its own names, so of these each answer is known. Of the others' what is
-//! found is whole, has the name that was asked for, and is what the registry had during the call.
+//! Threads that share a registry. Their calls are random. Each thread alone changes its own names, so of these each answer is known. A lookup of
+//! another's name finds what the registry had during the call: it is whole, and has that name.
 //!
 //! tests/sanitized.sh runs it under the thread sanitizer, which doesn't see how the standard library waits. So a lock is tried again and again, and threads are
 //! joined one by one.
