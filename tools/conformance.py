@@ -124,7 +124,7 @@ def said_by(engine, scripts):
     """The status of an engine on each script, its report, and what it says of a fault."""
     if PROGRAM.exists():
         return [ran([PROGRAM, engine], it) for it in scripts]
-    return list(said_when_tried(engine, {f"s{place}": it for place, it in enumerate(scripts)}))
+    return list(said_when_tried([engine], {f"s{place}": it.encode() for place, it in enumerate(scripts)}))
 
 
 def reports_of(scripts):

@@ -8,6 +8,8 @@ import tempfile
 ROOT = pathlib.Path(__file__).resolve().parent.parent
 # After so many seconds a program that is run is taken to wait for ever.
 MOST_SECONDS = 1200
+# After so many steps `rt try` leaves a script to the compiled program alone.
+STEPS = "1000"
 
 
 def ran(command, script=None, folder=ROOT):
@@ -16,13 +18,13 @@ def ran(command, script=None, folder=ROOT):
     return ended.returncode, ended.stdout.decode(), ended.stderr.decode()
 
 
-def said_when_tried(engine, scripts):
-    """The same of each script, by its name, where `rt try` compiles the program: it prints a heading before each output, and a line after what
-    it says on standard error."""
+def said_when_tried(words, scripts):
+    """The same of the program by these words on each script, a name and bytes, where `rt try` compiles it: it prints a heading before each output, and a line
+    after what it says on standard error."""
     with tempfile.TemporaryDirectory() as folder:
         for name, script in scripts.items():
-            pathlib.Path(folder, name).write_bytes(script.encode())
-        _, printed, complained = ran(["rt", "try", "--cases", folder, "--", engine], folder=ROOT / "crates/registry_run")
+            pathlib.Path(folder, name).write_bytes(script)
+        _, printed, complained = ran(["rt", "try", "--steps", STEPS, "--cases", folder, "--", *words], folder=ROOT / "crates/registry_run")
     printed = re.split(r"^== (\S+)\n", printed, flags=re.M)
     outputs = dict(zip(printed[1::2], printed[2::2]))
     ends = re.split(r"^case=(\S+) run=ended status=(\d+) .*\n", complained, flags=re.M)

@@ -82,9 +82,9 @@ def strayed():
 
 def runs(found, program):
     """What is wrong with each example, by each engine of the program, or of the one that `rt try` compiles; '' where nothing is."""
-    scripts = {place: script for place, script, _, _ in found}
+    scripts = {place: script.encode() for place, script, _, _ in found}
     for engine in ENGINES:
-        answers = (ran([program, engine], script) for _, script, _, _ in found) if program else said_when_tried(engine, scripts)
+        answers = (ran([program, engine], script) for _, script, _, _ in found) if program else said_when_tried([engine], scripts)
         for (place, _, word, text), (status, printed, complained) in zip(found, answers):
             is_right = (status, printed, complained) == WANTED[word](text)
             yield "" if is_right else f"{place} {engine}: status {status}, and it said\n{printed}{complained}and not\n{text}".rstrip("\n")

@@ -106,7 +106,7 @@ counted "the seven drivers in every order, as the README says" drivers_as_told
 check "the example of the README, right and wrong, as it says" example_as_told
 check "what it prints" prints_what_was_tried
 check "outcomes with the reduction and without" compares_outcomes
-check "the same of short programs, for a minute" "$out/plain/outcomes" for 60 1
+check "the same of short programs, for twenty seconds" "$out/plain/outcomes" for 20 1
 tail -n 1 "$log"
 check "the same with sanitizers" "$out/sanitized/outcomes" 61 4
 counted "faults in the reduction's rules and touches are told by programs that are written there" make -s -C $folder rules

@@ -157,7 +157,7 @@ test_netbsd() {
 
 test_bench() {
     counted "C: a driver's threads in every order" tools/test-bench.sh
-    grep '^in 60 seconds' "$log"
+    grep '^in 20 seconds' "$log"
 }
 
 # refused_over FOLDER TEXT: over the archive in that folder of out no example of the crate is run, and it says why.

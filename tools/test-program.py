@@ -4,9 +4,10 @@
     tools/test-program.py [PROGRAM]..    crates/registry_run/out/registry_run, which tools/prove-program.sh makes; beside it what
                                          Rattle's own compiler made, where the gate has just built both; and ./registry_run,
                                          which runs the first
+    tools/test-program.py --try          scripts, a storm and the usage, by the sources as they stand, which `rt try` compiles
 
-Scripts with and without faults, storms, wrong arguments, a standard output that is full, closed or gone, a standard input that can't be read, and
-address spaces in which there is too little memory. The last line counts the runs.
+Scripts with and without faults (rows.py of registry_run), storms, wrong arguments, a standard output that is full, closed or gone, a standard input that
+can't be read, and address spaces in which there is too little memory. The last line counts the runs.
 """
 import os
 import pathlib
@@ -14,12 +15,20 @@ import subprocess
 import sys
 import tempfile
 
+from engines import said_when_tried
 from parts import ROOT, ended
+
+sys.path.append(str(ROOT / "crates/registry_run"))
+from rows import Row, rows
 
 COMMAND = str(ROOT / "registry_run")
 USAGE = b"usage: registry_run core | live | storm C T\n"
 SCRIPT = b"domain 2 2\nattach 0 driver wm 7\nenter 0\nfind 0 driver wm\n"
 REPORT = b"domain 2 2\nattached 1 slot 0\ninside\nfound 1 slot 0 value 7\n"
+
+
+# Of the runs below those that are tried where nothing is proved, beside the scripts.
+TRIED = (["storm", "2", "3"], ["Core"])
 
 
 def storm(cpus, turns):
@@ -47,8 +56,8 @@ RUNS = [
     (["storm", "03", "0007"], b"", 0, storm(3, 7), b""),
     *((words, SCRIPT, 2, b"", USAGE) for words in (
         [], ["Core"], ["core", "live"], ["live", "1", "1"], ["storm"], ["storm", "2"], ["storm", "9", "1"], ["storm", "0", "1"], ["storm", "1", "0"],
-        ["storm", "1", "100001"], ["storm", "+1", "1"], ["storm", "1", ""], ["storm", "2", "3", "4"], [""], ["core", ""], ["core\n"],
-        [b"core\xff"])),
+        ["storm", "1", "100001"], ["storm", "258", "1"], ["storm", "1", "4294967297"], ["storm", "1", "000000000000000000001"], ["storm", "+1", "1"],
+        ["storm", "1", ""], ["storm", "2", "3", "4"], [""], ["core", ""], ["core\n"], [b"core\xff"])),
 ]
 
 
@@ -68,6 +77,28 @@ def usual(program):
     for words, script, status, output, error in RUNS:
         found = said(program, words, input=script, stdout=subprocess.PIPE)
         yield judged(str(words) if words else "no arguments", (status, output, error), found)
+
+
+ENGINES = ("core", "live")
+
+
+def by_rows(program):
+    for row in rows():
+        for engine in ENGINES:
+            found = said(program, [engine], input=row.script, stdout=subprocess.PIPE)
+            yield judged(f"{engine}, {row.name}", (row.status, row.report, row.error), found)
+
+
+def tried():
+    """What `rt try` says of the rows, of a storm and of wrong words. It takes half a second for each, so the cuts are left out, and faults of scripts are tried
+    by the core alone."""
+    whole = [row for row in rows() if not row.name.startswith("cut ")]
+    runs = [(["core"], whole), (["live"], [row for row in whole if row.status == 0])]
+    runs += [(words, [Row(words[0], script, *wanted)]) for words, script, *wanted in RUNS if words in TRIED]
+    for words, wanted in runs:
+        answers = said_when_tried(words, {f"r{place}": it.script for place, it in enumerate(wanted)})
+        for row, (status, report, error) in zip(wanted, answers):
+            yield judged(f"{' '.join(words)}, {row.name}", (row.status, row.report, row.error), (status, report.encode(), error.encode()))
 
 
 # What a shell does to the streams, the arguments, the input, the status, standard output and standard error, if that is read. A stream may be closed, full, a
@@ -173,12 +204,17 @@ def programs():
 
 
 def main():
+    if sys.argv[1:] == ["--try"]:
+        passed = list(tried())
+        sys.exit(ended(sum(passed), len(passed) - sum(passed)))
     passed = []
     for program in programs():
         if not os.access(program, os.X_OK):
             sys.exit(f"{program} is missing: tools/prove-program.sh makes it")
         for part in (usual, with_streams, with_closed_pipe, part_of_report):
             passed += part(program)
+    for program in (it for it in programs() if it != COMMAND):
+        passed += by_rows(program)
     passed += with_little_memory(programs()[0])
     if COMMAND in programs():
         passed += by_command()

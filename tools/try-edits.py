@@ -3,7 +3,7 @@
 
     tools/try-edits.py gate   [--anew] [CRATE | CRATE/EDIT]..    those that the gate tries
     tools/try-edits.py prover [--anew] [CRATE | CRATE/EDIT]..    those of the kind by-hand; on the whole crate where the changed functions refused nothing
-    tools/try-edits.py tests           [CRATE | CRATE/EDIT]..    those of the kind tests, by the tests of CRATE
+    tools/try-edits.py tests           [CRATE | CRATE/EDIT]..    those of the kind tests, by the tests of CRATE or the rows of the program
     tools/try-edits.py without         [CRATE]..                 lists the public functions of which no edit changes the body, nor that of a function
                                                                  of their crate that they call
 
@@ -28,16 +28,33 @@ from parts import ended
 
 # So many runs of tests are made side by side.
 TESTED_AT_ONCE = 2
+# The crates of which the program's rows are tests, too.
+BY_ROWS = ("script_tests", "registry_run")
+PASSED = "NOT REFUSED: all tests pass"
 
 
 def failures(tree, crate):
-    """Whether the tests of the crate fail, as they must, and what they say."""
+    """Whether the tests of the crate fail, as they must, and what they say; those of BY_ROWS are also the rows of the program, or these alone."""
+    has_tests = any("#[test]" in it.read_text() for it in (tree / "crates" / crate / "src").rglob("*.rt"))
+    is_refused, said = within(tree, crate) if has_tests else (False, PASSED)
+    return by_rows(tree) if said == PASSED and crate in BY_ROWS else (is_refused, said)
+
+
+def by_rows(tree):
+    """The same of the rows of the program."""
+    ran = subprocess.run(["tools/test-program.py", "--try"], cwd=tree, stdout=subprocess.PIPE, stderr=subprocess.STDOUT, text=True, errors="replace")
+    missed = re.findall(r"^(.+):\n  wanted ", ran.stdout, re.M)
+    return (True, "refused by " + "; ".join(missed[:3])) if missed else (False, PASSED if ran.returncode == 0 else f"NOT TRIED: {ran.stdout[-300:]}")
+
+
+def within(tree, crate):
+    """The same of the tests in the crate."""
     ran = subprocess.run(["rt", "try", "--test"], cwd=tree / "crates" / crate, stdout=subprocess.PIPE, stderr=subprocess.STDOUT, text=True)
     lines = ran.stdout.splitlines()
     if not any(line.startswith("tests: ") for line in lines):
         return False, "it doesn't compile: " + " ".join(lines[:4])
     if ran.returncode == 0:
-        return False, "NOT REFUSED: all tests pass"
+        return False, PASSED
     failed = re.findall(r"^test (\S+).* FAILED$", ran.stdout, re.M)
     return (True, "refused by " + ", ".join(failed)) if failed else (False, f"NOT TRIED: no test failed: {lines[-1]}")
 

@@ -17,11 +17,11 @@ static struct part {
 } *parts;
 static unsigned count;
 
-/* What the compiler makes no call of memcpy of: the address sanitizer would look at what it copies. */
+/* What the compiler makes no call of memcpy of: the address sanitizer would look at what it copies. It takes most of a run's time, so it is fast in any build. */
 #ifdef __clang__
-#define UNSEEN	__attribute__((no_sanitize("address"), no_builtin("memcpy")))
+#define UNSEEN	__attribute__((no_sanitize("address", "undefined"), no_builtin("memcpy")))
 #else
-#define UNSEEN	__attribute__((no_sanitize_address, optimize("no-tree-loop-distribute-patterns")))
+#define UNSEEN	__attribute__((no_sanitize("address", "undefined"), optimize("O2", "no-tree-loop-distribute-patterns")))
 #endif
 
 /* Copies what differs, without the sanitizer's look at what lies between two variables. So it writes nothing that the loader has made read-only. */

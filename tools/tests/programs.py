@@ -43,8 +43,8 @@ def test_program(proved):
     )
     faults = [Fault("no program", "gone is missing", command=["tools/test-program.py", "gone"])]
     faults += of("program", *((name, said, f"exec {proved}", line) for name, said, line in rows))
-    tree = {"program": f'#!/bin/sh\nexec {proved} "$@"\n'}
-    case("test-program", ["test-program.py", "parts.py"], tree, ["tools/test-program.py", "./program"], faults)
+    tree = {"program": f'#!/bin/sh\nexec {proved} "$@"\n'} | real("crates/registry_run/rows.*")
+    case("test-program", ["test-program.py", "engines.py", "other_registry.py", "parts.py"], tree, ["tools/test-program.py", "./program"], faults)
 
 
 LINES = "netbsd/tests/lines.py"

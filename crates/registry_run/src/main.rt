@@ -4,8 +4,6 @@
 mod doing;
 mod failure;
 mod task;
-#[cfg(test)]
-mod tests;
 
 ghost use Rattle.std.specs.Prelude.{IfOk};
 ghost use Rattle.registry_run.specs.{IsPossible};

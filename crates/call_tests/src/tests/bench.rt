@@ -5,10 +5,9 @@ ghost use Rattle.name_registry.specs.Common.{IsBlankOf};
 use super::answers::{Answer, Wanted, done, entry, record};
 use super::readers::{Held, Reader, by_reader};
 use super::registry_rows::walked_and_changed;
-use super::remembered::{beside_by_memory, follow, full_by_memory};
+use super::remembered::{follow, full_by_memory};
 use super::sizes::{counted, destroyed_meanwhile};
 use super::turns::{Row, together};
-use super::walks::{beside, full};
 use cpu_words::Domain;
 use name_registry::{Blank, Registry};
 use passive_list::Cpu;
@@ -37,11 +36,8 @@ pub(crate) fn blank(alloc: Global, slots: u8, change_limit: u64) -> Result<Blank
 #[derive(Clone, Copy)]
 pub(crate) enum Test<'a> {
     WalkedAndChanged,
-    Full,
-    Beside,
     Follow(&'a [(Step, Answer)]),
     FullByMemory,
-    BesideByMemory(Reader),
     Counted,
     DestroyedMeanwhile,
     Together(&'a Row),
@@ -69,11 +65,8 @@ fn on_named<D: Domain + Send + Sync, R: Threads + Wait + Abort + Sync>(
     let bench = Bench::<D>::open(alloc, blank)?;
     match test {
         Test::WalkedAndChanged => walked_and_changed(rt, alloc, bench),
-        Test::Full => full(rt, bench),
-        Test::Beside => beside(rt, bench),
         Test::Follow(steps) => follow(rt, bench, steps),
         Test::FullByMemory => full_by_memory(rt, bench),
-        Test::BesideByMemory(call) => beside_by_memory(rt, bench, call),
         Test::Counted => counted(rt, alloc, bench),
         Test::DestroyedMeanwhile => destroyed_meanwhile(rt, bench),
         Test::Together(row) => together(rt, bench, row),

@@ -1,5 +1,5 @@
 //! Tests of what no contract says: worked rows on the bare words and on a registry, calls on threads, and running out of memory. Rows that
-//! a script can say are rows of `script_tests`.
+//! a script can say are the program's (`rows.py` of `registry_run`).
 
 mod answers;
 mod bench;
@@ -12,5 +12,4 @@ mod sizes;
 mod table;
 mod threads;
 mod turns;
-mod walks;
 mod word_rows;

@@ -1,32 +1,28 @@
-//! Lookups and gets by memory: worked rows, thirty-two entries, and an entry that comes and goes meanwhile.
+//! Lookups and gets by memory: worked rows, and thirty-two entries.
 
+ghost use Rattle.std.specs.Prelude.{IsTrue};
+ghost use Rattle.registry_values.specs.Common.{is_key};
 ghost use Rattle.cpu_words.specs.Common.{AreWordsOf};
 
 use super::answers::Answer::{self, At, Done, Is, Names, Nothing, Number, Refused};
-use super::answers::{DRIVER_WM0, VGA, WM, WM0, Wanted, record};
+use super::answers::{DRIVER_WM0, VGA, WM, WM0, Wanted};
 use super::bench::Call::{self, Attach, Destroy, Detach};
 use super::bench::Step::{self, By, Reads};
 use super::bench::{Bench, Test, blank, on_bench};
 use super::readers::Reader::{
-    Acquire, Ended, Enter, Exit, Find, FindInside, Get, LookUp, Read, Recall, Reference, Release,
+    Acquire, Ended, Enter, Exit, Find, FindInside, LookUp, Read, Recall, Reference, Release,
 };
-use super::readers::{Held, Reader, by_reader, looked_up};
-use super::walks::{change_until, filled, nth};
+use super::readers::looked_up;
 use cpu_words::{Domain, Words};
-use name_registry::Registry;
 use passive_list::Cpu;
-use registry_values::{Kind, Refusal, USUAL_CHANGES};
+use registry_values::{Kind, Name, Record, Refusal};
 use std::alloc::Global;
 use std::process::Abort;
 use std::sync::Wait;
-use std::sync::atomic::{AtomicBool, Ordering};
 use std::test::*;
-use std::thread::{Threads, join};
+use std::thread::Threads;
 
 const SLOTS: u8 = 32;
-
-/// After so many turns a thread gives up, and the test fails.
-const TURNS: u32 = 1_000_000_000;
 
 /// Two drivers whose names differ in their second words.
 const ETHERNET1: Wanted = Wanted {
@@ -224,12 +220,26 @@ fn thirty_two_entries(rt: HostRuntime) -> Result<(), Fail> {
     )
 }
 
-/// Each of thirty-two entries is found in a section once, and is remembered then beside all others.
+/// The record of the n-th driver: its name is two letters, and its value ten times its place.
+fn nth<R: Abort>(rt: &R, n: u8) -> Record
+    ensures { IsTrue (is_key result.name) }
+{
+    Record {
+        kind: Kind::Driver,
+        name: Name::parse(&[b'a' + n / 8 % 26, b'a' + n % 8]).expect(rt, "a name"),
+        value: 10 * u64::from(n),
+    }
+}
+
+/// CPU 1 attaches thirty-two drivers. Each is found in a section once, and is remembered then beside all others.
 pub(crate) fn full_by_memory<D: Domain, R: Wait + Abort>(
     rt: &R,
     bench: Bench<D>,
 ) -> Result<(), Fail> {
-    let (registry, mut cpu) = filled(rt, bench)?;
+    let (registry, mut cpu, mut second, _third) = bench.apart()?;
+    for n in 0..SLOTS {
+        registry.attach(rt, &mut second, nth(rt, n))?;
+    }
     look_each_up(rt, registry.words(), &mut cpu);
     look_each_up(rt, registry.words(), &mut cpu);
     Ok(())
@@ -244,115 +254,4 @@ fn look_each_up<D: Domain, R: Abort>(rt: &R, words: &Words, cpu: &mut Cpu<D>)
         assert!(rt; found == At(u64::from(n) + 1, n));
     }
     assert_eq!(rt; cpu.plain.ended, u64::from(SLOTS));
-}
-
-#[test]
-fn changes_meanwhile(rt: HostRuntime) -> Result<(), Fail> {
-    for call in [LookUp(VGA), Get(VGA)] {
-        meanwhile(&rt, rt.alloc(), call)?;
-    }
-    Ok(())
-}
-
-/// Meets vga by this call, on a registry of its own.
-fn meanwhile<R: Threads + Wait + Abort + Sync>(
-    rt: &R,
-    alloc: Global,
-    call: Reader,
-) -> Result<(), Fail> {
-    let blank = blank(alloc, SLOTS, USUAL_CHANGES)?;
-    on_bench(rt, alloc, blank, Test::BesideByMemory(call))
-}
-
-/// The driver wm stays. The other thread attaches the driver vga and takes it out again, until this one has met it without a section, and has missed it
-/// since.
-pub(crate) fn beside_by_memory<D: Domain + Send, R: Threads + Wait + Abort + Sync>(
-    rt: &R,
-    mut bench: Bench<D>,
-    call: Reader,
-) -> Result<(), Fail> {
-    let stays = [
-        (By(0, Attach(WM)), At(1, 0)),
-        (Reads(0, LookUp(WM)), At(1, 0)),
-    ];
-    bench.run(rt, "a driver that stays", &stays);
-    let (registry, first, second, _third) = bench.apart()?;
-    let registry = &registry;
-    let (met, done) = (&AtomicBool::new(false), &AtomicBool::new(false));
-    let (has_met_both, changes) = join(
-        rt,
-        move || meet_until_both(rt, registry, first, met, done, call),
-        move || change_until(rt, registry, second, met, done),
-    );
-    assert!(rt; has_met_both);
-    assert!(rt; 0 < changes);
-    Ok(())
-}
-
-/// Meets vga until that was done without a section, and vga was missed after that: it sets a flag for each. The numbers of vga don't fall, and one that
-/// was missed doesn't come back. The driver wm is found each time, without a section.
-fn meet_until_both<D: Domain, R: Abort>(
-    rt: &R,
-    registry: &Registry<D>,
-    mut cpu: Cpu<D>,
-    met: &AtomicBool,
-    done: &AtomicBool,
-    call: Reader,
-) -> bool {
-    let (mut refs, mut last, mut gone) = (Held::nothing(), 0, 0);
-    for _ in 0..TURNS {
-        let ended = cpu.plain.ended;
-        assert!(rt; looked_up(rt, registry.words(), &mut cpu, record(rt, WM)) == At(1, 0));
-        assert_eq!(rt; cpu.plain.ended, ended);
-        if let Some(number) = number_met(rt, registry.words(), &mut cpu, &mut refs, call) {
-            assert!(rt; last <= number && gone < number);
-            last = number;
-            if cpu.plain.ended == ended {
-                met.store(true, Ordering::SeqCst);
-            }
-        } else if met.load(Ordering::SeqCst) {
-            done.store(true, Ordering::SeqCst);
-            break;
-        } else {
-            gone = last;
-        }
-    }
-    refs.end(rt);
-    done.load(Ordering::SeqCst)
-}
-
-/// The number of vga, in slot 1, if it is met. What is got is read and released.
-fn number_met<D: Domain, R: Abort>(
-    rt: &R,
-    words: &Words,
-    cpu: &mut Cpu<D>,
-    refs: &mut Held<D>,
-    call: Reader,
-) -> Option<u64>
-    requires words { AreWordsOf words.now D.table D.settings }
-{
-    match by_reader(rt, words, cpu, refs, call) {
-        At(number, 1) => Some(number),
-        Done => Some(number_read(rt, words, cpu, refs)),
-        Nothing | Refused(Refusal::NotFound) => None,
-        _ => panic!(rt; "vga or nothing"),
-    }
-}
-
-/// Reads and releases the passive reference to vga. Returns its number.
-fn number_read<D: Domain, R: Abort>(
-    rt: &R,
-    words: &Words,
-    cpu: &mut Cpu<D>,
-    refs: &mut Held<D>,
-) -> u64
-    requires words { AreWordsOf words.now D.table D.settings }
-{
-    let Names(0, number) = by_reader(rt, words, cpu, refs, Reference) else {
-        panic!(rt; "a reference of CPU 0")
-    };
-    for call in [Read(VGA), Release] {
-        assert!(rt; by_reader(rt, words, cpu, refs, call) == Done);
-    }
-    number
 }

@@ -1,10 +1,8 @@
 //! Readers and writers that give or take little, and fail at one of their calls.
 
-use registry_script::{Engine, RunFault, run};
 use std::alloc::Global;
 use std::io;
 use std::io::{ErrorKind, Read, Write};
-use std::sync::Wait;
 
 /// Gives one byte a call, and fails at one of its calls with this kind of error.
 #[derive(Drop)]
@@ -101,22 +99,4 @@ impl Write for Sips {
             _ => Ok(()),
         }
     }
-}
-
-/// What the engine writes on a script, and how the run ends, with one byte at each call of reader and writer.
-pub(super) fn dripped<R: Wait>(
-    rt: &R,
-    alloc: Global,
-    engine: Engine,
-    script: &[u8],
-) -> (Vec<u8>, Result<(), RunFault>) {
-    let mut reader = Drip {
-        rest: script,
-        calls: 0,
-        failing: usize::MAX,
-        kind: ErrorKind::Interrupted,
-    };
-    let mut writer = Sips::until(alloc, usize::MAX, None);
-    let result = run(rt, alloc, engine, &mut reader, &mut writer);
-    (writer.taken, result)
 }

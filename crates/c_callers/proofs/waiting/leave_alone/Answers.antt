@@ -1,7 +1,7 @@
 -- A wait that was left alone after its first turn.
 use Rattle.std.proofs.Common.{◌∙◌}
-use Rattle.c_call_tests.proofs.Waits.{knows_more, knows_same}
-use Rattle.c_call_tests.proofs.waiting.leave_alone.Goals as goal
+use Rattle.c_callers.proofs.Waits.{knows_more, knows_same}
+use Rattle.c_callers.proofs.waiting.leave_alone.Goals as goal
 
 pub returns : goal.returns
 returns c =

@@ -17,7 +17,7 @@ use Rattle.c_handles.specs.values.Texts.{is_begun}
 use Rattle.c_calls.specs.Calls.{Exits, IsOfCpu, Through}
 use Rattle.c_calls.specs.LocalCalls.{AnswersAcquireInMemory, IsUncollected, LocalAcquireAnswers, LocalGivesUp, ThroughLocal, some_of}
 use Rattle.c_calls.specs.KeeperCalls.{Begins, PerformAnswers, PerformCalls, PerformsAt, TurnAnswers, Turns, TurnsAt, WritesTold, IsTurnOfWait, IsWaitedFor, KnowsAllOf}
-use Rattle.c_call_tests.specs.{IsCpuOf, IsLocalOf, IsUnderWay}
+use Rattle.c_callers.specs.{IsCpuOf, IsLocalOf, IsUnderWay}
 
 -- Handles stay of their registry.
 

@@ -1,8 +1,8 @@
 -- A wait whose last turn another CPU makes.
 use Rattle.std.proofs.Common.{◌∙◌}
 use Rattle.name_registry.proofs.Worked.{prefix_on}
-use Rattle.c_call_tests.proofs.Waits.{knows_same}
-use Rattle.c_call_tests.proofs.waiting.hand_over.Goals as goal
+use Rattle.c_callers.proofs.Waits.{knows_same}
+use Rattle.c_callers.proofs.waiting.hand_over.Goals as goal
 
 pub returns : goal.returns
 returns c =

@@ -1,6 +1,6 @@
 -- A turn was made.
-use Rattle.c_call_tests.proofs.Waits.{goes_on, is_done, turned_on}
-use Rattle.c_call_tests.proofs.waiting.turn.Goals as goal
+use Rattle.c_callers.proofs.Waits.{goes_on, is_done, turned_on}
+use Rattle.c_callers.proofs.waiting.turn.Goals as goal
 
 pub returns : goal.returns
 returns c =

@@ -1,7 +1,7 @@
 -- The reference is of the CPU's registry still as it is released.
 use Rattle.std.proofs.Common.{Some, ap, ◌∙◌}
-use Rattle.c_call_tests.proofs.Waits.{acquired_here, exited_here, given_up_here, here, of_cpu}
-use Rattle.c_call_tests.proofs.holding.hold.Goals as goal
+use Rattle.c_callers.proofs.Waits.{acquired_here, exited_here, given_up_here, here, of_cpu}
+use Rattle.c_callers.proofs.holding.hold.Goals as goal
 
 pub release-released-requires : goal.release-released-requires
 release-released-requires c =

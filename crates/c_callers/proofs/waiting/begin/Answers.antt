@@ -1,6 +1,6 @@
 -- A wait was begun.
-use Rattle.c_call_tests.proofs.Waits.{begun_on, under_way}
-use Rattle.c_call_tests.proofs.waiting.begin.Goals as goal
+use Rattle.c_callers.proofs.Waits.{begun_on, under_way}
+use Rattle.c_callers.proofs.waiting.begin.Goals as goal
 
 pub returns : goal.returns
 returns c =

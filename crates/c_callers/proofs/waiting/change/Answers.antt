@@ -1,6 +1,6 @@
 -- What the CPU knows after an attach and a detach.
-use Rattle.c_call_tests.proofs.Waits.{attached_on, both, detached_on}
-use Rattle.c_call_tests.proofs.waiting.change.Goals as goal
+use Rattle.c_callers.proofs.Waits.{attached_on, both, detached_on}
+use Rattle.c_callers.proofs.waiting.change.Goals as goal
 
 pub returns-clause-knows : goal.returns-clause-knows
 returns-clause-knows c =

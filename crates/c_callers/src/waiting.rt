@@ -10,7 +10,7 @@ ghost use Rattle.name_registry.specs.Common.{HasSeenAllOut, KeepsWords, is_insid
 ghost use Rattle.c_calls.specs.Audits.{AreAllOf};
 ghost use Rattle.c_calls.specs.Opening.{boxed, opened_cpu, opened_down};
 ghost use Rattle.c_calls.specs.KeeperCalls.{IsWaitedFor, KnowsAllOf};
-ghost use Rattle.c_call_tests.specs.{IsUnderWay};
+ghost use Rattle.c_callers.specs.{IsUnderWay};
 
 use c_calls::keeper_calls::{attach, detach};
 use c_calls::opening::open;

@@ -1,7 +1,7 @@
 -- A wait of two turns by one CPU.
 use Rattle.std.proofs.Common.{◌∙◌}
-use Rattle.c_call_tests.proofs.Waits.{knows_more, knows_same}
-use Rattle.c_call_tests.proofs.waiting.wait_for.Goals as goal
+use Rattle.c_callers.proofs.Waits.{knows_more, knows_same}
+use Rattle.c_callers.proofs.waiting.wait_for.Goals as goal
 
 pub returns : goal.returns
 returns c =
