@@ -227,10 +227,19 @@ def proofs_of(crate, function):
     return "/".join(["proofs", *path_of(function, source, types_of(source)), ""])
 
 
+@functools.cache
+def begins(function):
+    """The line on which the function begins: that of its first attribute, if it has one."""
+    lines, at = function.path.read_text().split("\n"), function.first
+    while lines[at - 1].lstrip().startswith("#["):
+        at -= 1
+    return at
+
+
 def is_of(goal, crate, function):
     """Whether a goal is one of the function's, or an answer of its proof files."""
     path, line = re.match(r"(?:note: )?(?:\./)?(\S+?):(\d+):", goal).groups()
-    is_in_body = ROOT / "crates" / crate / path == function.path and function.first < int(line) <= function.last + 1
+    is_in_body = ROOT / "crates" / crate / path == function.path and begins(function) < int(line) <= function.last + 1
     return is_in_body or path.startswith(proofs_of(crate, function))
 
 

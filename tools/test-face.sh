@@ -64,7 +64,7 @@ guarded_tests() {
 # The stress ends also on a system where a yield lets nobody on: so nothing of it grows while one waits for another.
 ends_without_yields() {
     echo 'int sched_yield(void) { return 0; }' | gcc -shared -fPIC -o "$out/no_yield.so" -xc - || return 1
-    LD_PRELOAD=$PWD/$out/no_yield.so timeout 600 "$(rust_tests | grep /together-)"
+    REGISTRY_CHANGES=10 LD_PRELOAD=$PWD/$out/no_yield.so timeout 600 "$(rust_tests | grep /together-)"
 }
 
 # The crate's examples, and what each prints last. Each asserts what it is about.
@@ -190,8 +190,8 @@ test_rust() {
         check "Rust: clippy says nothing" cargo clippy --offline --all-targets -- -D warnings
     fi
     if /usr/bin/rustc --version 2>/dev/null | grep -q ' 1\.63\.'; then
-        counted "Rust: tests and examples with the oldest compiler that the crate is for" env RUSTC=/usr/bin/rustc /usr/bin/cargo test --offline \
-            --no-fail-fast --lib --tests --examples --target-dir "$CARGO_TARGET_DIR/oldest"
+        counted "Rust: tests and examples with the oldest compiler that the crate is for" env REGISTRY_CHANGES=10 RUSTC=/usr/bin/rustc /usr/bin/cargo test \
+            --offline --no-fail-fast --lib --tests --examples --target-dir "$CARGO_TARGET_DIR/oldest"
     else
         echo "skipped Rust: tests with the oldest compiler, which isn't /usr/bin/rustc"
     fi

@@ -206,9 +206,9 @@ has() {
     nm "${@:2}" 2>/dev/null | grep -E " T $1(@|\$)" >/dev/null
 }
 
-# relinks MARK LIBRARY COMMAND..: once the command has put a function MARK into a source, what is installed has it, static and shared.
-relinks() {
-    "${@:3}" "$1" && made install && has "$1" "$stage$libdir/$2.a" && has "$1" -D "$stage$libdir/$2.so"
+# relinked MARK LIBRARY: what is installed has the function MARK, static and shared.
+relinked() {
+    has "$1" "$stage$libdir/$2.a" && has "$1" -D "$stage$libdir/$2.so"
 }
 
 # A copy of what is installed, which is changed as the work on it goes on: from here on it is what is installed from.
@@ -226,9 +226,13 @@ mark() {
     printf '\nvoid %s(void);\nvoid %s(void)\n{\n}\n' "$2" "$2" >>"$1"
 }
 
-# What is in the archive: a function more, as an object beside its own.
-mark_archive() {
-    : >"$room/mark.c" && mark "$room/mark.c" "$1" && gcc -fPIC -c -o "$room/mark.o" "$room/mark.c" && ar r "$top/out/libregistry.a" "$room/mark.o"
+# A function more in each of three sources, and in the archive, as an object beside its own.
+mark_each() {
+    : >"$room/archive.c"
+    for source in "$room/archive.c" "$top"/{c/src/waiting.c,netbsd/src/psref.c,explorer/src/show.c}; do
+        mark "$source" "kupaldiz_mark_of_$(basename "$source" .c)" || return
+    done
+    gcc -fPIC -c -o "$room/mark.o" "$room/archive.c" && ar r "$top/out/libregistry.a" "$room/mark.o"
 }
 
 # The licence goes into each .pc file, and none is named as long as none is chosen.
@@ -300,10 +304,11 @@ check "an upgrade: the older version" copy_top
 check "the words of a distribution are taken" flags_are_taken
 comes "an upgrade: "
 check "the licence is told once it is chosen" licence_is_told
-check "no stale object is linked: a changed archive" relinks registry_mark_of_archive libkupaldiz mark_archive
-check "no stale object is linked: changed waits" relinks registry_mark_of_waiting libkupaldiz mark "$top/c/src/waiting.c"
-check "no stale object is linked: changed names of the pages" relinks kupaldiz_mark libkupaldiz_netbsd mark "$top/netbsd/src/psref.c"
-check "no stale object is linked: a changed bench" relinks kupaldiz_mark_of_bench libkupaldiz_bench mark "$top/explorer/src/show.c"
+check "the archive and three sources are changed" mark_each
+check "they are installed anew" made install
+for mark in archive:libkupaldiz waiting:libkupaldiz psref:libkupaldiz_netbsd show:libkupaldiz_bench; do
+    check "no stale object is linked: ${mark%:*}" relinked "kupaldiz_mark_of_${mark%:*}" "${mark#*:}"
+done
 check "an upgrade: the later version" sed -i -E 's/^(#define REGISTRY_VERSION_PATCH[[:blank:]]+).*/\17/' "$header"
 check "an upgrade: the later version's number" test "$(version)" = "${older%.*}.7"
 comes "an upgrade, over the older one: "

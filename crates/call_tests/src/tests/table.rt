@@ -1,6 +1,6 @@
 //! What rows on the bare words begin with, a new table of two CPUs and two slots, before it is named and after.
 
-ghost use Rattle.std.specs.Prelude.{◌≡◌, IsTrue};
+ghost use Rattle.std.specs.Prelude.{◌≡◌, ◌<◌, IsTrue};
 ghost use Rattle.registry_values.specs.Common.{are_fit};
 ghost use Rattle.cpu_words.specs.Common.{AreWordsOf, keeper_with, new_cpu};
 ghost use Rattle.registry_values.specs.declared.limits.TheConstants.{MOST_CPUS};
@@ -108,11 +108,29 @@ fn on_named<D: Domain + Send, R: Threads + Abort + Sync>(
     }
 }
 
+/// The CPU with this number, from its seat in a new table that D names.
+fn cpu_of<D: Domain>(
+    alloc: Global,
+    seat: CpuSeat,
+    id: u8,
+    slots: u8,
+    share: ledger::Share<D>,
+) -> Result<Cpu<D>, Fail>
+    requires fit { IsTrue (are_fit D.settings) × (id < D.settings.cpus) × (slots ≡ D.settings.slots) }
+    requires seat { (seat.table ≡ D.table) × (seat.view ≡ new_cpu D.settings id) }
+    requires part { share.parts ≡ 1 }
+{
+    let rows = CpuRows::new(alloc, slots)?;
+    Ok(Cpu::of_seat(alloc, seat, id, rows, share)?)
+}
+
 impl<D: Domain> Seats<D> {
     fn of(alloc: Global, table: Table) -> Result<Seats<D>, Fail>
         requires words { AreWordsOf table.words D.table D.settings }
         requires ledger { (table.changes.name ≡ D.name) × (D.parts ≡ MOST_CPUS) }
     {
+        let settings = table.words.settings();
+        let rows = KeeperRows::new(alloc, settings)?;
         let Table {
             words,
             keeper,
@@ -120,17 +138,13 @@ impl<D: Domain> Seats<D> {
             second,
             changes,
         } = table;
-        let settings = words.settings();
-        let rows = KeeperRows::new(alloc, settings)?;
-        let first_rows = CpuRows::new(alloc, settings.slots)?;
-        let second_rows = CpuRows::new(alloc, settings.slots)?;
         let (_book, mut shares) = changes.open::<D>();
         let (one, other) = (shares.split_off(1, 0), shares.split_off(1, 0));
         Ok(Seats {
             words,
             keeper: Keeper::of_seat(keeper, settings, rows),
-            first: Cpu::of_seat(alloc, first, 0, first_rows, one)?,
-            second: Cpu::of_seat(alloc, second, 1, second_rows, other)?,
+            first: cpu_of(alloc, first, 0, settings.slots, one)?,
+            second: cpu_of(alloc, second, 1, settings.slots, other)?,
         })
     }
 
