@@ -28,15 +28,15 @@ from parts import ended
 
 # So many runs of tests are made side by side.
 TESTED_AT_ONCE = 2
-# The crates of which the program's rows are tests, too.
-BY_ROWS = ("script_tests", "registry_run")
+# The crates whose tests are the program's rows, too, and the one that has no others.
+WITHOUT_TESTS = "registry_run"
+BY_ROWS = ("script_tests", WITHOUT_TESTS)
 PASSED = "NOT REFUSED: all tests pass"
 
 
 def failures(tree, crate):
-    """Whether the tests of the crate fail, as they must, and what they say; those of BY_ROWS are also the rows of the program, or these alone."""
-    has_tests = any("#[test]" in it.read_text() for it in (tree / "crates" / crate / "src").rglob("*.rt"))
-    is_refused, said = within(tree, crate) if has_tests else (False, PASSED)
+    """Whether the tests of the crate fail, as they must, and what they say."""
+    is_refused, said = (False, PASSED) if crate == WITHOUT_TESTS else within(tree, crate)
     return by_rows(tree) if said == PASSED and crate in BY_ROWS else (is_refused, said)
 
 
