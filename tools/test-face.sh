@@ -198,7 +198,7 @@ test_rust() {
     check "Rust: the documents, no warning" env RUSTDOCFLAGS="-D warnings" cargo doc --offline --no-deps
     check "Rust: a package of it is verified" cargo package --allow-dirty --offline
     counted "Rust: the tests within" cargo test --offline --lib
-    counted "Rust: tests, where each call is watched" env RUSTFLAGS="$(tests/watching.sh)" cargo test --offline --no-fail-fast --test '*'
+    counted "Rust: tests, where each call is watched" env REGISTRY_CHANGES=10 RUSTFLAGS="$(tests/watching.sh)" cargo test --offline --no-fail-fast --test '*'
     counted "Rust: the random calls in release" cargo test --offline --no-fail-fast --release --test model --test together
     counted "Rust: the docs' examples" cargo test --offline --doc
     check "Rust: the examples are built" cargo build --offline --release --examples
