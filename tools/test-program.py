@@ -171,6 +171,12 @@ def with_little_memory(program):
         yield judged(f"{engine}, too little memory", ([], {"reading", "later", "enough"}), (odd, met))
 
 
+def without_threads(program):
+    """An address space with room for the program, and none for the stack of a thread."""
+    found = said("sh", ["-c", 'ulimit -v 10000; exec "$@"', "sh", program, "storm", "2", "1"], stdout=subprocess.PIPE)
+    yield judged("storm, no room for a thread", (4, b"", b"no thread\n"), found)
+
+
 def by_command():
     """What ./registry_run does beside running the program: help, a version, scripts in files, a word on CRLF."""
     first, second = (str(ROOT / "examples" / name) for name in ("retire-under-section.txt", "kept-driver.txt"))
@@ -216,6 +222,7 @@ def main():
     for program in (it for it in programs() if it != COMMAND):
         passed += by_rows(program)
     passed += with_little_memory(programs()[0])
+    passed += without_threads(programs()[0])
     if COMMAND in programs():
         passed += by_command()
     sys.exit(ended(sum(passed), len(passed) - sum(passed)))
