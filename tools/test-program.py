@@ -25,9 +25,8 @@ COMMAND = str(ROOT / "registry_run")
 USAGE = b"usage: registry_run core | live | storm C T\n"
 SCRIPT = b"domain 2 2\nattach 0 driver wm 7\nenter 0\nfind 0 driver wm\n"
 REPORT = b"domain 2 2\nattached 1 slot 0\ninside\nfound 1 slot 0 value 7\n"
-
-
-# Of the runs below those that are tried where nothing is proved, beside the scripts.
+ENGINES = ("core", "live")
+# `rt try` makes the runs of RUNS with these words, beside the scripts.
 TRIED = (["storm", "2", "3"], ["Core"])
 
 
@@ -46,10 +45,6 @@ RUNS = [
     (["live"], SCRIPT, 0, REPORT, b""),
     (["core"], b"domain 2 2\nenter 2\n", 2, b"", script_fault(2, "BadCpu")),
     (["live"], b"domain 2 2\nenter 2\n", 2, b"", script_fault(2, "BadCpu")),
-    (["core"], b"domain 2 2\nenter 0\natt", 2, b"", script_fault(3, "UnknownCommand")),
-    (["core"], b"", 2, b"", script_fault(1, "NoDomain")),
-    (["live"], b"\n" * 65537, 2, b"", script_fault(1, "TooLong")),
-    (["live"], b"domain 0 2\n", 2, b"", script_fault(1, "BadSettings")),
     (["storm", "1", "1"], b"", 0, storm(1, 1), b""),
     (["storm", "2", "3"], b"", 0, storm(2, 3), b""),
     (["storm", "8", "1000"], b"", 0, storm(8, 1000), b""),
@@ -77,9 +72,6 @@ def usual(program):
     for words, script, status, output, error in RUNS:
         found = said(program, words, input=script, stdout=subprocess.PIPE)
         yield judged(str(words) if words else "no arguments", (status, output, error), found)
-
-
-ENGINES = ("core", "live")
 
 
 def by_rows(program):
