@@ -41,6 +41,6 @@ sys.exit(gate(
         Part("examples", f"tools/run-examples.py --program {PROGRAM}"),
         Part("conformance kit", "tools/conformance.py test"),
         Part("pictures", "tools/picture.py check"),
-        Part("the tools themselves", "tools/test-tools.py"),
+        Part("the tools themselves", "tools/test-tools.py --gate"),
     ],
 ))

@@ -105,8 +105,7 @@ in_place() {
 pages_are_found() {
     local call page
     for call in $(packaging/calls-of.sh "$stage$prefix"/include/kupaldiz/registry{,_limits,_waiting}.h | grep -v '^registry_for_[0-9]'); do
-        page=$(MANPAGER=cat MANROFFOPT='' man -M "$stage$prefix/share/man" 3 "$call" 2>/dev/null | col -b)
-        [[ $page = *"$call"* ]] && grep -qE '^NAME' <<<"$page" || { echo "no page $call(3)"; return 1; }
+        page=$(man -M "$stage$prefix/share/man" -w 3 "$call") && grep -qE "^\.Nm $call( |\$)" "$page" || { echo "no page $call(3)"; return 1; }
     done
 }
 

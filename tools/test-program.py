@@ -48,6 +48,7 @@ RUNS = [
     (["storm", "1", "1"], b"", 0, storm(1, 1), b""),
     (["storm", "2", "3"], b"", 0, storm(2, 3), b""),
     (["storm", "8", "1000"], b"", 0, storm(8, 1000), b""),
+    (["storm", "1", "100000"], b"", 0, storm(1, 100000), b""),
     (["storm", "03", "0007"], b"", 0, storm(3, 7), b""),
     *((words, SCRIPT, 2, b"", USAGE) for words in (
         [], ["Core"], ["core", "live"], ["live", "1", "1"], ["storm"], ["storm", "2"], ["storm", "9", "1"], ["storm", "0", "1"], ["storm", "1", "0"],

@@ -2,6 +2,7 @@
 """Tries the tools of the gate: each on a tree that it finds good, and on the same tree with one planted fault of each kind that it is to find.
 
     tools/test-tools.py [WORD]..    the tools whose names have one of the words, or all
+    tools/test-tools.py --gate      those that the gate runs
 
 The trees and the faults are tools/tests/. A fault passes where the tool ends with another status than 0, says what the fault names, and counts a failure
 if it counts. tools/test-program.py is left out, and that is said, where the proved program isn't built. The last line is 'N passed, M failed'.
@@ -20,6 +21,8 @@ from tests.trees import CASES, WRITING, lay, said_by, spoil
 
 for _module in ("documents", "sources", "gates", "refusals", "libraries", "releases"):
     importlib.import_module(f"tests.{_module}")
+# What only a release or a session by hand runs.
+BY_HAND = ("make-release", "packaging's scripts", "build-archive, other limits", "mutants", "try-edits")
 COUNT = re.compile(r"^(\d+) passed, (\d+) failed\s*\Z", re.MULTILINE)
 
 
@@ -57,7 +60,8 @@ def run(job):
 
 
 def main():
-    chosen = [it for it in CASES if not sys.argv[1:] or any(word in it.name for word in sys.argv[1:])]
+    words = sys.argv[1:]
+    chosen = [it for it in CASES if (it.name not in BY_HAND if words == ["--gate"] else not words or any(word in it.name for word in words))]
     if not PROVED.is_file():
         print(f"NOT RUN: test-program, as there is no {PROVED.name} that was proved and built")
     jobs = [(case, fault) for case in chosen for fault in [None, *case.faults]]

@@ -5,7 +5,7 @@ ghost use Rattle.passive_core.specs.Common.{may_act};
 ghost use Rattle.protocol.specs.Common.{at_rest};
 
 use super::bench::{Answer, Ask, Told, record};
-use passive_core::{Balance, Core, Entry, Event, Kind, Record, Refusal, Reply, StepFault};
+use passive_core::{Core, Entry, Event, Kind, Record, Refusal, Reply, StepFault};
 use std::process::Abort;
 
 /// Asks one thing; the conditions of a command are tested before it is given.
@@ -113,16 +113,16 @@ fn give_counting(rt: &impl Abort, core: &mut Core, c: u8, ask: Ask) -> Answer
             core.perform(c, turns)?;
             Ok(Told::Done)
         }
-        _ => Ok(audited(&core.audit()?)),
+        _ => audited(core),
     }
 }
 
-fn audited(list: &[Balance]) -> Told {
-    let held = match list {
-        [first, ..] => first.held,
-        [] => 0,
-    };
-    Told::Audit(list.len(), held)
+fn audited(core: &mut Core) -> Answer
+    requires { at_rest core.old.due ≡ true }
+{
+    let list = core.audit()?;
+    let held = list.first().map_or(0, |first| first.held);
+    Ok(Told::Audit(list.len(), held))
 }
 
 fn entry_told(entry: Entry) -> Told {

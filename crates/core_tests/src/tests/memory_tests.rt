@@ -288,8 +288,13 @@ fn made_as_well(
     events: &[Event],
 ) -> Result<Counted, Fail> {
     let mut twin = Core::new(rt.alloc(), USUAL)?;
-    let counted = run_events(&mut twin, events)?;
-    assert!(rt; core.is_same(&twin), "the events before it are made");
+    led(rt, core, &mut twin, events)
+}
+
+/// What these events come to on the twin, which they lead where the core is.
+fn led(rt: &impl Abort, core: &Core, twin: &mut Core, events: &[Event]) -> Result<Counted, Fail> {
+    let counted = run_events(twin, events)?;
+    assert!(rt; core.is_same(twin), "the events before it are made");
     Ok(counted)
 }
 

@@ -1,10 +1,6 @@
-//! Names, refusals and laws by their public calls.
+//! Names and refusals by their public calls.
 
-use protocol::{
-    balance_at_rest, every_run_keeps, grace_law, headline, invariant_suffices, lawful_answers,
-    narrow_runs, safe_reuse, worked_run,
-};
-use registry_values::{Name, NameFault, Refusal, Stage, name_laws};
+use registry_values::{Name, NameFault, Refusal, Stage};
 use std::test::Fail;
 
 const FAULTS: [(&[u8], NameFault); 4] = [
@@ -22,7 +18,6 @@ fn parses_names(rt: HostRuntime) {
     for (text, fault) in FAULTS {
         assert_eq!(rt; Name::parse(text), Err(fault));
     }
-    name_laws();
 }
 
 #[test]
@@ -101,17 +96,4 @@ fn refusals_have_numbers_and_texts(rt: HostRuntime) -> Result<(), Fail> {
     }
     assert!(rt; REFUSALS.len() == 19, "all refusals");
     Ok(())
-}
-
-#[test]
-fn laws_end(_rt: HostRuntime) {
-    headline();
-    every_run_keeps();
-    safe_reuse();
-    lawful_answers();
-    balance_at_rest();
-    grace_law();
-    invariant_suffices();
-    narrow_runs();
-    worked_run();
 }
