@@ -25,8 +25,8 @@ prints_what_was_tried() {
 
 # So many runs are enough with the reduction, and no fewer: each touch of a step counts (tests/rules.py).
 compares_outcomes() {
-    "$out/plain/outcomes" 1 40 | tee "$log.said"
-    grep -q ' have the same outcomes by 5764 schedules as by 536252; ' "$log.said"
+    "$out/plain/outcomes" 1 20 | tee "$log.said"
+    grep -q ' have the same outcomes by 3186 schedules as by 301249; ' "$log.said"
 }
 
 # The table of the README says what was printed.
@@ -108,7 +108,7 @@ check "what it prints" prints_what_was_tried
 check "outcomes with the reduction and without" compares_outcomes
 check "the same of short programs, for twenty seconds" "$out/plain/outcomes" for 20 1
 tail -n 1 "$log"
-check "the same with sanitizers" "$out/sanitized/outcomes" 61 4
+check "the same with sanitizers, for six seconds" "$out/sanitized/outcomes" for 6 100000
 counted "faults in the reduction's rules and touches are told by programs that are written there" make -s -C $folder rules
 check "the outcomes of real threads are among the bench's" make -s -C $folder beside
 counted "each misuse of the layer's tests by the same line" make -s -C $folder misuses

@@ -160,6 +160,11 @@ test_bench() {
     grep '^in 20 seconds' "$log"
 }
 
+# with_oldest WORD..: cargo with Debian's compiler, which is slow where it tells a debugger of lines.
+with_oldest() {
+    CARGO_PROFILE_DEV_DEBUG=0 REGISTRY_CHANGES=10 RUSTC=/usr/bin/rustc /usr/bin/cargo "$@" --offline --target-dir "$CARGO_TARGET_DIR/oldest"
+}
+
 # refused_over FOLDER TEXT: over the archive in that folder of out no example of the crate is run, and it says why.
 refused_over() {
     ! (cd rust && REGISTRY_LIB_DIR=$PWD/../$out/$1 CARGO_TARGET_DIR=$PWD/../$out/$1/target cargo run -q --offline --example smallest) >"$log.said" 2>&1 &&
@@ -185,13 +190,14 @@ refuses_other_version() {
 test_rust() {
     local example
     cd rust || return
-    check "Rust: no warning" env RUSTFLAGS="-D warnings" cargo check --offline --all-targets
     if cargo clippy --version >/dev/null 2>&1; then
-        check "Rust: clippy says nothing" cargo clippy --offline --all-targets -- -D warnings
+        check "Rust: no warning, and clippy says nothing" cargo clippy --offline --all-targets -- -D warnings
+    else
+        check "Rust: no warning" env RUSTFLAGS="-D warnings" cargo check --offline --all-targets
     fi
     if /usr/bin/rustc --version 2>/dev/null | grep -q ' 1\.63\.'; then
-        counted "Rust: tests and examples with the oldest compiler that the crate is for" env REGISTRY_CHANGES=10 RUSTC=/usr/bin/rustc /usr/bin/cargo test \
-            --offline --no-fail-fast --lib --tests --examples --target-dir "$CARGO_TARGET_DIR/oldest"
+        check "Rust: the oldest compiler that the crate is for takes tests and examples" with_oldest check --all-targets
+        counted "Rust: tests with it" with_oldest test --no-fail-fast --lib --test carried --test model --test together
     else
         echo "skipped Rust: tests with the oldest compiler, which isn't /usr/bin/rustc"
     fi
