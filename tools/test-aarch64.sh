@@ -59,7 +59,7 @@ test_clients() {
     # It counts what the library asks for. Where all is one program, it would count what the C library asks for as well: so it takes that as a shared one.
     check "history is built over a shared C library" make -s CC="${cross}gcc" "out/$processor/history"
     check "the clients in C are built, no warning" make_for . all
-    check "each answer is the model's" emulated -L "/usr/$processor-linux-gnu" "$out/history" 3000 1 small
+    check "each answer is the model's" emulated -L "/usr/$processor-linux-gnu" "$out/history" 1000 1 small
     programs C: "" "emulated $out/" smallest packet shared misuse built names 'turns emulated' 'deferred 200 1' \
         'forwarder 200' 'device_switch 20' 'together 20'
     counted "programs compiled for other limits" env CC="${cross}gcc" RUN="$emulator" packaging/other-limits.sh crates/registry_c/include "$out/libregistry.a"

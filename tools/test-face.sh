@@ -117,7 +117,7 @@ test_c() {
 
 # The same programs, where each access of the client's, or of all, is watched.
 test_watched() {
-    programs C: " under valgrind" "watched all $out/" smallest packet 'shared 20' misuse built interrupted reclaims lent 'history 3000 1 small' names
+    programs C: " under valgrind" "watched all $out/" smallest packet 'shared 20' misuse built interrupted reclaims lent 'history 1000 1 small' names
     programs C: " with sanitizers" "$out/sanitized-" smallest misuse packet 'shared 500' built reclaims lent 'history 100000' names forwarder device_switch
 }
 
