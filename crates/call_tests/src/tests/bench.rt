@@ -1,17 +1,18 @@
 //! What rows on a registry begin with, a registry of three CPUs and their references, and what a row does with it.
 
+ghost use Rattle.std.specs.Prelude.{IsTrue};
+ghost use Rattle.registry_values.specs.Common.{is_key};
 ghost use Rattle.name_registry.specs.Common.{IsBlankOf};
 
-use super::answers::{Answer, Wanted, done, entry, record};
+use super::answers::{Answer, Wanted, come, done, entry, record};
 use super::readers::{Held, Reader, by_reader};
-use super::registry_rows::walked_and_changed;
-use super::remembered::{follow, full_by_memory};
-use super::sizes::{counted, destroyed_meanwhile};
+use super::registry_rows::{changed, counted};
+use super::remembered::full_by_memory;
 use super::turns::{Row, together};
 use cpu_words::Domain;
 use name_registry::{Blank, Registry};
 use passive_list::Cpu;
-use registry_values::{Refusal, Settings, USUAL_SECTIONS};
+use registry_values::{Record, Refusal, Settings, USUAL_SECTIONS};
 use std::alloc::Global;
 use std::marker::Brand;
 use std::process::Abort;
@@ -27,7 +28,7 @@ pub(crate) fn blank(alloc: Global, slots: u8, change_limit: u64) -> Result<Blank
         change_limit,
         section_limit: USUAL_SECTIONS,
         passive_limit: 100,
-        count_limit: 100,
+        count_limit: 1000,
     };
     Blank::new(alloc, settings)
 }
@@ -35,11 +36,10 @@ pub(crate) fn blank(alloc: Global, slots: u8, change_limit: u64) -> Result<Blank
 /// A test on a registry of its own.
 #[derive(Clone, Copy)]
 pub(crate) enum Test<'a> {
-    WalkedAndChanged,
+    Changed,
+    Counted,
     Follow(&'a [(Step, Answer)]),
     FullByMemory,
-    Counted,
-    DestroyedMeanwhile,
     Together(&'a Row),
 }
 
@@ -62,21 +62,25 @@ fn on_named<D: Domain + Send + Sync, R: Threads + Wait + Abort + Sync>(
 ) -> Result<(), Fail>
     requires { IsBlankOf blank D.table D.settings D.name D.parts }
 {
-    let bench = Bench::<D>::open(alloc, blank)?;
+    let mut bench = Bench::<D>::open(alloc, blank)?;
     match test {
-        Test::WalkedAndChanged => walked_and_changed(rt, alloc, bench),
-        Test::Follow(steps) => follow(rt, bench, steps),
+        Test::Changed => changed(rt, alloc, bench),
+        Test::Counted => counted(rt, &mut bench),
+        Test::Follow(steps) => bench.run(rt, "on a registry", steps),
         Test::FullByMemory => full_by_memory(rt, bench),
-        Test::Counted => counted(rt, alloc, bench),
-        Test::DestroyedMeanwhile => destroyed_meanwhile(rt, bench),
         Test::Together(row) => together(rt, bench, row),
     }
+    Ok(())
 }
 
 /// What the CPU with this number does: it calls the registry, or steps on the words.
 #[derive(Clone, Copy)]
 pub(crate) enum Step {
     By(u8, Call),
+    /// It gets a passive reference, which the row holds.
+    Gets(u8, Wanted),
+    /// It releases the row's local reference.
+    Uncounts(u8),
     Reads(u8, Reader),
 }
 
@@ -86,21 +90,19 @@ pub(crate) enum Call {
     Attach(Wanted),
     Detach(Wanted),
     LookUp(Wanted),
-    /// It gets a passive reference, which the row holds.
-    Get(Wanted),
-    /// It releases the row's local reference.
-    Uncount,
     /// It waits for the open sections, for so many turns.
     Perform(u32),
     /// It destroys the retired entry with this number, in so many turns.
     Destroy(u64, u32),
+    /// It makes one turn of the work on the retired entry with this number.
+    Advance(u64),
 }
 
 /// A registry and its three CPUs.
 #[derive(Drop)]
 pub(crate) struct Bench<D: Domain> {
     pub(crate) registry: Registry<D>,
-    pub(crate) cpus: Vec<Cpu<D>>,
+    pub(crate) cpus: [Cpu<D>; 3],
 }
 
 impl<D: Domain> Bench<D> {
@@ -108,16 +110,17 @@ impl<D: Domain> Bench<D> {
         requires { IsBlankOf blank D.table D.settings D.name D.parts }
     {
         match blank.open::<D>(alloc) {
-            Ok((registry, cpus)) => Ok(Bench { registry, cpus }),
+            Ok((registry, cpus)) => Bench::of(registry, cpus),
             Err(_) => Err(Fail::from("an open registry")),
         }
     }
 
-    /// The registry, and each CPU by itself.
-    pub(crate) fn apart(self) -> Result<(Registry<D>, Cpu<D>, Cpu<D>, Cpu<D>), Fail> {
-        let Bench { registry, mut cpus } = self;
+    pub(crate) fn of(registry: Registry<D>, mut cpus: Vec<Cpu<D>>) -> Result<Bench<D>, Fail> {
         match (cpus.pop(), cpus.pop(), cpus.pop()) {
-            (Some(third), Some(second), Some(first)) => Ok((registry, first, second, third)),
+            (Some(third), Some(second), Some(first)) => Ok(Bench {
+                registry,
+                cpus: [first, second, third],
+            }),
             _ => Err(Fail::from("three CPUs")),
         }
     }
@@ -146,55 +149,100 @@ impl<D: Domain> Bench<D> {
     }
 
     fn take<R: Wait + Abort>(&mut self, rt: &R, refs: &mut Held<D>, step: Step) -> Answer {
-        let (Step::By(cpu, _) | Step::Reads(cpu, _)) = step;
+        let (Step::By(cpu, _) | Step::Gets(cpu, _) | Step::Uncounts(cpu) | Step::Reads(cpu, _)) =
+            step;
         let Some(cpu) = self.cpus.get_mut(usize::from(cpu)) else {
             panic!(rt; "three CPUs");
         };
         match step {
-            Step::By(_, call) => by_cpu(rt, &self.registry, cpu, refs, call),
+            Step::By(_, call) => by_cpu(rt, &self.registry, cpu, call),
+            Step::Gets(_, wanted) => gotten(rt, &self.registry, cpu, refs, wanted),
+            Step::Uncounts(_) => {
+                self.registry.release_local(rt, cpu, refs.take_local(rt));
+                Answer::Done
+            }
             Step::Reads(_, call) => by_reader(rt, self.registry.words(), cpu, refs, call),
         }
     }
 }
 
+/// Makes the call; its answer.
 pub(crate) fn by_cpu<D: Domain, R: Wait + Abort>(
     rt: &R,
     registry: &Registry<D>,
     cpu: &mut Cpu<D>,
-    refs: &mut Held<D>,
     call: Call,
 ) -> Answer {
     match call {
-        Call::Attach(wanted) => {
-            let rec = record(rt, wanted);
-            entry(rt, registry.attach(rt, cpu, rec), rec)
-        }
-        Call::Detach(wanted) => {
-            let rec = record(rt, wanted);
-            entry(rt, registry.detach(rt, cpu, rec.kind, &rec.name), rec)
-        }
-        Call::LookUp(wanted) => {
-            let rec = record(rt, wanted);
-            entry(rt, registry.look_up(cpu, rec.kind, &rec.name), rec)
-        }
-        Call::Get(wanted) => {
-            let rec = record(rt, wanted);
-            refs.keep_got(rt, registry.get(cpu, rec.kind, &rec.name), rec)
-        }
-        Call::Uncount => {
-            registry.release_local(rt, cpu, refs.take_local(rt));
-            Answer::Done
-        }
-        Call::Perform(turns) => {
-            assert!(rt; 1 <= turns);
-            done(registry.perform(rt, cpu, turns))
-        }
-        Call::Destroy(number, turns) => {
-            assert!(rt; 1 <= turns);
-            match registry.destroy(rt, cpu, number, turns) {
-                Ok(slot) => Answer::Number(u64::from(slot)),
-                Err(refusal) => Answer::Refused(refusal),
-            }
-        }
+        Call::Attach(wanted) => attached(rt, registry, cpu, record(rt, wanted)),
+        Call::Detach(wanted) => detached(rt, registry, cpu, record(rt, wanted)),
+        Call::LookUp(wanted) => looked_up(rt, registry, cpu, record(rt, wanted)),
+        Call::Perform(turns) => performed(rt, registry, cpu, turns),
+        Call::Destroy(number, turns) => destroyed(rt, registry, cpu, number, turns),
+        Call::Advance(number) => come(registry.advance(rt, number)),
+    }
+}
+
+pub(crate) fn attached<D: Domain, R: Wait + Abort>(
+    rt: &R,
+    registry: &Registry<D>,
+    cpu: &mut Cpu<D>,
+    rec: Record,
+) -> Answer
+    requires { IsTrue (is_key rec.name) }
+{
+    entry(rt, registry.attach(rt, cpu, rec), rec)
+}
+
+pub(crate) fn detached<D: Domain, R: Wait + Abort>(
+    rt: &R,
+    registry: &Registry<D>,
+    cpu: &mut Cpu<D>,
+    rec: Record,
+) -> Answer {
+    entry(rt, registry.detach(rt, cpu, rec.kind, &rec.name), rec)
+}
+
+fn looked_up<D: Domain, R: Abort>(
+    rt: &R,
+    registry: &Registry<D>,
+    cpu: &mut Cpu<D>,
+    rec: Record,
+) -> Answer {
+    entry(rt, registry.look_up(cpu, rec.kind, &rec.name), rec)
+}
+
+fn gotten<D: Domain, R: Abort>(
+    rt: &R,
+    registry: &Registry<D>,
+    cpu: &mut Cpu<D>,
+    refs: &mut Held<D>,
+    wanted: Wanted,
+) -> Answer {
+    let rec = record(rt, wanted);
+    refs.keep_got(rt, registry.get(cpu, rec.kind, &rec.name), rec)
+}
+
+fn performed<D: Domain, R: Wait + Abort>(
+    rt: &R,
+    registry: &Registry<D>,
+    cpu: &mut Cpu<D>,
+    turns: u32,
+) -> Answer {
+    assert!(rt; 1 <= turns);
+    done(registry.perform(rt, cpu, turns))
+}
+
+fn destroyed<D: Domain, R: Wait + Abort>(
+    rt: &R,
+    registry: &Registry<D>,
+    cpu: &mut Cpu<D>,
+    number: u64,
+    turns: u32,
+) -> Answer {
+    assert!(rt; 1 <= turns);
+    match registry.destroy(rt, cpu, number, turns) {
+        Ok(slot) => Answer::Number(u64::from(slot)),
+        Err(refusal) => Answer::Refused(refusal),
     }
 }

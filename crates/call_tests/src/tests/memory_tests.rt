@@ -7,8 +7,8 @@ ghost use Rattle.name_registry.specs.Common.{IsBlankOf};
 
 use super::answers::Answer::{self, At, Done};
 use super::answers::{Line, VGA, WM, line_of};
-use super::bench::Call::{Attach, Uncount};
-use super::bench::Step::{self, By, Reads};
+use super::bench::Call::Attach;
+use super::bench::Step::{self, By, Reads, Uncounts};
 use super::bench::{Bench, blank};
 use super::readers::Held;
 use super::readers::Reader::{Count, Enter, Exit, Find};
@@ -39,7 +39,7 @@ const AS_BEFORE: &[(Step, Answer)] = &[
 ];
 
 /// CPU 1 releases the local reference.
-const RELEASED: &[(Step, Answer)] = &[(By(1, Uncount), Done)];
+const RELEASED: &[(Step, Answer)] = &[(Uncounts(1), Done)];
 
 fn note(rt: &impl Eprint, what: &str) -> Result<(), Fail> {
     eprintln!(rt; "refused memory: {what}")?;
@@ -66,7 +66,7 @@ fn opened<D: Domain, R: Abort + Eprint>(
     requires { IsBlankOf blank D.table D.settings D.name D.parts }
 {
     let (refusal, back) = match blank.open::<D>(alloc) {
-        Ok((registry, cpus)) => return Ok(Bench { registry, cpus }),
+        Ok((registry, cpus)) => return Bench::of(registry, cpus),
         Err(refused) => refused,
     };
     assert_eq!(rt; refusal, Refusal::NoMemory);

@@ -2,14 +2,12 @@
 
 ghost use Rattle.cpu_words.specs.Common.{AreWordsOf};
 
-use super::answers::{Answer, WM, Wanted, at, done, record};
+use super::answers::{Answer, Wanted, at, done, record};
 use cpu_words::{Domain, Words};
 use local_count::{LocalRef, acquire_local};
-use passive_list::{
-    Cpu, enter, exit, find, find_inside, find_remembered, may_begin_on, recall_on, walk,
-};
+use passive_list::{Cpu, enter, exit, find, find_inside, find_remembered, may_begin_on, recall_on};
 use passive_ref::{Psref, acquire, copy, get_remembered, held, read, release};
-use registry_values::{Entry, MOST_SLOTS, Record, Refusal, USUAL_SLOTS};
+use registry_values::{Entry, MOST_SLOTS, Record, Refusal};
 use std::process::Abort;
 
 /// A call on the words by a CPU.
@@ -28,8 +26,6 @@ pub(crate) enum Reader {
     Recall(u8, u64),
     /// How many sections it has ended.
     Ended,
-    /// It walks over all entries, and meets these numbers with their records. The last found entry is then none.
-    Walk(&'static [(u64, Wanted)]),
     /// It acquires a local reference to what it found last.
     Count,
     /// It acquires a passive reference to what it found last.
@@ -159,7 +155,6 @@ pub(crate) fn by_reader<D: Domain, R: Abort>(
             Answer::Is(recall_on(words, &mut cpu.plain, slot, number))
         }
         Reader::Ended => Answer::Number(cpu.plain.ended),
-        Reader::Walk(met) => meets(rt, words, cpu, met),
         Reader::Count => kept(rt, &mut refs.local, acquire_local(words, cpu)),
         Reader::Acquire => kept(rt, &mut refs.passive, acquire(words, cpu)),
         Reader::Copy => {
@@ -270,49 +265,6 @@ fn get<D: Domain, R: Abort>(
         }
     }
     Err(Refusal::PassiveFull)
-}
-
-/// The CPU walks in its open section. The numbers fall, and past them the row is as it was.
-pub(crate) fn walked<D: Domain, R: Abort>(
-    rt: &R,
-    words: &Words,
-    cpu: &mut Cpu<D>,
-) -> (usize, [Entry; USUAL_SLOTS])
-    requires words { AreWordsOf words.now D.table D.settings }
-{
-    assert!(rt; cpu.inside());
-    assert!(rt; usize::from(words.settings().slots) <= USUAL_SLOTS);
-    let stale = Entry {
-        number: 77,
-        slot: 0,
-        rec: record(rt, WM),
-    };
-    let mut row = [stale; USUAL_SLOTS];
-    let count = walk(words, cpu, &mut row);
-    for place in 1..count {
-        assert!(rt; row[place].number < row[place - 1].number);
-    }
-    for entry in &row[count..] {
-        assert_eq!(rt; *entry, stale);
-    }
-    (count, row)
-}
-
-/// The CPU walks, and meets these numbers, each with its record.
-fn meets<D: Domain, R: Abort>(
-    rt: &R,
-    words: &Words,
-    cpu: &mut Cpu<D>,
-    met: &[(u64, Wanted)],
-) -> Answer
-    requires words { AreWordsOf words.now D.table D.settings }
-{
-    let (count, row) = walked(rt, words, cpu);
-    assert_eq!(rt; count, met.len());
-    for (entry, (number, wanted)) in row.iter().zip(met) {
-        assert!(rt; (entry.number, entry.rec) == (*number, record(rt, *wanted)));
-    }
-    Answer::Done
 }
 
 /// Keeps the reference, or says why there is none.

@@ -7,8 +7,8 @@ ghost use Rattle.cpu_words.specs.Common.{AreWordsOf};
 use super::answers::Answer::{self, At, Done, Is, Names, Nothing, Number, Refused};
 use super::answers::{DRIVER_WM0, VGA, WM, WM0, Wanted};
 use super::bench::Call::{self, Attach, Destroy, Detach};
-use super::bench::Step::{self, By, Reads};
-use super::bench::{Bench, Test, blank, on_bench};
+use super::bench::Step::{self, By, Gets, Reads};
+use super::bench::{Bench, Test, attached, blank, on_bench};
 use super::readers::Reader::{
     Acquire, Ended, Enter, Exit, Find, FindInside, LookUp, Read, Recall, Reference, Release,
 };
@@ -149,21 +149,21 @@ const ABSENT: &[(Step, Answer)] = &[
 
 /// The registry's own calls, outside a section and inside. Outside, a get and a lookup of one name share what the CPU remembers.
 const CALLS: &[(Step, Answer)] = &[
-    (By(0, Call::Get(WM)), Refused(Refusal::NotFound)),
+    (Gets(0, WM), Refused(Refusal::NotFound)),
     (Reads(0, Ended), Number(0)),
     (By(1, Attach(WM)), At(1, 0)),
-    (By(0, Call::Get(WM)), Done),
+    (Gets(0, WM), Done),
     (Reads(0, Ended), Number(1)),
     (Reads(0, Reference), Names(0, 1)),
     (Reads(0, Release), Done),
     (By(0, Call::LookUp(WM)), At(1, 0)),
-    (By(0, Call::Get(VGA)), Refused(Refusal::NotFound)),
+    (Gets(0, VGA), Refused(Refusal::NotFound)),
     (Reads(0, Ended), Number(2)),
     (By(0, Call::LookUp(VGA)), Refused(Refusal::NotFound)),
-    (By(0, Call::Get(VGA)), Refused(Refusal::NotFound)),
+    (Gets(0, VGA), Refused(Refusal::NotFound)),
     (Reads(0, Ended), Number(2)),
     (Reads(0, Enter), Done),
-    (By(0, Call::Get(WM)), Done),
+    (Gets(0, WM), Done),
     (Reads(0, Release), Done),
     (By(0, Call::LookUp(VGA)), Refused(Refusal::NotFound)),
     (Reads(0, Acquire), Refused(Refusal::NothingFound)),
@@ -178,7 +178,7 @@ const CALLS: &[(Step, Answer)] = &[
     (Reads(0, FindInside(WM)), Nothing),
     (Reads(0, Exit), Done),
     (Reads(0, Read(WM)), Done),
-    (By(0, Call::Get(WM)), Refused(Refusal::NotFound)),
+    (Gets(0, WM), Refused(Refusal::NotFound)),
     (Reads(0, Release), Done),
     (By(1, Destroy(1, 9)), Number(0)),
     (Reads(0, Ended), Number(3)),
@@ -199,15 +199,6 @@ fn run<R: Threads + Wait + Abort + Sync>(
     steps: &[(Step, Answer)],
 ) -> Result<(), Fail> {
     on_bench(rt, alloc, blank(alloc, 4, 1000)?, Test::Follow(steps))
-}
-
-pub(crate) fn follow<D: Domain, R: Wait + Abort>(
-    rt: &R,
-    mut bench: Bench<D>,
-    steps: &[(Step, Answer)],
-) -> Result<(), Fail> {
-    bench.run(rt, "lookups by memory", steps);
-    Ok(())
 }
 
 #[test]
@@ -232,17 +223,17 @@ fn nth<R: Abort>(rt: &R, n: u8) -> Record
 }
 
 /// CPU 1 attaches thirty-two drivers. Each is found in a section once, and is remembered then beside all others.
-pub(crate) fn full_by_memory<D: Domain, R: Wait + Abort>(
-    rt: &R,
-    bench: Bench<D>,
-) -> Result<(), Fail> {
-    let (registry, mut cpu, mut second, _third) = bench.apart()?;
+pub(crate) fn full_by_memory<D: Domain, R: Wait + Abort>(rt: &R, bench: Bench<D>) {
+    let Bench {
+        registry,
+        cpus: [mut cpu, mut second, _third],
+    } = bench;
     for n in 0..SLOTS {
-        registry.attach(rt, &mut second, nth(rt, n))?;
+        let answer = attached(rt, &registry, &mut second, nth(rt, n));
+        assert!(rt; answer == At(u64::from(n) + 1, n));
     }
     look_each_up(rt, registry.words(), &mut cpu);
     look_each_up(rt, registry.words(), &mut cpu);
-    Ok(())
 }
 
 /// Looks each entry up. The CPU has ended as many sections then as there are entries.

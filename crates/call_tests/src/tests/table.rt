@@ -8,7 +8,7 @@ ghost use Rattle.registry_values.specs.declared.limits.TheConstants.{MOST_CPUS};
 use super::answers::Answer;
 use super::keepers::{Writer, by_keeper};
 use super::readers::{Held, Reader, by_reader};
-use super::threads::{one_lookup, one_reference, told_twice};
+use super::threads::{one_lookup, one_reference};
 use super::word_rows::{Row, follow};
 use cpu_words::{CpuSeat, Domain, KeeperSeat, Words};
 use passive_list::{Cpu, CpuRows, Keeper, KeeperRows};
@@ -74,7 +74,6 @@ pub(crate) struct Seats<D: Domain> {
 #[derive(Clone, Copy)]
 pub(crate) enum Test<'a> {
     OneLookup,
-    ToldTwice,
     OneReference,
     Follow(&'a Row),
 }
@@ -102,7 +101,6 @@ fn on_named<D: Domain + Send, R: Threads + Abort + Sync>(
     let seats = Seats::<D>::of(alloc, table)?;
     match test {
         Test::OneLookup => one_lookup(rt, seats),
-        Test::ToldTwice => told_twice(rt, seats),
         Test::OneReference => one_reference(rt, seats),
         Test::Follow(row) => follow(rt, seats, row),
     }

@@ -10,10 +10,9 @@ use super::keepers::{looked, passive_look, published, retired};
 use super::table::{Seats, Test, on_table};
 use cpu_words::{Domain, Words};
 use local_count::{LocalRef, acquire_local, collect, collected, total, try_release};
-use passive_list::{Cpu, Keeper, Note, SlotState, enter, exit, find, hear, tell, tell_keeper};
+use passive_list::{Cpu, Keeper, SlotState, enter, exit, find};
 use registry_values::{Kind, Name, Record, Refusal, USUAL_SECTIONS};
 use std::alloc::Global;
-use std::marker::PhantomData;
 use std::process::Abort;
 use std::sync::atomic::{AtomicBool, Ordering};
 use std::test::*;
@@ -125,93 +124,6 @@ fn was_set(flag: &AtomicBool) -> bool {
         yield_now();
     }
     false
-}
-
-#[test]
-fn a_note_tells_another_thread_what_was_published(rt: HostRuntime) -> Result<(), Fail> {
-    on_table(&rt, rt.alloc(), USUAL_SECTIONS, Test::ToldTwice)
-}
-
-/// Both sections begin before the driver is published. One CPU hears of it from the keeper, the other from that CPU.
-pub(crate) fn told_twice<D: Domain + Send, R: Threads + Abort + Sync>(
-    rt: &R,
-    seats: Seats<D>,
-) -> Result<(), Fail> {
-    let Seats {
-        words,
-        keeper,
-        mut first,
-        mut second,
-    } = seats;
-    let driver = record(rt, WM);
-    let words = &words;
-    enter_both(words, &mut first, &mut second)?;
-    let ((published, note), _) = join(
-        rt,
-        move || -> (u64, Note<D>)
-            requires words { AreWordsOf words.now keeper.words.table keeper.words.settings }
-            requires named { keeper.words.table ≡ D.table }
-            requires driver { IsTrue (is_key driver.name) }
-        { publish_and_tell(rt, words, keeper, driver) },
-        || (),
-    );
-    let (found, note) = find_once_told(words, first, &driver.name, note);
-    let ((found_there, _), _) = join(
-        rt,
-        move || -> (Option<u64>, Note<D>)
-            requires words { AreWordsOf words.now D.table D.settings }
-        { find_once_told(words, second, &driver.name, note) },
-        || (),
-    );
-    assert_eq!(rt; (published, found, found_there), (1, Some(1), Some(1)));
-    Ok(())
-}
-
-fn enter_both<D: Domain>(
-    words: &Words,
-    first: &mut Cpu<D>,
-    second: &mut Cpu<D>,
-) -> Result<(), Refusal>
-    requires words { AreWordsOf words.now D.table D.settings }
-{
-    enter(words, first)?;
-    enter(words, second)
-}
-
-/// Publishes the driver. Returns its number, and a note of what the keeper has seen then.
-fn publish_and_tell<D: Domain, R: Abort>(
-    rt: &R,
-    words: &Words,
-    mut keeper: Keeper,
-    driver: Record,
-) -> (u64, Note<D>)
-    requires words { AreWordsOf words.now keeper.words.table keeper.words.settings }
-    requires named { keeper.words.table ≡ D.table }
-    requires driver { IsTrue (is_key driver.name) }
-{
-    let entry = published(rt, words, &mut keeper, driver);
-    let seat = tell_keeper(words, &mut keeper);
-    (
-        entry.number,
-        Note {
-            seat,
-            domain: PhantomData,
-        },
-    )
-}
-
-/// Hears the note in the open section, and looks the driver up. Returns the number found, and a note of what the CPU has seen then.
-fn find_once_told<D: Domain>(
-    words: &Words,
-    mut cpu: Cpu<D>,
-    name: &Name,
-    note: Note<D>,
-) -> (Option<u64>, Note<D>)
-    requires words { AreWordsOf words.now D.table D.settings }
-{
-    hear(words, &mut cpu, note);
-    let found = number_found(words, &mut cpu, name);
-    (found, tell(words, &mut cpu))
 }
 
 #[test]
