@@ -1,7 +1,5 @@
 //! What rows on a registry begin with, a registry of three CPUs and their references, and what a row does with it.
 
-ghost use Rattle.std.specs.Prelude.{IsTrue};
-ghost use Rattle.registry_values.specs.Common.{is_key};
 ghost use Rattle.name_registry.specs.Common.{IsBlankOf};
 
 use super::answers::{Answer, Wanted, come, done, entry, record};
@@ -12,12 +10,11 @@ use super::turns::{Row, together};
 use cpu_words::Domain;
 use name_registry::{Blank, Registry};
 use passive_list::Cpu;
-use registry_values::{Record, Refusal, Settings, USUAL_SECTIONS};
+use registry_values::{Refusal, Settings, USUAL_SECTIONS};
 use std::alloc::Global;
 use std::marker::Brand;
 use std::process::Abort;
 use std::sync::Wait;
-use std::test::Fail;
 use std::thread::Threads;
 
 /// The words of a registry of three CPUs with so many slots and room for so many changes, before it is named.
@@ -43,14 +40,18 @@ pub(crate) enum Test<'a> {
     Together(&'a Row),
 }
 
-/// Runs the test on the registry that is made of the blank.
+/// Runs the test on a registry with so many slots and room for so many changes.
 pub(crate) fn on_bench<R: Threads + Wait + Abort + Sync>(
     rt: &R,
     alloc: Global,
-    blank: Blank,
+    slots: u8,
+    change_limit: u64,
     test: Test,
-) -> Result<(), Fail> {
-    on_named::<Brand, R>(rt, alloc, blank, test)
+) {
+    match blank(alloc, slots, change_limit) {
+        Ok(blank) => on_named::<Brand, R>(rt, alloc, blank, test),
+        Err(_) => panic!(rt; "a blank"),
+    }
 }
 
 /// The same, where D names the registry.
@@ -59,18 +60,17 @@ fn on_named<D: Domain + Send + Sync, R: Threads + Wait + Abort + Sync>(
     alloc: Global,
     blank: Blank,
     test: Test,
-) -> Result<(), Fail>
+)
     requires { IsBlankOf blank D.table D.settings D.name D.parts }
 {
-    let mut bench = Bench::<D>::open(alloc, blank)?;
+    let mut bench = Bench::<D>::open(rt, alloc, blank);
     match test {
-        Test::Changed => changed(rt, alloc, bench),
+        Test::Changed => changed(rt, alloc, &mut bench),
         Test::Counted => counted(rt, &mut bench),
         Test::Follow(steps) => bench.run(rt, "on a registry", steps),
-        Test::FullByMemory => full_by_memory(rt, bench),
-        Test::Together(row) => together(rt, bench, row),
+        Test::FullByMemory => full_by_memory(rt, &mut bench),
+        Test::Together(row) => together(rt, &mut bench, row),
     }
-    Ok(())
 }
 
 /// What the CPU with this number does: it calls the registry, or steps on the words.
@@ -102,26 +102,16 @@ pub(crate) enum Call {
 #[derive(Drop)]
 pub(crate) struct Bench<D: Domain> {
     pub(crate) registry: Registry<D>,
-    pub(crate) cpus: [Cpu<D>; 3],
+    pub(crate) cpus: Vec<Cpu<D>>,
 }
 
 impl<D: Domain> Bench<D> {
-    pub(crate) fn open(alloc: Global, blank: Blank) -> Result<Bench<D>, Fail>
+    pub(crate) fn open<R: Abort>(rt: &R, alloc: Global, blank: Blank) -> Bench<D>
         requires { IsBlankOf blank D.table D.settings D.name D.parts }
     {
         match blank.open::<D>(alloc) {
-            Ok((registry, cpus)) => Bench::of(registry, cpus),
-            Err(_) => Err(Fail::from("an open registry")),
-        }
-    }
-
-    pub(crate) fn of(registry: Registry<D>, mut cpus: Vec<Cpu<D>>) -> Result<Bench<D>, Fail> {
-        match (cpus.pop(), cpus.pop(), cpus.pop()) {
-            (Some(third), Some(second), Some(first)) => Ok(Bench {
-                registry,
-                cpus: [first, second, third],
-            }),
-            _ => Err(Fail::from("three CPUs")),
+            Ok((registry, cpus)) => Bench { registry, cpus },
+            Err(_) => panic!(rt; "an open registry"),
         }
     }
 
@@ -174,42 +164,22 @@ pub(crate) fn by_cpu<D: Domain, R: Wait + Abort>(
     call: Call,
 ) -> Answer {
     match call {
-        Call::Attach(wanted) => attached(rt, registry, cpu, record(rt, wanted)),
-        Call::Detach(wanted) => detached(rt, registry, cpu, record(rt, wanted)),
-        Call::LookUp(wanted) => looked_up(rt, registry, cpu, record(rt, wanted)),
+        Call::Attach(wanted) => {
+            let rec = record(rt, wanted);
+            entry(rt, registry.attach(rt, cpu, rec), rec)
+        }
+        Call::Detach(wanted) => {
+            let rec = record(rt, wanted);
+            entry(rt, registry.detach(rt, cpu, rec.kind, &rec.name), rec)
+        }
+        Call::LookUp(wanted) => {
+            let rec = record(rt, wanted);
+            entry(rt, registry.look_up(cpu, rec.kind, &rec.name), rec)
+        }
         Call::Perform(turns) => performed(rt, registry, cpu, turns),
         Call::Destroy(number, turns) => destroyed(rt, registry, cpu, number, turns),
         Call::Advance(number) => come(registry.advance(rt, number)),
     }
-}
-
-pub(crate) fn attached<D: Domain, R: Wait + Abort>(
-    rt: &R,
-    registry: &Registry<D>,
-    cpu: &mut Cpu<D>,
-    rec: Record,
-) -> Answer
-    requires { IsTrue (is_key rec.name) }
-{
-    entry(rt, registry.attach(rt, cpu, rec), rec)
-}
-
-pub(crate) fn detached<D: Domain, R: Wait + Abort>(
-    rt: &R,
-    registry: &Registry<D>,
-    cpu: &mut Cpu<D>,
-    rec: Record,
-) -> Answer {
-    entry(rt, registry.detach(rt, cpu, rec.kind, &rec.name), rec)
-}
-
-fn looked_up<D: Domain, R: Abort>(
-    rt: &R,
-    registry: &Registry<D>,
-    cpu: &mut Cpu<D>,
-    rec: Record,
-) -> Answer {
-    entry(rt, registry.look_up(cpu, rec.kind, &rec.name), rec)
 }
 
 fn gotten<D: Domain, R: Abort>(

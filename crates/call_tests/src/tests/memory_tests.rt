@@ -57,26 +57,24 @@ fn made(rt: &(impl Abort + Eprint), alloc: Global) -> Result<Blank, Refusal> {
 }
 
 /// The open registry; where memory is refused, the blank that comes back is opened.
-fn opened<D: Domain, R: Abort + Eprint>(
-    rt: &R,
-    alloc: Global,
-    blank: Blank,
-) -> Result<Bench<D>, Fail>
+fn opened<D: Domain, R: Abort + Eprint>(rt: &R, alloc: Global, blank: Blank) -> Bench<D>
     requires { IsBlankOf blank D.table D.settings D.name D.parts }
 {
     match blank.open::<D>(alloc) {
-        Ok((registry, cpus)) => Bench::of(registry, cpus),
+        Ok((registry, cpus)) => Bench { registry, cpus },
         Err((refusal, back)) => {
             assert!(rt; refusal == Refusal::NoMemory);
             note(rt, "Blank::open");
-            Bench::open(alloc, back)
+            Bench::open(rt, alloc, back)
         }
     }
 }
 
 #[test]
 fn open_and_audit(rt: HostRuntime) -> Result<(), Fail> {
-    audited_again::<Brand, _>(&rt, rt.alloc(), made(&rt, rt.alloc())?)
+    let list = audited_again::<Brand, _>(&rt, rt.alloc(), made(&rt, rt.alloc())?)?;
+    assert!(rt; are_counted(&list));
+    Ok(())
 }
 
 /// Audits two drivers, one with a local reference.
@@ -84,17 +82,16 @@ fn audited_again<D: Domain, R: Wait + Abort + Eprint>(
     rt: &R,
     alloc: Global,
     blank: Blank,
-) -> Result<(), Fail>
+) -> Result<Vec<Balance>, Refusal>
     requires { IsBlankOf blank D.table D.settings D.name D.parts }
 {
-    let mut bench = opened::<D, _>(rt, alloc, blank)?;
+    let mut bench = opened::<D, _>(rt, alloc, blank);
     let mut refs = Held::nothing();
     bench.follow(rt, &mut refs, "audit", COUNTED);
     let list = audited(rt, alloc, &mut bench, &mut refs);
     bench.follow(rt, &mut refs, "audit, released", RELEASED);
     refs.end(rt);
-    assert!(rt; are_counted(&list?));
-    Ok(())
+    list
 }
 
 /// Whether the list has the two drivers, and the one local reference.

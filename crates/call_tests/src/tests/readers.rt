@@ -32,6 +32,8 @@ pub(crate) enum Reader {
     Acquire,
     /// Copies the passive reference. Once that is released, or forgotten, the copy takes its place.
     Copy,
+    /// It takes the passive reference that another registry's CPU with this number has to the entry with that number.
+    Remember(u8, u64),
     /// What the passive reference names.
     Reference,
     /// It reads this record by the passive reference.
@@ -92,11 +94,6 @@ impl<D: Domain> Held<D> {
             }
             Err(refusal) => Answer::Refused(refusal),
         }
-    }
-
-    /// Hands the passive reference on.
-    pub(crate) fn hand_passive<E: Domain, R: Abort>(&mut self, rt: &R, other: &mut Held<E>) {
-        put(rt, &mut other.passive, self.take_passive(rt));
     }
 
     fn passive<R: Abort>(&self, rt: &R) -> &Psref {
@@ -161,6 +158,10 @@ pub(crate) fn by_reader<D: Domain, R: Abort>(
             let answer = copy(words, cpu, refs.passive(rt));
             kept(rt, &mut refs.copied, answer)
         }
+        Reader::Remember(id, number) => {
+            put(rt, &mut refs.passive, Psref::remembered(id, number));
+            Answer::Done
+        }
         Reader::Reference => Answer::Names(refs.passive(rt).cpu(), refs.passive(rt).number()),
         Reader::Read(wanted) => {
             let answer = read(words, cpu, refs.passive(rt));
@@ -173,7 +174,7 @@ pub(crate) fn by_reader<D: Domain, R: Abort>(
 }
 
 /// The CPU exits its section, or one nesting of it.
-fn exited<D: Domain, R: Abort>(rt: &R, words: &Words, cpu: &mut Cpu<D>) -> Answer
+pub(crate) fn exited<D: Domain, R: Abort>(rt: &R, words: &Words, cpu: &mut Cpu<D>) -> Answer
     requires words { AreWordsOf words.now D.table D.settings }
 {
     assert!(rt; cpu.inside());
@@ -204,12 +205,7 @@ fn found_inside<D: Domain, R: Abort>(rt: &R, words: &Words, cpu: &mut Cpu<D>, re
 }
 
 /// The CPU looks the record's kind and name up by memory, from outside.
-pub(crate) fn looked_up<D: Domain, R: Abort>(
-    rt: &R,
-    words: &Words,
-    cpu: &mut Cpu<D>,
-    rec: Record,
-) -> Answer
+fn looked_up<D: Domain, R: Abort>(rt: &R, words: &Words, cpu: &mut Cpu<D>, rec: Record) -> Answer
     requires words { AreWordsOf words.now D.table D.settings }
 {
     match look_up(rt, words, cpu, rec) {
@@ -280,7 +276,13 @@ fn kept<T, R: Abort>(rt: &R, place: &mut Option<T>, answer: Result<T, Refusal>) 
 
 /// What was read is this record, or it was refused.
 fn same<R: Abort>(rt: &R, answer: Result<Record, Refusal>, rec: Record) -> Answer {
-    done(answer.map(|read| assert_eq!(rt; read, rec)))
+    match answer {
+        Ok(read) => {
+            assert!(rt; read == rec);
+            Answer::Done
+        }
+        Err(refusal) => Answer::Refused(refusal),
+    }
 }
 
 /// The CPU releases the passive reference. Where that is refused, the reference comes back.

@@ -1,24 +1,17 @@
 //! Calls on a registry that no script can make: an audit without all CPUs, a long history, very many references, and one of another registry.
 
-ghost use Rattle.std.specs.Prelude.{IsTrue};
-ghost use Rattle.registry_values.specs.Common.{is_key};
-ghost use Rattle.name_registry.specs.Common.{IsBlankOf};
-
 use super::answers::Answer::{self, At, Come, Done, Is, Names, Refused};
-use super::answers::{VGA, WM, record};
+use super::answers::{VGA, WM};
 use super::bench::Call::{Advance, Attach, Detach};
-use super::bench::Step::{self, By, Reads, Uncounts};
-use super::bench::{Bench, Test, attached, blank, by_cpu, detached, on_bench};
+use super::bench::Step::{self, By, Gets, Reads, Uncounts};
+use super::bench::{Bench, Test, blank, on_bench};
 use super::readers::Held;
 use super::readers::Reader::{
-    Acquire, Copy, Count, Enter, Exit, Find, Holds, Read, Reference, Release,
+    Copy, Count, Enter, Exit, Find, Forget, Holds, Read, Reference, Release, Remember,
 };
 use cpu_words::Domain;
-use name_registry::{Blank, Registry};
-use passive_list::Cpu;
-use registry_values::{Record, Refusal, Stage};
+use registry_values::{Refusal, Stage};
 use std::alloc::Global;
-use std::marker::Brand;
 use std::process::Abort;
 use std::sync::Wait;
 use std::test::*;
@@ -27,45 +20,30 @@ use std::test::*;
 const CHANGES: u64 = 204_000;
 
 #[test]
-fn registry_rows(rt: HostRuntime) -> Result<(), Fail> {
-    on_bench(
-        &rt,
-        rt.alloc(),
-        blank(rt.alloc(), 4, CHANGES)?,
-        Test::Changed,
-    )
+fn registry_rows(rt: HostRuntime) {
+    on_bench(&rt, rt.alloc(), 4, CHANGES, Test::Changed);
 }
 
 /// An audit that is given CPU 0 alone; and changes until the history is full.
-pub(crate) fn changed<D: Domain, R: Wait + Abort>(rt: &R, alloc: Global, mut bench: Bench<D>) {
+pub(crate) fn changed<D: Domain, R: Wait + Abort>(rt: &R, alloc: Global, bench: &mut Bench<D>) {
+    assert!(rt; 1 <= bench.cpus.len());
     let missing = bench.registry.audit(rt, alloc, &mut bench.cpus[..1]);
     assert!(rt; matches!(missing, Err(Refusal::MissingCpu)));
-    let Bench {
-        registry,
-        cpus: [mut first, mut second, _third],
-    } = bench;
-    let rec = record(rt, VGA);
     for round in 0..CHANGES / 2 {
-        change(rt, &registry, &mut first, &mut second, 2 * round + 1, rec);
+        change(rt, bench, 2 * round + 1);
     }
-    let full = by_cpu(rt, &registry, &mut first, Attach(VGA));
-    assert!(rt; full == Refused(Refusal::HistoryFull));
+    let full = Refused(Refusal::HistoryFull);
+    bench.run(rt, "full", &[(By(0, Attach(VGA)), full)]);
 }
 
 /// One CPU attaches the driver with this number in slot 0, another one detaches it, and it is freed.
-fn change<D: Domain, R: Wait + Abort>(
-    rt: &R,
-    registry: &Registry<D>,
-    first: &mut Cpu<D>,
-    second: &mut Cpu<D>,
-    number: u64,
-    rec: Record,
-)
-    requires { IsTrue (is_key rec.name) }
-{
-    assert!(rt; attached(rt, registry, first, rec) == At(number, 0));
-    assert!(rt; detached(rt, registry, second, rec) == At(number, 0));
-    assert!(rt; by_cpu(rt, registry, first, Advance(number)) == Come(Stage::Freed(0)));
+fn change<D: Domain, R: Wait + Abort>(rt: &R, bench: &mut Bench<D>, number: u64) {
+    let steps = [
+        (By(0, Attach(VGA)), At(number, 0)),
+        (By(1, Detach(VGA)), At(number, 0)),
+        (By(0, Advance(number)), Come(Stage::Freed(0))),
+    ];
+    bench.run(rt, "a change", &steps);
 }
 
 /// So many local references are held at once.
@@ -86,8 +64,8 @@ const HELD: &[(Step, Answer)] = &[
 ];
 
 #[test]
-fn many_references(rt: HostRuntime) -> Result<(), Fail> {
-    on_bench(&rt, rt.alloc(), blank(rt.alloc(), 1, 1000)?, Test::Counted)
+fn many_references(rt: HostRuntime) {
+    on_bench(&rt, rt.alloc(), 1, 1000, Test::Counted);
 }
 
 /// A driver with very many local references.
@@ -122,63 +100,29 @@ fn bad_settings(rt: HostRuntime) {
     }
 }
 
-/// CPU 0 attaches the driver.
-const ATTACHED: &[(Step, Answer)] = &[(By(0, Attach(WM)), At(1, 0))];
-
-/// CPU 0 attaches the driver, and acquires a passive reference to it.
-const ACQUIRED: &[(Step, Answer)] = &[
-    (By(0, Attach(WM)), At(1, 0)),
-    (Reads(0, Enter), Done),
-    (Reads(0, Find(WM)), At(1, 0)),
-    (Reads(0, Acquire), Done),
-    (Reads(0, Exit), Done),
-];
-
-/// CPU 0 of another registry, which holds nothing, is shown the reference, and hands it back.
+/// A reference of another registry says a CPU and a number. CPU 0, which holds nothing, refuses it. Once it has acquired one to its own entry with that
+/// number, it can't tell the two apart, and releases as many as it has acquired.
 const SHOWN: &[(Step, Answer)] = &[
+    (By(0, Attach(WM)), At(1, 0)),
+    (Reads(0, Remember(0, 1)), Done),
     (Reads(0, Reference), Names(0, 1)),
     (Reads(0, Read(WM)), Refused(Refusal::NotHeld)),
     (Reads(0, Holds), Is(false)),
     (Reads(0, Copy), Refused(Refusal::NotHeld)),
     (Reads(0, Release), Refused(Refusal::NotHeld)),
     (Reads(0, Reference), Names(0, 1)),
+    (Reads(0, Forget), Done),
+    (Gets(0, WM), Done),
+    (Reads(0, Forget), Done),
+    (Reads(0, Remember(0, 1)), Done),
+    (Reads(0, Read(WM)), Done),
+    (Reads(0, Release), Done),
+    (Reads(0, Remember(0, 1)), Done),
+    (Reads(0, Release), Refused(Refusal::NotHeld)),
+    (Reads(0, Forget), Done),
 ];
 
-/// Its own CPU reads and releases it.
-const READ: &[(Step, Answer)] = &[(Reads(0, Read(WM)), Done), (Reads(0, Release), Done)];
-
 #[test]
-fn reference_of_another_registry(rt: HostRuntime) -> Result<(), Fail> {
-    let (here, there) = (blank(rt.alloc(), 2, 1000)?, blank(rt.alloc(), 2, 1000)?);
-    shown_elsewhere::<Brand, Brand, _>(&rt, rt.alloc(), here, there)
-}
-
-fn shown_elsewhere<D: Domain, E: Domain, R: Wait + Abort>(
-    rt: &R,
-    alloc: Global,
-    here: Blank,
-    there: Blank,
-) -> Result<(), Fail>
-    requires here { IsBlankOf here D.table D.settings D.name D.parts }
-    requires there { IsBlankOf there E.table E.settings E.name E.parts }
-{
-    let (mut here, mut there) = (
-        Bench::<D>::open(alloc, here)?,
-        Bench::<E>::open(alloc, there)?,
-    );
-    show(rt, &mut here, &mut there);
-    Ok(())
-}
-
-/// The reference goes from the one registry to the other, and back.
-fn show<D: Domain, E: Domain, R: Wait + Abort>(rt: &R, here: &mut Bench<D>, there: &mut Bench<E>) {
-    let (mut refs, mut others) = (Held::nothing(), Held::nothing());
-    here.follow(rt, &mut refs, "attached", ATTACHED);
-    there.follow(rt, &mut others, "acquired", ACQUIRED);
-    others.hand_passive(rt, &mut refs);
-    here.follow(rt, &mut refs, "shown elsewhere", SHOWN);
-    refs.hand_passive(rt, &mut others);
-    there.follow(rt, &mut others, "read", READ);
-    refs.end(rt);
-    others.end(rt);
+fn reference_of_another_registry(rt: HostRuntime) {
+    on_bench(&rt, rt.alloc(), 2, 1000, Test::Follow(SHOWN));
 }

@@ -17,7 +17,6 @@ use std::alloc::Global;
 use std::marker::Brand;
 use std::process::Abort;
 use std::sync::ledger;
-use std::test::Fail;
 use std::thread::Threads;
 
 /// A new table, before it is named.
@@ -37,7 +36,7 @@ struct Table {
 }
 
 /// A table in which each CPU may begin so many sections, and have two passive references and one local reference to an entry.
-fn opened(alloc: Global, section_limit: u64) -> Result<Table, Fail> {
+fn opened<R: Abort>(rt: &R, alloc: Global, section_limit: u64) -> Table {
     let settings = Settings {
         cpus: 2,
         slots: 2,
@@ -46,16 +45,18 @@ fn opened(alloc: Global, section_limit: u64) -> Result<Table, Fail> {
         passive_limit: 2,
         count_limit: 1,
     };
-    let (words, keeper, mut seats) = Words::new(alloc, settings)?;
-    match (seats.pop(), seats.pop()) {
-        (Some(second), Some(first)) => Ok(Table {
-            words,
-            keeper,
-            first,
-            second,
-            changes: ledger::Blank::new(MOST_CPUS as u64),
-        }),
-        _ => Err(Fail::from("two seats")),
+    let Ok((words, keeper, mut seats)) = Words::new(alloc, settings) else {
+        panic!(rt; "new words");
+    };
+    let (Some(second), Some(first)) = (seats.pop(), seats.pop()) else {
+        panic!(rt; "two seats");
+    };
+    Table {
+        words,
+        keeper,
+        first,
+        second,
+        changes: ledger::Blank::new(MOST_CPUS as u64),
     }
 }
 
@@ -84,8 +85,8 @@ pub(crate) fn on_table<R: Threads + Abort + Sync>(
     alloc: Global,
     section_limit: u64,
     test: Test,
-) -> Result<(), Fail> {
-    on_named::<Brand, R>(rt, alloc, opened(alloc, section_limit)?, test)
+) {
+    on_named::<Brand, R>(rt, alloc, opened(rt, alloc, section_limit), test)
 }
 
 /// The same, where D names the table.
@@ -94,11 +95,11 @@ fn on_named<D: Domain + Send, R: Threads + Abort + Sync>(
     alloc: Global,
     table: Table,
     test: Test,
-) -> Result<(), Fail>
+)
     requires words { AreWordsOf table.words D.table D.settings }
     requires ledger { (table.changes.name ≡ D.name) × (D.parts ≡ MOST_CPUS) }
 {
-    let seats = Seats::<D>::of(alloc, table)?;
+    let seats = Seats::<D>::of(rt, alloc, table);
     match test {
         Test::OneLookup => one_lookup(rt, seats),
         Test::OneReference => one_reference(rt, seats),
@@ -107,28 +108,36 @@ fn on_named<D: Domain + Send, R: Threads + Abort + Sync>(
 }
 
 /// The CPU with this number, from its seat in a new table that D names.
-fn cpu_of<D: Domain>(
+fn cpu_of<D: Domain, R: Abort>(
+    rt: &R,
     alloc: Global,
     seat: CpuSeat,
     id: u8,
     slots: u8,
     share: ledger::Share<D>,
-) -> Result<Cpu<D>, Fail>
+) -> Cpu<D>
     requires fit { IsTrue (are_fit D.settings) × (id < D.settings.cpus) × (slots ≡ D.settings.slots) }
     requires seat { (seat.table ≡ D.table) × (seat.view ≡ new_cpu D.settings id) }
     requires part { share.parts ≡ 1 }
 {
-    let rows = CpuRows::new(alloc, slots)?;
-    Ok(Cpu::of_seat(alloc, seat, id, rows, share)?)
+    let Ok(rows) = CpuRows::new(alloc, slots) else {
+        panic!(rt; "rows");
+    };
+    match Cpu::of_seat(alloc, seat, id, rows, share) {
+        Ok(cpu) => cpu,
+        Err(_) => panic!(rt; "a CPU"),
+    }
 }
 
 impl<D: Domain> Seats<D> {
-    fn of(alloc: Global, table: Table) -> Result<Seats<D>, Fail>
+    fn of<R: Abort>(rt: &R, alloc: Global, table: Table) -> Seats<D>
         requires words { AreWordsOf table.words D.table D.settings }
         requires ledger { (table.changes.name ≡ D.name) × (D.parts ≡ MOST_CPUS) }
     {
         let settings = table.words.settings();
-        let rows = KeeperRows::new(alloc, settings)?;
+        let Ok(rows) = KeeperRows::new(alloc, settings) else {
+            panic!(rt; "rows");
+        };
         let Table {
             words,
             keeper,
@@ -138,12 +147,12 @@ impl<D: Domain> Seats<D> {
         } = table;
         let (_book, mut shares) = changes.open::<D>();
         let (one, other) = (shares.split_off(1, 0), shares.split_off(1, 0));
-        Ok(Seats {
+        Seats {
             words,
             keeper: Keeper::of_seat(keeper, settings, rows),
-            first: cpu_of(alloc, first, 0, settings.slots, one)?,
-            second: cpu_of(alloc, second, 1, settings.slots, other)?,
-        })
+            first: cpu_of(rt, alloc, first, 0, settings.slots, one),
+            second: cpu_of(rt, alloc, second, 1, settings.slots, other),
+        }
     }
 
     /// Checks that each step returns what the row says.

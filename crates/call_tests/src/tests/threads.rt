@@ -7,10 +7,11 @@ ghost use Rattle.cpu_words.specs.Common.{AreWordsOf};
 
 use super::answers::{WM, record};
 use super::keepers::{looked, passive_look, published, retired};
+use super::readers::exited;
 use super::table::{Seats, Test, on_table};
 use cpu_words::{Domain, Words};
 use local_count::{LocalRef, acquire_local, collect, collected, total, try_release};
-use passive_list::{Cpu, Keeper, SlotState, enter, exit, find};
+use passive_list::{Cpu, Keeper, SlotState, enter, find};
 use registry_values::{Kind, Name, Record, Refusal, USUAL_SECTIONS};
 use std::alloc::Global;
 use std::process::Abort;
@@ -28,18 +29,18 @@ fn number_found<D: Domain>(words: &Words, cpu: &mut Cpu<D>, name: &Name) -> Opti
     if !cpu.inside() {
         return None;
     }
-    find(words, cpu, Kind::Driver, name).map(|entry| entry.number)
+    match find(words, cpu, Kind::Driver, name) {
+        Some(entry) => Some(entry.number),
+        None => None,
+    }
 }
 
 #[test]
-fn a_lookup_finds_what_another_thread_publishes(rt: HostRuntime) -> Result<(), Fail> {
-    on_table(&rt, rt.alloc(), USUAL_SECTIONS, Test::OneLookup)
+fn a_lookup_finds_what_another_thread_publishes(rt: HostRuntime) {
+    on_table(&rt, rt.alloc(), USUAL_SECTIONS, Test::OneLookup);
 }
 
-pub(crate) fn one_lookup<D: Domain + Send, R: Threads + Abort + Sync>(
-    rt: &R,
-    seats: Seats<D>,
-) -> Result<(), Fail> {
+pub(crate) fn one_lookup<D: Domain + Send, R: Threads + Abort + Sync>(rt: &R, seats: Seats<D>) {
     let Seats {
         words,
         keeper,
@@ -52,19 +53,19 @@ pub(crate) fn one_lookup<D: Domain + Send, R: Threads + Abort + Sync>(
         rt,
         move || -> Option<u64>
             requires words { AreWordsOf words.now D.table D.settings }
-        { find_at_last(words, first, &driver.name, missed) },
+        { find_at_last(rt, words, first, &driver.name, missed) },
         move || -> Option<u64>
             requires words { AreWordsOf words.now keeper.words.table keeper.words.settings }
             requires driver { IsTrue (is_key driver.name) }
         { publish_once_missed(rt, words, keeper, driver, missed) },
     );
-    assert_eq!(rt; published, Some(1));
-    assert_eq!(rt; found, Some(1));
-    Ok(())
+    assert!(rt; published == Some(1));
+    assert!(rt; found == Some(1));
 }
 
 /// Looks the driver up, in a section each time, until it is found. It sets the flag where it isn't, and returns the number found.
-fn find_at_last<D: Domain>(
+fn find_at_last<D: Domain, R: Abort>(
+    rt: &R,
     words: &Words,
     mut cpu: Cpu<D>,
     name: &Name,
@@ -73,7 +74,7 @@ fn find_at_last<D: Domain>(
     requires words { AreWordsOf words.now D.table D.settings }
 {
     for _ in 0..TURNS {
-        let found = find_in_section(words, &mut cpu, name).ok()?;
+        let found = find_in_section(rt, words, &mut cpu, name).ok()?;
         if found.is_some() {
             return found;
         }
@@ -83,7 +84,8 @@ fn find_at_last<D: Domain>(
 }
 
 /// Enters, looks the driver up, and exits.
-fn find_in_section<D: Domain>(
+fn find_in_section<D: Domain, R: Abort>(
+    rt: &R,
     words: &Words,
     cpu: &mut Cpu<D>,
     name: &Name,
@@ -92,9 +94,7 @@ fn find_in_section<D: Domain>(
 {
     enter(words, cpu)?;
     let found = number_found(words, cpu, name);
-    if cpu.inside() {
-        exit(words, cpu);
-    }
+    exited(rt, words, cpu);
     Ok(found)
 }
 
@@ -127,15 +127,12 @@ fn was_set(flag: &AtomicBool) -> bool {
 }
 
 #[test]
-fn a_reference_is_released_on_another_thread(rt: HostRuntime) -> Result<(), Fail> {
-    on_table(&rt, rt.alloc(), 1, Test::OneReference)
+fn a_reference_is_released_on_another_thread(rt: HostRuntime) {
+    on_table(&rt, rt.alloc(), 1, Test::OneReference);
 }
 
 /// CPU 0 acquires the reference, and another thread reads and releases it on CPU 1. Then nobody holds the entry.
-pub(crate) fn one_reference<D: Domain + Send, R: Threads + Abort + Sync>(
-    rt: &R,
-    seats: Seats<D>,
-) -> Result<(), Fail> {
+pub(crate) fn one_reference<D: Domain + Send, R: Threads + Abort + Sync>(rt: &R, seats: Seats<D>) {
     let Seats {
         words,
         mut keeper,
@@ -145,7 +142,7 @@ pub(crate) fn one_reference<D: Domain + Send, R: Threads + Abort + Sync>(
     let driver = record(rt, WM);
     let words = &words;
     published(rt, words, &mut keeper, driver);
-    let mut held = acquired(words, &mut first, &driver.name);
+    let mut held = acquired(rt, words, &mut first, &driver.name);
     let lent = &mut held;
     let (read, _) = join(
         rt,
@@ -159,12 +156,16 @@ pub(crate) fn one_reference<D: Domain + Send, R: Threads + Abort + Sync>(
     };
     assert!(rt; read == Some((1, Kind::Driver, driver)));
     retired(rt, words, &mut keeper);
-    assert_eq!(rt; total_once_drained(rt, words, &mut keeper), 0);
-    Ok(())
+    assert!(rt; total_once_drained(rt, words, &mut keeper) == 0);
 }
 
 /// Finds the driver in a section, and acquires a local reference to it.
-fn acquired<D: Domain>(words: &Words, cpu: &mut Cpu<D>, name: &Name) -> Option<LocalRef<D>>
+fn acquired<D: Domain, R: Abort>(
+    rt: &R,
+    words: &Words,
+    cpu: &mut Cpu<D>,
+    name: &Name,
+) -> Option<LocalRef<D>>
     requires words { AreWordsOf words.now D.table D.settings }
 {
     enter(words, cpu).ok()?;
@@ -173,7 +174,7 @@ fn acquired<D: Domain>(words: &Words, cpu: &mut Cpu<D>, name: &Name) -> Option<L
     }
     find(words, cpu, Kind::Driver, name);
     let reference = acquire_local(words, cpu).ok();
-    exit(words, cpu);
+    exited(rt, words, cpu);
     reference
 }
 

@@ -6,11 +6,12 @@ use super::answers::Answer::{self, At, Come, Done, Nothing, Number, Refused};
 use super::answers::{DRIVER_WM1, VGA, WM};
 use super::bench::Call::{self, Advance, Attach, Destroy, Detach, Perform};
 use super::bench::Step::{self, By, Reads};
-use super::bench::{Bench, Test, blank, by_cpu, on_bench};
+use super::bench::{Bench, Test, by_cpu, on_bench};
 use super::readers::Reader::Enter;
+use super::readers::exited;
 use cpu_words::Domain;
 use name_registry::Registry;
-use passive_list::{Cpu, enter, exit};
+use passive_list::{Cpu, enter};
 use registry_values::{Refusal, Stage};
 use std::alloc::Global;
 use std::process::Abort;
@@ -105,8 +106,8 @@ const SECTIONS: &[Row] = &[
 ];
 
 #[test]
-fn a_section_ends_in_the_middle_of_a_call(rt: HostRuntime) -> Result<(), Fail> {
-    run_rows(&rt, rt.alloc(), SECTIONS)
+fn a_section_ends_in_the_middle_of_a_call(rt: HostRuntime) {
+    run_rows(&rt, rt.alloc(), SECTIONS);
 }
 
 /// Calls that wait for CPU 1, which exits only once CPU 2 has got the lock: a call that held it over all its turns would wait for itself.
@@ -130,8 +131,8 @@ const LOCKS: &[Row] = &[
 ];
 
 #[test]
-fn the_lock_is_free_between_two_turns(rt: HostRuntime) -> Result<(), Fail> {
-    run_rows(&rt, rt.alloc(), LOCKS)
+fn the_lock_is_free_between_two_turns(rt: HostRuntime) {
+    run_rows(&rt, rt.alloc(), LOCKS);
 }
 
 /// The wait goes on while CPU 2 takes the lock very often, and sees each time that CPU 1 is inside.
@@ -149,8 +150,8 @@ const LONG: &[Row] = &[Row {
 }];
 
 #[test]
-fn a_wait_goes_on(rt: HostRuntime) -> Result<(), Fail> {
-    run_rows(&rt, rt.alloc(), LONG)
+fn a_wait_goes_on(rt: HostRuntime) {
+    run_rows(&rt, rt.alloc(), LONG);
 }
 
 /// CPU 1 enters a section on its own thread, and sets a flag that no note goes with. CPU 0 sees the flag and performs: the section was open as
@@ -165,42 +166,32 @@ const FLAGS: &[Row] = &[Row {
 }];
 
 #[test]
-fn a_section_known_by_a_flag_alone_is_waited_for(rt: HostRuntime) -> Result<(), Fail> {
-    run_rows(&rt, rt.alloc(), FLAGS)
+fn a_section_known_by_a_flag_alone_is_waited_for(rt: HostRuntime) {
+    run_rows(&rt, rt.alloc(), FLAGS);
 }
 
-fn run_rows<R: Threads + Wait + Abort + Sync>(
-    rt: &R,
-    alloc: Global,
-    rows: &[Row],
-) -> Result<(), Fail> {
+/// Runs each row on a registry of its own.
+fn run_rows<R: Threads + Wait + Abort + Sync>(rt: &R, alloc: Global, rows: &[Row]) {
     for row in rows {
-        run(rt, alloc, row)?;
+        on_bench(rt, alloc, row.slots, 1000, Test::Together(row));
     }
-    Ok(())
-}
-
-/// Runs the row on a registry of its own.
-fn run<R: Threads + Wait + Abort + Sync>(rt: &R, alloc: Global, row: &Row) -> Result<(), Fail> {
-    let blank = blank(alloc, row.slots, 1000)?;
-    on_bench(rt, alloc, blank, Test::Together(row))
 }
 
 /// CPU 0 and the other thread do what the row says at the same time.
 pub(crate) fn together<D: Domain + Send + Sync, R: Threads + Wait + Abort + Sync>(
     rt: &R,
-    mut bench: Bench<D>,
+    bench: &mut Bench<D>,
     row: &Row,
 ) {
     bench.run(rt, row.name, row.steps);
-    let Bench {
-        registry,
-        cpus: [mut cpu, second, third],
-    } = bench;
-    let answers = answers_of(rt, &registry, &mut cpu, second, third, row);
-    let after = by_cpu(rt, &registry, &mut cpu, Advance(2));
+    let registry = &bench.registry;
+    let [first, second, third] = bench.cpus.as_mut_slice() else {
+        panic!(rt; "three CPUs");
+    };
+    let (answer, meanwhile) = answers_of(rt, registry, first, second, third, row);
+    let after = by_cpu(rt, registry, first, Advance(2));
     assert!(rt;
-        (answers.0, answers.1, after) == row.answers,
+        (answer, meanwhile, after) == row.answers,
         "at {}",
         row.name
     );
@@ -211,8 +202,8 @@ fn answers_of<D: Domain + Send + Sync, R: Threads + Wait + Abort + Sync>(
     rt: &R,
     registry: &Registry<D>,
     cpu: &mut Cpu<D>,
-    second: Cpu<D>,
-    third: Cpu<D>,
+    second: &mut Cpu<D>,
+    third: &mut Cpu<D>,
     row: &Row,
 ) -> (Answer, Answer) {
     let (first, other) = (row.first, row.other);
@@ -246,19 +237,19 @@ fn by_first<D: Domain, R: Wait + Abort>(
 fn by_other<D: Domain, R: Wait + Abort>(
     rt: &R,
     registry: &Registry<D>,
-    mut second: Cpu<D>,
-    mut third: Cpu<D>,
+    second: &mut Cpu<D>,
+    third: &mut Cpu<D>,
     other: Other,
     flags: (&AtomicBool, &AtomicBool),
 ) -> Answer {
     match other {
-        Other::ChangeSection(frees) => change_section(rt, registry, &mut second, frees, flags.0),
+        Other::ChangeSection(frees) => change_section(rt, registry, second, frees, flags.0),
         Other::CallAndLeave(times, call) => {
-            let answer = call_once_begun(rt, registry, &mut third, times, call, flags.0);
-            leave(registry, &mut second);
+            let answer = call_once_begun(rt, registry, third, times, call, flags.0);
+            exited(rt, registry.words(), second);
             answer
         }
-        Other::StayInside => stay_inside(registry, &mut second, flags.0, flags.1),
+        Other::StayInside => stay_inside(rt, registry, second, flags.0, flags.1),
     }
 }
 
@@ -279,7 +270,8 @@ fn perform_twice<D: Domain, R: Wait + Abort>(
 }
 
 /// Enters a section, sets the first flag, and leaves once the second one is set.
-fn stay_inside<D: Domain>(
+fn stay_inside<D: Domain, R: Abort>(
+    rt: &R,
     registry: &Registry<D>,
     cpu: &mut Cpu<D>,
     inside: &AtomicBool,
@@ -288,15 +280,8 @@ fn stay_inside<D: Domain>(
     let _entered = enter(registry.words(), cpu);
     inside.store(true, Ordering::SeqCst);
     wait_for(refused);
-    leave(registry, cpu);
+    exited(rt, registry.words(), cpu);
     Nothing
-}
-
-/// Exits, if the CPU is inside.
-fn leave<D: Domain>(registry: &Registry<D>, cpu: &mut Cpu<D>) {
-    if cpu.inside() {
-        exit(registry.words(), cpu);
-    }
 }
 
 /// Waits until the flag is set, and a while longer; then the CPU makes the call so many times. Returns what the last one did.
@@ -352,7 +337,7 @@ fn insist<D: Domain, R: Wait + Abort>(
 
 /// Whether the entry still has its slot.
 fn is_in_vain(answer: Answer) -> bool {
-    matches!(answer, Refused(Refusal::NoSlot) | Come(Stage::Grace(1)))
+    answer == Refused(Refusal::NoSlot) || answer == Come(Stage::Grace(1))
 }
 
 /// Waits until the flag is set, and a while longer; then the CPU ends its section and begins another one.
@@ -364,7 +349,7 @@ fn change_section<D: Domain, R: Wait + Abort>(
     begun: &AtomicBool,
 ) -> Answer {
     wait_for(begun);
-    leave(registry, cpu);
+    exited(rt, registry.words(), cpu);
     let _again = enter(registry.words(), cpu);
     if frees {
         let _stage = by_cpu(rt, registry, cpu, Advance(2));
