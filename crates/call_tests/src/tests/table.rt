@@ -17,6 +17,7 @@ use std::alloc::Global;
 use std::marker::Brand;
 use std::process::Abort;
 use std::sync::ledger;
+use std::test::Fail;
 use std::thread::Threads;
 
 /// A new table, before it is named.
@@ -36,7 +37,7 @@ struct Table {
 }
 
 /// A table in which each CPU may begin so many sections, and have two passive references and one local reference to an entry.
-fn opened<R: Abort>(rt: &R, alloc: Global, section_limit: u64) -> Table {
+fn opened(alloc: Global, section_limit: u64) -> Result<Table, Fail> {
     let settings = Settings {
         cpus: 2,
         slots: 2,
@@ -45,18 +46,16 @@ fn opened<R: Abort>(rt: &R, alloc: Global, section_limit: u64) -> Table {
         passive_limit: 2,
         count_limit: 1,
     };
-    let Ok((words, keeper, mut seats)) = Words::new(alloc, settings) else {
-        panic!(rt; "new words");
-    };
-    let (Some(second), Some(first)) = (seats.pop(), seats.pop()) else {
-        panic!(rt; "two seats");
-    };
-    Table {
-        words,
-        keeper,
-        first,
-        second,
-        changes: ledger::Blank::new(MOST_CPUS as u64),
+    let (words, keeper, mut seats) = Words::new(alloc, settings)?;
+    match (seats.pop(), seats.pop()) {
+        (Some(second), Some(first)) => Ok(Table {
+            words,
+            keeper,
+            first,
+            second,
+            changes: ledger::Blank::new(MOST_CPUS as u64),
+        }),
+        _ => Err(Fail::from("two seats")),
     }
 }
 
@@ -86,7 +85,10 @@ pub(crate) fn on_table<R: Threads + Abort + Sync>(
     section_limit: u64,
     test: Test,
 ) {
-    on_named::<Brand, R>(rt, alloc, opened(rt, alloc, section_limit), test)
+    match opened(alloc, section_limit) {
+        Ok(table) => on_named::<Brand, R>(rt, alloc, table, test),
+        Err(_) => panic!(rt; "a table"),
+    }
 }
 
 /// The same, where D names the table.
