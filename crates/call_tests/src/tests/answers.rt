@@ -3,7 +3,7 @@
 ghost use Rattle.std.specs.Prelude.{◌≡◌, IsTrue};
 ghost use Rattle.registry_values.specs.Common.{is_key};
 
-use registry_values::{Balance, Entry, Kind, Name, Record, Refusal, Stage};
+use registry_values::{Entry, Kind, Name, Record, Refusal, Stage};
 use std::process::Abort;
 
 /// A driver or an interface, before its name is parsed.
@@ -80,31 +80,6 @@ pub(crate) enum Answer {
     Names(u8, u64),
     /// The results of a look at CPU 0 and of one at CPU 1.
     Looks(bool, bool),
-}
-
-/// What an audit says of an entry.
-#[derive(Clone, Copy, PartialEq)]
-pub(crate) struct Line {
-    pub(crate) number: u64,
-    pub(crate) slot: u8,
-    pub(crate) held: i64,
-    /// The count of each of the three CPUs.
-    pub(crate) locals: [i64; 3],
-    pub(crate) total: i64,
-}
-
-/// The line of a balance, which has a count of each of the three CPUs.
-pub(crate) fn line_of<R: Abort>(rt: &R, balance: &Balance) -> Line {
-    let [first, second, third] = balance.locals.as_slice() else {
-        panic!(rt; "three counts");
-    };
-    Line {
-        number: balance.number,
-        slot: balance.slot,
-        held: balance.held,
-        locals: [*first, *second, *third],
-        total: balance.total,
-    }
 }
 
 /// Done, or why it was refused.

@@ -2,11 +2,10 @@
 
 ghost use Rattle.name_registry.specs.Common.{IsBlankOf};
 
-use super::answers::{Answer, Wanted, done, entry, record};
+use super::answers::{Answer, Wanted, come, done, entry, record};
 use super::readers::{Held, Reader, by_reader};
-use super::registry_rows::walked_and_changed;
-use super::remembered::{follow, full_by_memory};
-use super::sizes::{counted, destroyed_meanwhile};
+use super::registry_rows::{changed, counted};
+use super::remembered::full_by_memory;
 use super::turns::{Row, together};
 use cpu_words::Domain;
 use name_registry::{Blank, Registry};
@@ -16,7 +15,6 @@ use std::alloc::Global;
 use std::marker::Brand;
 use std::process::Abort;
 use std::sync::Wait;
-use std::test::Fail;
 use std::thread::Threads;
 
 /// The words of a registry of three CPUs with so many slots and room for so many changes, before it is named.
@@ -27,7 +25,7 @@ pub(crate) fn blank(alloc: Global, slots: u8, change_limit: u64) -> Result<Blank
         change_limit,
         section_limit: USUAL_SECTIONS,
         passive_limit: 100,
-        count_limit: 100,
+        count_limit: 1000,
     };
     Blank::new(alloc, settings)
 }
@@ -35,22 +33,25 @@ pub(crate) fn blank(alloc: Global, slots: u8, change_limit: u64) -> Result<Blank
 /// A test on a registry of its own.
 #[derive(Clone, Copy)]
 pub(crate) enum Test<'a> {
-    WalkedAndChanged,
+    Changed,
+    Counted,
     Follow(&'a [(Step, Answer)]),
     FullByMemory,
-    Counted,
-    DestroyedMeanwhile,
     Together(&'a Row),
 }
 
-/// Runs the test on the registry that is made of the blank.
+/// Runs the test on a registry with so many slots and room for so many changes.
 pub(crate) fn on_bench<R: Threads + Wait + Abort + Sync>(
     rt: &R,
     alloc: Global,
-    blank: Blank,
+    slots: u8,
+    change_limit: u64,
     test: Test,
-) -> Result<(), Fail> {
-    on_named::<Brand, R>(rt, alloc, blank, test)
+) {
+    match blank(alloc, slots, change_limit) {
+        Ok(blank) => on_named::<Brand, R>(rt, alloc, blank, test),
+        Err(_) => panic!(rt; "a blank"),
+    }
 }
 
 /// The same, where D names the registry.
@@ -59,17 +60,16 @@ fn on_named<D: Domain + Send + Sync, R: Threads + Wait + Abort + Sync>(
     alloc: Global,
     blank: Blank,
     test: Test,
-) -> Result<(), Fail>
+)
     requires { IsBlankOf blank D.table D.settings D.name D.parts }
 {
-    let bench = Bench::<D>::open(alloc, blank)?;
+    let mut bench = Bench::<D>::open(rt, alloc, blank);
     match test {
-        Test::WalkedAndChanged => walked_and_changed(rt, alloc, bench),
-        Test::Follow(steps) => follow(rt, bench, steps),
-        Test::FullByMemory => full_by_memory(rt, bench),
-        Test::Counted => counted(rt, alloc, bench),
-        Test::DestroyedMeanwhile => destroyed_meanwhile(rt, bench),
-        Test::Together(row) => together(rt, bench, row),
+        Test::Changed => changed(rt, alloc, &mut bench),
+        Test::Counted => counted(rt, &mut bench),
+        Test::Follow(steps) => bench.run(rt, "on a registry", steps),
+        Test::FullByMemory => full_by_memory(rt, &mut bench),
+        Test::Together(row) => together(rt, &mut bench, row),
     }
 }
 
@@ -77,6 +77,10 @@ fn on_named<D: Domain + Send + Sync, R: Threads + Wait + Abort + Sync>(
 #[derive(Clone, Copy)]
 pub(crate) enum Step {
     By(u8, Call),
+    /// It gets a passive reference, which the row holds.
+    Gets(u8, Wanted),
+    /// It releases the row's local reference.
+    Uncounts(u8),
     Reads(u8, Reader),
 }
 
@@ -86,14 +90,12 @@ pub(crate) enum Call {
     Attach(Wanted),
     Detach(Wanted),
     LookUp(Wanted),
-    /// It gets a passive reference, which the row holds.
-    Get(Wanted),
-    /// It releases the row's local reference.
-    Uncount,
     /// It waits for the open sections, for so many turns.
     Perform(u32),
     /// It destroys the retired entry with this number, in so many turns.
     Destroy(u64, u32),
+    /// It makes one turn of the work on the retired entry with this number.
+    Advance(u64),
 }
 
 /// A registry and its three CPUs.
@@ -104,21 +106,12 @@ pub(crate) struct Bench<D: Domain> {
 }
 
 impl<D: Domain> Bench<D> {
-    pub(crate) fn open(alloc: Global, blank: Blank) -> Result<Bench<D>, Fail>
+    pub(crate) fn open<R: Abort>(rt: &R, alloc: Global, blank: Blank) -> Bench<D>
         requires { IsBlankOf blank D.table D.settings D.name D.parts }
     {
         match blank.open::<D>(alloc) {
-            Ok((registry, cpus)) => Ok(Bench { registry, cpus }),
-            Err(_) => Err(Fail::from("an open registry")),
-        }
-    }
-
-    /// The registry, and each CPU by itself.
-    pub(crate) fn apart(self) -> Result<(Registry<D>, Cpu<D>, Cpu<D>, Cpu<D>), Fail> {
-        let Bench { registry, mut cpus } = self;
-        match (cpus.pop(), cpus.pop(), cpus.pop()) {
-            (Some(third), Some(second), Some(first)) => Ok((registry, first, second, third)),
-            _ => Err(Fail::from("three CPUs")),
+            Ok((registry, cpus)) => Bench { registry, cpus },
+            Err(_) => panic!(rt; "an open registry"),
         }
     }
 
@@ -146,22 +139,28 @@ impl<D: Domain> Bench<D> {
     }
 
     fn take<R: Wait + Abort>(&mut self, rt: &R, refs: &mut Held<D>, step: Step) -> Answer {
-        let (Step::By(cpu, _) | Step::Reads(cpu, _)) = step;
+        let (Step::By(cpu, _) | Step::Gets(cpu, _) | Step::Uncounts(cpu) | Step::Reads(cpu, _)) =
+            step;
         let Some(cpu) = self.cpus.get_mut(usize::from(cpu)) else {
             panic!(rt; "three CPUs");
         };
         match step {
-            Step::By(_, call) => by_cpu(rt, &self.registry, cpu, refs, call),
+            Step::By(_, call) => by_cpu(rt, &self.registry, cpu, call),
+            Step::Gets(_, wanted) => gotten(rt, &self.registry, cpu, refs, wanted),
+            Step::Uncounts(_) => {
+                self.registry.release_local(rt, cpu, refs.take_local(rt));
+                Answer::Done
+            }
             Step::Reads(_, call) => by_reader(rt, self.registry.words(), cpu, refs, call),
         }
     }
 }
 
+/// Makes the call; its answer.
 pub(crate) fn by_cpu<D: Domain, R: Wait + Abort>(
     rt: &R,
     registry: &Registry<D>,
     cpu: &mut Cpu<D>,
-    refs: &mut Held<D>,
     call: Call,
 ) -> Answer {
     match call {
@@ -177,24 +176,43 @@ pub(crate) fn by_cpu<D: Domain, R: Wait + Abort>(
             let rec = record(rt, wanted);
             entry(rt, registry.look_up(cpu, rec.kind, &rec.name), rec)
         }
-        Call::Get(wanted) => {
-            let rec = record(rt, wanted);
-            refs.keep_got(rt, registry.get(cpu, rec.kind, &rec.name), rec)
-        }
-        Call::Uncount => {
-            registry.release_local(rt, cpu, refs.take_local(rt));
-            Answer::Done
-        }
-        Call::Perform(turns) => {
-            assert!(rt; 1 <= turns);
-            done(registry.perform(rt, cpu, turns))
-        }
-        Call::Destroy(number, turns) => {
-            assert!(rt; 1 <= turns);
-            match registry.destroy(rt, cpu, number, turns) {
-                Ok(slot) => Answer::Number(u64::from(slot)),
-                Err(refusal) => Answer::Refused(refusal),
-            }
-        }
+        Call::Perform(turns) => performed(rt, registry, cpu, turns),
+        Call::Destroy(number, turns) => destroyed(rt, registry, cpu, number, turns),
+        Call::Advance(number) => come(registry.advance(rt, number)),
+    }
+}
+
+fn gotten<D: Domain, R: Abort>(
+    rt: &R,
+    registry: &Registry<D>,
+    cpu: &mut Cpu<D>,
+    refs: &mut Held<D>,
+    wanted: Wanted,
+) -> Answer {
+    let rec = record(rt, wanted);
+    refs.keep_got(rt, registry.get(cpu, rec.kind, &rec.name), rec)
+}
+
+fn performed<D: Domain, R: Wait + Abort>(
+    rt: &R,
+    registry: &Registry<D>,
+    cpu: &mut Cpu<D>,
+    turns: u32,
+) -> Answer {
+    assert!(rt; 1 <= turns);
+    done(registry.perform(rt, cpu, turns))
+}
+
+fn destroyed<D: Domain, R: Wait + Abort>(
+    rt: &R,
+    registry: &Registry<D>,
+    cpu: &mut Cpu<D>,
+    number: u64,
+    turns: u32,
+) -> Answer {
+    assert!(rt; 1 <= turns);
+    match registry.destroy(rt, cpu, number, turns) {
+        Ok(slot) => Answer::Number(u64::from(slot)),
+        Err(refusal) => Answer::Refused(refusal),
     }
 }

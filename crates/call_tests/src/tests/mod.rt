@@ -8,7 +8,6 @@ mod memory_tests;
 mod readers;
 mod registry_rows;
 mod remembered;
-mod sizes;
 mod table;
 mod threads;
 mod turns;

@@ -2,14 +2,12 @@
 
 ghost use Rattle.cpu_words.specs.Common.{AreWordsOf};
 
-use super::answers::{Answer, WM, Wanted, at, done, record};
+use super::answers::{Answer, Wanted, at, done, record};
 use cpu_words::{Domain, Words};
 use local_count::{LocalRef, acquire_local};
-use passive_list::{
-    Cpu, enter, exit, find, find_inside, find_remembered, may_begin_on, recall_on, walk,
-};
+use passive_list::{Cpu, enter, exit, find, find_inside, find_remembered, may_begin_on, recall_on};
 use passive_ref::{Psref, acquire, copy, get_remembered, held, read, release};
-use registry_values::{Entry, MOST_SLOTS, Record, Refusal, USUAL_SLOTS};
+use registry_values::{Entry, MOST_SLOTS, Record, Refusal};
 use std::process::Abort;
 
 /// A call on the words by a CPU.
@@ -28,14 +26,14 @@ pub(crate) enum Reader {
     Recall(u8, u64),
     /// How many sections it has ended.
     Ended,
-    /// It walks over all entries, and meets these numbers with their records. The last found entry is then none.
-    Walk(&'static [(u64, Wanted)]),
     /// It acquires a local reference to what it found last.
     Count,
     /// It acquires a passive reference to what it found last.
     Acquire,
     /// Copies the passive reference. Once that is released, or forgotten, the copy takes its place.
     Copy,
+    /// It takes the passive reference that another registry's CPU with this number has to the entry with that number.
+    Remember(u8, u64),
     /// What the passive reference names.
     Reference,
     /// It reads this record by the passive reference.
@@ -98,11 +96,6 @@ impl<D: Domain> Held<D> {
         }
     }
 
-    /// Hands the passive reference on.
-    pub(crate) fn hand_passive<E: Domain, R: Abort>(&mut self, rt: &R, other: &mut Held<E>) {
-        put(rt, &mut other.passive, self.take_passive(rt));
-    }
-
     fn passive<R: Abort>(&self, rt: &R) -> &Psref {
         match &self.passive {
             Some(psref) => psref,
@@ -159,12 +152,15 @@ pub(crate) fn by_reader<D: Domain, R: Abort>(
             Answer::Is(recall_on(words, &mut cpu.plain, slot, number))
         }
         Reader::Ended => Answer::Number(cpu.plain.ended),
-        Reader::Walk(met) => meets(rt, words, cpu, met),
         Reader::Count => kept(rt, &mut refs.local, acquire_local(words, cpu)),
         Reader::Acquire => kept(rt, &mut refs.passive, acquire(words, cpu)),
         Reader::Copy => {
             let answer = copy(words, cpu, refs.passive(rt));
             kept(rt, &mut refs.copied, answer)
+        }
+        Reader::Remember(id, number) => {
+            put(rt, &mut refs.passive, Psref::remembered(id, number));
+            Answer::Done
         }
         Reader::Reference => Answer::Names(refs.passive(rt).cpu(), refs.passive(rt).number()),
         Reader::Read(wanted) => {
@@ -178,7 +174,7 @@ pub(crate) fn by_reader<D: Domain, R: Abort>(
 }
 
 /// The CPU exits its section, or one nesting of it.
-fn exited<D: Domain, R: Abort>(rt: &R, words: &Words, cpu: &mut Cpu<D>) -> Answer
+pub(crate) fn exited<D: Domain, R: Abort>(rt: &R, words: &Words, cpu: &mut Cpu<D>) -> Answer
     requires words { AreWordsOf words.now D.table D.settings }
 {
     assert!(rt; cpu.inside());
@@ -209,12 +205,7 @@ fn found_inside<D: Domain, R: Abort>(rt: &R, words: &Words, cpu: &mut Cpu<D>, re
 }
 
 /// The CPU looks the record's kind and name up by memory, from outside.
-pub(crate) fn looked_up<D: Domain, R: Abort>(
-    rt: &R,
-    words: &Words,
-    cpu: &mut Cpu<D>,
-    rec: Record,
-) -> Answer
+fn looked_up<D: Domain, R: Abort>(rt: &R, words: &Words, cpu: &mut Cpu<D>, rec: Record) -> Answer
     requires words { AreWordsOf words.now D.table D.settings }
 {
     match look_up(rt, words, cpu, rec) {
@@ -272,49 +263,6 @@ fn get<D: Domain, R: Abort>(
     Err(Refusal::PassiveFull)
 }
 
-/// The CPU walks in its open section. The numbers fall, and past them the row is as it was.
-pub(crate) fn walked<D: Domain, R: Abort>(
-    rt: &R,
-    words: &Words,
-    cpu: &mut Cpu<D>,
-) -> (usize, [Entry; USUAL_SLOTS])
-    requires words { AreWordsOf words.now D.table D.settings }
-{
-    assert!(rt; cpu.inside());
-    assert!(rt; usize::from(words.settings().slots) <= USUAL_SLOTS);
-    let stale = Entry {
-        number: 77,
-        slot: 0,
-        rec: record(rt, WM),
-    };
-    let mut row = [stale; USUAL_SLOTS];
-    let count = walk(words, cpu, &mut row);
-    for place in 1..count {
-        assert!(rt; row[place].number < row[place - 1].number);
-    }
-    for entry in &row[count..] {
-        assert_eq!(rt; *entry, stale);
-    }
-    (count, row)
-}
-
-/// The CPU walks, and meets these numbers, each with its record.
-fn meets<D: Domain, R: Abort>(
-    rt: &R,
-    words: &Words,
-    cpu: &mut Cpu<D>,
-    met: &[(u64, Wanted)],
-) -> Answer
-    requires words { AreWordsOf words.now D.table D.settings }
-{
-    let (count, row) = walked(rt, words, cpu);
-    assert_eq!(rt; count, met.len());
-    for (entry, (number, wanted)) in row.iter().zip(met) {
-        assert!(rt; (entry.number, entry.rec) == (*number, record(rt, *wanted)));
-    }
-    Answer::Done
-}
-
 /// Keeps the reference, or says why there is none.
 fn kept<T, R: Abort>(rt: &R, place: &mut Option<T>, answer: Result<T, Refusal>) -> Answer {
     match answer {
@@ -328,7 +276,13 @@ fn kept<T, R: Abort>(rt: &R, place: &mut Option<T>, answer: Result<T, Refusal>) 
 
 /// What was read is this record, or it was refused.
 fn same<R: Abort>(rt: &R, answer: Result<Record, Refusal>, rec: Record) -> Answer {
-    done(answer.map(|read| assert_eq!(rt; read, rec)))
+    match answer {
+        Ok(read) => {
+            assert!(rt; read == rec);
+            Answer::Done
+        }
+        Err(refusal) => Answer::Refused(refusal),
+    }
 }
 
 /// The CPU releases the passive reference. Where that is refused, the reference comes back.

@@ -1,26 +1,21 @@
 //! Lookups and gets by memory: worked rows, and thirty-two entries.
 
-ghost use Rattle.std.specs.Prelude.{IsTrue};
-ghost use Rattle.registry_values.specs.Common.{is_key};
-ghost use Rattle.cpu_words.specs.Common.{AreWordsOf};
+ghost use Rattle.std.specs.Prelude.{◌<◌};
+ghost use Rattle.call_tests.specs.declared.tests.remembered.TheConstants.{SLOTS};
 
 use super::answers::Answer::{self, At, Done, Is, Names, Nothing, Number, Refused};
 use super::answers::{DRIVER_WM0, VGA, WM, WM0, Wanted};
 use super::bench::Call::{self, Attach, Destroy, Detach};
-use super::bench::Step::{self, By, Reads};
-use super::bench::{Bench, Test, blank, on_bench};
+use super::bench::Step::{self, By, Gets, Reads};
+use super::bench::{Bench, Test, on_bench};
 use super::readers::Reader::{
     Acquire, Ended, Enter, Exit, Find, FindInside, LookUp, Read, Recall, Reference, Release,
 };
-use super::readers::looked_up;
-use cpu_words::{Domain, Words};
-use passive_list::Cpu;
-use registry_values::{Kind, Name, Record, Refusal};
-use std::alloc::Global;
+use cpu_words::Domain;
+use registry_values::{Kind, Refusal};
 use std::process::Abort;
 use std::sync::Wait;
 use std::test::*;
-use std::thread::Threads;
 
 const SLOTS: u8 = 32;
 
@@ -149,21 +144,21 @@ const ABSENT: &[(Step, Answer)] = &[
 
 /// The registry's own calls, outside a section and inside. Outside, a get and a lookup of one name share what the CPU remembers.
 const CALLS: &[(Step, Answer)] = &[
-    (By(0, Call::Get(WM)), Refused(Refusal::NotFound)),
+    (Gets(0, WM), Refused(Refusal::NotFound)),
     (Reads(0, Ended), Number(0)),
     (By(1, Attach(WM)), At(1, 0)),
-    (By(0, Call::Get(WM)), Done),
+    (Gets(0, WM), Done),
     (Reads(0, Ended), Number(1)),
     (Reads(0, Reference), Names(0, 1)),
     (Reads(0, Release), Done),
     (By(0, Call::LookUp(WM)), At(1, 0)),
-    (By(0, Call::Get(VGA)), Refused(Refusal::NotFound)),
+    (Gets(0, VGA), Refused(Refusal::NotFound)),
     (Reads(0, Ended), Number(2)),
     (By(0, Call::LookUp(VGA)), Refused(Refusal::NotFound)),
-    (By(0, Call::Get(VGA)), Refused(Refusal::NotFound)),
+    (Gets(0, VGA), Refused(Refusal::NotFound)),
     (Reads(0, Ended), Number(2)),
     (Reads(0, Enter), Done),
-    (By(0, Call::Get(WM)), Done),
+    (Gets(0, WM), Done),
     (Reads(0, Release), Done),
     (By(0, Call::LookUp(VGA)), Refused(Refusal::NotFound)),
     (Reads(0, Acquire), Refused(Refusal::NothingFound)),
@@ -178,80 +173,57 @@ const CALLS: &[(Step, Answer)] = &[
     (Reads(0, FindInside(WM)), Nothing),
     (Reads(0, Exit), Done),
     (Reads(0, Read(WM)), Done),
-    (By(0, Call::Get(WM)), Refused(Refusal::NotFound)),
+    (Gets(0, WM), Refused(Refusal::NotFound)),
     (Reads(0, Release), Done),
     (By(1, Destroy(1, 9)), Number(0)),
     (Reads(0, Ended), Number(3)),
 ];
 
 #[test]
-fn rows_by_memory(rt: HostRuntime) -> Result<(), Fail> {
+fn rows_by_memory(rt: HostRuntime) {
     for steps in [SECTIONS, SLOTS_AGAIN, KEYS, RECALLS, ABSENT, CALLS] {
-        run(&rt, rt.alloc(), steps)?;
+        on_bench(&rt, rt.alloc(), 4, 1000, Test::Follow(steps));
     }
-    Ok(())
-}
-
-/// Runs the row on a registry of its own.
-fn run<R: Threads + Wait + Abort + Sync>(
-    rt: &R,
-    alloc: Global,
-    steps: &[(Step, Answer)],
-) -> Result<(), Fail> {
-    on_bench(rt, alloc, blank(alloc, 4, 1000)?, Test::Follow(steps))
-}
-
-pub(crate) fn follow<D: Domain, R: Wait + Abort>(
-    rt: &R,
-    mut bench: Bench<D>,
-    steps: &[(Step, Answer)],
-) -> Result<(), Fail> {
-    bench.run(rt, "lookups by memory", steps);
-    Ok(())
 }
 
 #[test]
-fn thirty_two_entries(rt: HostRuntime) -> Result<(), Fail> {
-    on_bench(
-        &rt,
-        rt.alloc(),
-        blank(rt.alloc(), SLOTS, 1000)?,
-        Test::FullByMemory,
-    )
+fn thirty_two_entries(rt: HostRuntime) {
+    on_bench(&rt, rt.alloc(), SLOTS, 1000, Test::FullByMemory);
 }
 
-/// The record of the n-th driver: its name is two letters, and its value ten times its place.
-fn nth<R: Abort>(rt: &R, n: u8) -> Record
-    ensures { IsTrue (is_key result.name) }
+/// The names of the drivers, one for each slot.
+const NAMES: [&str; SLOTS as usize] = [
+    "aa", "ab", "ac", "ad", "ae", "af", "ag", "ah", "ba", "bb", "bc", "bd", "be", "bf", "bg", "bh",
+    "ca", "cb", "cc", "cd", "ce", "cf", "cg", "ch", "da", "db", "dc", "dd", "de", "df", "dg", "dh",
+];
+
+/// The n-th driver, whose value is ten times its place.
+fn nth(n: u8) -> Wanted
+    requires { n < SLOTS }
 {
-    Record {
+    Wanted {
         kind: Kind::Driver,
-        name: Name::parse(&[b'a' + n / 8 % 26, b'a' + n % 8]).expect(rt, "a name"),
+        name: NAMES[usize::from(n)],
         value: 10 * u64::from(n),
     }
 }
 
-/// CPU 1 attaches thirty-two drivers. Each is found in a section once, and is remembered then beside all others.
-pub(crate) fn full_by_memory<D: Domain, R: Wait + Abort>(
-    rt: &R,
-    bench: Bench<D>,
-) -> Result<(), Fail> {
-    let (registry, mut cpu, mut second, _third) = bench.apart()?;
+/// CPU 1 attaches thirty-two drivers. CPU 0 finds each in a section once, and remembers it then beside all others.
+pub(crate) fn full_by_memory<D: Domain, R: Wait + Abort>(rt: &R, bench: &mut Bench<D>) {
     for n in 0..SLOTS {
-        registry.attach(rt, &mut second, nth(rt, n))?;
+        let answer = At(u64::from(n) + 1, n);
+        bench.run(rt, "attached", &[(By(1, Attach(nth(n))), answer)]);
     }
-    look_each_up(rt, registry.words(), &mut cpu);
-    look_each_up(rt, registry.words(), &mut cpu);
-    Ok(())
+    look_each_up(rt, bench);
+    look_each_up(rt, bench);
 }
 
 /// Looks each entry up. The CPU has ended as many sections then as there are entries.
-fn look_each_up<D: Domain, R: Abort>(rt: &R, words: &Words, cpu: &mut Cpu<D>)
-    requires words { AreWordsOf words.now D.table D.settings }
-{
+fn look_each_up<D: Domain, R: Wait + Abort>(rt: &R, bench: &mut Bench<D>) {
     for n in 0..SLOTS {
-        let found = looked_up(rt, words, cpu, nth(rt, n));
-        assert!(rt; found == At(u64::from(n) + 1, n));
+        let answer = At(u64::from(n) + 1, n);
+        bench.run(rt, "looked up", &[(Reads(0, LookUp(nth(n))), answer)]);
     }
-    assert_eq!(rt; cpu.plain.ended, u64::from(SLOTS));
+    let ended = Number(u64::from(SLOTS));
+    bench.run(rt, "remembered", &[(Reads(0, Ended), ended)]);
 }

@@ -8,7 +8,7 @@ ghost use Rattle.registry_values.specs.declared.limits.TheConstants.{MOST_CPUS};
 use super::answers::Answer;
 use super::keepers::{Writer, by_keeper};
 use super::readers::{Held, Reader, by_reader};
-use super::threads::{one_lookup, one_reference, told_twice};
+use super::threads::{one_lookup, one_reference};
 use super::word_rows::{Row, follow};
 use cpu_words::{CpuSeat, Domain, KeeperSeat, Words};
 use passive_list::{Cpu, CpuRows, Keeper, KeeperRows};
@@ -74,7 +74,6 @@ pub(crate) struct Seats<D: Domain> {
 #[derive(Clone, Copy)]
 pub(crate) enum Test<'a> {
     OneLookup,
-    ToldTwice,
     OneReference,
     Follow(&'a Row),
 }
@@ -85,8 +84,11 @@ pub(crate) fn on_table<R: Threads + Abort + Sync>(
     alloc: Global,
     section_limit: u64,
     test: Test,
-) -> Result<(), Fail> {
-    on_named::<Brand, R>(rt, alloc, opened(alloc, section_limit)?, test)
+) {
+    match opened(alloc, section_limit) {
+        Ok(table) => on_named::<Brand, R>(rt, alloc, table, test),
+        Err(_) => panic!(rt; "a table"),
+    }
 }
 
 /// The same, where D names the table.
@@ -95,42 +97,49 @@ fn on_named<D: Domain + Send, R: Threads + Abort + Sync>(
     alloc: Global,
     table: Table,
     test: Test,
-) -> Result<(), Fail>
+)
     requires words { AreWordsOf table.words D.table D.settings }
     requires ledger { (table.changes.name ≡ D.name) × (D.parts ≡ MOST_CPUS) }
 {
-    let seats = Seats::<D>::of(alloc, table)?;
+    let seats = Seats::<D>::of(rt, alloc, table);
     match test {
         Test::OneLookup => one_lookup(rt, seats),
-        Test::ToldTwice => told_twice(rt, seats),
         Test::OneReference => one_reference(rt, seats),
         Test::Follow(row) => follow(rt, seats, row),
     }
 }
 
 /// The CPU with this number, from its seat in a new table that D names.
-fn cpu_of<D: Domain>(
+fn cpu_of<D: Domain, R: Abort>(
+    rt: &R,
     alloc: Global,
     seat: CpuSeat,
     id: u8,
     slots: u8,
     share: ledger::Share<D>,
-) -> Result<Cpu<D>, Fail>
+) -> Cpu<D>
     requires fit { IsTrue (are_fit D.settings) × (id < D.settings.cpus) × (slots ≡ D.settings.slots) }
     requires seat { (seat.table ≡ D.table) × (seat.view ≡ new_cpu D.settings id) }
     requires part { share.parts ≡ 1 }
 {
-    let rows = CpuRows::new(alloc, slots)?;
-    Ok(Cpu::of_seat(alloc, seat, id, rows, share)?)
+    let Ok(rows) = CpuRows::new(alloc, slots) else {
+        panic!(rt; "rows");
+    };
+    match Cpu::of_seat(alloc, seat, id, rows, share) {
+        Ok(cpu) => cpu,
+        Err(_) => panic!(rt; "a CPU"),
+    }
 }
 
 impl<D: Domain> Seats<D> {
-    fn of(alloc: Global, table: Table) -> Result<Seats<D>, Fail>
+    fn of<R: Abort>(rt: &R, alloc: Global, table: Table) -> Seats<D>
         requires words { AreWordsOf table.words D.table D.settings }
         requires ledger { (table.changes.name ≡ D.name) × (D.parts ≡ MOST_CPUS) }
     {
         let settings = table.words.settings();
-        let rows = KeeperRows::new(alloc, settings)?;
+        let Ok(rows) = KeeperRows::new(alloc, settings) else {
+            panic!(rt; "rows");
+        };
         let Table {
             words,
             keeper,
@@ -140,12 +149,12 @@ impl<D: Domain> Seats<D> {
         } = table;
         let (_book, mut shares) = changes.open::<D>();
         let (one, other) = (shares.split_off(1, 0), shares.split_off(1, 0));
-        Ok(Seats {
+        Seats {
             words,
             keeper: Keeper::of_seat(keeper, settings, rows),
-            first: cpu_of(alloc, first, 0, settings.slots, one)?,
-            second: cpu_of(alloc, second, 1, settings.slots, other)?,
-        })
+            first: cpu_of(rt, alloc, first, 0, settings.slots, one),
+            second: cpu_of(rt, alloc, second, 1, settings.slots, other),
+        }
     }
 
     /// Checks that each step returns what the row says.

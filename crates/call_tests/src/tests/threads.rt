@@ -7,13 +7,13 @@ ghost use Rattle.cpu_words.specs.Common.{AreWordsOf};
 
 use super::answers::{WM, record};
 use super::keepers::{looked, passive_look, published, retired};
+use super::readers::exited;
 use super::table::{Seats, Test, on_table};
 use cpu_words::{Domain, Words};
 use local_count::{LocalRef, acquire_local, collect, collected, total, try_release};
-use passive_list::{Cpu, Keeper, Note, SlotState, enter, exit, find, hear, tell, tell_keeper};
+use passive_list::{Cpu, Keeper, SlotState, enter, find};
 use registry_values::{Kind, Name, Record, Refusal, USUAL_SECTIONS};
 use std::alloc::Global;
-use std::marker::PhantomData;
 use std::process::Abort;
 use std::sync::atomic::{AtomicBool, Ordering};
 use std::test::*;
@@ -29,18 +29,18 @@ fn number_found<D: Domain>(words: &Words, cpu: &mut Cpu<D>, name: &Name) -> Opti
     if !cpu.inside() {
         return None;
     }
-    find(words, cpu, Kind::Driver, name).map(|entry| entry.number)
+    match find(words, cpu, Kind::Driver, name) {
+        Some(entry) => Some(entry.number),
+        None => None,
+    }
 }
 
 #[test]
-fn a_lookup_finds_what_another_thread_publishes(rt: HostRuntime) -> Result<(), Fail> {
-    on_table(&rt, rt.alloc(), USUAL_SECTIONS, Test::OneLookup)
+fn a_lookup_finds_what_another_thread_publishes(rt: HostRuntime) {
+    on_table(&rt, rt.alloc(), USUAL_SECTIONS, Test::OneLookup);
 }
 
-pub(crate) fn one_lookup<D: Domain + Send, R: Threads + Abort + Sync>(
-    rt: &R,
-    seats: Seats<D>,
-) -> Result<(), Fail> {
+pub(crate) fn one_lookup<D: Domain + Send, R: Threads + Abort + Sync>(rt: &R, seats: Seats<D>) {
     let Seats {
         words,
         keeper,
@@ -53,19 +53,19 @@ pub(crate) fn one_lookup<D: Domain + Send, R: Threads + Abort + Sync>(
         rt,
         move || -> Option<u64>
             requires words { AreWordsOf words.now D.table D.settings }
-        { find_at_last(words, first, &driver.name, missed) },
+        { find_at_last(rt, words, first, &driver.name, missed) },
         move || -> Option<u64>
             requires words { AreWordsOf words.now keeper.words.table keeper.words.settings }
             requires driver { IsTrue (is_key driver.name) }
         { publish_once_missed(rt, words, keeper, driver, missed) },
     );
-    assert_eq!(rt; published, Some(1));
-    assert_eq!(rt; found, Some(1));
-    Ok(())
+    assert!(rt; published == Some(1));
+    assert!(rt; found == Some(1));
 }
 
 /// Looks the driver up, in a section each time, until it is found. It sets the flag where it isn't, and returns the number found.
-fn find_at_last<D: Domain>(
+fn find_at_last<D: Domain, R: Abort>(
+    rt: &R,
     words: &Words,
     mut cpu: Cpu<D>,
     name: &Name,
@@ -74,7 +74,7 @@ fn find_at_last<D: Domain>(
     requires words { AreWordsOf words.now D.table D.settings }
 {
     for _ in 0..TURNS {
-        let found = find_in_section(words, &mut cpu, name).ok()?;
+        let found = find_in_section(rt, words, &mut cpu, name).ok()?;
         if found.is_some() {
             return found;
         }
@@ -84,7 +84,8 @@ fn find_at_last<D: Domain>(
 }
 
 /// Enters, looks the driver up, and exits.
-fn find_in_section<D: Domain>(
+fn find_in_section<D: Domain, R: Abort>(
+    rt: &R,
     words: &Words,
     cpu: &mut Cpu<D>,
     name: &Name,
@@ -93,9 +94,7 @@ fn find_in_section<D: Domain>(
 {
     enter(words, cpu)?;
     let found = number_found(words, cpu, name);
-    if cpu.inside() {
-        exit(words, cpu);
-    }
+    exited(rt, words, cpu);
     Ok(found)
 }
 
@@ -128,102 +127,12 @@ fn was_set(flag: &AtomicBool) -> bool {
 }
 
 #[test]
-fn a_note_tells_another_thread_what_was_published(rt: HostRuntime) -> Result<(), Fail> {
-    on_table(&rt, rt.alloc(), USUAL_SECTIONS, Test::ToldTwice)
-}
-
-/// Both sections begin before the driver is published. One CPU hears of it from the keeper, the other from that CPU.
-pub(crate) fn told_twice<D: Domain + Send, R: Threads + Abort + Sync>(
-    rt: &R,
-    seats: Seats<D>,
-) -> Result<(), Fail> {
-    let Seats {
-        words,
-        keeper,
-        mut first,
-        mut second,
-    } = seats;
-    let driver = record(rt, WM);
-    let words = &words;
-    enter_both(words, &mut first, &mut second)?;
-    let ((published, note), _) = join(
-        rt,
-        move || -> (u64, Note<D>)
-            requires words { AreWordsOf words.now keeper.words.table keeper.words.settings }
-            requires named { keeper.words.table ≡ D.table }
-            requires driver { IsTrue (is_key driver.name) }
-        { publish_and_tell(rt, words, keeper, driver) },
-        || (),
-    );
-    let (found, note) = find_once_told(words, first, &driver.name, note);
-    let ((found_there, _), _) = join(
-        rt,
-        move || -> (Option<u64>, Note<D>)
-            requires words { AreWordsOf words.now D.table D.settings }
-        { find_once_told(words, second, &driver.name, note) },
-        || (),
-    );
-    assert_eq!(rt; (published, found, found_there), (1, Some(1), Some(1)));
-    Ok(())
-}
-
-fn enter_both<D: Domain>(
-    words: &Words,
-    first: &mut Cpu<D>,
-    second: &mut Cpu<D>,
-) -> Result<(), Refusal>
-    requires words { AreWordsOf words.now D.table D.settings }
-{
-    enter(words, first)?;
-    enter(words, second)
-}
-
-/// Publishes the driver. Returns its number, and a note of what the keeper has seen then.
-fn publish_and_tell<D: Domain, R: Abort>(
-    rt: &R,
-    words: &Words,
-    mut keeper: Keeper,
-    driver: Record,
-) -> (u64, Note<D>)
-    requires words { AreWordsOf words.now keeper.words.table keeper.words.settings }
-    requires named { keeper.words.table ≡ D.table }
-    requires driver { IsTrue (is_key driver.name) }
-{
-    let entry = published(rt, words, &mut keeper, driver);
-    let seat = tell_keeper(words, &mut keeper);
-    (
-        entry.number,
-        Note {
-            seat,
-            domain: PhantomData,
-        },
-    )
-}
-
-/// Hears the note in the open section, and looks the driver up. Returns the number found, and a note of what the CPU has seen then.
-fn find_once_told<D: Domain>(
-    words: &Words,
-    mut cpu: Cpu<D>,
-    name: &Name,
-    note: Note<D>,
-) -> (Option<u64>, Note<D>)
-    requires words { AreWordsOf words.now D.table D.settings }
-{
-    hear(words, &mut cpu, note);
-    let found = number_found(words, &mut cpu, name);
-    (found, tell(words, &mut cpu))
-}
-
-#[test]
-fn a_reference_is_released_on_another_thread(rt: HostRuntime) -> Result<(), Fail> {
-    on_table(&rt, rt.alloc(), 1, Test::OneReference)
+fn a_reference_is_released_on_another_thread(rt: HostRuntime) {
+    on_table(&rt, rt.alloc(), 1, Test::OneReference);
 }
 
 /// CPU 0 acquires the reference, and another thread reads and releases it on CPU 1. Then nobody holds the entry.
-pub(crate) fn one_reference<D: Domain + Send, R: Threads + Abort + Sync>(
-    rt: &R,
-    seats: Seats<D>,
-) -> Result<(), Fail> {
+pub(crate) fn one_reference<D: Domain + Send, R: Threads + Abort + Sync>(rt: &R, seats: Seats<D>) {
     let Seats {
         words,
         mut keeper,
@@ -233,7 +142,7 @@ pub(crate) fn one_reference<D: Domain + Send, R: Threads + Abort + Sync>(
     let driver = record(rt, WM);
     let words = &words;
     published(rt, words, &mut keeper, driver);
-    let mut held = acquired(words, &mut first, &driver.name);
+    let mut held = acquired(rt, words, &mut first, &driver.name);
     let lent = &mut held;
     let (read, _) = join(
         rt,
@@ -247,12 +156,16 @@ pub(crate) fn one_reference<D: Domain + Send, R: Threads + Abort + Sync>(
     };
     assert!(rt; read == Some((1, Kind::Driver, driver)));
     retired(rt, words, &mut keeper);
-    assert_eq!(rt; total_once_drained(rt, words, &mut keeper), 0);
-    Ok(())
+    assert!(rt; total_once_drained(rt, words, &mut keeper) == 0);
 }
 
 /// Finds the driver in a section, and acquires a local reference to it.
-fn acquired<D: Domain>(words: &Words, cpu: &mut Cpu<D>, name: &Name) -> Option<LocalRef<D>>
+fn acquired<D: Domain, R: Abort>(
+    rt: &R,
+    words: &Words,
+    cpu: &mut Cpu<D>,
+    name: &Name,
+) -> Option<LocalRef<D>>
     requires words { AreWordsOf words.now D.table D.settings }
 {
     enter(words, cpu).ok()?;
@@ -261,7 +174,7 @@ fn acquired<D: Domain>(words: &Words, cpu: &mut Cpu<D>, name: &Name) -> Option<L
     }
     find(words, cpu, Kind::Driver, name);
     let reference = acquire_local(words, cpu).ok();
-    exit(words, cpu);
+    exited(rt, words, cpu);
     reference
 }
 

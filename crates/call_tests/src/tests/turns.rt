@@ -3,15 +3,15 @@
 ghost use Rattle.std.specs.Thread.{IsSync};
 
 use super::answers::Answer::{self, At, Come, Done, Nothing, Number, Refused};
-use super::answers::{DRIVER_WM1, VGA, WM, come};
-use super::bench::Call::{self, Attach, Destroy, Detach, Perform};
+use super::answers::{DRIVER_WM1, VGA, WM};
+use super::bench::Call::{self, Advance, Attach, Destroy, Detach, Perform};
 use super::bench::Step::{self, By, Reads};
-use super::bench::{Bench, Test, blank, by_cpu, on_bench};
-use super::readers::Held;
+use super::bench::{Bench, Test, by_cpu, on_bench};
 use super::readers::Reader::Enter;
+use super::readers::exited;
 use cpu_words::Domain;
 use name_registry::Registry;
-use passive_list::{Cpu, enter, exit};
+use passive_list::{Cpu, enter};
 use registry_values::{Refusal, Stage};
 use std::alloc::Global;
 use std::process::Abort;
@@ -26,6 +26,9 @@ const TURNS: u32 = 100_000_000;
 /// How often CPU 1 lets others run before it leaves its section: long enough for the first turn.
 const YIELDS: u32 = 2_000;
 
+/// So often another thread takes the lock while a wait goes on.
+const MEANWHILE: u32 = 250_000;
+
 /// CPU 1 is inside as CPU 0 retires the entry 2, in slot 1.
 const RETIRED: &[(Step, Answer)] = &[
     (By(0, Attach(WM)), At(1, 0)),
@@ -37,8 +40,8 @@ const RETIRED: &[(Step, Answer)] = &[
 /// What CPU 0 does.
 #[derive(Clone, Copy)]
 enum First {
-    /// It repeats this call until the entry 2 has lost its slot. Without a call it advances the entry.
-    Insist(Option<Call>),
+    /// It repeats this call until the entry 2 has lost its slot.
+    Insist(Call),
     /// It performs while CPU 1 is inside, and once more as that leaves.
     PerformTwice,
 }
@@ -48,8 +51,8 @@ enum First {
 enum Other {
     /// CPU 1 ends its section and begins another one, which nobody waits for. Then it advances the entry 2, if it is to.
     ChangeSection(bool),
-    /// CPU 2 attaches a driver, and CPU 1 exits only then.
-    AttachAndLeave,
+    /// CPU 2 makes this call so many times, and CPU 1 exits only then.
+    CallAndLeave(u32, Call),
     /// CPU 1 enters a section, and leaves it once CPU 0 was refused.
     StayInside,
 }
@@ -72,7 +75,7 @@ const SECTIONS: &[Row] = &[
         name: "perform",
         slots: 2,
         steps: RETIRED,
-        first: First::Insist(Some(Perform(TURNS))),
+        first: First::Insist(Perform(TURNS)),
         other: Other::ChangeSection(false),
         answers: (Done, Nothing, Come(Stage::Freed(1))),
     },
@@ -80,7 +83,7 @@ const SECTIONS: &[Row] = &[
         name: "destroy",
         slots: 2,
         steps: RETIRED,
-        first: First::Insist(Some(Destroy(2, TURNS))),
+        first: First::Insist(Destroy(2, TURNS)),
         other: Other::ChangeSection(false),
         answers: (Number(1), Nothing, Refused(Refusal::NotRetired)),
     },
@@ -88,7 +91,7 @@ const SECTIONS: &[Row] = &[
         name: "advance",
         slots: 2,
         steps: RETIRED,
-        first: First::Insist(None),
+        first: First::Insist(Advance(2)),
         other: Other::ChangeSection(false),
         answers: (Come(Stage::Freed(1)), Nothing, Refused(Refusal::NotRetired)),
     },
@@ -96,15 +99,15 @@ const SECTIONS: &[Row] = &[
         name: "attach",
         slots: 2,
         steps: RETIRED,
-        first: First::Insist(Some(Attach(DRIVER_WM1))),
+        first: First::Insist(Attach(DRIVER_WM1)),
         other: Other::ChangeSection(true),
         answers: (At(4, 1), Nothing, Refused(Refusal::NotRetired)),
     },
 ];
 
 #[test]
-fn a_section_ends_in_the_middle_of_a_call(rt: HostRuntime) -> Result<(), Fail> {
-    run_rows(&rt, rt.alloc(), SECTIONS)
+fn a_section_ends_in_the_middle_of_a_call(rt: HostRuntime) {
+    run_rows(&rt, rt.alloc(), SECTIONS);
 }
 
 /// Calls that wait for CPU 1, which exits only once CPU 2 has got the lock: a call that held it over all its turns would wait for itself.
@@ -113,23 +116,42 @@ const LOCKS: &[Row] = &[
         name: "the lock between two turns of a perform",
         slots: 3,
         steps: RETIRED,
-        first: First::Insist(Some(Perform(TURNS))),
-        other: Other::AttachAndLeave,
+        first: First::Insist(Perform(TURNS)),
+        other: Other::CallAndLeave(1, Attach(DRIVER_WM1)),
         answers: (Done, At(4, 2), Come(Stage::Freed(1))),
     },
     Row {
         name: "the lock between two turns of a destroy",
         slots: 3,
         steps: RETIRED,
-        first: First::Insist(Some(Destroy(2, TURNS))),
-        other: Other::AttachAndLeave,
+        first: First::Insist(Destroy(2, TURNS)),
+        other: Other::CallAndLeave(1, Attach(DRIVER_WM1)),
         answers: (Number(1), At(4, 2), Refused(Refusal::NotRetired)),
     },
 ];
 
 #[test]
-fn the_lock_is_free_between_two_turns(rt: HostRuntime) -> Result<(), Fail> {
-    run_rows(&rt, rt.alloc(), LOCKS)
+fn the_lock_is_free_between_two_turns(rt: HostRuntime) {
+    run_rows(&rt, rt.alloc(), LOCKS);
+}
+
+/// The wait goes on while CPU 2 takes the lock very often, and sees each time that CPU 1 is inside.
+const LONG: &[Row] = &[Row {
+    name: "a wait of very many turns",
+    slots: 2,
+    steps: RETIRED,
+    first: First::Insist(Destroy(2, TURNS)),
+    other: Other::CallAndLeave(MEANWHILE, Advance(2)),
+    answers: (
+        Number(1),
+        Come(Stage::Grace(1)),
+        Refused(Refusal::NotRetired),
+    ),
+}];
+
+#[test]
+fn a_wait_goes_on(rt: HostRuntime) {
+    run_rows(&rt, rt.alloc(), LONG);
 }
 
 /// CPU 1 enters a section on its own thread, and sets a flag that no note goes with. CPU 0 sees the flag and performs: the section was open as
@@ -144,60 +166,64 @@ const FLAGS: &[Row] = &[Row {
 }];
 
 #[test]
-fn a_section_known_by_a_flag_alone_is_waited_for(rt: HostRuntime) -> Result<(), Fail> {
-    run_rows(&rt, rt.alloc(), FLAGS)
+fn a_section_known_by_a_flag_alone_is_waited_for(rt: HostRuntime) {
+    run_rows(&rt, rt.alloc(), FLAGS);
 }
 
-fn run_rows<R: Threads + Wait + Abort + Sync>(
-    rt: &R,
-    alloc: Global,
-    rows: &[Row],
-) -> Result<(), Fail> {
+/// Runs each row on a registry of its own.
+fn run_rows<R: Threads + Wait + Abort + Sync>(rt: &R, alloc: Global, rows: &[Row]) {
     for row in rows {
-        run(rt, alloc, row)?;
+        on_bench(rt, alloc, row.slots, 1000, Test::Together(row));
     }
-    Ok(())
-}
-
-/// Runs the row on a registry of its own.
-fn run<R: Threads + Wait + Abort + Sync>(rt: &R, alloc: Global, row: &Row) -> Result<(), Fail> {
-    let blank = blank(alloc, row.slots, 1000)?;
-    on_bench(rt, alloc, blank, Test::Together(row))
 }
 
 /// CPU 0 and the other thread do what the row says at the same time.
 pub(crate) fn together<D: Domain + Send + Sync, R: Threads + Wait + Abort + Sync>(
     rt: &R,
-    mut bench: Bench<D>,
+    bench: &mut Bench<D>,
     row: &Row,
-) -> Result<(), Fail> {
+) {
     bench.run(rt, row.name, row.steps);
-    let (registry, cpu, second, third) = bench.apart()?;
-    let (registry, first, other) = (&registry, row.first, row.other);
-    let (begun, refused) = (&AtomicBool::new(false), &AtomicBool::new(false));
-    let (answer, meanwhile) = join(
-        rt,
-        move || -> Answer
-            requires { IsSync R.row }
-        { by_first(rt, registry, cpu, first, (begun, refused)) },
-        move || -> Answer
-            requires { IsSync R.row }
-        { by_other(rt, registry, (second, third), other, (begun, refused)) },
-    );
-    let after = come(registry.advance(rt, 2));
+    let registry = &bench.registry;
+    let [first, second, third] = bench.cpus.as_mut_slice() else {
+        panic!(rt; "three CPUs");
+    };
+    let (answer, meanwhile) = answers_of(rt, registry, first, second, third, row);
+    let after = by_cpu(rt, registry, first, Advance(2));
     assert!(rt;
         (answer, meanwhile, after) == row.answers,
         "at {}",
         row.name
     );
-    Ok(())
+}
+
+/// What CPU 0 answers, and what the other thread does.
+fn answers_of<D: Domain + Send + Sync, R: Threads + Wait + Abort + Sync>(
+    rt: &R,
+    registry: &Registry<D>,
+    cpu: &mut Cpu<D>,
+    second: &mut Cpu<D>,
+    third: &mut Cpu<D>,
+    row: &Row,
+) -> (Answer, Answer) {
+    let (first, other) = (row.first, row.other);
+    let flags = (&AtomicBool::new(false), &AtomicBool::new(false));
+    join(
+        rt,
+        move || -> Answer
+            requires { IsSync R.row }
+        { by_first(rt, registry, cpu, first, flags) },
+        move || -> Answer
+            requires { IsSync R.row }
+        { by_other(rt, registry, second, third, other, flags) },
+    )
 }
 
 /// What CPU 0 does, with two flags that the threads share.
 fn by_first<D: Domain, R: Wait + Abort>(
     rt: &R,
     registry: &Registry<D>,
-    cpu: Cpu<D>,
+    cpu: &mut Cpu<D>,
     first: First,
     flags: (&AtomicBool, &AtomicBool),
 ) -> Answer {
@@ -211,15 +237,19 @@ fn by_first<D: Domain, R: Wait + Abort>(
 fn by_other<D: Domain, R: Wait + Abort>(
     rt: &R,
     registry: &Registry<D>,
-    cpus: (Cpu<D>, Cpu<D>),
+    second: &mut Cpu<D>,
+    third: &mut Cpu<D>,
     other: Other,
     flags: (&AtomicBool, &AtomicBool),
 ) -> Answer {
-    let (second, third) = cpus;
     match other {
         Other::ChangeSection(frees) => change_section(rt, registry, second, frees, flags.0),
-        Other::AttachAndLeave => attach_and_leave(rt, registry, third, second, flags.0),
-        Other::StayInside => stay_inside(registry, second, flags.0, flags.1),
+        Other::CallAndLeave(times, call) => {
+            let answer = call_once_begun(rt, registry, third, times, call, flags.0);
+            exited(rt, registry.words(), second);
+            answer
+        }
+        Other::StayInside => stay_inside(rt, registry, second, flags.0, flags.1),
     }
 }
 
@@ -228,50 +258,46 @@ fn by_other<D: Domain, R: Wait + Abort>(
 fn perform_twice<D: Domain, R: Wait + Abort>(
     rt: &R,
     registry: &Registry<D>,
-    mut cpu: Cpu<D>,
+    cpu: &mut Cpu<D>,
     inside: &AtomicBool,
     refused: &AtomicBool,
 ) -> Answer {
     wait_for(inside);
-    let mut refs = Held::nothing();
-    let first = by_cpu(rt, registry, &mut cpu, &mut refs, Perform(3));
+    let first = by_cpu(rt, registry, cpu, Perform(3));
     assert!(rt; first == Refused(Refusal::Waiting(1)));
     refused.store(true, Ordering::SeqCst);
-    let second = by_cpu(rt, registry, &mut cpu, &mut refs, Perform(TURNS));
-    refs.end(rt);
-    second
+    by_cpu(rt, registry, cpu, Perform(TURNS))
 }
 
 /// Enters a section, sets the first flag, and leaves once the second one is set.
-fn stay_inside<D: Domain>(
+fn stay_inside<D: Domain, R: Abort>(
+    rt: &R,
     registry: &Registry<D>,
-    mut cpu: Cpu<D>,
+    cpu: &mut Cpu<D>,
     inside: &AtomicBool,
     refused: &AtomicBool,
 ) -> Answer {
-    let _entered = enter(registry.words(), &mut cpu);
+    let _entered = enter(registry.words(), cpu);
     inside.store(true, Ordering::SeqCst);
     wait_for(refused);
-    if cpu.inside() {
-        exit(registry.words(), &mut cpu);
-    }
+    exited(rt, registry.words(), cpu);
     Nothing
 }
 
-/// Waits until the flag is set, and a while longer; then CPU 2 attaches a driver, and CPU 1 exits.
-fn attach_and_leave<D: Domain, R: Wait + Abort>(
+/// Waits until the flag is set, and a while longer; then the CPU makes the call so many times. Returns what the last one did.
+fn call_once_begun<D: Domain, R: Wait + Abort>(
     rt: &R,
     registry: &Registry<D>,
-    mut third: Cpu<D>,
-    mut second: Cpu<D>,
+    cpu: &mut Cpu<D>,
+    times: u32,
+    call: Call,
     begun: &AtomicBool,
 ) -> Answer {
     wait_for(begun);
-    let mut refs = Held::nothing();
-    let answer = by_cpu(rt, registry, &mut third, &mut refs, Attach(DRIVER_WM1));
-    refs.end(rt);
-    if second.inside() {
-        exit(registry.words(), &mut second);
+    let mut answer = Nothing;
+    for _ in 0..times {
+        answer = by_cpu(rt, registry, cpu, call);
+        yield_now();
     }
     answer
 }
@@ -294,42 +320,39 @@ fn wait_for(begun: &AtomicBool) {
 fn insist<D: Domain, R: Wait + Abort>(
     rt: &R,
     registry: &Registry<D>,
-    mut cpu: Cpu<D>,
-    call: Option<Call>,
+    cpu: &mut Cpu<D>,
+    call: Call,
     begun: &AtomicBool,
 ) -> Answer {
     begun.store(true, Ordering::SeqCst);
-    let mut refs = Held::nothing();
-    let mut answer = Nothing;
     for _ in 0..TURNS {
-        answer = match call {
-            Some(call) => by_cpu(rt, registry, &mut cpu, &mut refs, call),
-            None => come(registry.advance(rt, 2)),
-        };
-        match answer {
-            Refused(Refusal::NoSlot) | Come(Stage::Grace(1)) => yield_now(),
-            _ => break,
+        let answer = by_cpu(rt, registry, cpu, call);
+        if !is_in_vain(answer) {
+            return answer;
         }
+        yield_now();
     }
-    refs.end(rt);
-    answer
+    Nothing
+}
+
+/// Whether the entry still has its slot.
+fn is_in_vain(answer: Answer) -> bool {
+    answer == Refused(Refusal::NoSlot) || answer == Come(Stage::Grace(1))
 }
 
 /// Waits until the flag is set, and a while longer; then the CPU ends its section and begins another one.
-fn change_section<D: Domain, R: Wait>(
+fn change_section<D: Domain, R: Wait + Abort>(
     rt: &R,
     registry: &Registry<D>,
-    mut cpu: Cpu<D>,
+    cpu: &mut Cpu<D>,
     frees: bool,
     begun: &AtomicBool,
 ) -> Answer {
     wait_for(begun);
-    if cpu.inside() {
-        exit(registry.words(), &mut cpu);
-    }
-    let _again = enter(registry.words(), &mut cpu);
+    exited(rt, registry.words(), cpu);
+    let _again = enter(registry.words(), cpu);
     if frees {
-        let _stage = registry.advance(rt, 2);
+        let _stage = by_cpu(rt, registry, cpu, Advance(2));
     }
     Nothing
 }

@@ -14,7 +14,6 @@ use registry_values::{Refusal, Settings};
 use std::alloc::Global;
 use std::process::Abort;
 use std::test::*;
-use std::thread::Threads;
 
 /// Calls on a table of its own.
 pub(crate) struct Row {
@@ -157,27 +156,16 @@ const ROWS: [Row; 7] = [
 ];
 
 #[test]
-fn word_rows(rt: HostRuntime) -> Result<(), Fail> {
+fn word_rows(rt: HostRuntime) {
     for row in &ROWS {
-        run(&rt, rt.alloc(), row)?;
+        on_table(&rt, rt.alloc(), 10, Test::Follow(row));
     }
-    Ok(())
 }
 
-/// Runs the row on a table of its own.
-fn run<R: Threads + Abort + Sync>(rt: &R, alloc: Global, row: &Row) -> Result<(), Fail> {
-    on_table(rt, alloc, 10, Test::Follow(row))
-}
-
-pub(crate) fn follow<D: Domain, R: Abort>(
-    rt: &R,
-    mut seats: Seats<D>,
-    row: &Row,
-) -> Result<(), Fail> {
+pub(crate) fn follow<D: Domain, R: Abort>(rt: &R, mut seats: Seats<D>, row: &Row) {
     let mut refs = Held::nothing();
     seats.follow(rt, &mut refs, row.name, row.steps);
     refs.end(rt);
-    Ok(())
 }
 
 const LEAST: Settings = Settings {
@@ -189,13 +177,18 @@ const LEAST: Settings = Settings {
     count_limit: 1,
 };
 
-#[test]
-fn new_has_a_seat_for_each_cpu(rt: HostRuntime) -> Result<(), Fail> {
-    for cpus in [1, 3, 8] {
-        let (_, _, seats) = Words::new(rt.alloc(), Settings { cpus, ..LEAST })?;
-        assert_eq!(rt; seats.len(), usize::from(cpus));
+/// How many seats new words of so many CPUs have.
+fn seats_of(alloc: Global, cpus: u8) -> Result<usize, Refusal> {
+    match Words::new(alloc, Settings { cpus, ..LEAST }) {
+        Ok((_, _, seats)) => Ok(seats.len()),
+        Err(refusal) => Err(refusal),
     }
-    let refused = Words::new(rt.alloc(), Settings { cpus: 0, ..LEAST }).err();
-    assert_eq!(rt; refused, Some(Refusal::BadSettings));
-    Ok(())
+}
+
+#[test]
+fn new_has_a_seat_for_each_cpu(rt: HostRuntime) {
+    for cpus in [1, 3, 8] {
+        assert!(rt; seats_of(rt.alloc(), cpus) == Ok(usize::from(cpus)));
+    }
+    assert!(rt; seats_of(rt.alloc(), 0) == Err(Refusal::BadSettings));
 }
