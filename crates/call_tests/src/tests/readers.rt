@@ -32,8 +32,6 @@ pub(crate) enum Reader {
     Acquire,
     /// Copies the passive reference. Once that is released, or forgotten, the copy takes its place.
     Copy,
-    /// It takes the passive reference that another registry's CPU with this number has to the entry with that number.
-    Remember(u8, u64),
     /// What the passive reference names.
     Reference,
     /// It reads this record by the passive reference.
@@ -94,6 +92,11 @@ impl<D: Domain> Held<D> {
             }
             Err(refusal) => Answer::Refused(refusal),
         }
+    }
+
+    /// Hands the passive reference on.
+    pub(crate) fn hand_passive<E: Domain, R: Abort>(&mut self, rt: &R, other: &mut Held<E>) {
+        put(rt, &mut other.passive, self.take_passive(rt));
     }
 
     fn passive<R: Abort>(&self, rt: &R) -> &Psref {
@@ -157,10 +160,6 @@ pub(crate) fn by_reader<D: Domain, R: Abort>(
         Reader::Copy => {
             let answer = copy(words, cpu, refs.passive(rt));
             kept(rt, &mut refs.copied, answer)
-        }
-        Reader::Remember(id, number) => {
-            put(rt, &mut refs.passive, Psref::remembered(id, number));
-            Answer::Done
         }
         Reader::Reference => Answer::Names(refs.passive(rt).cpu(), refs.passive(rt).number()),
         Reader::Read(wanted) => {

@@ -1,17 +1,19 @@
 //! Calls on a registry that no script can make: an audit without all CPUs, a long history, very many references, and one of another registry.
 
+ghost use Rattle.name_registry.specs.Common.{IsBlankOf};
+
 use super::answers::Answer::{self, At, Come, Done, Is, Names, Refused};
 use super::answers::{VGA, WM};
 use super::bench::Call::{Advance, Attach, Detach};
 use super::bench::Step::{self, By, Gets, Reads, Uncounts};
 use super::bench::{Bench, Test, blank, on_bench};
 use super::readers::Held;
-use super::readers::Reader::{
-    Copy, Count, Enter, Exit, Find, Forget, Holds, Read, Reference, Release, Remember,
-};
+use super::readers::Reader::{Copy, Count, Enter, Exit, Find, Holds, Read, Reference, Release};
 use cpu_words::Domain;
+use name_registry::Blank;
 use registry_values::{Refusal, Stage};
 use std::alloc::Global;
+use std::marker::Brand;
 use std::process::Abort;
 use std::sync::Wait;
 use std::test::*;
@@ -100,29 +102,55 @@ fn bad_settings(rt: HostRuntime) {
     }
 }
 
-/// A reference of another registry says a CPU and a number. CPU 0, which holds nothing, refuses it. Once it has acquired one to its own entry with that
-/// number, it can't tell the two apart, and releases as many as it has acquired.
+/// CPU 0 attaches the driver.
+const ATTACHED: &[(Step, Answer)] = &[(By(0, Attach(WM)), At(1, 0))];
+
+/// CPU 0 attaches the driver, and gets a passive reference to it.
+const GOT: &[(Step, Answer)] = &[(By(0, Attach(WM)), At(1, 0)), (Gets(0, WM), Done)];
+
+/// CPU 0 of another registry, which holds nothing, is shown the reference, and hands it back.
 const SHOWN: &[(Step, Answer)] = &[
-    (By(0, Attach(WM)), At(1, 0)),
-    (Reads(0, Remember(0, 1)), Done),
     (Reads(0, Reference), Names(0, 1)),
     (Reads(0, Read(WM)), Refused(Refusal::NotHeld)),
     (Reads(0, Holds), Is(false)),
     (Reads(0, Copy), Refused(Refusal::NotHeld)),
     (Reads(0, Release), Refused(Refusal::NotHeld)),
     (Reads(0, Reference), Names(0, 1)),
-    (Reads(0, Forget), Done),
-    (Gets(0, WM), Done),
-    (Reads(0, Forget), Done),
-    (Reads(0, Remember(0, 1)), Done),
-    (Reads(0, Read(WM)), Done),
-    (Reads(0, Release), Done),
-    (Reads(0, Remember(0, 1)), Done),
-    (Reads(0, Release), Refused(Refusal::NotHeld)),
-    (Reads(0, Forget), Done),
 ];
 
+/// Its own CPU reads and releases it.
+const READ: &[(Step, Answer)] = &[(Reads(0, Read(WM)), Done), (Reads(0, Release), Done)];
+
 #[test]
-fn reference_of_another_registry(rt: HostRuntime) {
-    on_bench(&rt, rt.alloc(), 2, 1000, Test::Follow(SHOWN));
+fn reference_of_another_registry(rt: HostRuntime) -> Result<(), Fail> {
+    let (here, there) = (blank(rt.alloc(), 2, 1000)?, blank(rt.alloc(), 2, 1000)?);
+    shown_elsewhere::<Brand, Brand, _>(&rt, rt.alloc(), here, there);
+    Ok(())
+}
+
+fn shown_elsewhere<D: Domain, E: Domain, R: Wait + Abort>(
+    rt: &R,
+    alloc: Global,
+    here: Blank,
+    there: Blank,
+)
+    requires here { IsBlankOf here D.table D.settings D.name D.parts }
+    requires there { IsBlankOf there E.table E.settings E.name E.parts }
+{
+    let mut here = Bench::<D>::open(rt, alloc, here);
+    let mut there = Bench::<E>::open(rt, alloc, there);
+    show(rt, &mut here, &mut there);
+}
+
+/// The reference goes from the one registry to the other, and back.
+fn show<D: Domain, E: Domain, R: Wait + Abort>(rt: &R, here: &mut Bench<D>, there: &mut Bench<E>) {
+    let (mut refs, mut others) = (Held::nothing(), Held::nothing());
+    here.follow(rt, &mut refs, "attached", ATTACHED);
+    there.follow(rt, &mut others, "got", GOT);
+    others.hand_passive(rt, &mut refs);
+    here.follow(rt, &mut refs, "shown elsewhere", SHOWN);
+    refs.hand_passive(rt, &mut others);
+    there.follow(rt, &mut others, "read", READ);
+    refs.end(rt);
+    others.end(rt);
 }
