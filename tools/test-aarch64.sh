@@ -67,7 +67,7 @@ test_clients() {
 
 test_netbsd() {
     local test
-    # Of each driver on threads: a run takes a second here.
+    # Each driver runs so often on threads. One run takes up to a second here.
     local -x BENCH_RUNS=10
     check "the manual pages' own names are built, no warning" make_for netbsd plain
     # Where a program ends by a signal, the emulator says a line of its own: so not those that compare all that is said there.
