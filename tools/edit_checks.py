@@ -264,10 +264,13 @@ def copied(crate, room):
     return tree
 
 
-def seeded(crate, names, room):
-    """A seed with what is proved of these functions, or of WHOLE, as they stand, or None where they aren't: a refusal would say nothing of an edit then."""
+def seeded(crate, names, room, is_proved):
+    """A seed with what is proved of these functions, or of WHOLE, as they stand; an empty one where `is_proved` says that they are. None where they aren't: a
+    refusal would say nothing of an edit then."""
     seed = Seed(pathlib.Path(room) / crate, names)
     seed.kept.mkdir()
+    if is_proved:
+        return seed
     with tempfile.TemporaryDirectory() as scratch:
         ran = check(crate, names, copied(crate, scratch), seed)
     if ran.returncode:
@@ -309,15 +312,19 @@ def try_batch(edits, seed, whole):
     return [(edit, came[edit]) for edit in edits]
 
 
-def tried(edits, whole=False):
-    """Tries the edits side by side, by their functions or by the whole crate; gives each with its result, in the order in which they end."""
+def tried(edits, are_proved, whole=False):
+    """Tries the edits side by side, by their functions or by the whole crate; gives each with its result, in the order in which they end. `are_proved` says
+    that their crates are, as they stand."""
     of = collections.defaultdict(list)
     for edit in edits:
         of[edit.crate].append(edit)
     with tempfile.TemporaryDirectory() as room, ThreadPoolExecutor(at_once(MEMORY)) as pool:
         try:
             # They are submitted first, so all seeds are made before the first try.
-            seeds = {pool.submit(seeded, crate, sorted({name for it in found for name in asked_for(it, whole)}), room): found for crate, found in of.items()}
+            seeds = {}
+            for crate, found in of.items():
+                names = sorted({name for it in found for name in asked_for(it, whole)})
+                seeds[pool.submit(seeded, crate, names, room, are_proved and len(batches(found, whole)) == 1)] = found
             tries = [pool.submit(try_batch, batch, seed.result(), whole) for seed in as_completed(seeds) for batch in batches(seeds[seed], whole)]
             for it in as_completed(tries):
                 yield from it.result()
@@ -353,7 +360,8 @@ def keep(edit, result):
 
 
 def results(wanted, anew, whole=False):
-    """Each edit with its result: first those of earlier runs. With `whole`, one that no check of its functions refuses is tried on the whole crate."""
+    """Each edit with its result: first those of earlier runs. With `whole`, one that no check of its functions refuses is tried on the whole crate; without, the
+    crates are proved."""
     for crate in {it.crate for it in wanted}:
         unbuilt = [it for it in below(crate) if not (built(it) / "format").is_file()]
         if unbuilt:
@@ -363,7 +371,7 @@ def results(wanted, anew, whole=False):
     left = [it for it in wanted if it not in kept]
     for by_whole in (False, True) if whole else (False,):
         again = []
-        for edit, result in tried(left, by_whole):
+        for edit, result in tried(left, not whole, by_whole):
             if whole and not by_whole and not result.is_refused:
                 again.append(edit)
             else:
