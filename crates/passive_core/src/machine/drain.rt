@@ -149,7 +149,6 @@ impl Core {
         }
     }
 
-    #[tactic(auto, using(protocol::proofs::counts::Bounds::adding_range))]
     fn add_to_total(&mut self, t: u8, word: u64) -> Reply
         requires { self.old.due ≡ Adding t word }
         ensures { Steps self.old self.new (TotalAdd t) (Ok result) }
@@ -169,7 +168,6 @@ impl Core {
         }
     }
 
-    #[tactic(auto, using(protocol::proofs::counts::Bounds::subtracting_range))]
     fn subtract_from_total(&mut self, t: u8) -> Reply
         requires { self.old.due ≡ Subtracting t }
         ensures { Steps self.old self.new (TotalSub t) (Ok result) }

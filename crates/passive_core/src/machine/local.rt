@@ -142,7 +142,6 @@ impl Core {
     }
 
     /// One compare-exchange from the bias plus the CPU's net count, to one less.
-    #[tactic(auto, using(protocol::proofs::counts::Bounds::counting_positive))]
     fn exchange(&mut self, c: u8, number: u64, id: u64, t: u8) -> Reply
         requires hand { hand_at self.old c ≡ Giving number id }
         requires slot { slot_of self.old.slots number ≡ Some t }

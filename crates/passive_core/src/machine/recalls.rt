@@ -17,7 +17,6 @@ impl Core {
         self.lives[t as usize]
     }
 
-    #[tactic(auto, using(protocol::proofs::keeps::Keeping::step_holds))]
     pub(crate) fn step_show(&mut self, t: u8) -> Result<Reply, StepFault>
         ensures { Steps self.old self.new (Show t) result }
     {
@@ -39,7 +38,6 @@ impl Core {
         self.at_rest() && t < self.settings.slots
     }
 
-    #[tactic(auto, using(protocol::proofs::keeps::Keeping::step_holds))]
     pub(crate) fn step_hide(&mut self, t: u8) -> Result<Reply, StepFault>
         ensures { Steps self.old self.new (Hide t) result }
     {

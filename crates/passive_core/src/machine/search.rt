@@ -71,7 +71,6 @@ impl Core {
         }
     }
 
-    #[tactic(auto, using(protocol::proofs::keeps::SearchKeeps::head_keeps, protocol::proofs::keeps::SearchKeeps::head_bound))]
     pub(crate) fn step_load_link(&mut self, c: u8) -> Result<Reply, StepFault>
         ensures { Steps self.old self.new (LoadLink c) result }
     {

@@ -52,7 +52,6 @@ impl Core {
         }
     }
 
-    #[tactic(auto, using(protocol::proofs::keeps::CountKeeps::trying_tells))]
     fn confirm(&mut self, c: u8, t: u8, number: u64) -> Result<Reply, StepFault>
         requires { hand_at self.old c ≡ Trying t number }
         ensures { Steps self.old self.new (Confirm c) result }

@@ -24,7 +24,6 @@ impl Core {
     /// Where every CPU may act, none is trying: the result is by who holds the entry alone (`plain`).
     ///
     /// Refused: `NotRetired` if no slot has the retired entry `number`; nothing has changed then.
-    #[tactic(auto, using(crate::proofs::Advancing::stage_acts, crate::proofs::Entering::acting_on))]
     pub fn advance(&mut self, number: u64) -> Result<Stage, Refusal>
         requires { at_rest self.old.due ≡ true }
         ensures answer { result ≡ advance_answer self.old number }
@@ -79,7 +78,6 @@ impl Core {
 
     /// Looks at the section word of each CPU that hasn't passed for the slot, up to the first that doesn't pass: it is
     /// the answer.
-    #[tactic(auto, using(registry_values::proofs::Slots::none_below, crate::proofs::Advancing::marks_pass_none, crate::proofs::Advancing::marks_pass_more, crate::proofs::Making::only_after, crate::proofs::Making::only_none))]
     pub(crate) fn look_at_all(&mut self, t: u8) -> Option<u8>
         requires rest { at_rest self.old.due ≡ true }
         requires slot { t < self.old.settings.slots }
@@ -101,7 +99,6 @@ impl Core {
     }
 
     /// Whether the CPU has passed for the slot, by an earlier look or by this one.
-    #[tactic(auto, using(crate::proofs::Advancing::look_is, crate::proofs::Advancing::mark_beside, crate::proofs::Advancing::passed_left, crate::proofs::Making::only_none))]
     fn passes(&mut self, t: u8, c: u8) -> bool
         requires rest { at_rest self.old.due ≡ true }
         requires slot { t < self.old.settings.slots }
@@ -124,7 +121,6 @@ impl Core {
 
     /// Looks at the passive word of each CPU that isn't clear for the slot, up to the first that doesn't become clear:
     /// it is the answer.
-    #[tactic(auto, using(registry_values::proofs::Slots::none_below, crate::proofs::Advancing::marks_clear_none, crate::proofs::Advancing::marks_clear_more, crate::proofs::Advancing::only_marks, crate::proofs::Making::only_after, crate::proofs::Making::only_none))]
     fn look_at_passive(&mut self, t: u8) -> Option<u8>
         requires rest { at_rest self.old.due ≡ true }
         requires slot { t < self.old.settings.slots }
@@ -147,7 +143,6 @@ impl Core {
     }
 
     /// Whether the CPU is clear for the slot, by an earlier look at its passive word or by this one.
-    #[tactic(auto, using(crate::proofs::Advancing::clear_left, crate::proofs::Advancing::examines_passive, crate::proofs::Advancing::guard_some, crate::proofs::Advancing::mark_beside, crate::proofs::Advancing::passive_clears, crate::proofs::Advancing::passive_look_is, protocol::proofs::Cells::mark_there, crate::proofs::Making::only_none))]
     fn clears(&mut self, t: u8, c: u8) -> bool
         requires rest { at_rest self.old.due ≡ true }
         requires slot { t < self.old.settings.slots }
@@ -170,7 +165,6 @@ impl Core {
     }
 
     /// Collects the count words of all CPUs for the slot in its total.
-    #[tactic(auto, using(crate::proofs::Advancing::gathers_more, crate::proofs::Advancing::gathers_none, crate::proofs::Making::only_after, crate::proofs::Making::only_none))]
     fn collect_all(&mut self, t: u8)
         requires rest { at_rest self.old.due ≡ true }
         requires slot { t < self.old.settings.slots }
@@ -188,7 +182,6 @@ impl Core {
     }
 
     /// Collects the CPU's count word for the slot, unless that was done before.
-    #[tactic(auto, using(crate::proofs::Advancing::adds, crate::proofs::Advancing::collect_is, crate::proofs::Advancing::collected_there, crate::proofs::Advancing::collects, crate::proofs::Advancing::guard_some, crate::proofs::Advancing::left_by, crate::proofs::Making::only_none))]
     fn collect(&mut self, t: u8, c: u8)
         requires rest { at_rest self.old.due ≡ true }
         requires slot { t < self.old.settings.slots }
@@ -209,7 +202,6 @@ impl Core {
     }
 
     /// Frees the slot, whose count words are all collected, where its total says that no local reference is held.
-    #[tactic(auto, using(crate::proofs::Advancing::gathered_total, crate::proofs::Advancing::gathered_words, crate::proofs::Advancing::settled_free, crate::proofs::Advancing::settled_held, protocol::proofs::Occupied::is_retired_tells, crate::proofs::Making::only_none))]
     fn settle(&mut self, t: u8) -> Stage
         requires rest { at_rest self.old.due ≡ true }
         requires slot { t < self.old.settings.slots }
@@ -233,7 +225,6 @@ impl Core {
     }
 
     /// Makes the slot vacant; where it keeps a reference to a driver, the reference is given up.
-    #[tactic(auto, using(crate::proofs::Advancing::allowed, crate::proofs::Advancing::guard_some, crate::proofs::Advancing::vacated, crate::proofs::Advancing::vacates, registry_values::proofs::Slots::none_is, crate::proofs::Entering::made_is))]
     fn free(&mut self, t: u8)
         requires slot { t < self.old.settings.slots }
         requires drained { is_drained self.old t ≡ true }

@@ -122,7 +122,6 @@ impl Core {
     }
 
     /// The slot takes over the live local reference with this id, which is to a driver.
-    #[tactic(auto, using(crate::proofs::Making::makes_one))]
     fn keep(&mut self, t: u8, id: u64)
         requires write { may_write self.old t ≡ true }
         requires nothing { kept_at self.old.keeps t ≡ None }
@@ -230,7 +229,6 @@ impl Core {
     }
 
     /// Hands the history to c, so that c has seen the change.
-    #[tactic(auto, using(crate::proofs::Making::makes_first, crate::proofs::Making::makes_one))]
     fn end_change(&mut self, c: u8)
         requires rest { at_rest self.old.due ≡ true }
         requires idle { is_idle self.old c ≡ true }
@@ -253,7 +251,6 @@ impl Core {
         self.make(Event::StoreNext(entry.slot, head));
     }
 
-    #[tactic(auto, using(crate::proofs::Making::makes_more))]
     fn store_record_words(&mut self, entry: &Entry)
         requires { may_write self.old entry.now.slot ≡ true }
         ensures after { self.new ≡ record self.old { rows = slice_set self.old.rows entry.now.slot (words_of entry.now) } }
@@ -268,7 +265,6 @@ impl Core {
         self.store_word(t, 4, entry.rec.value);
     }
 
-    #[tactic(auto, using(crate::proofs::Making::makes_one))]
     fn store_word(&mut self, t: u8, k: u8, v: u64)
         requires write { may_write self.old t ≡ true }
         requires word { k < 5 }

@@ -18,7 +18,6 @@ impl Core {
     /// change.
     /// Refused, in this order: `Inside` if the CPU is inside a section, `NotFound` if no live entry has both, and `NoMemory` if the history
     /// can't grow. A refusal changes nothing.
-    #[tactic(auto, using(registry_values::proofs::Answers::handed_on, crate::proofs::Entering::acting_idle, crate::proofs::Attaching::detached_is, crate::proofs::Attaching::detached_ready, crate::proofs::Attaching::detached_settings, crate::proofs::Attaching::found_live, crate::proofs::Attaching::refused_rightly, crate::proofs::Attaching::snapped_idle, crate::proofs::Attaching::snapped_told, crate::proofs::Attaching::unlinked_blank))]
     pub fn detach(&mut self, c: u8, kind: Kind, name: &Name) -> Result<Entry, Refusal>
         requires known { c < self.old.settings.cpus }
         requires rest { at_rest self.old.due ≡ true }
@@ -42,7 +41,6 @@ impl Core {
     }
 
     /// The live entry with this kind and name.
-    #[tactic(auto, using(crate::proofs::Attaching::place_is))]
     fn live_entry(&self, key: Key) -> Option<Entry>
         ensures answer { IsLookupNow self.now key result }
         ensures live { IfSome result (λ e. slot_at self.now.slots e.slot ≡ Live e) }
@@ -80,7 +78,6 @@ impl Core {
     }
 
     /// Takes the snapshot of each CPU for a slot that was just unlinked.
-    #[tactic(auto, using(crate::proofs::Attaching::snap_allowed, crate::proofs::Attaching::snapping_starts))]
     fn take_snapshots(&mut self, t: u8)
         requires due { self.old.due ≡ Snapshots t 0 }
         requires blank { slice_index_or self.old.marks t [] ≡ replicate MOST_CPUS no_mark }

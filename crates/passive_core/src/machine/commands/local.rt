@@ -83,7 +83,6 @@ impl Core {
 
     /// Releases the live local reference on this CPU, whichever acquired it (localcount(9)): by this CPU's own count, or under
     /// the interlock, by the slot's total, where that count was collected. It always succeeds.
-    #[tactic(auto, using(crate::proofs::Locals::less_count_ready, crate::proofs::Making::released_by_count, crate::proofs::Making::released_by_total))]
     pub fn release_local(&mut self, c: u8, id: u64)
         requires known { c < self.old.settings.cpus }
         requires rest { at_rest self.old.due ≡ true }
@@ -145,7 +144,6 @@ impl Core {
     }
 
     /// Gives the reference up by the slot's total, where the count of some CPU was collected.
-    #[tactic(auto, using(crate::proofs::Locals::slot_is, crate::proofs::Passives::made, crate::proofs::Making::makes_first, crate::proofs::Making::makes_one))]
     fn release_under(&mut self, c: u8, id: u64)
         requires known { c < self.old.settings.cpus }
         requires rest { at_rest self.old.due ≡ true }
@@ -194,7 +192,6 @@ impl Core {
         self.balances().map_err(|_| Refusal::NoMemory)
     }
 
-    #[tactic(auto, using(crate::proofs::Audits::audit_right))]
     fn balances(&self) -> Result<Vec<Balance>, AllocError>
         requires { at_rest self.now.due ≡ true }
         ensures answer { IfOk result (λ list. map tally_shown list.items ≡ audit_of self.now) }
@@ -214,7 +211,6 @@ impl Core {
         Ok(list)
     }
 
-    #[tactic(auto, using(crate::proofs::Audits::few_locals, crate::proofs::Audits::slot_within))]
     fn balance(&self, t: u8, number: u64) -> Result<Balance, AllocError>
         requires rest { at_rest self.now.due ≡ true }
         requires occupied { (e : Entry) × IsIn e (slot_at self.now.slots t) }

@@ -158,7 +158,6 @@ impl Core {
     }
 
     /// Seats all CPUs, before the first event of a command. Those that might act before are idle then.
-    #[tactic(auto, using(crate::proofs::Passives::may_still, crate::proofs::Entering::acting_idle))]
     pub(crate) fn begin(&mut self)
         requires { at_rest self.old.due ≡ true }
         ensures seated { self.new ≡ all_seated self.old }

@@ -19,7 +19,6 @@ impl Core {
     ///
     /// Refused, in this order: `Inside` if the CPU is inside a section; nothing has changed then. `Waiting` with the lowest-numbered CPU
     /// that wasn't seen out of its section; all CPUs have their seats then.
-    #[tactic(auto, using(crate::proofs::Entering::acting_on, crate::proofs::Making::only_none))]
     pub fn perform(&mut self, c: u8, turns: u32) -> Result<(), Refusal>
         requires known { c < self.old.settings.cpus }
         requires rest { at_rest self.old.due ≡ true }
@@ -114,7 +113,6 @@ impl Core {
     }
 
     /// Whether the CPU was seen out of the section of its snapshot, before or by this look at its section word.
-    #[tactic(auto, using(crate::proofs::Performing::seen_out))]
     fn is_seen(&mut self, c: u8, snapshot: u64, before: bool) -> bool
         requires rest { at_rest self.old.due ≡ true }
         requires cpu { c < self.old.settings.cpus }
@@ -158,7 +156,6 @@ impl Core {
     }
 
     /// Looks at each CPU that hasn't passed for the retired entry, where no CPU is inside a section.
-    #[tactic(auto, using(crate::proofs::Making::looks_wait, crate::proofs::Making::only_none))]
     fn pass_entry(&mut self, number: Option<u64>)
         requires rest { at_rest self.old.due ≡ true }
         requires outside { AllOutside self.old }

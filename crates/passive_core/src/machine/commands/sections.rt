@@ -67,7 +67,6 @@ impl Core {
     /// Ends the CPU's read section, or where it is nested takes 1 from its depth (pserialize(9)). At the outermost exit
     /// all CPUs are seated and the event `Exit` is made, which clears the last found entry; an inner exit makes no event.
     /// It is never refused.
-    #[tactic(auto, using(crate::proofs::Entering::depth_range))]
     pub fn exit(&mut self, c: u8)
         requires known { c < self.old.settings.cpus }
         requires rest { at_rest self.old.due ≡ true }
@@ -99,7 +98,6 @@ impl Core {
     }
 
     /// Seats every CPU for a command of this one, which is idle then.
-    #[tactic(auto, using(crate::proofs::Entering::acting_idle, crate::proofs::Entering::acting_on))]
     pub(crate) fn seat_for(&mut self, c: u8)
         requires known { c < self.old.settings.cpus }
         requires rest { at_rest self.old.due ≡ true }

@@ -1,10 +1,11 @@
-use Rattle.std.proofs.Common.{◌≡◌, sym, ap, subst, ◌∙◌, Ok}
+use Rattle.std.proofs.Common.{◌≡◌, true, sym, ap, subst, ◌∙◌, Ok}
 use Rattle.passive_core.specs.Types.{Retired, Stage}
-use Rattle.passive_core.specs.Common.{first_obstacle, stage_in}
+use Rattle.passive_core.specs.Common.{first_obstacle, stage_in, may_act}
 use Rattle.protocol.specs.Common.{Holds, State}
 use Rattle.registry_values.specs.Common.{is_retired, slot_at}
-use Rattle.passive_core.proofs.Advancing.{holders_are_open}
+use Rattle.passive_core.proofs.Advancing.{holders_are_open, stage_acts}
 use Rattle.registry_values.proofs.Slots.{retired_slot_tells}
+use Rattle.passive_core.proofs.Entering.{acting_on}
 use Rattle.passive_core.proofs.Performing.{plain_is}
 use Rattle.passive_core.proofs.Making.{only_seats, work_seated}
 use Rattle.passive_core.proofs.machine.Core.advance.Goals as goal
@@ -31,6 +32,13 @@ returns-clause-plain c = λ acts. returns-clause-answer c ∙ plain_is c.args.se
 
 pub returns-clause-holders : goal.returns-clause-holders
 returns-clause-holders c = holders_are_open c.args.self.now (subst Holds c.self.view_is c.self.invariant) c.requires
+
+pub returns-clause-ready : goal.returns-clause-ready
+returns-clause-ready c = λ d acts.
+    let s = c.args.self.now in
+    let seated : may_act c.seat_all.new.self d ≡ true = ap (λ (x : State). may_act x d) c.seat_all.ensures ∙ acting_on s d (subst Holds c.self.view_is c.self.invariant) acts in
+    stage_acts c.seat_all.new.self c.advance_slot.new.self c.in-Some.t d c.advance_slot.result
+    (ap (λ (x : State). x.seated) c.seat_all.ensures ∙ sym (ap (λ (x : State). x.settings.cpus) c.seat_all.ensures)) c.advance_slot.ensures.after seated
 
 pub returns-clause-made : goal.returns-clause-made
 returns-clause-made c =

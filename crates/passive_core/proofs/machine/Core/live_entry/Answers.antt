@@ -14,6 +14,11 @@ returns-in-Live-clause-answer c =
     let on : Holds c.args.self.now = subst Holds c.self.view_is c.self.invariant in
     (place_is c.args.self.now c.args.key c.in_ok-t.t c.in-Live.entry on (sym c.live_place.ensures.value ∙ c.in_ok-t.was) (sym c.slot_at.ensures.value ∙ c.in-Live.is)).0
 
+pub returns-in-Live-clause-live : goal.returns-in-Live-clause-live
+returns-in-Live-clause-live c =
+    let on : Holds c.args.self.now = subst Holds c.self.view_is c.self.invariant in
+    (place_is c.args.self.now c.args.key c.in_ok-t.t c.in-Live.entry on (sym c.live_place.ensures.value ∙ c.in_ok-t.was) (sym c.slot_at.ensures.value ∙ c.in-Live.is)).1
+
 pub returns-in_default : goal.returns-in_default
 returns-in_default c =
     let on : Holds c.args.self.now = subst Holds c.self.view_is c.self.invariant in

@@ -3,8 +3,19 @@ use Rattle.std.proofs.lemmas.List.{get_or_read}
 use Rattle.protocol.specs.Common.{State, search_at, link_loaded, load_link, with_some, Keeps}
 use Rattle.passive_core.specs.Common.{state_shown}
 use Rattle.passive_core.proofs.machine.Core.step_load_link.Goals as goal
-use Rattle.protocol.proofs.keeps.SearchKeeps.{next_keeps, next_bound}
+use Rattle.protocol.proofs.keeps.SearchKeeps.{head_keeps, next_keeps, head_bound, next_bound}
 use Rattle.passive_core.specs.Types.{Search}
+
+pub follow-requires-clause-slot : goal.follow-requires-clause-slot
+follow-requires-clause-slot c =
+    let is = ap (λ (x : State). search_at x c.args.c) c.self.view_is ∙ sym c.in-Some.ensures.value in
+    omega (arith, head_bound (state_shown c.self.inside) c.args.c c.in-Some.search c.self.invariant is, ap (λ (x : State). x.settings.slots) c.self.view_is)
+
+pub follow-requires-clause-holds : goal.follow-requires-clause-holds
+follow-requires-clause-holds c =
+    let is = ap (λ (x : State). search_at x c.args.c) c.self.view_is ∙ sym c.in-Some.ensures.value in
+    subst (λ (x : State). Keeps (link_loaded x c.args.c c.in-Some.search c.self.inside.head)) c.self.view_is
+    (head_keeps (state_shown c.self.inside) c.args.c c.in-Some.search c.self.invariant is c.in-AtHead.is)
 
 pub index-link-requires : goal.index-link-requires
 index-link-requires c =

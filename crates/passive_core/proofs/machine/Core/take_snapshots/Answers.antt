@@ -1,9 +1,17 @@
-use Rattle.std.proofs.Common.{◌≡◌, ◌<◌, sym, ap, subst, ◌∙◌, arith}
+use Rattle.std.proofs.Common.{◌≡◌, ◌<◌, refl, sym, ap, subst, ◌∙◌, arith}
 use Rattle.protocol.specs.Common.{Holds, State}
-use Rattle.passive_core.proofs.Attaching.{snap_turns, snapping, snapping_ends}
+use Rattle.passive_core.proofs.Attaching.{snap_allowed, snap_turns, snapping, snapping_ends, snapping_starts}
 use Rattle.passive_core.specs.Common.{Makes, snapshots_from}
 use Rattle.passive_core.proofs.Making.{snapshots_make}
 use Rattle.passive_core.proofs.machine.Core.take_snapshots.Goals as goal
+
+pub loop-d-init : goal.loop-d-init
+loop-d-init c = snapping_starts c.args.self.now c.args.t (subst Holds c.self.view_is c.self.invariant) c.requires.due c.requires.blank
+
+pub make-requires-clause-allowed : goal.make-requires-clause-allowed
+make-requires-clause-allowed c =
+    let lt : c.loop-d.d < c.args.self.now.settings.cpus = omega (arith, c.loop-d-test.true, ap (λ (x : State). x.settings.cpus) c.self.view_is) in
+    rw (snap_allowed c.args.self.now c.loop-d.self c.args.t c.loop-d.d lt c.loop-d.invariant) refl
 
 pub loop-d-preserved : goal.loop-d-preserved
 loop-d-preserved c =
