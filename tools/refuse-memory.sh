@@ -7,7 +7,7 @@
 # refusal that it met. A list that is refused room for as many as it expects asks again, for one, and notes nothing. Such refusals come few in a row.
 set -u
 cd "$(dirname "$0")/../crates" || exit 2
-[[ $# -gt 0 ]] || set -- core_tests call_tests script_tests
+[[ $# -gt 0 ]] || set -- core_tests call_tests
 
 # More than the refusals in a row that meet nobody.
 many=16

@@ -7,7 +7,7 @@
     tools/test-program.py --try          scripts, a storm and the usage, by the sources as they stand, which `rt try` compiles
 
 Scripts with and without faults (rows.py of registry_run), storms, wrong arguments, a standard output that is full, closed or gone, a standard input that
-can't be read, and address spaces in which there is too little memory. The last line counts the runs.
+can't be read, and each allocation refused in turn. The last line counts the runs.
 """
 import os
 import pathlib
@@ -141,27 +141,48 @@ def part_of_report(program):
     yield judged("core, a reader that leaves", (3, b"domain 8 32", b"write fault\n"), (ran.wait(), begin, error))
 
 
-def with_little_memory(program):
-    """Address spaces from one in which nothing starts to one that is ample: want of memory is told as such, wherever it is met, and never as another
-    fault. It is met while the script is read, and later, and in the end no more."""
-    script, report = b"domain 1 1\n" + b"audit\n" * 10000, b"domain 1 1\n" + b"empty\n" * 10000
-    for engine in ("core", "live"):
-        met, odd = set(), []
-        for kilobytes in range(2000, 6000, 20):
-            with tempfile.TemporaryFile(buffering=0) as given:
-                given.write(script)
-                given.seek(0)
-                found = said("sh", ["-c", f'ulimit -v {kilobytes}; exec "$@"', "sh", program, engine], stdin=given, stdout=subprocess.PIPE)
-                is_read = given.tell() == len(script)
-            code, text, error = found
-            if found == (0, report, b""):
-                met.add("enough")
-            elif code == 4 and report.startswith(text) and error == b"out of memory\n":
-                met.add("later" if is_read else "reading")
-            # In less the loader can't start the program.
-            elif met or code == 3 or text:
-                odd.append((kilobytes, code, len(text), error))
-        yield judged(f"{engine}, too little memory", ([], {"reading", "later", "enough"}), (odd, met))
+# A malloc that answers NULL to the call of this number, and to no other; a shell that runs the program is refused nothing.
+REFUSES = b"""#define _GNU_SOURCE
+#include <errno.h>
+#include <stdlib.h>
+#include <string.h>
+extern void *__libc_malloc(size_t);
+static long left;
+__attribute__((constructor)) static void begin(void) { left = strcmp(program_invocation_short_name, "sh") ? atol(getenv("REFUSED")) : 0; }
+void *malloc(size_t size) { return __atomic_fetch_sub(&left, 1, __ATOMIC_RELAXED) == 1 ? NULL : __libc_malloc(size); }
+"""
+# A list that is refused room for as many as it expects asks for one more alone, so not each refusal ends a run. No more in a row don't.
+UNMET = 16
+
+
+def refused(program, library, words, script, report, errors):
+    """Where in the report each refusal in turn ended the run with one of these errors, until none does; and the answers that are neither that nor right."""
+    fronts, odd, number, unmet = [], [], 0, 0
+    while unmet < UNMET:
+        number += 1
+        env = {**os.environ, "LD_PRELOAD": library, "REFUSED": str(number)}
+        status, text, error = said(program, words, input=script, stdout=subprocess.PIPE, env=env)
+        unmet = 0 if status else unmet + 1
+        if status == 4 and report.startswith(text) and error in errors:
+            fronts.append(len(text))
+        elif (status, text, error) != (0, report, b""):
+            odd.append((number, status, text, error))
+    return fronts, odd
+
+
+def with_refused_memory(program):
+    """Each allocation of a run is refused in turn: of long scripts with every command that makes something grow, and of a storm."""
+    errors = [b"out of memory\n", b"no thread\n"]
+    grow = [row for row in rows() if row.name in ("all-limits", "given-up")]
+    runs = [([engine], row.script + b"#\n" * 9000, row.report, errors[:1]) for row in grow for engine in ENGINES]
+    with tempfile.TemporaryDirectory() as room:
+        library = f"{room}/refuses.so"
+        subprocess.run(["cc", "-shared", "-fPIC", "-o", library, "-xc", "-"], input=REFUSES, check=True)
+        for words, *wanted in [*runs, (["storm", "1", "1"], b"", storm(1, 1), errors)]:
+            fronts, odd = refused(program, library, words, *wanted)
+            # A storm prints once it is over. A script is refused as it is read, and at several of its commands.
+            met = fronts and (words[0] == "storm" or 0 in fronts and len(set(fronts)) > 2)
+            yield judged(f"{' '.join(words)}, {len(fronts)} refusals of memory", (True, []), (bool(met), odd))
 
 
 def without_threads(program):
@@ -214,7 +235,7 @@ def main():
             passed += part(program)
     for program in (it for it in programs() if it != COMMAND):
         passed += by_rows(program)
-    passed += with_little_memory(programs()[0])
+    passed += with_refused_memory(programs()[0])
     passed += without_threads(programs()[0])
     if COMMAND in programs():
         passed += by_command()

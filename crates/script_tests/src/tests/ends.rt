@@ -9,10 +9,10 @@ use std::process::Abort;
 use std::sync::Wait;
 
 /// The row all-limits.
-pub(super) const SCRIPT: &[u8] =
+const SCRIPT: &[u8] =
     b"domain 1 1\nlimits 10 1 1 1\nattach 0 driver wm 7\nenter 0\nref 0 a\nfind 0 driver wm\nref 0 a\ncopy 0 a b\ncount 0 x\npeek x\nexit 0\nenter 0\nfind 0 driver wm\ndrop 0 b\ndrop 0 a\ndetach 0 driver vga\n";
 
-pub(super) const REPORT: &[u8] =
+const REPORT: &[u8] =
     b"domain 1 1\nlimits 10 1 1 1\nattached 1 slot 0\ninside\nrefused NothingFound\nfound 1 slot 0 value 7\nref a 1\nrefused PassiveFull\ncount x 1\npeek 1 value 7\noutside\nrefused SectionsSpent\nnot inside\nno label\ndropped a 1\nrefused NotFound\n";
 
 /// The kinds of error that a reader or a writer may tell of.

@@ -1,9 +1,8 @@
-//! Tests of what no contract says, nor a script alone: readers and writers that fail, memory that runs out, storms, and runs on a registry of the test's own.
-//! The scripts that say more are rows of the program (`rows.py` of `registry_run`).
+//! Tests of what no contract says, nor a script alone: readers and writers that fail, storms, and runs on a registry of the test's own. The scripts that say
+//! more are rows of the program (`rows.py` of `registry_run`), which also runs out of memory.
 
 mod calls;
 mod ends;
-mod memory_tests;
 mod storms;
 mod streams;
 
