@@ -360,8 +360,8 @@ def keep(edit, result):
 
 
 def results(wanted, anew, whole=False):
-    """Each edit with its result: first those of earlier runs. With `whole`, one that no check of its functions refuses is tried on the whole crate; without, the
-    crates are proved."""
+    """Each edit with its result: first those of earlier runs. With `whole`, one that no check of its functions refuses is tried on the whole crate; without it
+    the crates are proved."""
     for crate in {it.crate for it in wanted}:
         unbuilt = [it for it in below(crate) if not (built(it) / "format").is_file()]
         if unbuilt:

@@ -156,7 +156,7 @@ test_netbsd() {
 }
 
 test_bench() {
-    counted "C: a driver's threads in every order" tools/test-bench.sh
+    counted "C: a driver's threads in every order" tools/test-bench.sh --gate
     grep '^in 20 seconds' "$log"
 }
 
