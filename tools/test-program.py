@@ -9,6 +9,7 @@
 Scripts with and without faults (rows.py of registry_run), storms, wrong arguments, a standard output that is full, closed or gone, a standard input that
 can't be read, and each allocation refused in turn. The last line counts the runs.
 """
+import itertools
 import os
 import pathlib
 import subprocess
@@ -151,15 +152,14 @@ static long left;
 __attribute__((constructor)) static void begin(void) { left = strcmp(program_invocation_short_name, "sh") ? atol(getenv("REFUSED")) : 0; }
 void *malloc(size_t size) { return __atomic_fetch_sub(&left, 1, __ATOMIC_RELAXED) == 1 ? NULL : __libc_malloc(size); }
 """
-# A list that is refused room for as many as it expects asks for one more alone, so not each refusal ends a run. No more in a row don't.
-UNMET = 16
+# A list that is refused room for as many as it expects asks for one more alone, so not each refusal ends a run. No more in a row don't. No run makes so many.
+UNMET, MOST = 16, 1000
 
 
 def refused(program, library, words, script, report, errors):
     """Where in the report each refusal in turn ended the run with one of these errors, until none does; and the answers that are neither that nor right."""
-    fronts, odd, number, unmet = [], [], 0, 0
-    while unmet < UNMET:
-        number += 1
+    fronts, odd, unmet = [], [], 0
+    for number in itertools.takewhile(lambda _: unmet < UNMET, range(1, MOST)):
         env = {**os.environ, "LD_PRELOAD": library, "REFUSED": str(number)}
         status, text, error = said(program, words, input=script, stdout=subprocess.PIPE, env=env)
         unmet = 0 if status else unmet + 1
@@ -167,14 +167,14 @@ def refused(program, library, words, script, report, errors):
             fronts.append(len(text))
         elif (status, text, error) != (0, report, b""):
             odd.append((number, status, text, error))
-    return fronts, odd
+    return fronts, odd if unmet == UNMET else [*odd, "a refusal ended each run"]
 
 
 def with_refused_memory(program):
-    """Each allocation of a run is refused in turn: of long scripts with every command that makes something grow, and of a storm."""
+    """Each allocation of a run is refused in turn: of scripts with every command that makes something grow, and of a storm."""
     errors = [b"out of memory\n", b"no thread\n"]
     grow = [row for row in rows() if row.name in ("all-limits", "given-up")]
-    runs = [([engine], row.script + b"#\n" * 9000, row.report, errors[:1]) for row in grow for engine in ENGINES]
+    runs = [([engine], row.script, row.report, errors[:1]) for row in grow for engine in ENGINES]
     with tempfile.TemporaryDirectory() as room:
         library = f"{room}/refuses.so"
         subprocess.run(["cc", "-shared", "-fPIC", "-o", library, "-xc", "-"], input=REFUSES, check=True)
