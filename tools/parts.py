@@ -19,7 +19,7 @@ from concurrent.futures import ThreadPoolExecutor
 
 ROOT = pathlib.Path(__file__).resolve().parent.parent
 # The bounds of the whole gate, in minutes: of all processors together, and by the clock on so many processors or more.
-MOST_PROCESSOR_MINUTES = 180
+MOST_PROCESSOR_MINUTES = 160
 MOST_CLOCK_MINUTES = {4: 60, 2: 110, 1: 180}
 
 GIGABYTE = 1 << 30

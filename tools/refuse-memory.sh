@@ -2,9 +2,10 @@
 # Refuses each allocation of the memory tests in turn, the 1st, the 2nd and so on. The call must say that memory ran out, and change
 # nothing; made again, it must return what it would have returned at first.
 #
-# The gate can't refuse memory: run it by hand after a change of what allocates. Without arguments it goes over each crate that has memory tests; else over the
-# crates named. An allocation takes half a minute: FROM=45 goes on from the 45th. Each test runs in a process of its own, with a count of its own, and notes a
-# refusal that it met. A list that is refused room for as many as it expects asks again, for one, and notes nothing. Such refusals come few in a row.
+# The gate refuses memory to the program and to callers in C: run this by hand after a change of what allocates. Without arguments it goes over each crate
+# that has memory tests; else over the crates named. An allocation takes half a minute: FROM=45 goes on from the 45th. Each test runs in a process of its own,
+# with a count of its own, and notes a refusal that it met. A list that is refused room for as many as it expects asks again, for one, and notes nothing. Such
+# refusals come few in a row.
 set -u
 cd "$(dirname "$0")/../crates" || exit 2
 [[ $# -gt 0 ]] || set -- core_tests call_tests

@@ -18,12 +18,9 @@ try_program() {
     fi
 }
 
-# The layer by clang, plain and with each sanitizer.
+# The layer by clang.
 with_clang() {
-    local way
-    for way in plain sanitized raced; do
-        make -s -C $folder CC=clang OUT="$room" "$room/$way/liblayer.a" || return 1
-    done
+    make -s -C $folder CC=clang OUT="$room" "$room/plain/liblayer.a"
 }
 
 $folder/named.sh
