@@ -7,7 +7,7 @@
     tools/test-program.py --try          scripts, a storm and the usage, by the sources as they stand, which `rt try` compiles
 
 Scripts with and without faults (rows.py of registry_run), storms, wrong arguments, a standard output that is full, closed or gone, a standard input that
-can't be read, and each allocation refused in turn. The last line counts the runs.
+can't be read, address spaces in which a long script has too little memory, and each allocation of short ones refused in turn. The last line counts the runs.
 """
 import itertools
 import os
@@ -142,7 +142,30 @@ def part_of_report(program):
     yield judged("core, a reader that leaves", (3, b"domain 8 32", b"write fault\n"), (ran.wait(), begin, error))
 
 
-# A malloc that answers NULL to the call of this number, and to no other; a shell that runs the program is refused nothing.
+def with_little_memory(program):
+    """Address spaces from one in which nothing starts to one that is ample: want of memory is told as such, wherever it is met, and never as another
+    fault. It is met while the script is read, and later, and in the end no more."""
+    script, report = b"domain 1 1\n" + b"audit\n" * 10000, b"domain 1 1\n" + b"empty\n" * 10000
+    for engine in ("core", "live"):
+        met, odd = set(), []
+        for kilobytes in range(2000, 6000, 20):
+            with tempfile.TemporaryFile(buffering=0) as given:
+                given.write(script)
+                given.seek(0)
+                found = said("sh", ["-c", f'ulimit -v {kilobytes}; exec "$@"', "sh", program, engine], stdin=given, stdout=subprocess.PIPE)
+                is_read = given.tell() == len(script)
+            code, text, error = found
+            if found == (0, report, b""):
+                met.add("enough")
+            elif code == 4 and report.startswith(text) and error == b"out of memory\n":
+                met.add("later" if is_read else "reading")
+            # In less the loader can't start the program.
+            elif met or code == 3 or text:
+                odd.append((kilobytes, code, len(text), error))
+        yield judged(f"{engine}, too little memory", ([], {"reading", "later", "enough"}), (odd, met))
+
+
+# A malloc that returns NULL to the call of this number, and to no other; a shell that runs the program is refused nothing.
 REFUSES = b"""#define _GNU_SOURCE
 #include <errno.h>
 #include <stdlib.h>
@@ -236,6 +259,8 @@ def main():
     for program in (it for it in programs() if it != COMMAND):
         passed += by_rows(program)
     passed += with_refused_memory(programs()[0])
+    if not sys.argv[1:]:
+        passed += with_little_memory(programs()[0])
     passed += without_threads(programs()[0])
     if COMMAND in programs():
         passed += by_command()
